@@ -1,0 +1,4 @@
+pub mod Computed
+pub mod Worked
+pub mod Fits
+pub mod Examples

@@ -1,0 +1,1 @@
+// No code: the laws of the definitions stand in proofs/.

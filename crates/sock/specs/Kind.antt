@@ -1,0 +1,106 @@
+-- The nineteen kinds of process by their numbers, and the fixed table of what follows each one's head (document 01, "Words").
+use Prim.Native.Nat.{ℕ, _+_, _*_}
+use mathlib.Core.List.{List, [], _∷_}
+use lib.ListN.{getD}
+
+abbrev pub nil : ℕ
+nil = 0
+
+abbrev pub assign : ℕ
+assign = 1
+
+abbrev pub seq : ℕ
+seq = 2
+
+abbrev pub par : ℕ
+par = 3
+
+abbrev pub if : ℕ
+if = 4
+
+abbrev pub while : ℕ
+while = 5
+
+abbrev pub choice : ℕ
+choice = 6
+
+abbrev pub one-way : ℕ
+one-way = 7
+
+abbrev pub request : ℕ
+request = 8
+
+abbrev pub notify : ℕ
+notify = 9
+
+abbrev pub solicit : ℕ
+solicit = 10
+
+abbrev pub scope : ℕ
+scope = 11
+
+-- document 01's inst: installs handlers
+abbrev pub inst : ℕ
+inst = 12
+
+abbrev pub throw : ℕ
+throw = 13
+
+-- document 01's comp: compensates
+abbrev pub comp : ℕ
+comp = 14
+
+-- document 01's cH: stands for the handler that an installed one replaces
+abbrev pub cH : ℕ
+cH = 15
+
+-- document 01's executor: a request being served; it replies when its body is done
+abbrev pub executor : ℕ
+executor = 16
+
+-- document 01's waiter: a solicit that waits for its reply
+abbrev pub waiter : ℕ
+waiter = 17
+
+-- document 01's notice: a fault on its way to a waiter
+abbrev pub notice : ℕ
+notice = 18
+
+-- What follows the head of a kind. The bits of the head below `spare`, and of each fixed word below its number in `fixed`, are unused.
+pub record Row : Type 0 where
+  pub spare : ℕ
+  pub fixed : List ℕ
+  pub expressions : ℕ
+  pub lists : ℕ
+  pub processes : ℕ
+
+abbrev row : ℕ → List ℕ → ℕ → ℕ → ℕ → Row
+row s f e l p = record { spare = s; fixed = f; expressions = e; lists = l; processes = p }
+
+-- The fixed table. A choice has two processes per branch, so its row is read with its count (`Node.processesOf`).
+unfoldable pub rows : List Row
+rows =
+    row 2048 [] 0 0 0  -- 0 nil
+    ∷ row 64 [] 1 0 0  -- 1 assign: variable; expression
+    ∷ row 2048 [] 0 0 2  -- 2 seq: P, Q
+    ∷ row 2048 [] 0 0 2  -- 3 par: P, Q
+    ∷ row 2048 [] 1 0 2  -- 4 if: expression, P, Q
+    ∷ row 2048 [] 1 0 1  -- 5 while: expression, P
+    ∷ row 1 [] 0 0 2  -- 6 choice: count; per branch a process of kind 7 or 8, then P
+    ∷ row 1 [] 0 0 0  -- 7 one-way: operation, x
+    ∷ row 1 (2048 ∷ []) 0 0 1  -- 8 request: operation, x; word y; P
+    ∷ row 1 (2048 ∷ []) 0 0 0  -- 9 notify: operation, y; word z
+    ∷ row 1 (64 ∷ []) 0 1 0  -- 10 solicit: operation, y; word z, x; list
+    ∷ row 4 (1024 ∷ []) 0 1 1  -- 11 scope: name, mark, zombie; word marked fault; list; P
+    ∷ row 2048 [] 0 1 0  -- 12 inst: list
+    ∷ row 32 [] 0 0 0  -- 13 throw: name
+    ∷ row 32 [] 0 0 0  -- 14 comp: name
+    ∷ row 2048 [] 0 0 0  -- 15 cH
+    ∷ row 1 (8192 ∷ 1 ∷ []) 0 0 1  -- 16 executor: operation, y; word client engine; word serial; P
+    ∷ row 1 (4096 ∷ 1 ∷ []) 0 1 0  -- 17 waiter: operation, x; word dead, server engine; word serial; list
+    ∷ row 32 (128 ∷ 1 ∷ []) 0 0 0  -- 18 notice: operation; word fault, client engine; word serial
+    ∷ []
+
+unfoldable pub rowOf : ℕ → Row
+unfolding rows
+rowOf k = getD rows k (row 1 [] 0 0 0)

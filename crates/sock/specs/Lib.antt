@@ -1,0 +1,13 @@
+pub mod Kind
+pub mod Words
+pub mod Term
+pub mod Layout
+pub mod Reading
+pub mod Running
+pub mod Configuration
+pub mod Evaluation
+pub mod Handlers
+pub mod Frames
+pub mod Rules
+pub mod Calls
+pub mod Bytes

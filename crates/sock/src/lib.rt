@@ -1,0 +1,1 @@
+// What the crate's code shares: the constant table of kinds.
