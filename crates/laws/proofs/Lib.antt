@@ -1,4 +1,7 @@
 pub mod Computed
-pub mod Worked
-pub mod Fits
 pub mod Examples
+pub mod Fits
+pub mod Logic
+pub mod Nodes
+pub mod Reading
+pub mod Worked
