@@ -101,6 +101,9 @@ rows =
     ∷ row 32 (128 ∷ 1 ∷ []) 0 0 0  -- 18 notice: operation; word fault, client engine; word serial
     ∷ []
 
+-- for a number that is no kind
+abbrev pub noRow : Row
+noRow = row 1 [] 0 0 0
+
 unfoldable pub rowOf : ℕ → Row
-unfolding rows
-rowOf k = getD rows k (row 1 [] 0 0 0)
+rowOf k = getD rows k noRow

@@ -11,3 +11,5 @@ pub mod Frames
 pub mod Rules
 pub mod Calls
 pub mod Bytes
+pub mod Counts
+pub mod Runs

@@ -1,1 +1,0 @@
-// No code: the laws of the definitions stand in proofs/.

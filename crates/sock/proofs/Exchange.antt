@@ -1,0 +1,249 @@
+-- Each rule for two keeps both processes sound among the serials then issued.
+-- Assumes nothing.
+use Prim.Native.Nat.{ℕ, zero, suc, _+_, _-_, _*_, _/_, _%_, _≤_, _<_}
+use native.Mathlib.Omega.{arith}
+use native.Mathlib.Nat.{mod-lt, le-refl, le-trans}
+use mathlib.Core.Path.{_≡_, refl, subst, sym, ap, _∙_}
+use mathlib.Core.Bool.{Bool, true, false, not, _&&_, _||_, cond}
+use mathlib.Core.Option.{Option, none, some}
+use mathlib.Core.List.{List, [], _∷_}
+use lib.Dec.{T, leb, ltb, eqb, ltb→lt, lt→ltb, leb→le, le→leb, lit<}
+use Rattle.sock.specs.Kind
+use Rattle.sock.specs.Kind.{rowOf, rows}
+use Rattle.sock.specs.Words.{kindOf, countOf, nameOf, secondOf, markOf, zombieOf, firstVariable, firstName, clear, headOf}
+use Rattle.sock.specs.Term.{Node, node, absent, Entries, noEntries, Nodes, noParts, partAt, processesOf}
+use Rattle.sock.specs.Reading.{code, anywhere, allowed, placed, branched, headFits, nodeFits, endFits, restingFits, fixedAt, _⇒_}
+use Rattle.sock.specs.Running.{Run, nil, seq, par, scope, executor, waiter, notice, act, enable}
+use Rattle.sock.specs.Configuration.{guarded}
+use Rattle.sock.specs.Frames.{Frame, seqOf}
+use Rattle.sock.specs.Rules.{Message, notification, solicitation, reply, failure, Receiver, deaf, hears, serves, receiver, Offer, chosen, bare, offered, offer, followed, Exchange, notified, solicited, instOf, throwOf, replied, faulting, awaited, exchange}
+use Rattle.sock.proofs.Logic.{and-left, and-right, and-both, cond-case, All, allNone, allSome, all-guarded}
+use Rattle.sock.proofs.Fits.{FitsFixed, FitsExprs, FitsBlock, FitsParts, isPlain, Fits, fits, noFixed, noExprs, noList, aList, noPart, FitsEntries, Sound, nilSound, seqSound, parSound, scopeSound, executorSound, waiterSound, noticeSound, actSound, SoundFrame, seqFrameSound, leftFrameSound, rightFrameSound, scopeFrameSound, executorFrameSound, SoundFrames, noFrames, oneFrame}
+use Rattle.sock.proofs.Nodes.{head-fits, part-fits, fixed-word}
+use Rattle.sock.proofs.Running.{enable-sound}
+use Rattle.sock.proofs.Frames.{seqOf-sound}
+use Rattle.sock.proofs.Rules.{FitValues, values-set, FitsMessage, notificationFits, solicitationFits, replyFits, failureFits}
+
+-- ---- more serials
+
+pub record EndFits (n issued engine serial : ℕ) : Type 0 where
+  pub below : engine < n
+  pub positive : zero < serial
+  pub given : serial ≤ issued
+
+three : (a b c : Bool) → T (a && b && c) → T a × T b × T c
+three true true c t = (tt, tt, t)
+three true false c t = absurd t
+three false b c t = absurd t
+
+pub end-tests : {n issued engine serial : ℕ} → T (endFits n issued engine serial) → EndFits n issued engine serial
+unfolding endFits
+end-tests {n} {issued} {engine} {serial} t =
+    let q = three (ltb engine n) (ltb 0 serial) (leb serial issued) t in
+    record { below = ltb→lt engine n (q .0); positive = ltb→lt 0 serial (q .1); given = leb→le serial issued (q .2) }
+
+pub end-fits : {n issued engine serial : ℕ} → EndFits n issued engine serial → T (endFits n issued engine serial)
+unfolding endFits
+end-fits {n} {issued} {engine} {serial} e =
+    and-both (ltb engine n && ltb 0 serial) (leb serial issued)
+    (and-both (ltb engine n) (ltb 0 serial) (lt→ltb engine n (e .below)) (lt→ltb 0 serial (e .positive)))
+    (le→leb serial issued (e .given))
+
+module _ (n : ℕ) {issued issued' : ℕ} (h : issued ≤ issued') where
+  end-later : (engine serial : ℕ) → T (endFits n issued engine serial) → T (endFits n issued' engine serial)
+  end-later engine serial t =
+      let e : EndFits n issued engine serial = end-tests t in
+      let g : serial ≤ issued' = le-trans (e .given) h in
+      end-fits (record { below = e .below; positive = e .positive; given = g })
+
+  pub sound-later : {r : Run} → Sound n issued r → Sound n issued' r
+  sound-later nilSound = nilSound
+  sound-later (seqSound g t q) = seqSound (sound-later g) t q
+  sound-later (parSound g t k u) = parSound (sound-later g) t (sound-later k) u
+  sound-later (scopeSound a m c g) = scopeSound a m c (sound-later g)
+  sound-later (executorSound {client = c} {serial = s} o y e g) = executorSound o y (end-later c s e) (sound-later g)
+  sound-later (waiterSound {server = c} {serial = s} o x e l) = waiterSound o x (end-later c s e) l
+  sound-later (noticeSound {client = c} {serial = s} o f e) = noticeSound o f (end-later c s e)
+  sound-later (actSound t g) = actSound t g
+
+  frame-later : {f : Frame} → SoundFrame n issued f → SoundFrame n issued' f
+  frame-later (seqFrameSound q) = seqFrameSound q
+  frame-later (leftFrameSound g t) = leftFrameSound (sound-later g) t
+  frame-later (rightFrameSound g t) = rightFrameSound (sound-later g) t
+  frame-later (scopeFrameSound a m c) = scopeFrameSound a m c
+  frame-later (executorFrameSound {client = c} {serial = s} o y e) = executorFrameSound o y (end-later c s e)
+
+  pub frames-later : {fs : List Frame} → SoundFrames n issued fs → SoundFrames n issued' fs
+  frames-later noFrames = noFrames
+  frames-later (oneFrame f fs) = oneFrame (frame-later f) (frames-later fs)
+
+-- ---- receivers
+
+pub data FitsReceiver : Receiver → Type 0 where
+  deafFits : FitsReceiver deaf
+  hearsFits : {o x : ℕ} → o < 64 → x < 32 → FitsReceiver (hears o x)
+  servesFits : {o x y : ℕ} {p : Node} → o < 64 → x < 32 → y < 32 → Fits (code false) anywhere p → FitsReceiver (serves o x y p)
+
+receiver-fits : {p : Node} → Fits (code false) anywhere p → FitsReceiver (receiver p)
+unfolding receiver
+receiver-fits (fits {h = h} {f = f} t x e y qs g) =
+    cond-case FitsReceiver (eqb (kindOf h) Kind.one-way) (λ u. hearsFits name second)
+    (λ u. cond-case FitsReceiver (eqb (kindOf h) Kind.request) (λ v. servesFits name second reply-y (part-fits qs 0)) (λ v. deafFits))
+  where
+    name : nameOf h < 64
+    name = mod-lt (h / 32) (lit< tt)
+
+    second : secondOf h < 32
+    second = mod-lt h (lit< tt)
+
+    reply-y : firstVariable (fixedAt f 0) < 32
+    reply-y = let w : fixedAt f 0 < 65536 = fixed-word x 0 in omega arith
+
+pub record FitsOffer (o : Offer) : Type 0 where
+  pub receives : FitsReceiver (o .receives)
+  pub next : All (Fits (code false) anywhere) (o .next)
+
+chosen-fits : {k n : ℕ} {ps : Nodes} (count i : ℕ) → FitsParts (code false) k n ps → FitsOffer (chosen count ps i)
+unfolding chosen
+chosen-fits count zero qs = record { receives = deafFits; next = allNone }
+chosen-fits count (suc i) qs =
+    cond-case FitsOffer (ltb i count)
+    (λ t. record { receives = receiver-fits (part-fits qs (2 * i)); next = allSome (part-fits qs (2 * i + 1)) })
+    (λ t. record { receives = deafFits; next = allNone })
+
+bare-fits : {p : Node} (i : ℕ) → Fits (code false) anywhere p → FitsOffer (bare p i)
+unfolding bare
+bare-fits zero g = record { receives = receiver-fits g; next = allNone }
+bare-fits (suc i) g = record { receives = deafFits; next = allNone }
+
+offered-fits : {p : Node} (i : ℕ) → Fits (code false) anywhere p → FitsOffer (offered p i)
+unfolding offered
+offered-fits i (fits {h = h} t x e y qs g) =
+    cond-case FitsOffer (eqb (kindOf h) Kind.choice) (λ u. chosen-fits (countOf h) i qs) (λ u. bare-fits i (fits t x e y qs g))
+
+pub offer-fits : {n issued : ℕ} {p : Run} → Sound n issued p → (i : ℕ) → FitsOffer (offer p i)
+unfolding offer
+offer-fits nilSound i = record { receives = deafFits; next = allNone }
+offer-fits (seqSound g t q) i = record { receives = deafFits; next = allNone }
+offer-fits (parSound g t k u) i = record { receives = deafFits; next = allNone }
+offer-fits (scopeSound a m c g) i = record { receives = deafFits; next = allNone }
+offer-fits (executorSound o y e g) i = record { receives = deafFits; next = allNone }
+offer-fits (waiterSound o x e l) i = record { receives = deafFits; next = allNone }
+offer-fits (noticeSound o f e) i = record { receives = deafFits; next = allNone }
+offer-fits (actSound t g) i = offered-fits i g
+
+followed-sound : {n issued : ℕ} {p : Run} {q : Option Node} → Sound n issued p → All (Fits (code false) anywhere) q → Sound n issued (followed p q)
+unfolding followed
+followed-sound g allNone = g
+followed-sound g (allSome f) = seqOf-sound g f
+
+-- ---- exchanges
+
+pub record FitsExchange (n issued : ℕ) (x : Exchange) : Type 0 where
+  pub later : issued ≤ x .issued
+  pub sender : Sound n (x .issued) (x .sender)
+  pub receiver : Sound n (x .issued) (x .receiver)
+  pub values : FitValues (x .values)
+
+inst-sound : {n issued : ℕ} {l : Entries} → FitsEntries false zero l → Sound n issued (act (instOf l))
+unfolding headFits allowed placed branched rowOf rows processesOf nodeFits
+inst-sound g = actSound tt (fits tt noFixed noExprs (aList g) noPart tt)
+
+throw-fits : (h : ℕ) → kindOf h ≡ Kind.throw → h % 32 ≡ 0 → Fits (code false) anywhere (node h [] [] absent noParts)
+unfolding allowed placed branched rowOf rows processesOf nodeFits
+throw-fits h k z =
+    fits (head-fits {s = code false} {p = anywhere} {h = h} (record { allows = at (λ k. T (allowed (code false) k)) tt; places = tt; clears = at (λ k. T (clear (rowOf k .spare) h)) (eq→eqb z); branches = at (λ k. T (not (eqb k Kind.choice) || ltb 0 (countOf h) && leb (countOf h) 8)) tt }))
+    (at (λ k. FitsFixed (rowOf k .fixed) []) noFixed)
+    (at (λ k. FitsExprs (rowOf k .expressions) []) noExprs)
+    (at (λ k. FitsBlock (eqb k Kind.scope) (rowOf k .lists) absent) noList)
+    (at (λ k. FitsParts (code false) k (cond (eqb k Kind.choice) (countOf h * rowOf k .processes) (rowOf k .processes)) noParts) noPart)
+    (at (λ k. T (eqb k Kind.scope ⇒ restingFits (markOf h) (zombieOf h) (firstName (fixedAt [] 0)) noEntries)) tt)
+  where
+    at : (P : ℕ → Type 0) → P Kind.throw → P (kindOf h)
+    at P x = subst P (sym k) x
+
+    eq→eqb : h % 32 ≡ 0 → T (eqb (h % 32) 0)
+    eq→eqb e = subst (λ x. T (eqb x 0)) (sym e) tt
+
+throw-sound : {n issued f : ℕ} → f < 64 → Sound n issued (act (throwOf f))
+throw-sound {f = f} b = actSound (subst (λ k. T (isPlain k)) (sym k13) tt) (throw-fits (headOf Kind.throw (f * 32)) k13 (omega arith))
+  where
+    k13 : kindOf (headOf Kind.throw (f * 32)) ≡ 13
+    k13 = omega arith
+
+module _ {n issued : ℕ} {vs : List ℕ} (v : FitValues vs) where
+  notified-fits :
+      (o : ℕ) {w : ℕ} {r : Receiver} {next : Option Node} →
+      w < 4294967296 →
+      FitsReceiver r →
+      All (Fits (code false) anywhere) next →
+      All (FitsExchange n issued) (notified issued vs o w r next)
+  unfolding notified
+  notified-fits o b deafFits k = allNone
+  notified-fits o b (hearsFits {o = op} {x = x} c d) k =
+      all-guarded (eqb o op) λ t. allSome (record { later = le-refl issued; sender = nilSound; receiver = followed-sound nilSound k; values = values-set v b x })
+  notified-fits o b (servesFits c d e f) k = allNone
+
+  solicited-fits :
+      {client server o w x : ℕ} {l : Entries} {r : Receiver} {next : Option Node} →
+      client < n →
+      server < n →
+      o < 64 →
+      w < 4294967296 →
+      x < 32 →
+      FitsEntries false zero l →
+      FitsReceiver r →
+      All (Fits (code false) anywhere) next →
+      All (FitsExchange n issued) (solicited issued client server vs o w x l r next)
+  unfolding solicited
+  solicited-fits c s a b d l deafFits k = allNone
+  solicited-fits c s a b d l (hearsFits e f) k = allNone
+  solicited-fits {o = o} c s a b d l (servesFits {o = op} {x = x'} e f y p) k =
+      all-guarded (eqb o op) λ t.
+      allSome
+      (record {
+        later = omega arith;
+        sender = waiterSound a d (end-fits (record { below = s; positive = omega arith; given = le-refl (suc issued) })) l;
+        receiver = followed-sound (executorSound a y (end-fits (record { below = c; positive = omega arith; given = le-refl (suc issued) })) (enable-sound n (suc issued) p)) k;
+        values = values-set v b x';
+      })
+
+  awaited-fits :
+      {p : Run} (sender receiver i o client serial : ℕ) {k : ℕ → Bool → Entries → Exchange} →
+      Sound n issued p →
+      ((x : ℕ) (dead : Bool) (l : Entries) → FitsEntries false zero l → FitsExchange n issued (k x dead l)) →
+      All (FitsExchange n issued) (awaited sender receiver i o client serial p k)
+  unfolding awaited
+  awaited-fits s r i o c e nilSound f = allNone
+  awaited-fits s r i o c e (seqSound g t q) f = allNone
+  awaited-fits s r i o c e (parSound g t k u) f = allNone
+  awaited-fits s r i o c e (scopeSound a m d g) f = allNone
+  awaited-fits s r i o c e (executorSound a y d g) f = allNone
+  awaited-fits s r i o c e (waiterSound {o = op} {x = x} {server = server} {serial = serial} {dead = dead} {l = l} a b d g) f =
+      all-guarded (eqb i 0 && eqb e serial && eqb o op && eqb c r && eqb server s) λ t. allSome (f x dead l g)
+  awaited-fits s r i o c e (noticeSound a b d) f = allNone
+  awaited-fits s r i o c e (actSound t g) f = allNone
+
+  pub exchange-fits :
+      {sender receiver : ℕ} (i : ℕ) {p : Run} {m : Message} →
+      sender < n →
+      receiver < n →
+      Sound n issued p →
+      FitsMessage m →
+      All (FitsExchange n issued) (exchange issued sender receiver i vs p m)
+  unfolding exchange replied faulting
+  exchange-fits {receiver = receiver} i {p = p} s r g (notificationFits {o = op} {z = z} o b) =
+      all-guarded (eqb z receiver) λ t. notified-fits op b (offer-fits g i .receives) (offer-fits g i .next)
+  exchange-fits {receiver = receiver} i {p = p} s r g (solicitationFits {z = z} o b x l) =
+      all-guarded (eqb z receiver) λ t. solicited-fits s r o b x l (offer-fits g i .receives) (offer-fits g i .next)
+  exchange-fits {sender} {receiver} i s r g (replyFits {o = o} {client = client} {serial = serial} b) =
+      awaited-fits sender receiver i o client serial g λ x dead l f.
+      record { later = le-refl issued; sender = nilSound; receiver = inst-sound f; values = values-set v b x }
+  exchange-fits {sender} {receiver} i s r g (failureFits {o = o} {f = f} {client = client} {serial = serial} b) =
+      awaited-fits sender receiver i o client serial g λ x dead l h.
+      record {
+        later = le-refl issued;
+        sender = nilSound;
+        receiver = cond-case (λ r. Sound n issued r) dead (λ t. nilSound) (λ t. throw-sound b);
+        values = v;
+      }

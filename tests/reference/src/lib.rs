@@ -1,0 +1,46 @@
+//! A second implementation of document 01 (SOCK engines with dynamic handlers), in plain Rust
+//! over trees. It is the oracle for an implementation that works on the words themselves, so
+//! it follows the document sentence by sentence and prefers clarity to speed.
+//!
+//! Words become trees (`read`, `readable`), rules change trees (`alone`, `pair`, with `fault`,
+//! `handlers` and `context`), trees become words (`write`), and `calls` ties them together.
+//!
+//! Decisions where document 01 leaves room:
+//! - Parts of trees are shared (`Rc`), so that a result of millions of words can be measured
+//!   and refused without being built.
+//! - The limits are a parameter of the calls on words; the calls on bytes and the program
+//!   handover take document 01's figures. Handover's bound on L and its output room are both
+//!   the limit of words.
+//! - The process of an engine is the range 0..0 when there is none, and packed 0.
+//! - Ends are counted among enabled processes, the only place where a readable configuration
+//!   has them.
+//! - In handover, a length word that is cut itself counts as missing words; "cut" stands alone
+//!   in its line, in place of "end" and the length.
+
+pub mod alone;
+pub mod build;
+pub mod bytes;
+pub mod calls;
+pub mod configuration;
+pub mod context;
+pub mod coverage;
+pub mod expression;
+pub mod fault;
+pub mod fields;
+pub mod generate;
+pub mod handlers;
+pub mod handover;
+pub mod limits;
+pub mod measure;
+pub mod pair;
+pub mod process;
+pub mod read;
+pub mod readable;
+pub mod refusal;
+pub mod write;
+
+pub use bytes::{sock_check_readable, sock_check_start, sock_ends, sock_process, sock_step};
+pub use calls::{
+    check_readable, check_start, ends, process_of, process_range, step, Answer, Ends, Numbers,
+};
+pub use limits::{Limits, STANDARD};
