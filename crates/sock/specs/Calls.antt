@@ -15,30 +15,18 @@ use Rattle.sock.specs.Rules.{also, Message, Move, stuck, alone, sends, m
 
 -- The refusals, with the word that document 01 gives each
 pub data Refusal : Type 0 where
-  -- 1 "unreadable": configuration not readable
-  unreadable : Refusal
-  -- 2 "nobody there": first engine not below n, or position no enabled process's head
-  nobodyThere : Refusal
-  -- 3 "no move": no rule begins with the process; or it moves alone and a second field or branch isn't 0
-  noMove : Refusal
-  -- 4 "no partner": second engine or position as in 2
-  noPartner : Refusal
-  -- 5 "no fit": rule for two not met, or the branch
-  noFit : Refusal
-  -- 6 "installing": the climb meets a side that can't be killed
-  installing : Refusal
-  -- 7 "serials spent": solicit at issued 65,535
-  serialsSpent : Refusal
-  -- 8 "deep": result beyond the depth
-  deep : Refusal
-  -- 9 "long": result beyond the words
-  long : Refusal
-  -- 10 "short paper": output shorter than result
-  short : Refusal
-  -- 11 "not fresh": readable, not fresh
-  notFresh : Refusal
-  -- 12 "unknown serial": serial 0 or above issued
-  unknownSerial : Refusal
+  unreadable : Refusal  -- 1 "unreadable": configuration not readable
+  nobodyThere : Refusal  -- 2 "nobody there": first engine not below n, or position no enabled process's head
+  noMove : Refusal  -- 3 "no move": no rule begins with the process; or it moves alone and a second field or branch isn't 0
+  noPartner : Refusal  -- 4 "no partner": second engine or position as in 2
+  noFit : Refusal  -- 5 "no fit": rule for two not met, or the branch
+  installing : Refusal  -- 6 "installing": the climb meets a side that can't be killed
+  serialsSpent : Refusal  -- 7 "serials spent": solicit at issued 65,535
+  deep : Refusal  -- 8 "deep": result beyond the depth
+  long : Refusal  -- 9 "long": result beyond the words
+  short : Refusal  -- 10 "short paper": output shorter than result
+  notFresh : Refusal  -- 11 "not fresh": readable, not fresh
+  unknownSerial : Refusal  -- 12 "unknown serial": serial 0 or above issued
 
 abbrev pub number : Refusal → ℕ
 number unreadable = 1

@@ -10,15 +10,11 @@ use Rattle.sock.specs.Layout.{entriesWords}
 use Rattle.sock.specs.Running.{Mark, Run, nil, seq, par, scope, executor, waiter, notice, act, size, enable}
 
 pub data Frame : Type 0 where
-  -- the first of a seq, before its second
-  seqFrame : Node → Frame
-  -- the left side of a par, and the right, beside the other
-  leftFrame : Run → Frame
+  seqFrame : Node → Frame  -- the first of a seq, before its second
+  leftFrame : Run → Frame  -- the left side of a par, and the right, beside the other
   rightFrame : Run → Frame
-  -- the body of a scope: name, mark, zombie, list
-  scopeFrame : ℕ → Mark → Bool → Entries → Frame
-  -- the body of an executor: operation, y, client engine, serial
-  executorFrame : ℕ → ℕ → ℕ → ℕ → Frame
+  scopeFrame : ℕ → Mark → Bool → Entries → Frame  -- the body of a scope: name, mark, zombie, list
+  executorFrame : ℕ → ℕ → ℕ → ℕ → Frame  -- the body of an executor: operation, y, client engine, serial
 
 pub record Located : Type 0 where
   pub frames : List Frame

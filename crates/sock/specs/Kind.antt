@@ -39,31 +39,25 @@ solicit = 10
 abbrev pub scope : ℕ
 scope = 11
 
--- document 01's inst: installs handlers
-abbrev pub inst : ℕ
+abbrev pub inst : ℕ  -- document 01's inst: installs handlers
 inst = 12
 
 abbrev pub throw : ℕ
 throw = 13
 
--- document 01's comp: compensates
-abbrev pub comp : ℕ
+abbrev pub comp : ℕ  -- document 01's comp: compensates
 comp = 14
 
--- document 01's cH: stands for the handler that an installed one replaces
-abbrev pub cH : ℕ
+abbrev pub cH : ℕ  -- document 01's cH: stands for the handler that an installed one replaces
 cH = 15
 
--- document 01's executor: a request being served; it replies when its body is done
-abbrev pub executor : ℕ
+abbrev pub executor : ℕ  -- document 01's executor: a request being served; it replies when its body is done
 executor = 16
 
--- document 01's waiter: a solicit that waits for its reply
-abbrev pub waiter : ℕ
+abbrev pub waiter : ℕ  -- document 01's waiter: a solicit that waits for its reply
 waiter = 17
 
--- document 01's notice: a fault on its way to a waiter
-abbrev pub notice : ℕ
+abbrev pub notice : ℕ  -- document 01's notice: a fault on its way to a waiter
 notice = 18
 
 -- What follows the head of a kind. The bits of the head below `spare`, and of each fixed word below its number in `fixed`, are unused.
@@ -77,7 +71,7 @@ pub record Row : Type 0 where
 abbrev row : ℕ → List ℕ → ℕ → ℕ → ℕ → Row
 row s f e l p = record { spare = s; fixed = f; expressions = e; lists = l; processes = p }
 
--- The fixed table. A choice has two processes per branch, so its row is read with its count (`Node.processesOf`).
+-- The fixed table. A choice has two processes per branch, so its row is read with its count (`processesOf`).
 unfoldable pub rows : List Row
 rows =
     row 2048 [] 0 0 0  -- 0 nil

@@ -57,14 +57,11 @@ climb f (scopeFrame name mark zombie h ∷ fs) p =
 -- ---- a process that is neither nil, seq, par, scope nor an end, seen as what it does
 
 pub data Action : Type 0 where
-  -- kinds that make no move of their own
-  still : Action
+  still : Action  -- kinds that make no move of their own
   assign : ℕ → Expr → Action
-  -- if and while, by their conditions
-  branch : Expr → Node → Node → Action
+  branch : Expr → Node → Node → Action  -- if and while, by their conditions
   repeat : Expr → Node → Action
-  -- operation, y, z; and x with the list
-  notify : ℕ → ℕ → ℕ → Action
+  notify : ℕ → ℕ → ℕ → Action  -- operation, y, z; and x with the list
   solicit : ℕ → ℕ → ℕ → ℕ → Entries → Action
   install : Entries → Action
   throw : ℕ → Action
@@ -94,14 +91,10 @@ action (node h f es b ps) =
 -- ---- what an enabled process does: nothing; a move alone, which gives the engine's values and process; or it sends a message
 
 pub data Message : Type 0 where
-  -- operation, value sent, value of z
-  notification : ℕ → ℕ → ℕ → Message
-  -- and the variable x and the list of the waiter to be
-  solicitation : ℕ → ℕ → ℕ → ℕ → Entries → Message
-  -- operation, value sent, client engine, serial
-  reply : ℕ → ℕ → ℕ → ℕ → Message
-  -- operation, fault, client engine, serial
-  failure : ℕ → ℕ → ℕ → ℕ → Message
+  notification : ℕ → ℕ → ℕ → Message  -- operation, value sent, value of z
+  solicitation : ℕ → ℕ → ℕ → ℕ → Entries → Message  -- and the variable x and the list of the waiter to be
+  reply : ℕ → ℕ → ℕ → ℕ → Message  -- operation, value sent, client engine, serial
+  failure : ℕ → ℕ → ℕ → ℕ → Message  -- operation, fault, client engine, serial
 
 pub data Move : Type 0 where
   stuck : Move

@@ -19,16 +19,11 @@ pub data Run : Type 0 where
   nil : Run
   seq : Run → Node → Run
   par : Run → Run → Run
-  -- name, mark, zombie, list, body
-  scope : ℕ → Mark → Bool → Entries → Run → Run
-  -- operation, y, client engine, serial, body
-  executor : ℕ → ℕ → ℕ → ℕ → Run → Run
-  -- operation, x, dead, server engine, serial, list
-  waiter : ℕ → ℕ → Bool → ℕ → ℕ → Entries → Run
-  -- operation, fault, client engine, serial
-  notice : ℕ → ℕ → ℕ → ℕ → Run
-  -- any other process
-  act : Node → Run
+  scope : ℕ → Mark → Bool → Entries → Run → Run  -- name, mark, zombie, list, body
+  executor : ℕ → ℕ → ℕ → ℕ → Run → Run  -- operation, y, client engine, serial, body
+  waiter : ℕ → ℕ → Bool → ℕ → ℕ → Entries → Run  -- operation, x, dead, server engine, serial, list
+  notice : ℕ → ℕ → ℕ → ℕ → Run  -- operation, fault, client engine, serial
+  act : Node → Run  -- any other process
 
 -- The node of what is enabled, and so its words, its size and its depth
 abbrev pub markNumber : Mark → ℕ
