@@ -156,7 +156,7 @@ module _ (d : ℕ) {n issued : ℕ} (few : n ≤ 8) (word : issued < 65536) wher
   engines-finds (oneEngine {e} {es} f fs) shallow rest =
       rw (append-assoc, engine-finds f (omega arith) (enginesWords es ++ rest), engines-finds fs (omega arith) rest)
 
-passed : {A : Type 0} {o : Option A} (b : Bool) → T b → guarded b o ≡ o
+pub passed : {A : Type 0} {o : Option A} (b : Bool) → T b → guarded b o ≡ o
 unfolding guarded
 passed true t = refl
 passed false t = absurd t

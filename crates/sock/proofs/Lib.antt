@@ -2,6 +2,7 @@ pub mod Bounds
 pub mod ByKind
 pub mod Computed
 pub mod Configuration
+pub mod Delivery
 pub mod Examples
 pub mod Exchange
 pub mod Fields
@@ -16,5 +17,6 @@ pub mod Opening
 pub mod Reading
 pub mod Rules
 pub mod Running
+pub mod Shrinking
 pub mod Steps
 pub mod Worked

@@ -120,7 +120,7 @@ module _ (r : Run) (p : ℕ) (fs : List Frame) (l : Located) (e : locate r p fs 
 
 -- ---- in a configuration
 
-values-length : (vs : List ℕ) → length (valuesWords vs) ≡ length vs + length vs
+pub values-length : (vs : List ℕ) → length (valuesWords vs) ≡ length vs + length vs
 unfolding valuesWords
 values-length [] = refl
 values-length (v ∷ vs) = omega (arith, values-length vs)
