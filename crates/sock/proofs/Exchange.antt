@@ -31,7 +31,7 @@ pub record EndFits (n issued engine serial : ℕ) : Type 0 where
   pub positive : zero < serial
   pub given : serial ≤ issued
 
-three : (a b c : Bool) → T (a && b && c) → T a × T b × T c
+pub three : (a b c : Bool) → T (a && b && c) → T a × T b × T c
 three true true c t = (tt, tt, t)
 three true false c t = absurd t
 three false b c t = absurd t

@@ -45,12 +45,12 @@ pub record Stands (n issued : ℕ) (l : Located) : Type 0 where
   pub frames : SoundFrames n issued (l .frames)
   pub process : Sound n issued (l .process)
 
-all-here : {P : Located → Type 0} (p : ℕ) (l : Located) {o : Option Located} → P l → All P o → All P (hereOr p l o)
+pub all-here : {P : Located → Type 0} (p : ℕ) (l : Located) {o : Option Located} → P l → All P o → All P (hereOr p l o)
 unfolding hereOr
 all-here zero l h k = allSome h
 all-here (suc p) l h k = k
 
-all-past : {P : Located → Type 0} (own p : ℕ) {find : ℕ → Option Located} → ((i : ℕ) → All P (find i)) → All P (past own p find)
+pub all-past : {P : Located → Type 0} (own p : ℕ) {find : ℕ → Option Located} → ((i : ℕ) → All P (find i)) → All P (past own p find)
 unfolding past
 all-past {P} own p {find} h = cond-case (λ o. All P o) (ltb p own) (λ t. allNone) (λ t. h (p - own))
 

@@ -1,3 +1,5 @@
+pub mod Accepted
+pub mod Accounts
 pub mod Bounds
 pub mod ByKind
 pub mod Computed
@@ -9,14 +11,21 @@ pub mod Fields
 pub mod Fits
 pub mod Frames
 pub mod Handlers
+pub mod Ledger
 pub mod Located
 pub mod Logic
 pub mod Measures
+pub mod Moves
 pub mod Nodes
 pub mod Opening
 pub mod Reading
+pub mod Replies
+pub mod Requests
 pub mod Rules
 pub mod Running
 pub mod Shrinking
 pub mod Steps
+pub mod Tallies
+pub mod Trades
+pub mod Turns
 pub mod Worked

@@ -177,7 +177,7 @@ pub record Enabled (c : Config) (e p : ℕ) (s : Spot) : Type 0 where
   pub located : locate (engineAt c e .process) p [] ≡ some (record { frames = s .frames; process = s .process })
   pub stands : Stands (engineAt c e .process) (encode c) (startOf c e + p) (record { frames = s .frames; process = s .process })
 
-all-equal : {A : Type 0} (o : Option A) → All (λ a. o ≡ some a) o
+pub all-equal : {A : Type 0} (o : Option A) → All (λ a. o ≡ some a) o
 all-equal none = allNone
 all-equal (some a) = allSome refl
 

@@ -1,0 +1,185 @@
+-- Every request has one reply (demand 3): along any list of calls from a fresh start the configuration read has a ledger, and all that is
+-- claimed is read off it.
+-- Assumes nothing.
+use Prim.Native.Nat.{ℕ, _+_, _≤_, _<_}
+use native.Mathlib.Omega.{arith}
+use mathlib.Core.Path.{_≡_, refl, subst, sym, ap, _∙_}
+use mathlib.Core.Bool.{Bool, true, false, _&&_, cond}
+use mathlib.Core.Option.{some}
+use mathlib.Core.List.{List, [], _∷_}
+use lib.Dec.{T}
+use lib.ListN.{length, getD}
+use borrow.Author.Tests.{lt-ltb, le-leb, eqb-false}
+use Rattle.sock.specs.Words.{bit}
+use Rattle.sock.specs.Running.{Run}
+use Rattle.sock.specs.Configuration.{Limits, Config, encode, readConfig, fresh}
+use Rattle.sock.specs.Rules.{also}
+use Rattle.sock.specs.Calls.{unreadable, notFresh, number, Result, refused, done, _>>=_, _>>_, _!_, _unless_, Spot, enabledAt, Stepped, stepAnswer, passed, start, checkStart, tallyAll, waits, works, known, counted, ends}
+use Rattle.sock.specs.Runs.{Call, accepted, nextWords, run, named, ofSpot, isSolicit, carries, counts, total, solicits, deliveries, lastSerial, delivery, Matched, EveryRequestHasOneReply}
+use Rattle.sock.proofs.Fits.{Readable}
+use Rattle.sock.proofs.Located.{all-equal}
+use Rattle.sock.proofs.Configuration.{config-found}
+use Rattle.sock.proofs.Steps.{Sure, sureDone, sure-then, sure-given, sure-unless, sure-done, step-readable}
+use Rattle.sock.proofs.Turns.{Turn, turn-issued, turn-latest, Stepping, step-turns}
+use Rattle.sock.proofs.Ledger.{Ledger, ledger-turns, ledger-same, openOf}
+use Rattle.sock.proofs.Accepted.{number-positive, Refused, Done, Called, calledRefused, calledDone, called}
+use Rattle.sock.proofs.Accounts.{waits-all, works-all, ends-paired, fresh-ledger}
+use Rattle.sock.proofs.Replies.{ready-awaited, ready-deliverable}
+
+module _ (limits : Limits) where
+  -- ---- one call
+
+  record OneCall (ws : List ℕ) (k : Call) (c : Config) (d : ℕ → ℕ) : Type 0 where
+    config : Config
+    reads : readConfig limits (nextWords limits ws k) ≡ some config
+    ledger : Ledger config (λ s. d s + counts (carries s) limits ws k)
+    issued : config .issued ≡ c .issued + counts isSolicit limits ws k
+    latest :
+        (serial : ℕ) → serial ≡ c .issued →
+        cond (accepted limits ws k && ofSpot isSolicit (named limits ws k)) (stepAnswer limits ws (k .numbers) (k .output) .serial) serial ≡ config .issued
+
+  module _ (ws : List ℕ) (k : Call) {c : Config} (r : readConfig limits ws ≡ some c) {d : ℕ → ℕ} (l : Ledger c d) where
+    counts-refused : accepted limits ws k ≡ false → (test : Run → Bool) → counts test limits ws k ≡ 0
+    unfolding counts
+    counts-refused e test = rw e
+
+    refused-call : Refused limits ws k → OneCall ws k c d
+    refused-call u =
+        let no : (test : Run → Bool) → counts test limits ws k ≡ 0 = counts-refused (u .not-accepted) in
+        record {
+          config = c;
+          reads = rw (u .kept) r;
+          ledger = ledger-same (λ s. omega (arith, no (carries s))) l;
+          issued = omega (arith, no isSolicit);
+          latest = λ serial e. rw (u .not-accepted) e;
+        }
+
+    named-at : {a : Spot} → enabledAt c (k .numbers .engine) (k .numbers .position) ≡ some a → named limits ws k ≡ some a
+    unfolding named also
+    named-at e = rw r e
+
+    counts-done : {a : Spot} → accepted limits ws k ≡ true → named limits ws k ≡ some a → (test : Run → Bool) → counts test limits ws k ≡ bit (test (a .process))
+    unfolding counts ofSpot
+    counts-done e n test = rw (e, n)
+
+    done-call : (s : Stepped) → Done limits ws k s → OneCall ws k c d
+    unfolding ofSpot
+    done-call s u =
+        let x : Stepping limits ws (k .numbers) s = sure-done (step-turns limits ws (k .numbers) (length (k .output))) (u .step-done) in
+        let p : Run = x .spot .process in
+        let same : x .before ≡ c = cc in
+        let turn : Turn c (s .config) p (s .serial) = subst (λ c. Turn c (s .config) p (s .serial)) same (x .turn) in
+        let found : named limits ws k ≡ some (x .spot) = named-at (subst (λ c. enabledAt c (k .numbers .engine) (k .numbers .position) ≡ some (x .spot)) same (x .named)) in
+        let counting : (test : Run → Bool) → counts test limits ws k ≡ bit (test p) = counts-done (u .is-accepted) found in
+        record {
+          config = s .config;
+          reads = rw (u .next) (step-readable limits ws (k .numbers) (length (k .output)) s (u .step-done));
+          ledger = ledger-same (λ n. omega (arith, counting (carries n))) (ledger-turns p l turn);
+          issued = omega (arith, turn-issued turn, counting isSolicit);
+          latest = λ serial e. rw (u .is-accepted, found, u .serial) (turn-latest turn serial e);
+        }
+
+    one-call : OneCall ws k c d
+    one-call = by (called limits ws k)
+      where
+        by : Called limits ws k → OneCall ws k c d
+        by (calledRefused u) = refused-call u
+        by (calledDone s u) = done-call s u
+
+  -- ---- a list of calls
+
+  record After (ws : List ℕ) (calls : List Call) (c : Config) (d : ℕ → ℕ) : Type 0 where
+    config : Config
+    reads : readConfig limits (run limits ws calls) ≡ some config
+    ledger : Ledger config (λ s. d s + deliveries s limits ws calls)
+    issued : config .issued ≡ c .issued + solicits limits ws calls
+    latest : (serial : ℕ) → serial ≡ c .issued → lastSerial serial limits ws calls ≡ config .issued
+
+  after : (calls : List Call) (ws : List ℕ) {c : Config} → readConfig limits ws ≡ some c → {d : ℕ → ℕ} → Ledger c d → After ws calls c d
+  unfolding run total lastSerial
+  after [] ws {c} r {d} l =
+      record { config = c; reads = r; ledger = ledger-same (λ s. omega arith) l; issued = omega arith; latest = λ serial e. e }
+  after (k ∷ ks) ws {c} r {d} l =
+      let x : OneCall ws k c d = one-call ws k r l in
+      let y = after ks (nextWords limits ws k) (x .reads) (x .ledger) in
+      record {
+        config = y .config;
+        reads = y .reads;
+        ledger = ledger-same (λ s. omega arith) (y .ledger);
+        issued = omega (arith, y .issued, x .issued);
+        latest = λ serial e. y .latest _ (x .latest serial e);
+      }
+
+  -- ---- a start, and what is read off
+
+  start-sure : (ws : List ℕ) → Sure (λ c. (readConfig limits ws ≡ some c) × T (fresh c)) (start limits ws)
+  unfolding start
+  start-sure ws =
+      sure-then (sure-given unreadable (all-equal (readConfig limits ws))) λ c e. sure-unless notFresh (fresh c) λ t. sureDone (e, t)
+
+  started : (ws : List ℕ) → checkStart limits ws ≡ 0 → (c : Config) × (readConfig limits ws ≡ some c) × T (fresh c)
+  unfolding checkStart passed
+  started ws h = by (start limits ws) refl
+    where
+      by : (r : Result Config) → start limits ws ≡ r → (c : Config) × (readConfig limits ws ≡ some c) × T (fresh c)
+      by (refused r) e = absurd (eqb-false (number r) 0 (number-positive r) (sym (ap passed e) ∙ h))
+      by (done c) e = let x = sure-done (start-sure ws) e in (c, x .0, x .1)
+
+  ends-known :
+      (ws : List ℕ) {c : Config} (s : ℕ) → readConfig limits ws ≡ some c → 0 < s → s ≤ c .issued →
+      ends limits ws s ≡ record { number = 0; waiters = tallyAll (waits s) (c .engines); workers = tallyAll (works s) (c .engines) }
+  unfolding ends known counted _>>=_ _>>_ _!_ _unless_
+  ends-known ws {c} s r a b = rw (r, lt-ltb 0 s a, le-leb s (c .issued) b)
+
+  matched :
+      (ws : List ℕ) {c₀ : Config} → c₀ .issued ≡ 0 → (calls : List Call) (x : After ws calls c₀ (λ s. 0)) → Matched limits ws calls (x .config)
+  unfolding encode
+  matched ws z calls x =
+      record {
+        readable = x .reads;
+        issued = ap (λ ws. getD ws 1 0) (sym words) ∙ count;
+        latest = λ h. x .latest 0 (sym z) ∙ count;
+        counted = λ s a b. ap (λ r. r .number) (answered s a b);
+        balanced = λ s a b. rw (answered s a b) (waits-all l s ∙ sym (works-all l s));
+        once = λ s a b. rw (answered s a b) (omega (arith, waits-all l s, l .given s a (omega (arith, count))));
+        paired = λ s o o' g g' e e' w k. ends-paired l s o o' g g' e e' w k;
+        others = λ s f.
+            let free : openOf (l .status s) ≡ 0 = omega (arith, l .others s (λ a b. f a (omega (arith, count)))) in
+            (waits-all l s ∙ free, works-all l s ∙ free);
+        awaited = λ s e p a at t. ready-awaited good l s e p a at t;
+        deliverable = λ s e p e' p' a b out at t at' t' room.
+            subst
+            (λ ws.
+            length ws ≤ length out →
+            (stepAnswer limits ws (delivery e p e' p') out .number ≡ 0)
+            × (stepAnswer limits ws (delivery e p e' p') out .serial ≡ s))
+            words (ready-deliverable good l s e p a at t e' p' b out at' t') room;
+      }
+    where
+      c : Config
+      c = x .config
+
+      l : Ledger c (λ s. 0 + deliveries s limits ws calls)
+      l = x .ledger
+
+      words : encode c ≡ run limits ws calls
+      words = config-found limits (run limits ws calls) c (x .reads) .0
+
+      good : Readable limits c
+      good = config-found limits (run limits ws calls) c (x .reads) .1
+
+      count : c .issued ≡ solicits limits ws calls
+      count = omega (arith, x .issued)
+
+      answered :
+          (s : ℕ) → 0 < s → s ≤ solicits limits ws calls →
+          ends limits (run limits ws calls) s ≡ record { number = 0; waiters = tallyAll (waits s) (c .engines); workers = tallyAll (works s) (c .engines) }
+      answered s a b = ends-known (run limits ws calls) s (x .reads) a (omega (arith, count))
+
+-- Demand 3
+pub everyRequest : EveryRequestHasOneReply
+everyRequest limits start h calls =
+    let (c, r, f) = started limits start h in
+    let (z, l) = fresh-ledger c f in
+    let x = after limits calls start r l in
+    (x .config, matched limits start z calls x)
