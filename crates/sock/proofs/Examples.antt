@@ -42,62 +42,62 @@ Every P (x ∷ xs) = P x × Every P xs
 
 -- ---- terms for the cases
 
-leaf : ℕ → ℕ → Node
+unfoldable pub leaf : ℕ → ℕ → Node
 leaf kind fields = node (headOf kind fields) [] [] absent noParts
 
 -- P, P', B and R of the examples; fault 3 and scope name 5 are theirs
-P : Node
+unfoldable pub P : Node
 P = leaf Kind.throw (7 * 32)
 
-P' : Node
+unfoldable pub P' : Node
 P' = leaf Kind.comp (9 * 32)
 
-B : Node
+unfoldable pub B : Node
 B = leaf Kind.one-way (4 * 32 + 2)
 
 R : Node
 R = leaf Kind.throw (8 * 32)
 
-cH : Node
+unfoldable pub cH : Node
 cH = leaf Kind.cH 0
 
-both : Node → Node → Node
+unfoldable pub both : Node → Node → Node
 both p q = node (headOf Kind.seq 0) [] [] absent (p & q & noParts)
 
-one : ℕ → Node → Entries
+unfoldable pub one : ℕ → Node → Entries
 one k p = entry k p noEntries
 
-zeros : List ℕ
+unfoldable pub zeros : List ℕ
 zeros = replicate 32 0
 
-engine : List ℕ → Run → Engine
+unfoldable pub engine : List ℕ → Run → Engine
 engine vs p = record { values = vs; process = p }
 
 -- one engine, whose root is live and unmarked
-single : Entries → Run → Config
+unfoldable pub single : Entries → Run → Config
 single h p = record { issued = 0; engines = engine zeros (scope 1 unmarked false h p) ∷ [] }
 
 -- two engines, one serial issued
-double : Run → Run → Config
+unfoldable pub double : Run → Run → Config
 double p q = record { issued = 1; engines = engine zeros p ∷ engine zeros q ∷ [] }
 
-at : ℕ → ℕ → Numbers
+unfoldable pub at : ℕ → ℕ → Numbers
 at e p = record { engine = e; position = p; second = 0; secondPosition = 0; branch = 0 }
 
-to : ℕ → ℕ → ℕ → ℕ → Numbers
+unfoldable pub to : ℕ → ℕ → ℕ → ℕ → Numbers
 to e p f q = record { engine = e; position = p; second = f; secondPosition = q; branch = 0 }
 
 -- an assign to variable 0
 assigned : Expr → Run
 assigned e = act (node (headOf Kind.assign 0) [] (e ∷ []) absent noParts)
 
-live : Run → Run
+unfoldable pub live : Run → Run
 live p = scope 1 unmarked false noEntries p
 
-zombie : Run → Run
+unfoldable pub zombie : Run → Run
 zombie p = scope 1 unmarked true noEntries p
 
-waits : Bool → Run
+unfoldable pub waits : Bool → Run
 waits dead = waiter 4 6 dead 1 1 (one 3 P)
 
 pub cases : List Case

@@ -24,7 +24,9 @@ pub mod Requests
 pub mod Rules
 pub mod Running
 pub mod Shrinking
+pub mod Slips
 pub mod Steps
+pub mod Table
 pub mod Tallies
 pub mod Trades
 pub mod Turns
