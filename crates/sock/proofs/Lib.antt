@@ -18,6 +18,7 @@ pub mod Measures
 pub mod Moves
 pub mod Nodes
 pub mod Opening
+pub mod Positions
 pub mod Reading
 pub mod Replies
 pub mod Requests

@@ -1,0 +1,6 @@
+pub mod Copies
+pub mod Evaluates
+pub mod Evaluations
+pub mod Levels
+pub mod Others
+pub mod Tests

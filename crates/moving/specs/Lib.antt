@@ -1,0 +1,3 @@
+pub mod Evaluating
+pub mod Measuring
+pub mod Writing

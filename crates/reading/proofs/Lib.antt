@@ -1,0 +1,13 @@
+pub mod Combining
+pub mod Contexts
+pub mod Ending
+pub mod Expressions
+pub mod Following
+pub mod Lists
+pub mod Others
+pub mod Parts
+pub mod Processes
+pub mod Scopes
+pub mod Serials
+pub mod Tests
+pub mod Walks

@@ -1,0 +1,27 @@
+-- Contexts as numbers, and what the reader's table holds, from the definitions' tests. A stratum is a number (0 code, 1 code that may hold
+-- cH, 2 running) and so is a place (0 anywhere, 1 not nil, 2 a branch's guard, 3 a root); a context is 4 times the stratum plus the place.
+use Prim.Native.Nat.{ℕ, zero, suc, _+_, _*_, _-_, _/_, _%_}
+use mathlib.Core.Bool.{Bool, true, false, _&&_, cond}
+use lib.Dec.{ltb, eqb}
+use Rattle.sock.specs.Kind
+use Rattle.sock.specs.Kind.{rowOf}
+use Rattle.sock.specs.Reading.{Stratum, running, code, Place, anywhere, notNil, guard, root, allowed, placed}
+
+abbrev pub stratumOf : ℕ → ℕ → ℕ → Stratum
+stratumOf n issued zero = code false
+stratumOf n issued (suc zero) = code true
+stratumOf n issued (suc (suc s)) = running n issued
+
+abbrev pub placeOf : ℕ → Place
+placeOf zero = anywhere
+placeOf (suc zero) = notNil
+placeOf (suc (suc zero)) = guard
+placeOf (suc (suc (suc p))) = root
+
+-- a scope that is code has neither mark nor zombie
+unfoldable pub spareOf : ℕ → ℕ → ℕ
+spareOf s k = cond (eqb k Kind.scope && ltb s 2) 32 (rowOf k .spare)
+
+-- the bits of a head, with 65,536 added, that have to be 0; all of them where the kind may not stand
+unfoldable pub headMask : ℕ → ℕ → ℕ
+headMask c k = cond (allowed (stratumOf 0 0 (c / 4)) k && placed (placeOf (c % 4)) k) (spareOf (c / 4) k - 1) 131071

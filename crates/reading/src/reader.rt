@@ -1,0 +1,418 @@
+// The reader: where the process, list or expression that begins at a position ends, or 0 if it does not fit. One pass over the words;
+// depth falls with every level. A context (`specs/Tables`) is 4 times the stratum (0 code, 1 code that may hold cH, 2 running) plus the
+// place (0 anywhere, 1 not nil, 2 a branch's guard, 3 a root). `bound` is n times 65,536 plus issued.
+use crate::tables::head_mask;
+ghost use mathlib.Core.Path.{_≡_};
+ghost use Prim.Native.Nat.{_+_, _<_};
+ghost use mathlib.Core.Bool.{_||_};
+ghost use lib.Dec.{eqb};
+ghost use lib.ListN.{length};
+ghost use Rattle.reading.specs.Walk.{exprEnd, constantEnd, operationEnd, contextOf, restOf, processEnd, twoEnd, branchEnd, repeatEnd};
+ghost use Rattle.reading.specs.Walk.{choiceEnd, fixedAfter, requestEnd, notifyEnd, solicitEnd, listEnd, keyAt, entryContext};
+ghost use Rattle.reading.specs.Walk.{scopeEnd, restingEnd, markedEnd, endAfter, executorEnd, waiterEnd, noticeEnd};
+
+pub fn wide(w: u16) -> usize
+    ensures { λ r. ⌜ (r ≡ w) × (r < 65536) ⌝ }
+{
+    w as usize
+}
+
+// An expression of at most `depth` levels.
+pub fn expression(ws: &[u16], at: usize, depth: usize) -> usize
+    ensures { λ r. ⌜ r ≡ exprEnd depth (now (ws .entry)) at ⌝ }
+{
+    if depth == 0 {
+        return 0;
+    }
+    if ws.len() <= at {
+        return 0;
+    }
+    let w = wide(ws[at]);
+    match w / 8192 {
+        0 => constant(ws, at, w),
+        1 => { if w % 256 == 0 { at + 1 } else { 0 } }
+        2 => operation(ws, at, depth - 1, w),
+        3 => operation(ws, at, depth - 1, w),
+        4 => operation(ws, at, depth - 1, w),
+        5 => operation(ws, at, depth - 1, w),
+        _ => 0,
+    }
+}
+
+// A constant: two words follow.
+fn constant(ws: &[u16], at: usize, w: usize) -> usize
+    requires { ⌜ at < length (now ws) ⌝ }
+    ensures { λ r. ⌜ r ≡ constantEnd (now (ws .entry)) at w ⌝ }
+{
+    if w != 0 {
+        return 0;
+    }
+    if 2 < ws.len() - at { at + 3 } else { 0 }
+}
+
+// Two operands.
+fn operation(ws: &[u16], at: usize, depth: usize, w: usize) -> usize
+    requires { ⌜ at < length (now ws) ⌝ }
+    ensures { λ r. ⌜ r ≡ operationEnd (exprEnd depth (now (ws .entry))) at w ⌝ }
+{
+    if w % 8192 != 0 {
+        return 0;
+    }
+    let e = expression(ws, at + 1, depth);
+    if e == 0 {
+        return 0;
+    }
+    expression(ws, e, depth)
+}
+
+// The contexts of a part that runs where its node does, and of one that is code in any case.
+fn same_context(context: usize) -> usize
+    ensures { λ r. ⌜ r ≡ contextOf context ⌝ }
+{
+    context / 4 * 4
+}
+
+fn rest_context(context: usize) -> usize
+    ensures { λ r. ⌜ (r ≡ restOf context) × (r < 8) ⌝ }
+{
+    if context < 8 { context / 4 * 4 } else { 0 }
+}
+
+// A process in a context.
+pub fn process(ws: &[u16], at: usize, depth: usize, context: usize, bound: usize) -> usize
+    requires { ⌜ context < 12 ⌝ }
+    ensures { λ r. ⌜ r ≡ processEnd depth (now (ws .entry)) bound context at ⌝ }
+{
+    if depth == 0 {
+        return 0;
+    }
+    if ws.len() <= at {
+        return 0;
+    }
+    let h = wide(ws[at]);
+    let k = h / 2048;
+    if (h + 65536) & head_mask(context, k) != 0 {
+        return 0;
+    }
+    let d = depth - 1;
+    let c = rest_context(context);
+    match k {
+        0 => at + 1,
+        1 => expression(ws, at + 1, d),
+        2 => two(ws, at + 1, d, same_context(context) + 1, c, bound),
+        3 => two(
+            ws,
+            at + 1,
+            d,
+            same_context(context) + 1,
+            same_context(context) + 1,
+            bound,
+        ),
+        4 => branch(ws, at + 1, d, c, bound),
+        5 => repeat(ws, at + 1, d, c, bound),
+        6 => choice(ws, at + 1, d, c, h % 2048, bound),
+        7 => at + 1,
+        8 => request(ws, at, d, c, bound),
+        9 => notify(ws, at),
+        10 => solicit(ws, at, d, bound),
+        11 => scope(ws, at, d, context, h, bound),
+        12 => list(ws, at + 1, d, 4, 128, bound),
+        13 => at + 1,
+        14 => at + 1,
+        15 => at + 1,
+        16 => executor(ws, at, d, bound),
+        17 => waiter(ws, at, d, bound),
+        18 => notice(ws, at, bound),
+        _ => 0,
+    }
+}
+
+// Two processes, one after the other.
+fn two(ws: &[u16], at: usize, depth: usize, first: usize, second: usize, bound: usize) -> usize
+    requires { ⌜ (first < 12) × (second < 12) ⌝ }
+    ensures { λ r. ⌜ r ≡ twoEnd (processEnd depth (now (ws .entry)) bound) first second at ⌝ }
+{
+    let a = process(ws, at, depth, first, bound);
+    if a == 0 {
+        return 0;
+    }
+    process(ws, a, depth, second, bound)
+}
+
+// What follows the head of an if, and of a while.
+fn branch(ws: &[u16], at: usize, depth: usize, context: usize, bound: usize) -> usize
+    requires { ⌜ context < 12 ⌝ }
+    ensures { λ r. ⌜ r ≡ branchEnd (exprEnd depth (now (ws .entry))) (processEnd depth (now (ws .entry)) bound) context at ⌝ }
+{
+    let e = expression(ws, at, depth);
+    if e == 0 {
+        return 0;
+    }
+    two(ws, e, depth, context, context, bound)
+}
+
+fn repeat(ws: &[u16], at: usize, depth: usize, context: usize, bound: usize) -> usize
+    requires { ⌜ context < 12 ⌝ }
+    ensures { λ r. ⌜ r ≡ repeatEnd (exprEnd depth (now (ws .entry))) (processEnd depth (now (ws .entry)) bound) context at ⌝ }
+{
+    let e = expression(ws, at, depth);
+    if e == 0 {
+        return 0;
+    }
+    process(ws, e, depth, context, bound)
+}
+
+// The branches of a choice, 1 to 8.
+fn choice(ws: &[u16], at: usize, depth: usize, context: usize, count: usize, bound: usize) -> usize
+    requires { ⌜ context < 10 ⌝ }
+    ensures { λ r. ⌜ r ≡ choiceEnd (processEnd depth (now (ws .entry)) bound) context count at ⌝ }
+{
+    if count == 0 {
+        return 0;
+    }
+    if 8 < count {
+        return 0;
+    }
+    let mut a = at;
+    let mut left = count;
+    while 0 < left {
+        a = two(ws, a, depth, context + 2, context, bound);
+        if a == 0 {
+            return 0;
+        }
+        left = left - 1;
+    }
+    a
+}
+
+// Whether a fixed word follows the head, with its bits below `spare` 0.
+fn fixed(ws: &[u16], at: usize, spare: usize) -> bool
+    requires { ⌜ (at < length (now ws)) × (0 < spare) ⌝ }
+    ensures { λ r. ⌜ r ≡ fixedAfter (now (ws .entry)) at spare ⌝ }
+{
+    if ws.len() - at < 2 {
+        return false;
+    }
+    wide(ws[at + 1]) % spare == 0
+}
+
+fn request(ws: &[u16], at: usize, depth: usize, context: usize, bound: usize) -> usize
+    requires { ⌜ (at < length (now ws)) × (context < 12) ⌝ }
+    ensures { λ r. ⌜ r ≡ requestEnd (processEnd depth (now (ws .entry)) bound) (now (ws .entry)) context at ⌝ }
+{
+    if fixed(ws, at, 2048) {
+        process(ws, at + 2, depth, context, bound)
+    } else {
+        0
+    }
+}
+
+fn notify(ws: &[u16], at: usize) -> usize
+    requires { ⌜ at < length (now ws) ⌝ }
+    ensures { λ r. ⌜ r ≡ notifyEnd (now (ws .entry)) at ⌝ }
+{
+    if fixed(ws, at, 2048) { at + 2 } else { 0 }
+}
+
+fn solicit(ws: &[u16], at: usize, depth: usize, bound: usize) -> usize
+    requires { ⌜ at < length (now ws) ⌝ }
+    ensures { λ r. ⌜ r ≡ solicitEnd (processEnd depth (now (ws .entry)) bound) (now (ws .entry)) at ⌝ }
+{
+    if fixed(ws, at, 64) {
+        list(ws, at + 2, depth, 4, 128, bound)
+    } else {
+        0
+    }
+}
+
+// A list whose entries stand in a context; the key wanted has to be there, if it is below 128.
+pub fn list(
+    ws: &[u16],
+    at: usize,
+    depth: usize,
+    context: usize,
+    wanted: usize,
+    bound: usize,
+) -> usize
+    requires { ⌜ context < 12 ⌝ }
+    ensures { λ r. ⌜ r ≡ listEnd (processEnd depth (now (ws .entry)) bound) (now (ws .entry)) context wanted at ⌝ }
+{
+    if ws.len() <= at {
+        return 0;
+    }
+    let mut left = wide(ws[at]);
+    let mut a = at + 1;
+    let mut least = 0;
+    let mut met = 128 <= wanted;
+    while 0 < left {
+        let key = key_at(ws, a, least);
+        if key == 128 {
+            return 0;
+        }
+        a = process(ws, a + 1, depth, entry_context(context, key), bound);
+        if a == 0 {
+            return 0;
+        }
+        met = met_by(met, key, wanted);
+        least = key + 1;
+        left = left - 1;
+    }
+    if met { a } else { 0 }
+}
+
+// The key at a position, at least `least`; 128 if there is none.
+fn key_at(ws: &[u16], at: usize, least: usize) -> usize
+    ensures { λ r. ⌜ (r ≡ keyAt (now (ws .entry)) at least) × (r < 129) ⌝ }
+{
+    if ws.len() <= at {
+        return 128;
+    }
+    let w = wide(ws[at]);
+    if w % 512 != 0 {
+        return 128;
+    }
+    if w / 512 < least {
+        return 128;
+    }
+    w / 512
+}
+
+fn met_by(met: bool, key: usize, wanted: usize) -> bool
+    ensures { λ r. ⌜ r ≡ (met || eqb key wanted) ⌝ }
+{
+    if met {
+        return true;
+    }
+    key == wanted
+}
+
+// Under a scope's key in a scope's list nil may not stand.
+fn entry_context(context: usize, key: usize) -> usize
+    requires { ⌜ context < 12 ⌝ }
+    ensures { λ r. ⌜ (r ≡ entryContext context key) × (r < 12) ⌝ }
+{
+    if context != 0 {
+        return context;
+    }
+    if 64 <= key { 1 } else { 0 }
+}
+
+// A scope whose head is `h`.
+fn scope(ws: &[u16], at: usize, depth: usize, context: usize, h: usize, bound: usize) -> usize
+    requires { ⌜ (at < length (now ws)) × (context < 12) ⌝ }
+    ensures { λ r. ⌜ r ≡ scopeEnd (processEnd depth (now (ws .entry)) bound) (now (ws .entry)) context h at ⌝ }
+{
+    if ws.len() - at < 3 {
+        return 0;
+    }
+    let fault = wide(ws[at + 1]);
+    if context < 8 {
+        return resting(ws, at, depth, context, fault, bound);
+    }
+    let e = marked(ws, at + 2, depth, h, fault, bound);
+    if e == 0 {
+        return 0;
+    }
+    process(ws, e, depth, 8, bound)
+}
+
+// A scope that is code: no marked fault and an empty list.
+fn resting(ws: &[u16], at: usize, depth: usize, context: usize, fault: usize, bound: usize) -> usize
+    requires { ⌜ (at + 2 < length (now ws)) × (context < 12) ⌝ }
+    ensures { λ r. ⌜ r ≡ restingEnd (processEnd depth (now (ws .entry)) bound) (now (ws .entry)) context fault at ⌝ }
+{
+    if fault != 0 {
+        return 0;
+    }
+    if ws[at + 2] != 0 {
+        return 0;
+    }
+    process(ws, at + 3, depth, same_context(context), bound)
+}
+
+// The list of a scope that runs, by its mark.
+fn marked(ws: &[u16], at: usize, depth: usize, h: usize, fault: usize, bound: usize) -> usize
+    ensures { λ r. ⌜ r ≡ markedEnd (processEnd depth (now (ws .entry)) bound) (now (ws .entry)) h fault at ⌝ }
+{
+    match h / 8 % 4 {
+        0 => {
+            if fault == 0 {
+                list(ws, at, depth, 0, 128, bound)
+            } else {
+                0
+            }
+        }
+        1 => {
+            if fault % 1024 == 0 {
+                list(ws, at, depth, 0, fault / 1024, bound)
+            } else {
+                0
+            }
+        }
+        2 => {
+            if fault != 0 {
+                return 0;
+            }
+            if h / 4 % 2 == 1 {
+                list(ws, at, depth, 0, 128, bound)
+            } else {
+                0
+            }
+        }
+        _ => 0,
+    }
+}
+
+// The fixed words of an end: the first clear below `spare` and from there up an engine below n, then a serial of 1 to issued.
+fn end(ws: &[u16], at: usize, spare: usize, bound: usize) -> bool
+    requires { ⌜ (at < length (now ws)) × (0 < spare) ⌝ }
+    ensures { λ r. ⌜ r ≡ endAfter (now (ws .entry)) at spare bound ⌝ }
+{
+    if ws.len() - at < 3 {
+        return false;
+    }
+    let w = wide(ws[at + 1]);
+    let serial = wide(ws[at + 2]);
+    if w % spare != 0 {
+        return false;
+    }
+    if bound / 65536 <= w / spare % 8 {
+        return false;
+    }
+    if serial == 0 {
+        return false;
+    }
+    if bound % 65536 < serial {
+        return false;
+    }
+    true
+}
+
+fn executor(ws: &[u16], at: usize, depth: usize, bound: usize) -> usize
+    requires { ⌜ at < length (now ws) ⌝ }
+    ensures { λ r. ⌜ r ≡ executorEnd (processEnd depth (now (ws .entry)) bound) (now (ws .entry)) bound at ⌝ }
+{
+    if end(ws, at, 8192, bound) {
+        process(ws, at + 3, depth, 8, bound)
+    } else {
+        0
+    }
+}
+
+fn waiter(ws: &[u16], at: usize, depth: usize, bound: usize) -> usize
+    requires { ⌜ at < length (now ws) ⌝ }
+    ensures { λ r. ⌜ r ≡ waiterEnd (processEnd depth (now (ws .entry)) bound) (now (ws .entry)) bound at ⌝ }
+{
+    if end(ws, at, 4096, bound) {
+        list(ws, at + 3, depth, 4, 128, bound)
+    } else {
+        0
+    }
+}
+
+fn notice(ws: &[u16], at: usize, bound: usize) -> usize
+    requires { ⌜ at < length (now ws) ⌝ }
+    ensures { λ r. ⌜ r ≡ noticeEnd (now (ws .entry)) bound at ⌝ }
+{
+    if end(ws, at, 128, bound) { at + 3 } else { 0 }
+}
