@@ -1,5 +1,4 @@
--- The calls on bytes for the cabinet's C program, and the text that the program handover prints (document 01, "Calls" and "Program handover").
--- Words are two bytes, high first.
+-- The calls on bytes, high first, for the cabinet's C program, and the text of the program handover (document 01, "Calls", "Program handover").
 use Prim.Native.Nat.{ℕ, zero, suc, _+_, _*_, _/_, _%_, _^_}
 use mathlib.Core.Bool.{Bool, true, false, _||_, cond}
 use mathlib.Core.Option.{Option, none, some}

@@ -1,5 +1,4 @@
--- The calls on words (document 01, "Calls"): each a function of the words and numbers handed in and the output lent, to every field of
--- the answer and every word of the output.
+-- The calls on words (document 01, "Calls"): from words, numbers and the output lent to the answer's every field and the output's every word.
 use Prim.Native.Nat.{ℕ, zero, suc, _+_}
 use mathlib.Core.Bool.{Bool, true, false, not, _&&_, cond}
 use mathlib.Core.Option.{Option, none, some}
@@ -217,8 +216,7 @@ checkStart limits ws = passed (start limits ws)
 
 -- ---- ends
 
--- A waiting end is a process of kind 17, a working end one of kind 16 or 18: serial, operation and the engine that it names. In a
--- readable configuration they stand only enabled.
+-- A waiting end is a process of kind 17, a working end one of kind 16 or 18; they stand only enabled: serial, operation, engine named
 pub data End : Type 0 where
   waiting : ℕ → ℕ → ℕ → End
   working : ℕ → ℕ → ℕ → End
@@ -272,16 +270,13 @@ pub record Part : Type 0 where
   pub first : ℕ
   pub count : ℕ
 
-abbrev noPart : Part
-noPart = record { first = 0; count = 0 }
-
 -- Process of an engine: empty if unreadable or no such engine
 unfoldable pub partIn : ℕ → Option Config → Part
-partIn e none = noPart
+partIn e none = record { first = 0; count = 0 }
 partIn e (some c) =
     cond (ltb e (length (c .engines)))
     (record { first = 2 + length (enginesWords (take e (c .engines))) + 64; count = size (engineAt c e .process) })
-    noPart
+    (record { first = 0; count = 0 })
 
 unfoldable pub processPart : Limits → List ℕ → ℕ → Part
 processPart limits ws e = partIn e (readConfig limits ws)

@@ -1,5 +1,4 @@
--- Reading a process from words, with every condition of document 01's "Readable" that concerns a process. Depth falls as the reader
--- descends. What a condition needs to know of the place is handed down: whether the process runs or is code, and what may stand there.
+-- Reading a process, with every condition of document 01's "Readable" that concerns one. What a condition needs to know of the place is handed down.
 use Prim.Native.Nat.{ℕ, zero, suc, _%_}
 use mathlib.Core.Bool.{Bool, true, false, not, _&&_, _||_, cond}
 use mathlib.Core.List.{List, [], _∷_}

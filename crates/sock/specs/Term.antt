@@ -1,5 +1,4 @@
--- Processes as trees. An expression is typed. A process is one generic node, its own words first, so that reading, writing, size and
--- depth have one clause for all nineteen kinds.
+-- Processes as trees: one generic node, so that reading, writing, size and depth have one clause for all nineteen kinds.
 use Prim.Native.Nat.{ℕ, zero, suc, _+_, _*_}
 use mathlib.Core.Bool.{Bool, cond}
 use mathlib.Core.List.{List, [], _∷_}
