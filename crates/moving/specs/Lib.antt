@@ -1,3 +1,4 @@
 pub mod Evaluating
 pub mod Measuring
+pub mod Replacing
 pub mod Writing

@@ -1,0 +1,24 @@
+-- `in_place` of `moving::replace` meets its contract: the code is its mirror in specs/.
+-- Assumes nothing.
+use Rattle.moving.specs.Replacing.{cHW}
+use Rattle.moving.proofs.Tests.{tests}
+use borrow.Author.Needs.{needs}
+use Rattle.moving.proofs.replace.in_place.Statement.{statement}
+use Rattle.moving.proofs.replace.in_place.Tie as tie
+
+further-requires : tie.Need-further-requires
+further-requires c κs = search needs
+
+put-old-requires : tie.Need-put-old-requires
+put-old-requires c κs = search needs
+
+same-length : tie.Need-same-length
+same-length c = search needs
+
+returns : tie.Need-returns
+unfolding cHW
+returns c =
+    (simp (tests, ← (c .before .before .put-old .ensures .0), ← (c .before .before .put-old .ensures .1), ← (c .before .before .before .before .further .ensures)), simp (tests, ← (c .before .before .put-old .ensures .0), ← (c .before .before .put-old .ensures .1), ← (c .before .before .before .before .further .ensures)))
+
+pub in-place-spec : {M : Type 1} → statement M
+in-place-spec = tie.close (tie.spec further-requires put-old-requires same-length returns)

@@ -1,0 +1,24 @@
+-- `other` of `moving::replace` meets its contract: the code is its mirror in specs/.
+-- Assumes nothing.
+use Rattle.moving.specs.Replacing.{otherW}
+use Rattle.moving.proofs.Tests.{tests}
+use borrow.Author.Needs.{needs}
+use Rattle.moving.proofs.replace.other.Statement.{statement}
+use Rattle.moving.proofs.replace.other.Tie as tie
+
+code-levels-requires : tie.Need-code-levels-requires
+code-levels-requires c κs = search needs
+
+copy-requires : tie.Need-copy-requires
+copy-requires c κs = search needs
+
+same-length : tie.Need-same-length
+same-length c = search needs
+
+returns : tie.Need-returns
+unfolding otherW
+returns c =
+    (simp (tests, ← (c .before .before .copy .ensures .0), ← (c .before .before .copy .ensures .1), ← (c .before .before .before .before .code-levels .ensures)), simp (tests, ← (c .before .before .copy .ensures .0), ← (c .before .before .copy .ensures .1), ← (c .before .before .before .before .code-levels .ensures)))
+
+pub other-spec : {M : Type 1} → statement M
+other-spec = tie.close (tie.spec code-levels-requires copy-requires same-length returns)

@@ -1,0 +1,227 @@
+// cH replaced by the old process, into scratch; nil before seq and beside par is dropped. Lists keep their cH.
+use crate::measure::code_levels;
+use crate::measure::expression_levels;
+use crate::measure::larger;
+use crate::write::copy;
+use crate::write::down;
+use crate::write::further;
+use crate::write::put;
+use reading::reader::wide;
+ghost use mathlib.Core.Path.{_≡_};
+ghost use Prim.Native.Nat.{_-_};
+ghost use Rattle.moving.specs.Measuring.{expressionLevels, codeLevels};
+ghost use Rattle.moving.specs.Replacing.{oldEnd, oldOut, replaceW, seqW, parW, closePar, conditionW, keptW, otherW, cHW, nilW, wrote};
+
+// Where the source ends, where the writing has come to, whether only nil was written, and how deep that is.
+pub struct Rebuilt {
+    pub end: usize,
+    pub to: usize,
+    pub nil: bool,
+    pub levels: usize,
+}
+
+// The process that takes cH's place: the words from..upto unless it is nil, and its levels.
+pub struct Old {
+    pub from: usize,
+    pub upto: usize,
+    pub nil: bool,
+    pub levels: usize,
+}
+
+fn put_old(ws: &[u16], old: Old, out: &mut [u16], to: usize) -> usize
+    ensures { λ r. ⌜ (r ≡ oldEnd (now (ws .entry)) old to) × (now (out .exit) ≡ oldOut (now (ws .entry)) old (now (out .entry)) to) ⌝ }
+{
+    if old.nil {
+        return put(out, to, 0);
+    }
+    let from = old.from;
+    let upto = old.upto;
+    copy(ws, from, upto, out, to)
+}
+
+// The process at `at`, of at most `depth` levels.
+pub fn replace(ws: &[u16], at: usize, old: Old, depth: usize, out: &mut [u16], to: usize) -> Rebuilt
+    ensures { λ r. ⌜ (r ≡ replaceW depth (now (ws .entry)) old at (now (out .entry)) to .answer) × (now (out .exit) ≡ replaceW depth (now (ws .entry)) old at (now (out .entry)) to .out) ⌝ }
+{
+    if depth == 0 {
+        return Rebuilt {
+            end: 0,
+            to: 0,
+            nil: false,
+            levels: 0,
+        };
+    }
+    if ws.len() <= at {
+        return Rebuilt {
+            end: 0,
+            to: 0,
+            nil: false,
+            levels: 0,
+        };
+    }
+    let h = wide(ws[at]);
+    match h / 2048 {
+        0 => Rebuilt {
+            end: further(at, 1),
+            to: put(out, to, 0),
+            nil: true,
+            levels: 1,
+        },
+        1 => other(ws, at, depth, out, to),
+        2 => in_seq(ws, at, old, depth - 1, out, to),
+        3 => in_par(ws, at, old, depth - 1, out, to),
+        4 => condition(ws, at, 2, old, depth - 1, out, to),
+        5 => condition(ws, at, 1, old, depth - 1, out, to),
+        6 => kept(
+            ws,
+            at,
+            further(at, 1),
+            1,
+            h % 2048 * 2,
+            old,
+            depth - 1,
+            out,
+            to,
+        ),
+        7 => other(ws, at, depth, out, to),
+        8 => kept(ws, at, further(at, 2), 1, 1, old, depth - 1, out, to),
+        9 => other(ws, at, depth, out, to),
+        10 => other(ws, at, depth, out, to),
+        11 => kept(ws, at, further(at, 3), 1, 1, old, depth - 1, out, to),
+        12 => other(ws, at, depth, out, to),
+        13 => other(ws, at, depth, out, to),
+        14 => other(ws, at, depth, out, to),
+        15 => in_place(ws, at, old, out, to),
+        _ => other(ws, at, depth, out, to),
+    }
+}
+
+fn in_place(ws: &[u16], at: usize, old: Old, out: &mut [u16], to: usize) -> Rebuilt
+    ensures { λ r. ⌜ (r ≡ cHW (now (ws .entry)) old at (now (out .entry)) to .answer) × (now (out .exit) ≡ cHW (now (ws .entry)) old at (now (out .entry)) to .out) ⌝ }
+{
+    let end = further(at, 1);
+    Rebuilt {
+        end,
+        to: put_old(ws, old, out, to),
+        nil: old.nil,
+        levels: old.levels,
+    }
+}
+
+// A process without parts that could hold cH.
+fn other(ws: &[u16], at: usize, depth: usize, out: &mut [u16], to: usize) -> Rebuilt
+    ensures { λ r. ⌜ (r ≡ otherW (codeLevels depth (now (ws .entry))) (now (ws .entry)) at (now (out .entry)) to .answer) × (now (out .exit) ≡ otherW (codeLevels depth (now (ws .entry))) (now (ws .entry)) at (now (out .entry)) to .out) ⌝ }
+{
+    let m = code_levels(ws, at, depth);
+    let end = m.end;
+    Rebuilt {
+        end,
+        to: copy(ws, at, end, out, to),
+        nil: false,
+        levels: m.levels,
+    }
+}
+
+fn in_seq(ws: &[u16], at: usize, old: Old, depth: usize, out: &mut [u16], to: usize) -> Rebuilt
+    ensures { λ r. ⌜ (r ≡ seqW (replaceW depth (now (ws .entry)) old) at (now (out .entry)) to .answer) × (now (out .exit) ≡ seqW (replaceW depth (now (ws .entry)) old) at (now (out .entry)) to .out) ⌝ }
+{
+    let t = put(out, to, 4096);
+    let p = replace(ws, further(at, 1), old, depth, out, t);
+    let e = p.end;
+    if p.nil {
+        return replace(ws, e, old, depth, out, to);
+    }
+    let n = p.to;
+    let q = replace(ws, e, old, depth, out, n);
+    Rebuilt {
+        end: q.end,
+        to: q.to,
+        nil: false,
+        levels: further(larger(p.levels, q.levels), 1),
+    }
+}
+
+fn in_par(ws: &[u16], at: usize, old: Old, depth: usize, out: &mut [u16], to: usize) -> Rebuilt
+    ensures { λ r. ⌜ (r ≡ parW (replaceW depth (now (ws .entry)) old) at (now (out .entry)) to .answer) × (now (out .exit) ≡ parW (replaceW depth (now (ws .entry)) old) at (now (out .entry)) to .out) ⌝ }
+{
+    let t = put(out, to, 6144);
+    let p = replace(ws, further(at, 1), old, depth, out, t);
+    let e = p.end;
+    if p.nil {
+        return replace(ws, e, old, depth, out, to);
+    }
+    let n = p.to;
+    let q = replace(ws, e, old, depth, out, n);
+    if q.nil {
+        down(out, t, n);
+        return Rebuilt {
+            end: q.end,
+            to: less_one(n),
+            nil: false,
+            levels: p.levels,
+        };
+    }
+    Rebuilt {
+        end: q.end,
+        to: q.to,
+        nil: false,
+        levels: further(larger(p.levels, q.levels), 1),
+    }
+}
+
+fn less_one(n: usize) -> usize
+    ensures { λ r. ⌜ r ≡ n - 1 ⌝ }
+{
+    if n == 0 { 0 } else { n - 1 }
+}
+
+// An if or a while: its condition, then its parts.
+fn condition(
+    ws: &[u16],
+    at: usize,
+    count: usize,
+    old: Old,
+    depth: usize,
+    out: &mut [u16],
+    to: usize,
+) -> Rebuilt
+    ensures { λ r. ⌜ (r ≡ conditionW (expressionLevels depth (now (ws .entry))) (replaceW depth (now (ws .entry)) old) (now (ws .entry)) at count (now (out .entry)) to .answer) × (now (out .exit) ≡ conditionW (expressionLevels depth (now (ws .entry))) (replaceW depth (now (ws .entry)) old) (now (ws .entry)) at count (now (out .entry)) to .out) ⌝ }
+{
+    let e = expression_levels(ws, further(at, 1), depth);
+    let from = e.end;
+    let levels = further(e.levels, 1);
+    kept(ws, at, from, levels, count, old, depth, out, to)
+}
+
+// The words at..from stay, then come `count` parts.
+fn kept(
+    ws: &[u16],
+    at: usize,
+    from: usize,
+    levels: usize,
+    count: usize,
+    old: Old,
+    depth: usize,
+    out: &mut [u16],
+    to: usize,
+) -> Rebuilt
+    ensures { λ r. ⌜ (r ≡ keptW (replaceW depth (now (ws .entry)) old) (now (ws .entry)) at from levels count (now (out .entry)) to .answer) × (now (out .exit) ≡ keptW (replaceW depth (now (ws .entry)) old) (now (ws .entry)) at from levels count (now (out .entry)) to .out) ⌝ }
+{
+    let mut a = from;
+    let mut t = copy(ws, at, from, out, to);
+    let mut deepest = levels;
+    let mut left = count;
+    while 0 < left {
+        let p = replace(ws, a, old, depth, out, t);
+        a = p.end;
+        t = p.to;
+        deepest = larger(deepest, further(p.levels, 1));
+        left = left - 1;
+    }
+    Rebuilt {
+        end: a,
+        to: t,
+        nil: false,
+        levels: deepest,
+    }
+}
