@@ -293,3 +293,11 @@ node-finds (suc d) s p (node h f es b ps) (fits t fs ess bs pss good) shallow re
 
 pub finds : (d : ℕ) {s : Stratum} {p : Place} {n : Node} → Fits s p n → depth n ≤ d → (rest : List ℕ) → process d s p (words n ++ rest) ≡ got n rest
 finds d {s} {p} {n} f shallow rest = node-finds d s p n f shallow rest
+
+-- a list reads back
+pub list-finds :
+    (d : ℕ) {ofScope : Bool} {l : Entries} → FitsEntries ofScope zero l → entriesDepth l ≤ d →
+    (rest : List ℕ) → block (process d (entryStratum ofScope) anywhere) ofScope 1 (count l ∷ entriesWords l ++ rest) ≡ got (list l) rest
+unfolding words depth
+list-finds d {ofScope} {l} f shallow rest =
+    block-finds d ofScope (process d (entryStratum ofScope) anywhere) (node-finds d (entryStratum ofScope) anywhere) {n = 1} {b = list l} (aList f) shallow rest
