@@ -1,7 +1,16 @@
+pub mod Around
 pub mod Copies
+pub mod Ended
 pub mod Evaluates
 pub mod Evaluations
+pub mod Gives
+pub mod Killed
+pub mod Kills
+pub mod Laid
 pub mod Levels
+pub mod Noticed
 pub mod Others
+pub mod Places
 pub mod Replacements
 pub mod Tests
+pub mod Zombies

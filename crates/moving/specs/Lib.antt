@@ -1,4 +1,5 @@
 pub mod Evaluating
+pub mod Killing
 pub mod Measuring
 pub mod Replacing
 pub mod Writing

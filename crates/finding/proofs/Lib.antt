@@ -1,0 +1,11 @@
+pub mod Arounds
+pub mod Bodies
+pub mod Edits
+pub mod Finding
+pub mod Finds
+pub mod Framing
+pub mod Pieces
+pub mod Search
+pub mod Spots
+pub mod Stops
+pub mod Within

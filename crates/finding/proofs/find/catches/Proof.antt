@@ -1,0 +1,46 @@
+-- `moving::find::catches` meets its contract: whether a scope stops a fault.
+-- Assumes nothing.
+use Rattle.finding.specs.Find.{catchesW}
+use Rattle.reading.proofs.Tests.{tests}
+use borrow.Author.Needs.{needs}
+use Rattle.finding.proofs.find.catches.Statement.{statement}
+use Rattle.finding.proofs.find.catches.Tie as tie
+
+mul-wide : tie.Need-mul-wide
+mul-wide c = search needs
+
+shared-slice-read-wide : tie.Need-shared-slice-read-wide
+shared-slice-read-wide c = search needs
+
+wide-requires : tie.Need-wide-requires
+wide-requires c κs = search needs
+
+returns : tie.Need-returns
+unfolding catchesW
+returns c =
+    let f0 = c .if1 .taken in
+    simp (tests, f0, ← (c .before .wide .ensures .0))
+
+add-list : tie.Need-add-list
+add-list c = search needs
+
+list-requires : tie.Need-list-requires
+list-requires c κs = search needs
+
+returns-2 : tie.Need-returns-2
+unfolding catchesW
+returns-2 c =
+    let f0 = c .before .if1 .left in
+    simp (tests, ← (c .list .ensures), f0, ← (c .before .before .wide .ensures .0))
+
+pub catches-spec : {M : Type 1} → statement M
+catches-spec =
+    tie.close
+    (tie.spec
+    mul-wide
+    shared-slice-read-wide
+    wide-requires
+    returns
+    add-list
+    list-requires
+    returns-2)

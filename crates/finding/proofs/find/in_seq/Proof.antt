@@ -1,0 +1,77 @@
+-- `moving::find::in_seq` meets its contract: the first of a seq.
+-- Assumes nothing.
+use Rattle.finding.specs.Find.{inSeqW, seqSpot}
+use Rattle.reading.proofs.Tests.{tests}
+use Rattle.finding.proofs.Finding.{seq-hollow, seq-shut}
+use borrow.Author.Needs.{needs}
+use Rattle.finding.proofs.find.in_seq.Statement.{statement}
+use Rattle.finding.proofs.find.in_seq.Tie as tie
+
+enum-known-f : tie.Need-enum-known-f
+enum-known-f c = search needs
+
+process-requires : tie.Need-process-requires
+process-requires c κs = search needs
+
+enum-known-f-2 : tie.Need-enum-known-f-2
+enum-known-f-2 c = search needs
+
+returns : tie.Need-returns
+unfolding inSeqW seqSpot
+returns c =
+    let f0 = c .if1 .taken in
+    let f1 = c .before .before .f2 .given .1 in
+    simp (f0, f1)
+
+returns-2 : tie.Need-returns-2
+unfolding inSeqW seqSpot
+returns-2 c =
+    let f0 = c .if2 .taken in
+    let f1 = c .before .if1 .left in
+    let f2 = c .before .before .before .f2 .given .1 in
+    simp (tests, f0, f1, f2)
+
+mul-if3 : tie.Need-mul-if3
+mul-if3 c = search needs
+
+shared-slice-read-if3 : tie.Need-shared-slice-read-if3
+shared-slice-read-if3 c = search needs
+
+add-t15 : tie.Need-add-t15
+add-t15 c = search needs
+
+add-t16 : tie.Need-add-t16
+add-t16 c = search needs
+
+add-t17 : tie.Need-add-t17
+add-t17 c = search needs
+
+returns-3 : tie.Need-returns-3
+returns-3 c = search seq-hollow
+
+returns-4 : tie.Need-returns-4
+unfolding inSeqW seqSpot
+returns-4 c =
+    let f0 = c .before .before .f .given .1 in
+    simp (← (c .process .ensures), f0)
+
+returns-5 : tie.Need-returns-5
+returns-5 c = search seq-shut
+
+pub in-seq-spec : {M : Type 1} → statement M
+in-seq-spec =
+    tie.close
+    (tie.spec
+    enum-known-f
+    process-requires
+    enum-known-f-2
+    returns
+    returns-2
+    mul-if3
+    shared-slice-read-if3
+    add-t15
+    add-t16
+    add-t17
+    returns-3
+    returns-4
+    returns-5)

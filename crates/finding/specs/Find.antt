@@ -1,0 +1,125 @@
+-- Finding on positions, as the code goes. The proofs show that this is the definitions' `locate`, with what `plug` then makes of the words;
+-- no public contract names it.
+use Prim.Native.Nat.{ℕ, zero, suc, _+_, _/_, _%_}
+use mathlib.Core.Bool.{Bool, true, false, not, _||_, cond}
+use mathlib.Core.List.{List}
+use lib.Dec.{ltb, eqb}
+use lib.ListN.{length, getD}
+use Rattle.reading.specs.Walk.{processEnd, listEnd}
+use Rattle.finding.specs.declared.find.Spot.{Spot}
+use Rattle.finding.specs.declared.find.Found.{Found}
+use Rattle.finding.specs.declared.find.Found.the-variants.{Hit, Past}
+
+-- a spot where a nil stands or goes: at the process itself, and as it goes on outwards
+unfoldable pub hereW : ℕ → List ℕ → ℕ → ℕ → ℕ → Found
+hereW d ws bound level i =
+    Hit
+    (record {
+      at = i;
+      level = level;
+      a = i;
+      b = processEnd d ws bound 8 i;
+      c = processEnd d ws bound 8 i;
+      d = processEnd d ws bound 8 i;
+      hollow = true;
+      closed = false;
+      scope = 0;
+      catcher = 0;
+    })
+
+abbrev pub cut : Spot → ℕ → ℕ → ℕ → ℕ → Bool → Spot
+cut s a b c d hollow =
+    record { at = s .at; level = s .level; a = a; b = b; c = c; d = d; hollow = hollow; closed = not hollow; scope = s .scope; catcher = s .catcher }
+
+-- the first of a seq
+unfoldable pub seqSpot : List ℕ → ℕ → Spot → Found
+seqSpot ws i s =
+    cond (ltb (s .d) (length ws))
+    (cond (eqb (getD ws (s .d) 0) 0)
+    (Hit (cut s i (s .d + 1) (s .d + 1) (s .d + 1) true))
+    (Hit (cut s i (s .d) (s .d) (s .d) false)))
+    (Past 0)
+
+unfoldable pub inSeqW : ℕ → List ℕ → ℕ → ℕ → Found → Found
+inSeqW d ws bound i (Past e) = Past (processEnd d ws bound 0 e)
+inSeqW d ws bound i (Hit s) = cond (s .closed) (Hit s) (seqSpot ws i s)
+
+-- a side of a par
+unfoldable pub leftW : ℕ → Spot → Found
+leftW i s = cond (s .closed) (Hit s) (Hit (cut s i (s .d) (s .d) (s .d) false))
+
+unfoldable pub besideW : ℕ → ℕ → Found → Found
+besideW i e (Past g) = Past g
+besideW i e (Hit s) = cond (s .closed) (Hit s) (Hit (cut s i (i + 1) e (s .d) false))
+
+unfoldable pub parSides : (ℕ → Found) → ℕ → Found → Found
+parSides sub i (Hit s) = leftW i s
+parSides sub i (Past e) = besideW i e (sub e)
+
+unfoldable pub inParW : (ℕ → Found) → ℕ → Found
+inParW sub i = parSides sub i (sub (i + 1))
+
+-- a body
+unfoldable pub inBodyW : Found → Found
+inBodyW (Past e) = Past e
+inBodyW (Hit s) =
+    Hit
+    (record {
+      at = s .at;
+      level = s .level;
+      a = s .a;
+      b = s .b;
+      c = s .c;
+      d = s .d;
+      hollow = s .hollow;
+      closed = true;
+      scope = s .scope;
+      catcher = s .catcher;
+    })
+
+unfoldable pub scopeOf : ℕ → ℕ → ℕ
+scopeOf i scope = cond (eqb scope 0) i scope
+
+unfoldable pub faultAt : List ℕ → ℕ → ℕ
+faultAt ws target = getD ws target 0 / 32 % 64
+
+unfoldable pub catchesW : ℕ → List ℕ → ℕ → ℕ → ℕ → Bool
+catchesW d ws bound i fault = eqb (getD ws i 0 / 4 % 2) 1 || not (eqb (listEnd (processEnd d ws bound) ws 0 fault (i + 2)) 0)
+
+unfoldable pub catcherOf : ℕ → List ℕ → ℕ → ℕ → ℕ → ℕ → ℕ
+catcherOf d ws bound target i catcher = cond (eqb catcher 0) (cond (catchesW d ws bound i (faultAt ws target)) i 0) catcher
+
+unfoldable pub inScopeW : ℕ → List ℕ → ℕ → ℕ → ℕ → Found → Found
+inScopeW d ws bound target i (Past e) = Past e
+inScopeW d ws bound target i (Hit s) =
+    Hit
+    (record {
+      at = s .at;
+      level = s .level;
+      a = s .a;
+      b = s .b;
+      c = s .c;
+      d = s .d;
+      hollow = s .hollow;
+      closed = true;
+      scope = scopeOf i (s .scope);
+      catcher = catcherOf d ws bound target i (s .catcher);
+    })
+
+-- by kind; `sub` finds one level down, in what begins at a position
+unfoldable pub nodeW : (ℕ → Found) → ℕ → List ℕ → ℕ → ℕ → ℕ → ℕ → Found
+nodeW sub d ws bound target k i =
+    cond (eqb k 2) (inSeqW d ws bound i (sub (i + 1)))
+    (cond (eqb k 3) (inParW sub i)
+    (cond (eqb k 11) (inScopeW d ws bound target i (sub (listEnd (processEnd d ws bound) ws 0 128 (i + 2))))
+    (cond (eqb k 16) (inBodyW (sub (i + 3)))
+    (Past (processEnd (suc d) ws bound 8 i)))))
+
+unfoldable pub findW : ℕ → List ℕ → ℕ → ℕ → ℕ → ℕ → Found
+findW zero ws bound target level i = Past 0
+findW (suc d) ws bound target level i =
+    cond (ltb i (length ws))
+    (cond (eqb i target)
+    (hereW (suc d) ws bound level i)
+    (nodeW (findW d ws bound target (level + 1)) d ws bound target (getD ws i 0 / 2048) i))
+    (Past 0)

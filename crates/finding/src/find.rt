@@ -1,0 +1,287 @@
+// Finding an enabled process by its position: the cut that its end would make, the nearest scope, and the scope that catches its fault.
+use reading::reader::list;
+use reading::reader::process;
+use reading::reader::wide;
+ghost use mathlib.Core.Path.{_≡_};
+ghost use Prim.Native.Nat.{_+_, _<_};
+ghost use lib.ListN.{length};
+ghost use Rattle.finding.specs.Find.{findW, hereW, inSeqW, inParW, leftW, besideW, inBodyW, inScopeW, scopeOf, catcherOf, faultAt, catchesW};
+
+// The process at `at`, `level` levels deep. Were it nil, the words a..b and c..d would go; `hollow` tells that a nil would stand at a.
+// `scope` is the head of the nearest scope, `catcher` that of the innermost scope which has the process's name as a fault or is a
+// zombie; 0 where there is none.
+pub struct Spot {
+    pub at: usize,
+    pub level: usize,
+    pub a: usize,
+    pub b: usize,
+    pub c: usize,
+    pub d: usize,
+    pub hollow: bool,
+    pub closed: bool,
+    pub scope: usize,
+    pub catcher: usize,
+}
+
+pub enum Found {
+    Hit(Spot),
+    Past(usize),
+}
+
+// The enabled process whose head is at `target`, in the process at `at`, `level` levels deep; or where that process ends.
+pub fn find(ws: &[u16], at: usize, target: usize, depth: usize, level: usize, bound: usize) -> Found
+    requires { ⌜ level + depth < 65536 ⌝ }
+    ensures { λ r. ⌜ r ≡ findW depth (now (ws .entry)) bound target level at ⌝ }
+{
+    if depth == 0 {
+        return Found::Past(0);
+    }
+    if ws.len() <= at {
+        return Found::Past(0);
+    }
+    if at == target {
+        return here(ws, at, depth, level, bound);
+    }
+    let d = depth - 1;
+    match wide(ws[at]) / 2048 {
+        2 => in_seq(
+            ws,
+            at,
+            find(ws, at + 1, target, d, level + 1, bound),
+            d,
+            bound,
+        ),
+        3 => in_par(ws, at, target, d, level + 1, bound),
+        11 => in_scope(
+            ws,
+            at,
+            target,
+            find(
+                ws,
+                list(ws, at + 2, d, 0, 128, bound),
+                target,
+                d,
+                level + 1,
+                bound,
+            ),
+            d,
+            bound,
+        ),
+        16 => in_body(find(ws, at + 3, target, d, level + 1, bound)),
+        _ => Found::Past(process(ws, at, depth, 8, bound)),
+    }
+}
+
+// The process itself.
+fn here(ws: &[u16], at: usize, depth: usize, level: usize, bound: usize) -> Found
+    ensures { λ r. ⌜ r ≡ hereW depth (now (ws .entry)) bound level at ⌝ }
+{
+    let e = process(ws, at, depth, 8, bound);
+    Found::Hit(Spot {
+        at,
+        level,
+        a: at,
+        b: e,
+        c: e,
+        d: e,
+        hollow: true,
+        closed: false,
+        scope: 0,
+        catcher: 0,
+    })
+}
+
+// The first of a seq becoming nil, the second takes the seq's place; a nil second goes on.
+fn in_seq(ws: &[u16], at: usize, f: Found, depth: usize, bound: usize) -> Found
+    ensures { λ r. ⌜ r ≡ inSeqW depth (now (ws .entry)) bound at f ⌝ }
+{
+    match f {
+        Found::Past(e) => Found::Past(process(ws, e, depth, 0, bound)),
+        Found::Hit(s) => {
+            if s.closed {
+                return Found::Hit(s);
+            }
+            let q = s.d;
+            if ws.len() <= q {
+                return Found::Past(0);
+            }
+            if ws[q] == 0 {
+                return Found::Hit(Spot {
+                    at: s.at,
+                    level: s.level,
+                    a: at,
+                    b: q + 1,
+                    c: q + 1,
+                    d: q + 1,
+                    hollow: true,
+                    closed: false,
+                    scope: s.scope,
+                    catcher: s.catcher,
+                });
+            }
+            Found::Hit(Spot {
+                at: s.at,
+                level: s.level,
+                a: at,
+                b: q,
+                c: q,
+                d: q,
+                hollow: false,
+                closed: true,
+                scope: s.scope,
+                catcher: s.catcher,
+            })
+        }
+    }
+}
+
+// A side of a par becoming nil, the other takes the par's place.
+fn in_par(ws: &[u16], at: usize, target: usize, depth: usize, level: usize, bound: usize) -> Found
+    requires { ⌜ (level + depth < 65536) × (at < length (now ws)) ⌝ }
+    ensures { λ r. ⌜ r ≡ inParW (findW depth (now (ws .entry)) bound target level) at ⌝ }
+{
+    match find(ws, at + 1, target, depth, level, bound) {
+        Found::Hit(s) => left(at, s),
+        Found::Past(e) => beside(at, e, find(ws, e, target, depth, level, bound)),
+    }
+}
+
+// The left side has the process.
+fn left(at: usize, s: Spot) -> Found
+    ensures { λ r. ⌜ r ≡ leftW at s ⌝ }
+{
+    if s.closed {
+        return Found::Hit(s);
+    }
+    Found::Hit(Spot {
+        at: s.at,
+        level: s.level,
+        a: at,
+        b: s.d,
+        c: s.d,
+        d: s.d,
+        hollow: false,
+        closed: true,
+        scope: s.scope,
+        catcher: s.catcher,
+    })
+}
+
+// The left side ends at `e`.
+fn beside(at: usize, e: usize, f: Found) -> Found
+    requires { ⌜ at + 1 < 18446744073709551616 ⌝ }
+    ensures { λ r. ⌜ r ≡ besideW at e f ⌝ }
+{
+    match f {
+        Found::Past(g) => Found::Past(g),
+        Found::Hit(s) => {
+            if s.closed {
+                return Found::Hit(s);
+            }
+            Found::Hit(Spot {
+                at: s.at,
+                level: s.level,
+                a: at,
+                b: at + 1,
+                c: e,
+                d: s.d,
+                hollow: false,
+                closed: true,
+                scope: s.scope,
+                catcher: s.catcher,
+            })
+        }
+    }
+}
+
+// The body of a scope or an executor becoming nil, a nil stands there.
+fn in_body(f: Found) -> Found
+    ensures { λ r. ⌜ r ≡ inBodyW f ⌝ }
+{
+    match f {
+        Found::Past(e) => Found::Past(e),
+        Found::Hit(s) => Found::Hit(Spot {
+            at: s.at,
+            level: s.level,
+            a: s.a,
+            b: s.b,
+            c: s.c,
+            d: s.d,
+            hollow: s.hollow,
+            closed: true,
+            scope: s.scope,
+            catcher: s.catcher,
+        }),
+    }
+}
+
+fn in_scope(ws: &[u16], at: usize, target: usize, f: Found, depth: usize, bound: usize) -> Found
+    requires { ⌜ at < length (now ws) ⌝ }
+    ensures { λ r. ⌜ r ≡ inScopeW depth (now (ws .entry)) bound target at f ⌝ }
+{
+    match f {
+        Found::Past(e) => Found::Past(e),
+        Found::Hit(s) => Found::Hit(Spot {
+            at: s.at,
+            level: s.level,
+            a: s.a,
+            b: s.b,
+            c: s.c,
+            d: s.d,
+            hollow: s.hollow,
+            closed: true,
+            scope: scope_of(at, s.scope),
+            catcher: catcher_of(ws, at, target, s.catcher, depth, bound),
+        }),
+    }
+}
+
+// The nearest scope, if `scope` is that of the body.
+fn scope_of(at: usize, scope: usize) -> usize
+    ensures { λ r. ⌜ r ≡ scopeOf at scope ⌝ }
+{
+    if scope == 0 { at } else { scope }
+}
+
+// The scope that catches, if `catcher` does in the body.
+fn catcher_of(
+    ws: &[u16],
+    at: usize,
+    target: usize,
+    catcher: usize,
+    depth: usize,
+    bound: usize,
+) -> usize
+    requires { ⌜ at < length (now ws) ⌝ }
+    ensures { λ r. ⌜ r ≡ catcherOf depth (now (ws .entry)) bound target at catcher ⌝ }
+{
+    if catcher != 0 {
+        return catcher;
+    }
+    if catches(ws, at, fault_at(ws, target), depth, bound) {
+        at
+    } else {
+        0
+    }
+}
+
+// The name in a head, which is a throw's fault.
+fn fault_at(ws: &[u16], target: usize) -> usize
+    ensures { λ r. ⌜ r ≡ faultAt (now (ws .entry)) target ⌝ }
+{
+    if ws.len() <= target {
+        return 0;
+    }
+    wide(ws[target]) / 32 % 64
+}
+
+// Whether the scope at `at` stops a fault: its list has it, or the scope is a zombie.
+fn catches(ws: &[u16], at: usize, fault: usize, depth: usize, bound: usize) -> bool
+    requires { ⌜ at < length (now ws) ⌝ }
+    ensures { λ r. ⌜ r ≡ catchesW depth (now (ws .entry)) bound at fault ⌝ }
+{
+    if wide(ws[at]) / 4 % 2 == 1 {
+        return true;
+    }
+    list(ws, at + 2, depth, 0, fault, bound) != 0
+}

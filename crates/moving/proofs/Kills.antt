@@ -1,0 +1,137 @@
+-- Killing on words: one level of it, and its pieces from what the code knows where it returns.
+-- Assumes nothing.
+use Prim.Native.Nat.{ℕ, zero, suc, _+_, _-_, _/_, _%_, _≤_, _<_}
+use native.Mathlib.Omega.{arith}
+use mathlib.Core.Path.{_≡_, refl}
+use mathlib.Core.Bool.{true, false, cond}
+use mathlib.Core.List.{List}
+use lib.Dec.{leb}
+use lib.ListN.{length, getD, set}
+use borrow.Author.Tests.{le-ltb, lt-leb, ne-eqb}
+use Rattle.reading.specs.Walk.{processEnd, listEnd}
+use Rattle.moving.specs.Writing.{onward, pasted, pastedEnd, lowered}
+use Rattle.moving.specs.Killing.{Killed, Walk, stuckW, made, goes, noticeHead, noticeWord, noticeW, executorOn, executorW, headFor, liveOn, liveW, leftOn, parW, lessOne, rightOn, rightW, scopeAt, scopeW, kindW, killW}
+use Rattle.moving.specs.declared.kill.Moved.{Moved}
+
+pred-suc : (d : ℕ) → suc d - 1 ≡ d
+pred-suc d = omega arith
+
+pub kill-step :
+    (d : ℕ) (ws : List ℕ) (fault hole bound i : ℕ) (out : List ℕ) (to : ℕ) →
+    (d ≡ 0 → ⊥) →
+    killW d ws fault hole bound i out to
+    ≡ cond (leb (length ws) i) (stuckW out) (kindW d (d - 1) (killW (d - 1) ws fault hole bound) ws fault hole bound (getD ws i 0 / 2048) i out to)
+unfolding killW
+kill-step zero ws fault hole bound i out to h = absurd (h refl)
+kill-step (suc d) ws fault hole bound i out to h = rw (pred-suc d)
+
+-- a notice's three words one after the other
+pub notice-made :
+    (ws : List ℕ) (fault i end : ℕ) (out : List ℕ) (to x y a b c : ℕ) (first second third : List ℕ) →
+    i < length ws →
+    3 ≤ length ws - i →
+    x ≡ noticeHead (getD ws i 0) →
+    y ≡ noticeWord fault (getD ws (i + 1) 0) →
+    a ≡ onward to 1 →
+    first ≡ set out to x →
+    b ≡ onward a 1 →
+    second ≡ set first a y →
+    c ≡ onward b 1 →
+    third ≡ set second b (getD ws (i + 2) 0) →
+    made end c false third ≡ noticeW ws fault i end out to
+unfolding noticeW
+notice-made ws fault i end out to x y a b c first second third p q e g h j k l m n =
+    rw (lt-leb (length ws) i p, le-ltb (length ws - i) 3 q, ← e, ← g, ← h, ← j, ← k, ← l, ← m, ← n)
+
+-- ---- what the code knows where it returns: of each part its answer, and the output then
+
+abbrev both : Moved → List ℕ → Killed
+both r o = record { moved = r; out = o }
+
+-- an executor whose body is killed to nil, or not
+module _
+    (sub : Walk) (ws : List ℕ) (fault i : ℕ) (out : List ℕ) (to one : ℕ) (start : List ℕ) (p : Moved) (next : List ℕ) (r : Moved) (last : List ℕ)
+    (inside : i < length ws) (a : one ≡ onward to 1) (b : start ≡ set out to 6144)
+    (c : p ≡ sub (i + 3) start one .moved) (d : next ≡ sub (i + 3) start one .out) (e : p .end ≡ 0 → ⊥)
+  where
+    pub executor-alone :
+        p .nil ≡ true →
+        r ≡ noticeW ws fault i (p .end) next to .moved →
+        last ≡ noticeW ws fault i (p .end) next to .out →
+        both r last ≡ executorW sub ws fault i out to
+    unfolding executorW executorOn goes
+    executor-alone n x y = rw (lt-leb (length ws) i inside, ← a, ← b, ← c, ← d, ne-eqb (p .end) 0 e, n, x, y)
+
+    pub executor-beside :
+        p .nil ≡ false →
+        r ≡ noticeW ws fault i (p .end) next (p .to) .moved →
+        last ≡ noticeW ws fault i (p .end) next (p .to) .out →
+        both r last ≡ executorW sub ws fault i out to
+    unfolding executorW executorOn goes
+    executor-beside n x y = rw (lt-leb (length ws) i inside, ← a, ← b, ← c, ← d, ne-eqb (p .end) 0 e, n, x, y)
+
+-- a live scope whose body is killed
+pub live-made :
+    (sub : Walk) (ws : List ℕ) (hole i body : ℕ) (out : List ℕ) (to b h one : ℕ) (start : List ℕ) (p : Moved) (next headed last : List ℕ) →
+    b ≡ pastedEnd ws i body to →
+    start ≡ pasted ws i body out to →
+    p ≡ sub body start b .moved →
+    next ≡ sub body start b .out →
+    (p .end ≡ 0 → ⊥) →
+    h ≡ headFor ws i hole (p .end) →
+    one ≡ onward to 1 →
+    headed ≡ set next to h →
+    last ≡ set headed one 0 →
+    made (p .end) (p .to) false last ≡ liveW sub ws hole i body out to
+unfolding liveW liveOn goes
+live-made sub ws hole i body out to b h one start p next headed last e1 e2 e3 e4 e5 e6 e7 e8 e9 =
+    rw (← e1, ← e2, ← e3, ← e4, ne-eqb (p .end) 0 e5, ← e6, ← e7, ← e8, ← e9)
+
+-- a par whose left side is killed to nil, or not
+module _
+    (sub : Walk) (i : ℕ) (out : List ℕ) (to one : ℕ) (start : List ℕ) (p : Moved) (next : List ℕ) (r : Moved) (last : List ℕ)
+    (a : one ≡ onward to 1) (b : start ≡ set out to 6144) (c : p ≡ sub i start one .moved) (d : next ≡ sub i start one .out) (e : p .end ≡ 0 → ⊥)
+  where
+    pub par-right :
+        p .nil ≡ true → r ≡ sub (p .end) next to .moved → last ≡ sub (p .end) next to .out → both r last ≡ parW sub i out to
+    unfolding parW leftOn goes
+    par-right n x y = rw (← a, ← b, ← c, ← d, ne-eqb (p .end) 0 e, n, x, y)
+
+    pub par-both :
+        p .nil ≡ false →
+        r ≡ rightW sub (p .end) next one (p .to) .moved →
+        last ≡ rightW sub (p .end) next one (p .to) .out →
+        both r last ≡ parW sub i out to
+    unfolding parW leftOn goes
+    par-both n x y = rw (← a, ← b, ← c, ← d, ne-eqb (p .end) 0 e, n, x, y)
+
+-- the right side of a par, killed to nil or not
+module _
+    (sub : Walk) (i : ℕ) (out : List ℕ) (one to : ℕ) (q : Moved) (next : List ℕ)
+    (c : q ≡ sub i out to .moved) (d : next ≡ sub i out to .out) (e : q .end ≡ 0 → ⊥)
+  where
+    pub right-nil :
+        (less : ℕ) (last : List ℕ) → q .nil ≡ true → less ≡ lessOne to → last ≡ lowered next one to → made (q .end) less false last ≡ rightW sub i out one to
+    unfolding rightW rightOn goes
+    right-nil less last n x y = rw (← c, ← d, ne-eqb (q .end) 0 e, n, x, y)
+
+    pub right-stays : q .nil ≡ false → made (q .end) (q .to) false next ≡ rightW sub i out one to
+    unfolding rightW rightOn goes
+    right-stays n = rw (← c, ← d, ne-eqb (q .end) 0 e, n)
+
+-- a live scope with nil body
+pub scope-stuck :
+    (d : ℕ) (sub : Walk) (ws : List ℕ) (hole bound i : ℕ) (out : List ℕ) (to body h w : ℕ) →
+    i < length ws →
+    body ≡ listEnd (processEnd d ws bound) ws 0 128 (i + 2) →
+    (body ≡ 0 → ⊥) →
+    body < length ws →
+    h ≡ getD ws i 0 →
+    (h / 4 % 2 ≡ 1 → ⊥) →
+    w ≡ getD ws body 0 →
+    w ≡ 0 →
+    stuckW out ≡ scopeW d sub ws hole bound i out to
+unfolding scopeW scopeAt
+scope-stuck d sub ws hole bound i out to body h w e1 e2 e3 e4 e5 e6 e7 e8 =
+    rw
+    (lt-leb (length ws) i e1, ← e2, ne-eqb body 0 e3, lt-leb (length ws) body e4, ← e5, ne-eqb (h / 4 % 2) 1 e6, ← e7, e8)

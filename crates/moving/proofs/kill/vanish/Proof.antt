@@ -1,0 +1,24 @@
+-- `moving::kill::vanish` meets its contract.
+-- Assumes nothing.
+use Rattle.moving.specs.Killing.{vanishedW}
+use Rattle.moving.proofs.Tests.{tests}
+use borrow.Author.Needs.{needs}
+use Rattle.moving.proofs.kill.vanish.Statement.{statement}
+use Rattle.moving.proofs.kill.vanish.Tie as tie
+
+process-requires : tie.Need-process-requires
+process-requires c κs = search needs
+
+put-requires : tie.Need-put-requires
+put-requires c κs = search needs
+
+same-length : tie.Need-same-length
+same-length c = search needs
+
+returns : tie.Need-returns
+unfolding vanishedW
+returns c =
+    (simp (tests, ← (c .before .before .put .ensures .0), ← (c .before .before .put .ensures .1), ← (c .before .before .before .before .process .ensures)), simp (tests, ← (c .before .before .put .ensures .0), ← (c .before .before .put .ensures .1), ← (c .before .before .before .before .process .ensures)))
+
+pub vanish-spec : {M : Type 1} → statement M
+vanish-spec = tie.close (tie.spec process-requires put-requires same-length returns)

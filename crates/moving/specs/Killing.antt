@@ -1,0 +1,171 @@
+-- Killing on words, as the code goes: where the source ends, where the writing has come to, and the output then. A piece for each kind
+-- takes the killing one level down. The proofs show that it is the definitions' killing and climb; no public contract names it.
+use Prim.Native.Nat.{ℕ, zero, suc, _+_, _-_, _*_, _/_, _%_}
+use mathlib.Core.Bool.{Bool, true, false, cond}
+use mathlib.Core.List.{List}
+use lib.Dec.{ltb, leb, eqb}
+use lib.ListN.{length, getD, set}
+use Rattle.reading.specs.Walk.{processEnd, listEnd}
+use Rattle.moving.specs.Writing.{onward, pasted, pastedEnd, lowered}
+use Rattle.moving.specs.declared.kill.Moved.{Moved}
+
+-- what killing gives: the code's answer, and the output afterwards
+pub record Killed : Type 0 where
+  pub moved : Moved
+  pub out : List ℕ
+
+-- killing at a position, into an output from a place on
+abbrev pub Walk : Type 0
+Walk = ℕ → List ℕ → ℕ → Killed
+
+abbrev at : List ℕ → ℕ → ℕ
+at ws i = getD ws i 0
+
+abbrev pub stopped : Moved
+stopped = record { end = 0; to = 0; nil = false }
+
+-- something can't be killed
+abbrev pub stuckW : List ℕ → Killed
+stuckW out = record { moved = stopped; out = out }
+
+abbrev pub made : ℕ → ℕ → Bool → List ℕ → Killed
+made end to nil out = record { moved = record { end = end; to = to; nil = nil }; out = out }
+
+-- on to what follows, unless it can't be killed
+unfoldable pub goes : Killed → Killed → Killed
+goes k next = cond (eqb (k .moved .end) 0) (stuckW (k .out)) next
+
+-- ---- words that change
+
+-- a scope's head as a zombie's, with mark 2 and with mark 0
+abbrev pub ownZombie : ℕ → ℕ
+ownZombie h = h / 32 * 32 + 20
+
+abbrev pub plainZombie : ℕ → ℕ
+plainZombie h = h / 32 * 32 + 4
+
+-- a notice's head from an executor's, and its first word from the fault and the executor's
+abbrev pub noticeHead : ℕ → ℕ
+noticeHead h = 36864 + h / 32 % 64 * 32
+
+abbrev pub noticeWord : ℕ → ℕ → ℕ
+noticeWord fault w = fault % 64 * 1024 + w / 8192 * 128
+
+-- a waiter's first word with the bit dead
+abbrev pub deadWord : ℕ → ℕ
+deadWord w = 32768 + w % 32768
+
+-- ---- those without parts that are killed
+
+unfoldable pub waiterW : ℕ → List ℕ → ℕ → Walk
+waiterW d ws bound i out to =
+    cond (leb (length ws) i) (stuckW out)
+    (cond (ltb (length ws - i) 2) (stuckW out)
+    (cond (eqb (processEnd d ws bound 8 i) 0) (stuckW out)
+    (made (processEnd d ws bound 8 i) (pastedEnd ws i (processEnd d ws bound 8 i) to) false
+    (set (pasted ws i (processEnd d ws bound 8 i) out to) (onward to 1) (deadWord (at ws (i + 1)))))))
+
+unfoldable pub keptW : List ℕ → Walk
+keptW ws i out to = cond (leb (length ws) i) (stuckW out) (made (i + 3) (pastedEnd ws i (i + 3) to) false (pasted ws i (i + 3) out to))
+
+unfoldable pub vanishedW : ℕ → List ℕ → ℕ → Walk
+vanishedW d ws bound i out to = made (processEnd d ws bound 8 i) (onward to 1) true (set out to 0)
+
+-- ---- seq and par
+
+unfoldable pub seqOn : ℕ → List ℕ → ℕ → Killed → Killed
+seqOn d ws bound k = goes k (made (processEnd d ws bound 0 (k .moved .end)) (k .moved .to) (k .moved .nil) (k .out))
+
+unfoldable pub seqW : ℕ → Walk → List ℕ → ℕ → Walk
+seqW d sub ws bound i out to = seqOn d ws bound (sub i out to)
+
+unfoldable pub lessOne : ℕ → ℕ
+lessOne n = cond (eqb n 0) 0 (n - 1)
+
+-- the right side is killed too; the left stands at one..to
+unfoldable pub rightOn : ℕ → ℕ → Killed → Killed
+rightOn one to k =
+    goes k
+    (cond (k .moved .nil)
+    (made (k .moved .end) (lessOne to) false (lowered (k .out) one to))
+    (made (k .moved .end) (k .moved .to) false (k .out)))
+
+unfoldable pub rightW : Walk → ℕ → List ℕ → ℕ → ℕ → Killed
+rightW sub i out one to = rightOn one to (sub i out to)
+
+-- the left side is killed
+unfoldable pub leftOn : Walk → ℕ → ℕ → Killed → Killed
+leftOn sub one to k =
+    goes k (cond (k .moved .nil) (sub (k .moved .end) (k .out) to) (rightW sub (k .moved .end) (k .out) one (k .moved .to)))
+
+unfoldable pub parW : Walk → Walk
+parW sub i out to = leftOn sub (onward to 1) to (sub i (set out to 6144) (onward to 1))
+
+-- ---- scope
+
+unfoldable pub headFor : List ℕ → ℕ → ℕ → ℕ → ℕ
+headFor ws i hole end =
+    cond (leb (length ws) i) 0
+    (cond (leb hole i) (ownZombie (at ws i))
+    (cond (leb end hole) (ownZombie (at ws i)) (plainZombie (at ws i))))
+
+-- the body of a zombie, and of a live scope, is killed
+unfoldable pub zombieOn : List ℕ → ℕ → ℕ → Killed → Killed
+zombieOn ws i to k = goes k (made (k .moved .end) (pastedEnd ws i (k .moved .end) to) false (pasted ws i (k .moved .end) (k .out) to))
+
+unfoldable pub zombieW : Walk → List ℕ → ℕ → ℕ → List ℕ → ℕ → Killed
+zombieW sub ws i body out to = zombieOn ws i to (sub body out to)
+
+unfoldable pub liveOn : List ℕ → ℕ → ℕ → ℕ → Killed → Killed
+liveOn ws hole i to k =
+    goes k (made (k .moved .end) (k .moved .to) false (set (set (k .out) to (headFor ws i hole (k .moved .end))) (onward to 1) 0))
+
+unfoldable pub liveW : Walk → List ℕ → ℕ → ℕ → ℕ → List ℕ → ℕ → Killed
+liveW sub ws hole i body out to = liveOn ws hole i to (sub body (pasted ws i body out to) (pastedEnd ws i body to))
+
+unfoldable pub scopeAt : Walk → List ℕ → ℕ → ℕ → ℕ → List ℕ → ℕ → Killed
+scopeAt sub ws hole i body out to =
+    cond (eqb body 0) (stuckW out)
+    (cond (leb (length ws) body) (stuckW out)
+    (cond (eqb (at ws i / 4 % 2) 1) (zombieW sub ws i body out to)
+    (cond (eqb (at ws body) 0) (stuckW out) (liveW sub ws hole i body out to))))
+
+unfoldable pub scopeW : ℕ → Walk → List ℕ → ℕ → ℕ → Walk
+scopeW d sub ws hole bound i out to =
+    cond (leb (length ws) i) (stuckW out) (scopeAt sub ws hole i (listEnd (processEnd d ws bound) ws 0 128 (i + 2)) out to)
+
+-- ---- executor
+
+unfoldable pub noticeW : List ℕ → ℕ → ℕ → ℕ → List ℕ → ℕ → Killed
+noticeW ws fault i end out to =
+    cond (leb (length ws) i) (stuckW out)
+    (cond (ltb (length ws - i) 3) (stuckW out)
+    (made end (onward (onward (onward to 1) 1) 1) false
+    (set (set (set out to (noticeHead (at ws i))) (onward to 1) (noticeWord fault (at ws (i + 1)))) (onward (onward to 1) 1) (at ws (i + 2)))))
+
+-- the body is killed
+unfoldable pub executorOn : List ℕ → ℕ → ℕ → ℕ → Killed → Killed
+executorOn ws fault i to k =
+    goes k (cond (k .moved .nil) (noticeW ws fault i (k .moved .end) (k .out) to) (noticeW ws fault i (k .moved .end) (k .out) (k .moved .to)))
+
+unfoldable pub executorW : Walk → List ℕ → ℕ → Walk
+executorW sub ws fault i out to =
+    cond (leb (length ws) i) (stuckW out) (executorOn ws fault i to (sub (i + 3) (set out to 6144) (onward to 1)))
+
+-- ---- by kind
+
+-- `d` levels, `sub` one less
+unfoldable pub kindW : ℕ → ℕ → Walk → List ℕ → ℕ → ℕ → ℕ → ℕ → Walk
+kindW d below sub ws fault hole bound kind i out to =
+    cond (eqb kind 2) (seqW below sub ws bound (i + 1) out to)
+    (cond (eqb kind 3) (parW sub (i + 1) out to)
+    (cond (eqb kind 11) (scopeW below sub ws hole bound i out to)
+    (cond (eqb kind 12) (stuckW out)
+    (cond (eqb kind 16) (executorW sub ws fault i out to)
+    (cond (eqb kind 17) (waiterW d ws bound i out to)
+    (cond (eqb kind 18) (keptW ws i out to) (vanishedW d ws bound i out to)))))))
+
+unfoldable pub killW : ℕ → List ℕ → ℕ → ℕ → ℕ → Walk
+killW zero ws fault hole bound i out to = stuckW out
+killW (suc d) ws fault hole bound i out to =
+    cond (leb (length ws) i) (stuckW out) (kindW (suc d) d (killW d ws fault hole bound) ws fault hole bound (at ws i / 2048) i out to)

@@ -1,0 +1,381 @@
+// Killing with a fault, into scratch. A scope around the position `hole`, from which a fault climbs, turns zombie with mark 0, any other
+// one with mark 2; but for that the climb does what killing does. Total: what does not fit can't be killed.
+use crate::write::copy;
+use crate::write::down;
+use crate::write::further;
+use crate::write::put;
+use reading::reader::list;
+use reading::reader::process;
+use reading::reader::wide;
+ghost use mathlib.Core.Path.{_≡_};
+ghost use Rattle.moving.specs.Killing.{stopped, lessOne, ownZombie, plainZombie, headFor, noticeHead, noticeWord, deadWord};
+ghost use Rattle.moving.specs.Killing.{noticeW, waiterW, keptW, vanishedW, killW, seqW, parW, rightW, scopeW, zombieW, liveW, executorW};
+
+// Where the source ends and where the writing has come to, and whether only nil was written; `end` is 0 where something can't be killed.
+pub struct Moved {
+    pub end: usize,
+    pub to: usize,
+    pub nil: bool,
+}
+
+fn stuck() -> Moved
+    ensures { λ r. ⌜ r ≡ stopped ⌝ }
+{
+    Moved {
+        end: 0,
+        to: 0,
+        nil: false,
+    }
+}
+
+pub fn kill(
+    ws: &[u16],
+    at: usize,
+    fault: u16,
+    hole: usize,
+    depth: usize,
+    bound: usize,
+    out: &mut [u16],
+    to: usize,
+) -> Moved
+    ensures { λ r. ⌜ (r ≡ killW depth (now (ws .entry)) fault hole bound at (now (out .entry)) to .moved) × (now (out .exit) ≡ killW depth (now (ws .entry)) fault hole bound at (now (out .entry)) to .out) ⌝ }
+{
+    if depth == 0 {
+        return stuck();
+    }
+    if ws.len() <= at {
+        return stuck();
+    }
+    match wide(ws[at]) / 2048 {
+        2 => kill_seq(ws, at + 1, fault, hole, depth - 1, bound, out, to),
+        3 => kill_par(ws, at + 1, fault, hole, depth - 1, bound, out, to),
+        11 => kill_scope(ws, at, fault, hole, depth - 1, bound, out, to),
+        12 => stuck(),
+        16 => kill_executor(ws, at, fault, hole, depth - 1, bound, out, to),
+        17 => kill_waiter(ws, at, depth, bound, out, to),
+        18 => keep(ws, at, out, to),
+        _ => vanish(ws, at, depth, bound, out, to),
+    }
+}
+
+// A seq keeps its first, killed.
+fn kill_seq(
+    ws: &[u16],
+    at: usize,
+    fault: u16,
+    hole: usize,
+    depth: usize,
+    bound: usize,
+    out: &mut [u16],
+    to: usize,
+) -> Moved
+    ensures { λ r. ⌜ (r ≡ seqW depth (killW depth (now (ws .entry)) fault hole bound) (now (ws .entry)) bound at (now (out .entry)) to .moved) × (now (out .exit) ≡ seqW depth (killW depth (now (ws .entry)) fault hole bound) (now (ws .entry)) bound at (now (out .entry)) to .out) ⌝ }
+{
+    let p = kill(ws, at, fault, hole, depth, bound, out, to);
+    if p.end == 0 {
+        return stuck();
+    }
+    Moved {
+        end: process(ws, p.end, depth, 0, bound),
+        to: p.to,
+        nil: p.nil,
+    }
+}
+
+// A par without its sides that are nil.
+fn kill_par(
+    ws: &[u16],
+    at: usize,
+    fault: u16,
+    hole: usize,
+    depth: usize,
+    bound: usize,
+    out: &mut [u16],
+    to: usize,
+) -> Moved
+    ensures { λ r. ⌜ (r ≡ parW (killW depth (now (ws .entry)) fault hole bound) at (now (out .entry)) to .moved) × (now (out .exit) ≡ parW (killW depth (now (ws .entry)) fault hole bound) at (now (out .entry)) to .out) ⌝ }
+{
+    let one = put(out, to, 6144);
+    let p = kill(ws, at, fault, hole, depth, bound, out, one);
+    if p.end == 0 {
+        return stuck();
+    }
+    if p.nil {
+        return kill(ws, p.end, fault, hole, depth, bound, out, to);
+    }
+    kill_right(ws, p.end, fault, hole, depth, bound, out, one, p.to)
+}
+
+// The right side of a par whose left stands killed at one..to.
+fn kill_right(
+    ws: &[u16],
+    at: usize,
+    fault: u16,
+    hole: usize,
+    depth: usize,
+    bound: usize,
+    out: &mut [u16],
+    one: usize,
+    to: usize,
+) -> Moved
+    ensures { λ r. ⌜ (r ≡ rightW (killW depth (now (ws .entry)) fault hole bound) at (now (out .entry)) one to .moved) × (now (out .exit) ≡ rightW (killW depth (now (ws .entry)) fault hole bound) at (now (out .entry)) one to .out) ⌝ }
+{
+    let q = kill(ws, at, fault, hole, depth, bound, out, to);
+    if q.end == 0 {
+        return stuck();
+    }
+    if q.nil {
+        down(out, one, to);
+        return Moved {
+            end: q.end,
+            to: less_one(to),
+            nil: false,
+        };
+    }
+    Moved {
+        end: q.end,
+        to: q.to,
+        nil: false,
+    }
+}
+
+fn less_one(n: usize) -> usize
+    ensures { λ r. ⌜ r ≡ lessOne n ⌝ }
+{
+    if n == 0 {
+        return 0;
+    }
+    n - 1
+}
+
+fn kill_scope(
+    ws: &[u16],
+    at: usize,
+    fault: u16,
+    hole: usize,
+    depth: usize,
+    bound: usize,
+    out: &mut [u16],
+    to: usize,
+) -> Moved
+    ensures { λ r. ⌜ (r ≡ scopeW depth (killW depth (now (ws .entry)) fault hole bound) (now (ws .entry)) hole bound at (now (out .entry)) to .moved) × (now (out .exit) ≡ scopeW depth (killW depth (now (ws .entry)) fault hole bound) (now (ws .entry)) hole bound at (now (out .entry)) to .out) ⌝ }
+{
+    if ws.len() <= at {
+        return stuck();
+    }
+    let body = list(ws, at + 2, depth, 0, 128, bound);
+    if body == 0 {
+        return stuck();
+    }
+    if ws.len() <= body {
+        return stuck();
+    }
+    if wide(ws[at]) / 4 % 2 == 1 {
+        return kill_zombie(ws, at, body, fault, hole, depth, bound, out, to);
+    }
+    if wide(ws[body]) == 0 {
+        return stuck();
+    }
+    kill_live(ws, at, body, fault, hole, depth, bound, out, to)
+}
+
+// A zombie stays as it is, if its body can be killed.
+fn kill_zombie(
+    ws: &[u16],
+    at: usize,
+    body: usize,
+    fault: u16,
+    hole: usize,
+    depth: usize,
+    bound: usize,
+    out: &mut [u16],
+    to: usize,
+) -> Moved
+    ensures { λ r. ⌜ (r ≡ zombieW (killW depth (now (ws .entry)) fault hole bound) (now (ws .entry)) at body (now (out .entry)) to .moved) × (now (out .exit) ≡ zombieW (killW depth (now (ws .entry)) fault hole bound) (now (ws .entry)) at body (now (out .entry)) to .out) ⌝ }
+{
+    let p = kill(ws, body, fault, hole, depth, bound, out, to);
+    if p.end == 0 {
+        return stuck();
+    }
+    Moved {
+        end: p.end,
+        to: copy(ws, at, p.end, out, to),
+        nil: false,
+    }
+}
+
+// A live scope turns zombie, with no marked fault, its list as it is and its body killed.
+fn kill_live(
+    ws: &[u16],
+    at: usize,
+    body: usize,
+    fault: u16,
+    hole: usize,
+    depth: usize,
+    bound: usize,
+    out: &mut [u16],
+    to: usize,
+) -> Moved
+    ensures { λ r. ⌜ (r ≡ liveW (killW depth (now (ws .entry)) fault hole bound) (now (ws .entry)) hole at body (now (out .entry)) to .moved) × (now (out .exit) ≡ liveW (killW depth (now (ws .entry)) fault hole bound) (now (ws .entry)) hole at body (now (out .entry)) to .out) ⌝ }
+{
+    let b = copy(ws, at, body, out, to);
+    let p = kill(ws, body, fault, hole, depth, bound, out, b);
+    if p.end == 0 {
+        return stuck();
+    }
+    let one = put(out, to, zombie_head(ws, at, hole, p.end));
+    put(out, one, 0);
+    Moved {
+        end: p.end,
+        to: p.to,
+        nil: false,
+    }
+}
+
+// The head of the scope that stands at at..end, as a zombie's: mark 0 around the hole, else mark 2.
+fn zombie_head(ws: &[u16], at: usize, hole: usize, end: usize) -> u16
+    ensures { λ r. ⌜ r ≡ headFor (now (ws .entry)) at hole end ⌝ }
+{
+    if ws.len() <= at {
+        return 0;
+    }
+    if hole <= at {
+        return own_zombie(ws[at]);
+    }
+    if end <= hole {
+        return own_zombie(ws[at]);
+    }
+    plain_zombie(ws[at])
+}
+
+fn own_zombie(h: u16) -> u16
+    ensures { λ r. ⌜ r ≡ ownZombie h ⌝ }
+{
+    h / 32 * 32 + 20
+}
+
+fn plain_zombie(h: u16) -> u16
+    ensures { λ r. ⌜ r ≡ plainZombie h ⌝ }
+{
+    h / 32 * 32 + 4
+}
+
+// An executor becomes its killed body par a notice.
+fn kill_executor(
+    ws: &[u16],
+    at: usize,
+    fault: u16,
+    hole: usize,
+    depth: usize,
+    bound: usize,
+    out: &mut [u16],
+    to: usize,
+) -> Moved
+    ensures { λ r. ⌜ (r ≡ executorW (killW depth (now (ws .entry)) fault hole bound) (now (ws .entry)) fault at (now (out .entry)) to .moved) × (now (out .exit) ≡ executorW (killW depth (now (ws .entry)) fault hole bound) (now (ws .entry)) fault at (now (out .entry)) to .out) ⌝ }
+{
+    if ws.len() <= at {
+        return stuck();
+    }
+    let one = put(out, to, 6144);
+    let p = kill(ws, at + 3, fault, hole, depth, bound, out, one);
+    if p.end == 0 {
+        return stuck();
+    }
+    if p.nil {
+        return notice(ws, at, fault, p.end, out, to);
+    }
+    notice(ws, at, fault, p.end, out, p.to)
+}
+
+// The notice of the executor at `at`, which ends at `end`.
+fn notice(ws: &[u16], at: usize, fault: u16, end: usize, out: &mut [u16], to: usize) -> Moved
+    ensures { λ r. ⌜ (r ≡ noticeW (now (ws .entry)) fault at end (now (out .entry)) to .moved) × (now (out .exit) ≡ noticeW (now (ws .entry)) fault at end (now (out .entry)) to .out) ⌝ }
+{
+    if ws.len() <= at {
+        return stuck();
+    }
+    if ws.len() - at < 3 {
+        return stuck();
+    }
+    let a = put(out, to, notice_head(ws[at]));
+    let b = put(out, a, notice_word(fault, ws[at + 1]));
+    Moved {
+        end: end,
+        to: put(out, b, ws[at + 2]),
+        nil: false,
+    }
+}
+
+// From an executor's head, and from a fault and an executor's client.
+fn notice_head(h: u16) -> u16
+    ensures { λ r. ⌜ r ≡ noticeHead h ⌝ }
+{
+    36864 + h / 32 % 64 * 32
+}
+
+fn notice_word(fault: u16, client: u16) -> u16
+    ensures { λ r. ⌜ r ≡ noticeWord fault client ⌝ }
+{
+    fault % 64 * 1024 + client / 8192 * 128
+}
+
+// A waiter turns dead.
+fn kill_waiter(
+    ws: &[u16],
+    at: usize,
+    depth: usize,
+    bound: usize,
+    out: &mut [u16],
+    to: usize,
+) -> Moved
+    ensures { λ r. ⌜ (r ≡ waiterW depth (now (ws .entry)) bound at (now (out .entry)) to .moved) × (now (out .exit) ≡ waiterW depth (now (ws .entry)) bound at (now (out .entry)) to .out) ⌝ }
+{
+    if ws.len() <= at {
+        return stuck();
+    }
+    if ws.len() - at < 2 {
+        return stuck();
+    }
+    let e = process(ws, at, depth, 8, bound);
+    if e == 0 {
+        return stuck();
+    }
+    let n = copy(ws, at, e, out, to);
+    put(out, further(to, 1), dead_word(ws[at + 1]));
+    Moved {
+        end: e,
+        to: n,
+        nil: false,
+    }
+}
+
+fn dead_word(w: u16) -> u16
+    ensures { λ r. ⌜ r ≡ deadWord w ⌝ }
+{
+    32768 + w % 32768
+}
+
+// A notice stays.
+fn keep(ws: &[u16], at: usize, out: &mut [u16], to: usize) -> Moved
+    ensures { λ r. ⌜ (r ≡ keptW (now (ws .entry)) at (now (out .entry)) to .moved) × (now (out .exit) ≡ keptW (now (ws .entry)) at (now (out .entry)) to .out) ⌝ }
+{
+    if ws.len() <= at {
+        return stuck();
+    }
+    Moved {
+        end: at + 3,
+        to: copy(ws, at, at + 3, out, to),
+        nil: false,
+    }
+}
+
+// All else becomes nil.
+fn vanish(ws: &[u16], at: usize, depth: usize, bound: usize, out: &mut [u16], to: usize) -> Moved
+    ensures { λ r. ⌜ (r ≡ vanishedW depth (now (ws .entry)) bound at (now (out .entry)) to .moved) × (now (out .exit) ≡ vanishedW depth (now (ws .entry)) bound at (now (out .entry)) to .out) ⌝ }
+{
+    Moved {
+        end: process(ws, at, depth, 8, bound),
+        to: put(out, to, 0),
+        nil: true,
+    }
+}

@@ -1,0 +1,98 @@
+-- `case` lends its arrays whole and reads inside them.
+-- Assumes nothing.
+use borrow.Author.Needs.{needs}
+use Rattle.reading_cases.proofs.case.Statement.{statement}
+use Rattle.reading_cases.proofs.case.Tie as tie
+
+slice-aggregate-take : tie.Need-slice-aggregate-take
+slice-aggregate-take c = search needs
+
+take-requires : tie.Need-take-requires
+take-requires c κs = search needs
+
+returns : tie.Need-returns
+returns c = search needs
+
+array-read-word : tie.Need-array-read-word
+array-read-word c = search needs
+
+array-read-word-2 : tie.Need-array-read-word-2
+array-read-word-2 c = search needs
+
+word-requires : tie.Need-word-requires
+word-requires c κs = search needs
+
+cast-count : tie.Need-cast-count
+cast-count c = search needs
+
+returns-2 : tie.Need-returns-2
+returns-2 c = search needs
+
+slice-aggregate-take-2 : tie.Need-slice-aggregate-take-2
+slice-aggregate-take-2 c = search needs
+
+mul-take : tie.Need-mul-take
+mul-take c = search needs
+
+take-requires-2 : tie.Need-take-requires-2
+take-requires-2 c κs = search needs
+
+returns-3 : tie.Need-returns-3
+returns-3 c = search needs
+
+fill-requires : tie.Need-fill-requires
+fill-requires c κs = search needs
+
+slice-aggregate-answer : tie.Need-slice-aggregate-answer
+slice-aggregate-answer c = search needs
+
+array-read-word-3 : tie.Need-array-read-word-3
+array-read-word-3 c = search needs
+
+array-read-word-4 : tie.Need-array-read-word-4
+array-read-word-4 c = search needs
+
+word-requires-2 : tie.Need-word-requires-2
+word-requires-2 c κs = search needs
+
+array-read-word-5 : tie.Need-array-read-word-5
+array-read-word-5 c = search needs
+
+array-read-word-6 : tie.Need-array-read-word-6
+array-read-word-6 c = search needs
+
+word-requires-3 : tie.Need-word-requires-3
+word-requires-3 c κs = search needs
+
+answer-requires : tie.Need-answer-requires
+answer-requires c κs = search needs
+
+returns-4 : tie.Need-returns-4
+returns-4 c = search needs
+
+pub case-spec : {M : Type 1} → statement M
+case-spec =
+    tie.close
+    (tie.spec
+    slice-aggregate-take
+    take-requires
+    returns
+    array-read-word
+    array-read-word-2
+    word-requires
+    cast-count
+    returns-2
+    slice-aggregate-take-2
+    mul-take
+    take-requires-2
+    returns-3
+    fill-requires
+    slice-aggregate-answer
+    array-read-word-3
+    array-read-word-4
+    word-requires-2
+    array-read-word-5
+    array-read-word-6
+    word-requires-3
+    answer-requires
+    returns-4)
