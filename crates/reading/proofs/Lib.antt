@@ -10,6 +10,7 @@ pub mod Freshness
 pub mod Known
 pub mod Lent
 pub mod Lists
+pub mod Masks
 pub mod Others
 pub mod Parts
 pub mod Processes

@@ -40,3 +40,18 @@ beyond-19 (suc (suc (suc (suc (suc (suc (suc (suc (suc (suc (suc (suc (suc (suc 
 beyond-19 (suc (suc (suc (suc (suc (suc (suc (suc (suc (suc (suc (suc (suc (suc (suc (suc (suc zero))))))))))))))))) r = absurd (r .0 .1 refl)
 beyond-19 (suc (suc (suc (suc (suc (suc (suc (suc (suc (suc (suc (suc (suc (suc (suc (suc (suc (suc zero)))))))))))))))))) r = absurd (r .1 refl)
 beyond-19 (suc (suc (suc (suc (suc (suc (suc (suc (suc (suc (suc (suc (suc (suc (suc (suc (suc (suc (suc k))))))))))))))))))) r = omega arith
+
+pub beyond-12 : (k : ℕ) → ((((((((((((Unit {0} × (k ≡ 0 → ⊥)) × (k ≡ 1 → ⊥)) × (k ≡ 2 → ⊥)) × (k ≡ 3 → ⊥)) × (k ≡ 4 → ⊥)) × (k ≡ 5 → ⊥)) × (k ≡ 6 → ⊥)) × (k ≡ 7 → ⊥)) × (k ≡ 8 → ⊥)) × (k ≡ 9 → ⊥)) × (k ≡ 10 → ⊥)) × (k ≡ 11 → ⊥)) → 12 ≤ k
+beyond-12 zero r = absurd (r .0 .0 .0 .0 .0 .0 .0 .0 .0 .0 .0 .1 refl)
+beyond-12 (suc zero) r = absurd (r .0 .0 .0 .0 .0 .0 .0 .0 .0 .0 .1 refl)
+beyond-12 (suc (suc zero)) r = absurd (r .0 .0 .0 .0 .0 .0 .0 .0 .0 .1 refl)
+beyond-12 (suc (suc (suc zero))) r = absurd (r .0 .0 .0 .0 .0 .0 .0 .0 .1 refl)
+beyond-12 (suc (suc (suc (suc zero)))) r = absurd (r .0 .0 .0 .0 .0 .0 .0 .1 refl)
+beyond-12 (suc (suc (suc (suc (suc zero))))) r = absurd (r .0 .0 .0 .0 .0 .0 .1 refl)
+beyond-12 (suc (suc (suc (suc (suc (suc zero)))))) r = absurd (r .0 .0 .0 .0 .0 .1 refl)
+beyond-12 (suc (suc (suc (suc (suc (suc (suc zero))))))) r = absurd (r .0 .0 .0 .0 .1 refl)
+beyond-12 (suc (suc (suc (suc (suc (suc (suc (suc zero)))))))) r = absurd (r .0 .0 .0 .1 refl)
+beyond-12 (suc (suc (suc (suc (suc (suc (suc (suc (suc zero))))))))) r = absurd (r .0 .0 .1 refl)
+beyond-12 (suc (suc (suc (suc (suc (suc (suc (suc (suc (suc zero)))))))))) r = absurd (r .0 .1 refl)
+beyond-12 (suc (suc (suc (suc (suc (suc (suc (suc (suc (suc (suc zero))))))))))) r = absurd (r .1 refl)
+beyond-12 (suc (suc (suc (suc (suc (suc (suc (suc (suc (suc (suc (suc k)))))))))))) r = omega arith

@@ -2,7 +2,10 @@
 -- cH, 2 running) and so is a place (0 anywhere, 1 not nil, 2 a branch's guard, 3 a root); a context is 4 times the stratum plus the place.
 use Prim.Native.Nat.{ℕ, zero, suc, _+_, _*_, _-_, _/_, _%_}
 use mathlib.Core.Bool.{Bool, true, false, _&&_, cond}
-use lib.Dec.{ltb, eqb}
+use mathlib.Core.List.{[], _∷_}
+use lib.Dec.{leb, ltb, eqb}
+use lib.ListN.{getD}
+use lib.Bits.{bitAnd}
 use Rattle.sock.specs.Kind
 use Rattle.sock.specs.Kind.{rowOf}
 use Rattle.sock.specs.Reading.{Stratum, running, code, Place, anywhere, notNil, guard, root, allowed, placed}
@@ -25,3 +28,40 @@ spareOf s k = cond (eqb k Kind.scope && ltb s 2) 32 (rowOf k .spare)
 -- the bits of a head, with 65,536 added, that have to be 0; all of them where the kind may not stand
 unfoldable pub headMask : ℕ → ℕ → ℕ
 headMask c k = cond (allowed (stratumOf 0 0 (c / 4)) k && placed (placeOf (c % 4)) k) (spareOf (c / 4) k - 1) 131071
+
+-- ---- the same, as the code looks it up
+
+-- by kind: the contexts where it may stand, as bits, times 2,048, and the bits of a head that it does not use
+unfoldable pub placesOf : ℕ → ℕ
+placesOf k =
+    getD
+    (5033983
+    ∷ 1677375
+    ∷ 1679359
+    ∷ 1679359
+    ∷ 1679359
+    ∷ 1679359
+    ∷ 1677312
+    ∷ 3913728
+    ∷ 3913728
+    ∷ 1677312
+    ∷ 1677312
+    ∷ 6150175
+    ∷ 1679359
+    ∷ 1677343
+    ∷ 1677343
+    ∷ 100351
+    ∷ 1572864
+    ∷ 1572864
+    ∷ 1572895
+    ∷ [])
+    k 0
+
+unfoldable pub bitOf : ℕ → ℕ
+bitOf c = getD (1 ∷ 2 ∷ 4 ∷ 8 ∷ 16 ∷ 32 ∷ 64 ∷ 128 ∷ 256 ∷ 512 ∷ 1024 ∷ 2048 ∷ []) c 0
+
+unfoldable pub scopeMask : ℕ → ℕ
+scopeMask c = cond (leb 8 c) 3 31
+
+unfoldable pub maskOf : ℕ → ℕ → ℕ
+maskOf c k = cond (eqb (bitAnd (placesOf k / 2048) (bitOf c)) 0) 131071 (cond (eqb k 11) (scopeMask c) (placesOf k % 2048))
