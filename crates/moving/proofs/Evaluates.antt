@@ -34,7 +34,7 @@ operated-as difference a b = refl
 operated-as less a b = refl
 operated-as equal a b = refl
 
-operator-tag : (o : Operator) → (2 ≤ operatorTag o) × (operatorTag o ≤ 5)
+pub operator-tag : (o : Operator) → (2 ≤ operatorTag o) × (operatorTag o ≤ 5)
 operator-tag sum = (omega arith, omega arith)
 operator-tag difference = (omega arith, omega arith)
 operator-tag less = (omega arith, omega arith)

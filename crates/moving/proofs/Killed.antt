@@ -22,10 +22,10 @@ use Rattle.sock.proofs.Measures.{words-seq, words-par, words-scope, words-execu
 use Rattle.sock.proofs.Located.{size-positive}
 use Rattle.reading.specs.Walk.{listEnd, processEnd}
 use Rattle.reading.proofs.Combining.{Words}
+use Rattle.reading.proofs.Ended.{run-end, code-end, list-end}
 use Rattle.moving.specs.Killing.{stuckW, vanishedW, kindW, killW}
 use Rattle.moving.proofs.Laid.{Near}
 use Rattle.moving.proofs.Places.{stands-within, word-at, drop-behind, drop-after}
-use Rattle.moving.proofs.Ended.{run-end, code-end, list-end}
 use Rattle.moving.proofs.Around.{killed, killed-beside, Throws, free, killed-climb}
 use Rattle.moving.proofs.Gives.{Gives, stops, Does, seq-gives, par-gives}
 use Rattle.moving.proofs.Noticed.{vanish-gives, kept-gives, waiter-gives, executor-gives}

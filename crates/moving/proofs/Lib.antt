@@ -1,6 +1,5 @@
 pub mod Around
 pub mod Copies
-pub mod Ended
 pub mod Evaluates
 pub mod Evaluations
 pub mod Gives
@@ -8,6 +7,7 @@ pub mod Killed
 pub mod Kills
 pub mod Laid
 pub mod Levels
+pub mod Measures
 pub mod Noticed
 pub mod Others
 pub mod Places

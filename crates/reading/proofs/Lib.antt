@@ -2,6 +2,7 @@ pub mod Checks
 pub mod Combining
 pub mod Contexts
 pub mod Counting
+pub mod Ended
 pub mod Ending
 pub mod Expressions
 pub mod Following

@@ -3,7 +3,7 @@
 use Prim.Native.Nat.{ℕ, zero, suc, _+_, _*_, _-_, _/_, _%_}
 use mathlib.Core.Bool.{Bool, true, false, _&&_, cond}
 use mathlib.Core.List.{[], _∷_}
-use lib.Dec.{leb, ltb, eqb}
+use lib.Dec.{ltb, eqb}
 use lib.ListN.{getD}
 use lib.Bits.{bitAnd}
 use Rattle.sock.specs.Kind
@@ -31,37 +31,36 @@ headMask c k = cond (allowed (stratumOf 0 0 (c / 4)) k && placed (placeOf (c % 4
 
 -- ---- the same, as the code looks it up
 
--- by kind: the contexts where it may stand, as bits, times 2,048, and the bits of a head that it does not use
+-- by kind, first where it is code and then where it runs: the contexts where it may stand, as bits, times 2,048, and the bits of a head
+-- that it does not use
 unfoldable pub placesOf : ℕ → ℕ
-placesOf k =
+placesOf slot =
     getD
-    (5033983
-    ∷ 1677375
-    ∷ 1679359
-    ∷ 1679359
-    ∷ 1679359
-    ∷ 1679359
-    ∷ 1677312
-    ∷ 3913728
-    ∷ 3913728
-    ∷ 1677312
-    ∷ 1677312
-    ∷ 6150175
-    ∷ 1679359
-    ∷ 1677343
-    ∷ 1677343
-    ∷ 100351
-    ∷ 1572864
-    ∷ 1572864
-    ∷ 1572895
+    (315391 ∷ 4720639
+    ∷ 104511 ∷ 1572927
+    ∷ 106495 ∷ 1574911
+    ∷ 106495 ∷ 1574911
+    ∷ 106495 ∷ 1574911
+    ∷ 106495 ∷ 1574911
+    ∷ 104448 ∷ 1572864
+    ∷ 243712 ∷ 3670016
+    ∷ 243712 ∷ 3670016
+    ∷ 104448 ∷ 1572864
+    ∷ 104448 ∷ 1572864
+    ∷ 383007 ∷ 5767171
+    ∷ 106495 ∷ 1574911
+    ∷ 104479 ∷ 1572895
+    ∷ 104479 ∷ 1572895
+    ∷ 100351 ∷ 0
+    ∷ 0 ∷ 1572864
+    ∷ 0 ∷ 1572864
+    ∷ 0 ∷ 1572895
     ∷ [])
-    k 0
+    slot 0
 
 unfoldable pub bitOf : ℕ → ℕ
 bitOf c = getD (1 ∷ 2 ∷ 4 ∷ 8 ∷ 16 ∷ 32 ∷ 64 ∷ 128 ∷ 256 ∷ 512 ∷ 1024 ∷ 2048 ∷ []) c 0
 
-unfoldable pub scopeMask : ℕ → ℕ
-scopeMask c = cond (leb 8 c) 3 31
-
 unfoldable pub maskOf : ℕ → ℕ → ℕ
-maskOf c k = cond (eqb (bitAnd (placesOf k / 2048) (bitOf c)) 0) 131071 (cond (eqb k 11) (scopeMask c) (placesOf k % 2048))
+maskOf c k =
+    cond (eqb (bitAnd (placesOf (k * 2 + c / 8) / 2048) (bitOf c)) 0) 131071 (placesOf (k * 2 + c / 8) % 2048)

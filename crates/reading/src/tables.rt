@@ -1,32 +1,52 @@
 // What the reader looks up: which heads may stand where. Matches and not constant arrays, which every call would lay out anew.
 ghost use mathlib.Core.Path.{_≡_};
 ghost use Prim.Native.Nat.{_<_};
-ghost use Rattle.reading.specs.Tables.{placesOf, bitOf, scopeMask, headMask};
+ghost use Rattle.reading.specs.Tables.{placesOf, bitOf, headMask};
 
-// By kind: the contexts where it may stand, as bits, times 2,048, and the bits of a head that it does not use.
-fn places(kind: usize) -> usize
-    ensures { λ r. ⌜ r ≡ placesOf kind ⌝ }
+// By kind, first where it is code and then where it runs: the contexts where it may stand, as bits, times 2,048, and the bits of a head
+// that it does not use.
+fn places(slot: usize) -> usize
+    ensures { λ r. ⌜ r ≡ placesOf slot ⌝ }
 {
-    match kind {
-        0 => 5033983,
-        1 => 1677375,
-        2 => 1679359,
-        3 => 1679359,
-        4 => 1679359,
-        5 => 1679359,
-        6 => 1677312,
-        7 => 3913728,
-        8 => 3913728,
-        9 => 1677312,
-        10 => 1677312,
-        11 => 6150175,
-        12 => 1679359,
-        13 => 1677343,
-        14 => 1677343,
-        15 => 100351,
-        16 => 1572864,
-        17 => 1572864,
-        18 => 1572895,
+    match slot {
+        0 => 315391,
+        1 => 4720639,
+        2 => 104511,
+        3 => 1572927,
+        4 => 106495,
+        5 => 1574911,
+        6 => 106495,
+        7 => 1574911,
+        8 => 106495,
+        9 => 1574911,
+        10 => 106495,
+        11 => 1574911,
+        12 => 104448,
+        13 => 1572864,
+        14 => 243712,
+        15 => 3670016,
+        16 => 243712,
+        17 => 3670016,
+        18 => 104448,
+        19 => 1572864,
+        20 => 104448,
+        21 => 1572864,
+        22 => 383007,
+        23 => 5767171,
+        24 => 106495,
+        25 => 1574911,
+        26 => 104479,
+        27 => 1572895,
+        28 => 104479,
+        29 => 1572895,
+        30 => 100351,
+        31 => 0,
+        32 => 0,
+        33 => 1572864,
+        34 => 0,
+        35 => 1572864,
+        36 => 0,
+        37 => 1572895,
         _ => 0,
     }
 }
@@ -51,24 +71,14 @@ fn bit(context: usize) -> usize
     }
 }
 
-// A scope that is code has neither mark nor zombie.
-fn scope_mask(context: usize) -> usize
-    ensures { λ r. ⌜ r ≡ scopeMask context ⌝ }
-{
-    if 8 <= context { 3 } else { 31 }
-}
-
 // The bits of a head, with 65,536 added, that have to be 0. Where the kind may not stand, all of them.
 pub fn head_mask(context: usize, kind: usize) -> usize
     requires { ⌜ (context < 12) × (kind < 32) ⌝ }
     ensures { λ r. ⌜ r ≡ headMask context kind ⌝ }
 {
-    let p = places(kind);
+    let p = places(kind * 2 + context / 8);
     if p / 2048 & bit(context) == 0 {
         return 131071;
-    }
-    if kind == 11 {
-        return scope_mask(context);
     }
     p % 2048
 }

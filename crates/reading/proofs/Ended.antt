@@ -1,23 +1,23 @@
--- Where the position reader ends on the words of what is sound, of code that fits and of a list that fits: behind them.
+-- Where the position reader ends on the words of what is sound, of code and of lists that fit: behind them, or 0 without a key wanted.
 -- Assumes nothing.
 use Prim.Native.Nat.{ℕ, zero, suc, _+_, _*_, _-_, _≤_, _<_}
 use native.Mathlib.Omega.{arith}
-use mathlib.Core.Path.{_≡_, sym, ap, _∙_}
-use mathlib.Core.Bool.{Bool, false, not}
+use mathlib.Core.Path.{_≡_, refl, sym, ap, _∙_}
+use mathlib.Core.Bool.{Bool, true, false, not, cond}
 use mathlib.Core.List.{List, _∷_, _++_}
 use lib.Dec.{lit<}
 use lib.ListN.{length, drop, length-append, length-drop}
-use Rattle.sock.specs.Term.{Node, Entries}
+use Rattle.sock.specs.Term.{Node, Block, list, entriesOf, Entries}
 use Rattle.sock.specs.Layout.{count, words, entriesWords, depth, entriesDepth}
-use Rattle.sock.specs.Reading.{Got, got, running, code, anywhere, block, process}
+use Rattle.sock.specs.Reading.{Got, got, andThen, check, running, code, anywhere, holds, block, process}
 use Rattle.sock.specs.Running.{Run, runWords, size, runDepth}
 use Rattle.sock.proofs.Fits.{Fits, FitsEntries, Sound}
 use Rattle.sock.proofs.Reading.{finds, list-finds}
 use Rattle.sock.proofs.Running.{asNode-fits}
 use Rattle.reading.specs.Walk.{listEnd, processEnd}
 use Rattle.reading.proofs.Combining.{Words}
-use Rattle.reading.proofs.Ending.{Ends, ends-got}
-use Rattle.reading.proofs.Processes.{process-ends, listContext, list-ends}
+use Rattle.reading.proofs.Ending.{Ends, ends-fail, ends-got}
+use Rattle.reading.proofs.Processes.{process-ends, listContext, list-ends, list-wanted}
 
 end-of :
     {A : Type 0} {ws : List ℕ} {i e : ℕ} {g : Got A} {a : A} {rest : List ℕ} (x : List ℕ) →
@@ -60,3 +60,38 @@ module _ (ws : List ℕ) (ok : Words ws) (bound : ℕ) (ofScope : Bool) where
       (ap (block r ofScope 1) e ∙ list-finds d f h rest)
       e
       ∙ (let s : i + suc (length (entriesWords l)) ≡ i + 1 + length (entriesWords l) = omega arith in s)
+
+  -- with a key that has to be there
+  pub wanted-end :
+      (wanted : ℕ) →
+      wanted < 128 →
+      {l : Entries} →
+      FitsEntries ofScope zero l →
+      (d i : ℕ) →
+      entriesDepth l ≤ d →
+      (rest : List ℕ) →
+      drop i ws ≡ (count l ∷ entriesWords l) ++ rest →
+      listEnd (processEnd d ws bound) ws (listContext ofScope) wanted i ≡ cond (holds wanted l) (i + 1 + length (entriesWords l)) 0
+  unfolding words depth andThen check
+  wanted-end wanted low {l} f d i h rest e = by (holds wanted l) refl
+    where
+      read : List ℕ → Got Node
+      read = process d (code (not ofScope)) anywhere
+
+      tested : Got Block
+      tested = andThen (block read ofScope 1 (drop i ws)) λ b after. check (holds wanted (entriesOf b)) (got b after)
+
+      gives : tested ≡ check (holds wanted l) (got (list l) rest)
+      gives = ap (λ g. andThen g λ b after. check (holds wanted (entriesOf b)) (got b after)) (ap (block read ofScope 1) e ∙ list-finds d f h rest)
+
+      ends : Ends ws i tested (listEnd (processEnd d ws bound) ws (listContext ofScope) wanted i)
+      ends = list-wanted ws ok bound d ofScope wanted low i
+
+      by :
+          (b : Bool) →
+          holds wanted l ≡ b →
+          listEnd (processEnd d ws bound) ws (listContext ofScope) wanted i ≡ cond b (i + 1 + length (entriesWords l)) 0
+      by true p =
+          end-of (count l ∷ entriesWords l) ends (gives ∙ ap (λ b. check b (got (list l) rest)) p) e
+          ∙ (let s : i + suc (length (entriesWords l)) ≡ i + 1 + length (entriesWords l) = omega arith in s)
+      by false p = ends-fail ends (gives ∙ ap (λ b. check b (got (list l) rest)) p)
