@@ -83,13 +83,15 @@ fn leaves(words: usize) -> Vec<u16> {
     configuration(balanced(&vec![build::throw(1); (words - 68) / 2]))
 }
 
-/// Pars nested 60 deep to the left, each beside a balanced par of leaves.
+/// Pars nested 60 deep to the left; beside all but the ten innermost stands a balanced par of leaves, beside those a leaf, since depth ends
+/// at 64.
 fn leftward(words: usize) -> Vec<u16> {
-    let each = (words - 70) / 60;
-    let side = balanced(&vec![build::throw(1); each.div_ceil(2).max(1)]);
+    let each = (words - 92) / 50;
+    let side = balanced(&vec![build::throw(1); (each / 2).max(1)]);
     let mut process = build::throw(1);
-    for _ in 0..52 {
-        process = build::par(process, side.clone());
+    for k in 0..60 {
+        let beside = if k < 10 { build::throw(1) } else { side.clone() };
+        process = build::par(process, beside);
     }
     configuration(process)
 }
