@@ -6,11 +6,7 @@ pub mod Gives
 pub mod Killed
 pub mod Kills
 pub mod Laid
-pub mod Levels
-pub mod Measures
 pub mod Noticed
-pub mod Others
 pub mod Places
-pub mod Replacements
 pub mod Tests
 pub mod Zombies

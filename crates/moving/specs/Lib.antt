@@ -1,5 +1,3 @@
 pub mod Evaluating
 pub mod Killing
-pub mod Measuring
-pub mod Replacing
 pub mod Writing

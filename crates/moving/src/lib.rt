@@ -1,6 +1,4 @@
-// What moves in a step: values, depths, handlers, killing, and the words that change.
+// What moves in a step: values, killing, and the words that change.
 pub mod evaluate;
 pub mod kill;
-pub mod measure;
-pub mod replace;
 pub mod write;

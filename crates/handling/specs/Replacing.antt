@@ -4,11 +4,11 @@ use mathlib.Core.Bool.{Bool, true, false, cond}
 use mathlib.Core.List.{List, [], _∷_}
 use lib.Dec.{leb, eqb}
 use lib.ListN.{length, getD, set}
 use Rattle.moving.specs.Writing.{onward, pasted, pastedEnd, lowered}
-use Rattle.moving.specs.Measuring.{expressionLevels, codeLevels}
-use Rattle.moving.specs.declared.measure.Measured.{Measured}
-use Rattle.moving.specs.declared.replace.Rebuilt.{Rebuilt}
-use Rattle.moving.specs.declared.replace.Old.{Old}
+use Rattle.handling.specs.Measuring.{expressionLevels, codeLevels}
+use Rattle.handling.specs.declared.measure.Measured.{Measured}
+use Rattle.handling.specs.declared.replace.Rebuilt.{Rebuilt}
+use Rattle.handling.specs.declared.replace.Old.{Old}
 
 -- what a walk answers, and the output afterwards
 pub record Wrote : Type 0 where

@@ -1,10 +1,10 @@
 -- `put_old` of `moving::replace` meets its contract: the code is its mirror in specs/.
 -- Assumes nothing.
-use Rattle.moving.specs.Replacing.{oldEnd, oldOut}
+use Rattle.handling.specs.Replacing.{oldEnd, oldOut}
 use Rattle.moving.proofs.Tests.{tests}
 use borrow.Author.Needs.{needs}
-use Rattle.moving.proofs.replace.put_old.Statement.{statement}
-use Rattle.moving.proofs.replace.put_old.Tie as tie
+use Rattle.handling.proofs.replace.put_old.Statement.{statement}
+use Rattle.handling.proofs.replace.put_old.Tie as tie
 
 put-requires : tie.Need-put-requires
 put-requires c κs = search needs

@@ -1,10 +1,10 @@
 -- `in_place` of `moving::replace` meets its contract: the code is its mirror in specs/.
 -- Assumes nothing.
-use Rattle.moving.specs.Replacing.{cHW}
+use Rattle.handling.specs.Replacing.{cHW}
 use Rattle.moving.proofs.Tests.{tests}
 use borrow.Author.Needs.{needs}
-use Rattle.moving.proofs.replace.in_place.Statement.{statement}
-use Rattle.moving.proofs.replace.in_place.Tie as tie
+use Rattle.handling.proofs.replace.in_place.Statement.{statement}
+use Rattle.handling.proofs.replace.in_place.Tie as tie
 
 further-requires : tie.Need-further-requires
 further-requires c κs = search needs

@@ -1,35 +1,35 @@
 -- `code_levels`, `expressed`, `list_levels` and `parts` of `moving::measure` meet their contracts: the code is its mirror in specs/.
 -- Assumes nothing.
-use Rattle.moving.proofs.Others.{beyond-13}
+use Rattle.handling.proofs.Others.{beyond-13}
 use lib.ListN.{List·getD-eq-default}
 use mathlib.Core.Path.{_≡_, refl}
 use borrow.Author.Needs.{needs}
-use Rattle.moving.specs.Measuring.{codeLevels, nodeLevels, expressedLevels, partsLevels, listLevels, entriesLevels}
-use Rattle.moving.proofs.Levels.{code-levels-step, parts-levels-step, parts-levels-end, entries-levels-step, entries-levels-end}
+use Rattle.handling.specs.Measuring.{codeLevels, nodeLevels, expressedLevels, partsLevels, listLevels, entriesLevels}
+use Rattle.handling.proofs.Levels.{code-levels-step, parts-levels-step, parts-levels-end, entries-levels-step, entries-levels-end}
 use Rattle.moving.proofs.Tests.{tests}
 use Prim.Native.Nat.{ℕ, _+_, _*_, _<_}
 use borrow.Fn.Kinds.{In}
 use borrow.Fn.PlainCycle.{Measures, is, falls, and}
-use Rattle.moving.proofs.measure.code_levels.Reads as code-levels
-use Rattle.moving.proofs.measure.code_levels.Kinds as code-levels-kinds
-use Rattle.moving.proofs.measure.+code_levels+expressed+list_levels+parts.Lts-code_levels as code-levels-lts
-use Rattle.moving.proofs.measure.expressed.Reads as expressed
-use Rattle.moving.proofs.measure.expressed.Kinds as expressed-kinds
-use Rattle.moving.proofs.measure.+code_levels+expressed+list_levels+parts.Lts-expressed as expressed-lts
-use Rattle.moving.proofs.measure.list_levels.Reads as list-levels
-use Rattle.moving.proofs.measure.list_levels.Kinds as list-levels-kinds
-use Rattle.moving.proofs.measure.+code_levels+expressed+list_levels+parts.Lts-list_levels as list-levels-lts
-use Rattle.moving.proofs.measure.parts.Reads as parts
-use Rattle.moving.proofs.measure.parts.Kinds as parts-kinds
-use Rattle.moving.proofs.measure.+code_levels+expressed+list_levels+parts.Lts-parts as parts-lts
-use Rattle.moving.proofs.measure.expression_levels.Reads as expression-levels-reads
-use Rattle.moving.proofs.measure.larger.Reads as larger-reads
-use Rattle.moving.proofs.measure.leaf.Reads as leaf-reads
-use Rattle.moving.proofs.measure.nowhere.Reads as nowhere-reads
+use Rattle.handling.proofs.measure.code_levels.Reads as code-levels
+use Rattle.handling.proofs.measure.code_levels.Kinds as code-levels-kinds
+use Rattle.handling.proofs.measure.+code_levels+expressed+list_levels+parts.Lts-code_levels as code-levels-lts
+use Rattle.handling.proofs.measure.expressed.Reads as expressed
+use Rattle.handling.proofs.measure.expressed.Kinds as expressed-kinds
+use Rattle.handling.proofs.measure.+code_levels+expressed+list_levels+parts.Lts-expressed as expressed-lts
+use Rattle.handling.proofs.measure.list_levels.Reads as list-levels
+use Rattle.handling.proofs.measure.list_levels.Kinds as list-levels-kinds
+use Rattle.handling.proofs.measure.+code_levels+expressed+list_levels+parts.Lts-list_levels as list-levels-lts
+use Rattle.handling.proofs.measure.parts.Reads as parts
+use Rattle.handling.proofs.measure.parts.Kinds as parts-kinds
+use Rattle.handling.proofs.measure.+code_levels+expressed+list_levels+parts.Lts-parts as parts-lts
+use Rattle.handling.proofs.measure.expression_levels.Reads as expression-levels-reads
+use Rattle.handling.proofs.measure.larger.Reads as larger-reads
+use Rattle.handling.proofs.measure.leaf.Reads as leaf-reads
+use Rattle.handling.proofs.measure.nowhere.Reads as nowhere-reads
 use Rattle.moving.proofs.write.further.Reads as further-reads
 use Rattle.reading.proofs.reader.wide.Reads as wide-reads
-use Rattle.moving.proofs.measure.+code_levels+expressed+list_levels+parts.{statement}
-use Rattle.moving.proofs.measure.+code_levels+expressed+list_levels+parts.Tie.{close}
+use Rattle.handling.proofs.measure.+code_levels+expressed+list_levels+parts.{statement}
+use Rattle.handling.proofs.measure.+code_levels+expressed+list_levels+parts.Tie.{close}
 
 abbrev μ-code-levels : Measures 1 code-levels-kinds.ps ℕ
 μ-code-levels κs a = a .1 .1 .0 * 3

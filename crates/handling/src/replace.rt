@@ -2,15 +2,15 @@
 use crate::measure::code_levels;
 use crate::measure::expression_levels;
 use crate::measure::larger;
-use crate::write::copy;
-use crate::write::down;
-use crate::write::further;
-use crate::write::put;
+use moving::write::copy;
+use moving::write::down;
+use moving::write::further;
+use moving::write::put;
 use reading::reader::wide;
 ghost use mathlib.Core.Path.{_≡_};
 ghost use Prim.Native.Nat.{_-_};
-ghost use Rattle.moving.specs.Measuring.{expressionLevels, codeLevels};
-ghost use Rattle.moving.specs.Replacing.{oldEnd, oldOut, replaceW, seqW, parW, closePar, conditionW, keptW, otherW, cHW, nilW, wrote};
+ghost use Rattle.handling.specs.Measuring.{expressionLevels, codeLevels};
+ghost use Rattle.handling.specs.Replacing.{oldEnd, oldOut, replaceW, seqW, parW, closePar, conditionW, keptW, otherW, cHW, nilW, wrote};
 
 // Where the source ends, where the writing has come to, whether only nil was written, and how deep that is.
 pub struct Rebuilt {

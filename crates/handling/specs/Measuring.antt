@@ -4,8 +4,8 @@ use mathlib.Core.Bool.{cond}
 use mathlib.Core.List.{List, [], _∷_}
 use lib.Dec.{ltb, leb, eqb}
 use lib.ListN.{length, getD}
 use Rattle.moving.specs.Writing.{onward}
-use Rattle.moving.specs.declared.measure.Measured.{Measured}
+use Rattle.handling.specs.declared.measure.Measured.{Measured}
 
 abbrev pub measured : ℕ → ℕ → Measured
 measured end levels = record { end = end; levels = levels }

@@ -1,21 +1,21 @@
 -- `expression_levels` of `moving::measure` meets its contract: the code is its mirror in specs/.
 -- Assumes nothing.
 use borrow.Author.Needs.{needs}
-use Rattle.moving.specs.Measuring.{operandLevels, expressionLevels}
-use Rattle.moving.proofs.Levels.{expression-levels-step}
+use Rattle.handling.specs.Measuring.{operandLevels, expressionLevels}
+use Rattle.handling.proofs.Levels.{expression-levels-step}
 use Rattle.moving.proofs.Tests.{tests}
 use Prim.Native.Nat.{ℕ, _<_}
 use borrow.Fn.Kinds.{In}
 use borrow.Fn.PlainCycle.{Measures, is, falls, and}
-use Rattle.moving.proofs.measure.expression_levels.Reads as expression-levels
-use Rattle.moving.proofs.measure.expression_levels.Kinds as expression-levels-kinds
-use Rattle.moving.proofs.measure.+expression_levels.Lts-expression_levels as expression-levels-lts
-use Rattle.moving.proofs.measure.larger.Reads as larger-reads
-use Rattle.moving.proofs.measure.nowhere.Reads as nowhere-reads
+use Rattle.handling.proofs.measure.expression_levels.Reads as expression-levels
+use Rattle.handling.proofs.measure.expression_levels.Kinds as expression-levels-kinds
+use Rattle.handling.proofs.measure.+expression_levels.Lts-expression_levels as expression-levels-lts
+use Rattle.handling.proofs.measure.larger.Reads as larger-reads
+use Rattle.handling.proofs.measure.nowhere.Reads as nowhere-reads
 use Rattle.moving.proofs.write.further.Reads as further-reads
 use Rattle.reading.proofs.reader.wide.Reads as wide-reads
-use Rattle.moving.proofs.measure.+expression_levels.{statement}
-use Rattle.moving.proofs.measure.+expression_levels.Tie.{close}
+use Rattle.handling.proofs.measure.+expression_levels.{statement}
+use Rattle.handling.proofs.measure.+expression_levels.Tie.{close}
 
 abbrev μ-expression-levels : Measures 1 expression-levels-kinds.ps ℕ
 μ-expression-levels κs a = a .1 .1 .0

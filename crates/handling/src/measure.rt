@@ -1,11 +1,11 @@
 // How deep expressions and code are.
-use crate::write::further;
+use moving::write::further;
 use reading::reader::wide;
 ghost use mathlib.Core.Path.{_≡_};
 ghost use Prim.Native.Nat.{_<_, max};
 ghost use lib.ListN.{length};
 ghost use Rattle.moving.specs.Writing.{onward};
-ghost use Rattle.moving.specs.Measuring.{measured, expressionLevels, codeLevels, partsLevels, expressedLevels, listLevels};
+ghost use Rattle.handling.specs.Measuring.{measured, expressionLevels, codeLevels, partsLevels, expressedLevels, listLevels};
 
 // Where a process or an expression ends, and how many levels it has.
 pub struct Measured {

@@ -7,9 +7,9 @@ use mathlib.Core.Bool.{cond}
 use mathlib.Core.List.{List}
 use lib.Dec.{leb, eqb}
 use lib.ListN.{length, getD}
 use Rattle.moving.specs.Writing.{onward}
-use Rattle.moving.specs.Measuring.{measured, operandLevels, expressionLevels, partsLevels, entriesLevels, nodeLevels, codeLevels}
-use Rattle.moving.specs.declared.measure.Measured.{Measured}
+use Rattle.handling.specs.Measuring.{measured, operandLevels, expressionLevels, partsLevels, entriesLevels, nodeLevels, codeLevels}
+use Rattle.handling.specs.declared.measure.Measured.{Measured}
 
 pred-suc : (d : ℕ) → suc d - 1 ≡ d
 pred-suc d = omega arith

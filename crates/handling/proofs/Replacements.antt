@@ -7,11 +7,11 @@ use mathlib.Core.Bool.{true, false, cond}
 use mathlib.Core.List.{List}
 use lib.Dec.{leb}
 use lib.ListN.{length, getD, set}
 use Rattle.moving.specs.Writing.{onward, lowered}
-use Rattle.moving.specs.Measuring.{expressionLevels, codeLevels}
-use Rattle.moving.specs.Replacing.{wrote, Walk, parW, parAfter, closePar, partsW, nodeW, replaceW}
-use Rattle.moving.specs.declared.replace.Rebuilt.{Rebuilt}
-use Rattle.moving.specs.declared.replace.Old.{Old}
+use Rattle.handling.specs.Measuring.{expressionLevels, codeLevels}
+use Rattle.handling.specs.Replacing.{wrote, Walk, parW, parAfter, closePar, partsW, nodeW, replaceW}
+use Rattle.handling.specs.declared.replace.Rebuilt.{Rebuilt}
+use Rattle.handling.specs.declared.replace.Old.{Old}
 
 suc-pred : (d : ℕ) → suc d - 1 ≡ d
 suc-pred d = omega arith

@@ -18,11 +18,11 @@ use Rattle.sock.proofs.Fits.{FitsExpr, constantFits, variableFits, applyFits, F
 use Rattle.sock.proofs.Fields.{From, end, _then_, fact-at, four}
 use Rattle.sock.proofs.ByKind.{head-tests}
 use Rattle.sock.proofs.Positions.{At, at-head, at-past}
-use Rattle.moving.specs.declared.measure.Measured.{Measured}
+use Rattle.handling.specs.declared.measure.Measured.{Measured}
 use Rattle.moving.specs.Writing.{onward}
-use Rattle.moving.specs.Measuring.{measured, operandLevels, expressionLevels, partsLevels, expressedLevels, entriesLevels, listLevels, nodeLevels, codeLevels}
+use Rattle.handling.specs.Measuring.{measured, operandLevels, expressionLevels, partsLevels, expressedLevels, entriesLevels, listLevels, nodeLevels, codeLevels}
 use Rattle.moving.proofs.Evaluates.{operator-tag}
 use Rattle.moving.proofs.Laid.{Near, onward-near}
 
 both : {a b x y : ℕ} → a ≡ b → x ≡ y → measured a x ≡ measured b y
 both p q = ap₂ (λ (n v : ℕ). measured n v) p q

@@ -1,8 +1,8 @@
 -- `leaf` of `moving::measure` meets its contract: the code is its mirror in specs/.
 -- Assumes nothing.
 use borrow.Author.Needs.{needs}
-use Rattle.moving.proofs.measure.leaf.Statement.{statement}
-use Rattle.moving.proofs.measure.leaf.Tie as tie
+use Rattle.handling.proofs.measure.leaf.Statement.{statement}
+use Rattle.handling.proofs.measure.leaf.Tie as tie
 
 further-requires : tie.Need-further-requires
 further-requires c κs = search needs

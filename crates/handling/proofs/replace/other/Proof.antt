@@ -1,10 +1,10 @@
 -- `other` of `moving::replace` meets its contract: the code is its mirror in specs/.
 -- Assumes nothing.
-use Rattle.moving.specs.Replacing.{otherW}
+use Rattle.handling.specs.Replacing.{otherW}
 use Rattle.moving.proofs.Tests.{tests}
 use borrow.Author.Needs.{needs}
-use Rattle.moving.proofs.replace.other.Statement.{statement}
-use Rattle.moving.proofs.replace.other.Tie as tie
+use Rattle.handling.proofs.replace.other.Statement.{statement}
+use Rattle.handling.proofs.replace.other.Tie as tie
 
 code-levels-requires : tie.Need-code-levels-requires
 code-levels-requires c κs = search needs

@@ -4,39 +4,39 @@ use Prim.Native.Nat.{ℕ, _+_, _*_, _<_}
 use mathlib.Core.Path.{_≡_, refl, sym, _∙_}
 use borrow.Author.Needs.{needs}
 use lib.ListN.{length, List·getD-eq-default}
-use Rattle.moving.proofs.Others.{beyond-16}
+use Rattle.handling.proofs.Others.{beyond-16}
 use Rattle.moving.proofs.Tests.{tests}
-use Rattle.moving.proofs.Replacements.{replace-step, parts-step, parts-end, par-both, par-first, parts-turn}
-use Rattle.moving.specs.Replacing.{replaceW, nodeW, seqW, afterFirst, parW, parAfter, closePar, conditionW, keptW, partsW, nilW}
+use Rattle.handling.proofs.Replacements.{replace-step, parts-step, parts-end, par-both, par-first, parts-turn}
+use Rattle.handling.specs.Replacing.{replaceW, nodeW, seqW, afterFirst, parW, parAfter, closePar, conditionW, keptW, partsW, nilW}
 use borrow.Fn.Kinds.{In}
 use borrow.Fn.PlainCycle.{Measures, is, falls, and}
-use Rattle.moving.proofs.replace.condition.Reads as condition
-use Rattle.moving.proofs.replace.condition.Kinds as condition-kinds
-use Rattle.moving.proofs.replace.+condition+in_par+in_seq+kept+replace.Lts-condition as condition-lts
-use Rattle.moving.proofs.replace.in_par.Reads as in-par
-use Rattle.moving.proofs.replace.in_par.Kinds as in-par-kinds
-use Rattle.moving.proofs.replace.+condition+in_par+in_seq+kept+replace.Lts-in_par as in-par-lts
-use Rattle.moving.proofs.replace.in_seq.Reads as in-seq
-use Rattle.moving.proofs.replace.in_seq.Kinds as in-seq-kinds
-use Rattle.moving.proofs.replace.+condition+in_par+in_seq+kept+replace.Lts-in_seq as in-seq-lts
-use Rattle.moving.proofs.replace.kept.Reads as kept
-use Rattle.moving.proofs.replace.kept.Kinds as kept-kinds
-use Rattle.moving.proofs.replace.+condition+in_par+in_seq+kept+replace.Lts-kept as kept-lts
-use Rattle.moving.proofs.replace.replace.Reads as replace
-use Rattle.moving.proofs.replace.replace.Kinds as replace-kinds
-use Rattle.moving.proofs.replace.+condition+in_par+in_seq+kept+replace.Lts-replace as replace-lts
-use Rattle.moving.proofs.measure.expression_levels.Reads as expression-levels-reads
-use Rattle.moving.proofs.measure.larger.Reads as larger-reads
-use Rattle.moving.proofs.replace.in_place.Reads as in-place-reads
-use Rattle.moving.proofs.replace.less_one.Reads as less-one-reads
-use Rattle.moving.proofs.replace.other.Reads as other-reads
+use Rattle.handling.proofs.replace.condition.Reads as condition
+use Rattle.handling.proofs.replace.condition.Kinds as condition-kinds
+use Rattle.handling.proofs.replace.+condition+in_par+in_seq+kept+replace.Lts-condition as condition-lts
+use Rattle.handling.proofs.replace.in_par.Reads as in-par
+use Rattle.handling.proofs.replace.in_par.Kinds as in-par-kinds
+use Rattle.handling.proofs.replace.+condition+in_par+in_seq+kept+replace.Lts-in_par as in-par-lts
+use Rattle.handling.proofs.replace.in_seq.Reads as in-seq
+use Rattle.handling.proofs.replace.in_seq.Kinds as in-seq-kinds
+use Rattle.handling.proofs.replace.+condition+in_par+in_seq+kept+replace.Lts-in_seq as in-seq-lts
+use Rattle.handling.proofs.replace.kept.Reads as kept
+use Rattle.handling.proofs.replace.kept.Kinds as kept-kinds
+use Rattle.handling.proofs.replace.+condition+in_par+in_seq+kept+replace.Lts-kept as kept-lts
+use Rattle.handling.proofs.replace.replace.Reads as replace
+use Rattle.handling.proofs.replace.replace.Kinds as replace-kinds
+use Rattle.handling.proofs.replace.+condition+in_par+in_seq+kept+replace.Lts-replace as replace-lts
+use Rattle.handling.proofs.measure.expression_levels.Reads as expression-levels-reads
+use Rattle.handling.proofs.measure.larger.Reads as larger-reads
+use Rattle.handling.proofs.replace.in_place.Reads as in-place-reads
+use Rattle.handling.proofs.replace.less_one.Reads as less-one-reads
+use Rattle.handling.proofs.replace.other.Reads as other-reads
 use Rattle.moving.proofs.write.copy.Reads as copy-reads
 use Rattle.moving.proofs.write.down.Reads as down-reads
 use Rattle.moving.proofs.write.further.Reads as further-reads
 use Rattle.moving.proofs.write.put.Reads as put-reads
 use Rattle.reading.proofs.reader.wide.Reads as wide-reads
-use Rattle.moving.proofs.replace.+condition+in_par+in_seq+kept+replace.{statement}
-use Rattle.moving.proofs.replace.+condition+in_par+in_seq+kept+replace.Tie.{close}
+use Rattle.handling.proofs.replace.+condition+in_par+in_seq+kept+replace.{statement}
+use Rattle.handling.proofs.replace.+condition+in_par+in_seq+kept+replace.Tie.{close}
 
 abbrev μ-condition : Measures 2 condition-kinds.ps ℕ
 μ-condition κs a = a .1 .1 .1 .1 .0 * 3 + 2

@@ -1,0 +1,4 @@
+pub mod Levels
+pub mod Measures
+pub mod Others
+pub mod Replacements
