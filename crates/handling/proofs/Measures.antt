@@ -51,7 +51,7 @@ exprs-shallow (e ∷ es) =
 mutual
   unfolding words depth
 
-  shallow : (m : Node) → depth m ≤ length (words m)
+  pub shallow : (m : Node) → depth m ≤ length (words m)
   shallow (node h f es b ps) =
       let x = exprs-shallow es in
       let y = block-shallow b in
@@ -81,11 +81,11 @@ mutual
       let l = length-append (words p) (nodesWords ps) in
       omega arith
 
-fixed-length : {ms f : List ℕ} → FitsFixed ms f → length f ≡ length ms
+pub fixed-length : {ms f : List ℕ} → FitsFixed ms f → length f ≡ length ms
 fixed-length noFixed = refl
 fixed-length (oneFixed t h) = ap suc (fixed-length h)
 
-code-bound : (c : Bool) (k : ℕ) → T (allowed (code c) k) → k < 16
+pub code-bound : (c : Bool) (k : ℕ) → T (allowed (code c) k) → k < 16
 unfolding allowed
 code-bound true k t = let x : k ≤ 15 = leb→le k 15 t in omega arith
 code-bound false k t = let x : k < 15 = ltb→lt k 15 t in omega arith
