@@ -3,5 +3,7 @@ pub mod Levels
 pub mod Measures
 pub mod Others
 pub mod Replacements
+pub mod Replaces
+pub mod Pairs
 pub mod Rebuilds
 pub mod Replaced
