@@ -29,7 +29,7 @@ both p q = ap₂ (λ (n v : ℕ). measured n v) p q
 
 -- ---- no deeper than long
 
-expr-shallow : (e : Expr) → exprDepth e ≤ length (exprWords e)
+pub expr-shallow : (e : Expr) → exprDepth e ≤ length (exprWords e)
 unfolding exprDepth exprWords
 expr-shallow (constant v) = omega arith
 expr-shallow (variable x) = omega arith
@@ -91,7 +91,7 @@ code-bound true k t = let x : k ≤ 15 = leb→le k 15 t in omega arith
 code-bound false k t = let x : k < 15 = ltb→lt k 15 t in omega arith
 
 module _ (ws : List ℕ) (near : Near (length ws)) where
-  left-over : (i : ℕ) (x rest : List ℕ) → drop i ws ≡ x ++ rest → length x + length rest ≡ length ws - i
+  pub left-over : (i : ℕ) (x rest : List ℕ) → drop i ws ≡ x ++ rest → length x + length rest ≡ length ws - i
   left-over i x rest e = sym (length-append x rest) ∙ sym (ap length e) ∙ length-drop i ws
 
   -- ---- expressions
