@@ -1,17 +1,17 @@
 -- What a walk that writes words leaves behind, wherever there is room for them; then seq and par, given this of their parts.
 -- Assumes nothing.
-use Prim.Native.Nat.{ℕ, suc, _+_, _-_, _*_, _≤_, _<_, max}
+use Prim.Native.Nat.{ℕ, suc, _+_, _-_, _≤_, max}
 use native.Mathlib.Omega.{arith}
 use native.Mathlib.Nat.{le-refl}
 use mathlib.Core.Path.{_≡_, refl, sym, ap, _∙_}
-use mathlib.Core.Bool.{Bool, true, false, cond}
+use mathlib.Core.Bool.{Bool, true, false}
 use mathlib.Core.List.{List, [], _∷_, _++_, append-nil}
 use lib.Dec.{ltb, eqb, nltb→le}
 use lib.ListN.{length, take, drop, set, length-append, length-drop, length-set}
 use lib.Seq.{length-paste}
 use borrow.Author.Tests.{eqb-false}
 use Rattle.sock.proofs.Logic.{cond-case, test-false}
-use Rattle.moving.specs.Writing.{onward, pasted, pastedEnd, lowered}
+use Rattle.moving.specs.Writing.{onward, pasted, lowered}
 use Rattle.moving.proofs.Laid.{Near, near-below, onward-near, Laid, laid-put, laid-then, laid-again, laid-less, laid-down}
 use Rattle.handling.specs.Replacing.{Wrote, wrote, Walk, afterFirst, seqW, closePar, parAfter, parW}
 

@@ -1,9 +1,10 @@
+pub mod Grows
 pub mod Leaves
 pub mod Levels
 pub mod Measures
 pub mod Others
-pub mod Replacements
-pub mod Replaces
 pub mod Pairs
 pub mod Rebuilds
 pub mod Replaced
+pub mod Replacements
+pub mod Replaces

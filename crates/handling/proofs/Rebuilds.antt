@@ -1,31 +1,31 @@
 -- cH replaced on words, in pieces: parts one after the other, words kept before them, nodes kept whole, nil, and cH itself.
 -- Assumes nothing.
-use Prim.Native.Nat.{ℕ, zero, suc, _+_, _-_, _*_, _%_, _≤_, _<_, max}
+use Prim.Native.Nat.{ℕ, suc, _+_, _-_, _*_, _%_, _≤_, _<_, max}
 use native.Mathlib.Omega.{arith}
 use mathlib.Core.Path.{_≡_, refl, sym, ap, _∙_}
-use mathlib.Core.Bool.{Bool, true, false, cond}
+use mathlib.Core.Bool.{Bool, true, false}
 use mathlib.Core.List.{List, [], _∷_, _++_, append-assoc}
 use lib.Dec.{T, eqb, eqb→eq}
-use lib.ListN.{length, drop, set, length-append, length-drop, length-set}
+use lib.ListN.{length, drop, length-append, length-drop, length-set}
 use borrow.Author.Tests.{eqb-true}
 use Rattle.sock.specs.Kind
 use Rattle.sock.specs.Kind.{rows, rowOf}
 use Rattle.sock.specs.Words.{kindOf}
-use Rattle.sock.specs.Term.{Expr, Node, node, Block, absent, Nodes, noParts, _&_, isNil, processesOf}
-use Rattle.sock.specs.Layout.{exprsWords, words, nodesWords, exprsDepth, depth, nodesDepth}
+use Rattle.sock.specs.Term.{Expr, Node, node, Block, Nodes, isNil, processesOf}
+use Rattle.sock.specs.Layout.{exprsWords, words, nodesWords, depth, nodesDepth}
 use Rattle.sock.specs.Reading.{Stratum, code, Place, anywhere, partStratum, partPlace}
 use Rattle.sock.specs.Handlers.{replaced, allReplaced}
 use Rattle.sock.proofs.Fits.{FitsExprs, noExprs, FitsFixed, noFixed, Fits, fits, FitsBlock, noList, FitsParts, noPart, onePart}
 use Rattle.sock.proofs.Nodes.{code-more}
 use Rattle.sock.proofs.Handlers.{replaced-fits}
 use Rattle.sock.proofs.ByKind.{head-tests}
-use Rattle.sock.proofs.Positions.{At, at-head, at-past}
+use Rattle.sock.proofs.Positions.{at-past}
 use Rattle.moving.specs.Writing.{onward, pasted, pastedEnd}
-use Rattle.moving.proofs.Laid.{Near, near-below, onward-near, Laid, laid-put, laid-then, laid-copy, copy-end}
+use Rattle.moving.proofs.Laid.{Near, near-below, laid-put, laid-then, laid-copy, copy-end}
 use Rattle.handling.specs.declared.measure.Measured.{Measured}
 use Rattle.handling.specs.declared.replace.Old.{Old}
 use Rattle.handling.specs.Measuring.{measured}
-use Rattle.handling.specs.Replacing.{Wrote, wrote, Walk, partsW, keptW, otherW, cHW, nilW, oldEnd, oldOut, replaceW}
+use Rattle.handling.specs.Replacing.{Wrote, partsW, keptW, otherW, cHW, nilW, oldEnd, oldOut, replaceW}
 use Rattle.handling.proofs.Measures.{shallow}
 use Rattle.handling.proofs.Replaced.{OldIs}
 use Rattle.handling.proofs.Leaves.{Leaves, Does, onward-one, onward-suc, pasted-keeps, laid-none}

@@ -1,36 +1,35 @@
 -- cH replaced on words is cH replaced on trees, laid out.
 -- Assumes nothing.
-use Prim.Native.Nat.{ℕ, zero, suc, _+_, _-_, _*_, _/_, _%_, _≤_, _<_, max}
+use Prim.Native.Nat.{ℕ, zero, suc, _+_, _*_, _%_, _≤_, _<_, max}
 use native.Mathlib.Omega.{arith}
 use mathlib.Core.Path.{_≡_, refl, sym, ap, ap₂, _∙_}
-use mathlib.Core.Bool.{Bool, true, false, cond}
-use mathlib.Core.List.{List, [], _∷_, _++_, append-assoc, append-nil}
+use mathlib.Core.Bool.{Bool, false, cond}
+use mathlib.Core.List.{List, [], _∷_, _++_, append-assoc}
 use lib.Dec.{T, eqb, eqb→eq}
 use lib.ListN.{length, drop, length-append}
 use borrow.Author.Tests.{lt-leb}
 use Rattle.sock.specs.Kind
 use Rattle.sock.specs.Kind.{rows, rowOf}
 use Rattle.sock.specs.Words.{kindOf, countOf, clear, markOf, zombieOf, firstName}
-use Rattle.sock.specs.Term.{Expr, Node, node, Block, absent, list, noEntries, Nodes, noParts, _&_, isNil, entriesOf, processesOf}
+use Rattle.sock.specs.Term.{Expr, Node, node, Block, absent, list, noEntries, Nodes, noParts, entriesOf, processesOf}
 use Rattle.sock.specs.Layout.{exprWords, exprsWords, count, words, blockWords, nodesWords, exprDepth, exprsDepth, depth, nodesDepth}
-use Rattle.sock.specs.Reading.{code, Place, anywhere, nodeFits, restingFits, isEmpty, fixedAt, partStratum, partPlace}
+use Rattle.sock.specs.Reading.{code, Place, anywhere, nodeFits, restingFits, isEmpty, fixedAt, partStratum}
 use Rattle.sock.specs.Handlers.{rebuilt, replaced, allReplaced}
-use Rattle.sock.proofs.Fits.{FitsExprs, noExprs, oneExpr, FitsFixed, noFixed, oneFixed, Fits, fits, FitsBlock, noList, aList, FitsEntries, emptyFits, entryFitsOn, FitsParts, noPart, onePart}
+use Rattle.sock.proofs.Fits.{FitsExprs, noExprs, oneExpr, FitsFixed, noFixed, oneFixed, Fits, fits, FitsBlock, noList, aList, emptyFits, entryFitsOn, FitsParts, noPart, onePart}
 use Rattle.sock.proofs.Fields.{From, end, _then_, fact-at, four}
 use Rattle.sock.proofs.ByKind.{head-tests}
-use Rattle.sock.proofs.Positions.{At, at-head, at-past}
+use Rattle.sock.proofs.Positions.{At, at-head}
 use Rattle.moving.specs.Writing.{onward}
-use Rattle.moving.proofs.Laid.{Near, near-below, onward-near}
-use Rattle.moving.proofs.Places.{stands-within}
+use Rattle.moving.proofs.Laid.{Near, onward-near}
 use Rattle.handling.specs.declared.measure.Measured.{Measured}
 use Rattle.handling.specs.declared.replace.Old.{Old}
 use Rattle.handling.specs.Measuring.{measured, expressionLevels, codeLevels}
 use Rattle.handling.specs.Replacing.{Wrote, seqW, parW, keptW, conditionW, otherW, cHW, nilW, nodeW, replaceW}
-use Rattle.handling.proofs.Measures.{expr-shallow, shallow, fixed-length, code-bound, left-over, expression-measured, code-measured}
+use Rattle.handling.proofs.Measures.{expr-shallow, fixed-length, code-bound, left-over, expression-measured, code-measured}
 use Rattle.handling.proofs.Replaced.{OldIs, Replaced}
-use Rattle.handling.proofs.Leaves.{Leaves, Does, onward-one, onward-suc}
-use Rattle.handling.proofs.Pairs.{pair, Right, turned, seq-right, par-right}
-use Rattle.handling.proofs.Rebuilds.{relabel, nil-words, Replaces, kept-written, whole-written, nil-written, old-written}
+use Rattle.handling.proofs.Leaves.{onward-one, onward-suc}
+use Rattle.handling.proofs.Pairs.{Right, turned, seq-right, par-right}
+use Rattle.handling.proofs.Rebuilds.{relabel, Replaces, kept-written, whole-written, nil-written, old-written}
 
 -- ---- what replacing does to a node, by its kind
 
