@@ -21,10 +21,7 @@ grows : (a n s x : ℕ) → x ≤ n * suc s → a + x ≤ (a + n) * suc s
 grows a n s x h =
     let p : (a + n) * suc s ≡ a * suc s + n * suc s = add-mul a n (suc s) in
     let q : a ≤ a * suc s = le-mul-of-pos-right a (omega arith) in
-    rw p (sum (a * suc s) (n * suc s) q h)
-  where
-    sum : (u v : ℕ) → a ≤ u → x ≤ v → a + x ≤ u + v
-    sum u v q h = omega arith
+    rw p (add-le-add q h)
 
 covers : (t s : ℕ) → s ≤ suc t * suc s
 covers t s = rw (suc-mul t (suc s)) (sum (t * suc s))
@@ -51,11 +48,13 @@ part-length (p & ps) zero = let l = length-append (words p) (nodesWords ps) in o
 part-length (p & ps) (suc i) = let l = length-append (words p) (nodesWords ps) in let q = part-length ps i in omega arith
 
 rebuilt-length :
-    (h : ℕ) (f : List ℕ) (es : List Expr) (b : Block) (ps : Nodes) → length (words (rebuilt h f es b ps)) ≤ length (words (node h f es b ps))
+    (h : ℕ) (f : List ℕ) (es : List Expr) (b : Block) (ps : Nodes) →
+    length (words (rebuilt h f es b ps)) ≤ length (words (node h f es b ps))
 unfolding rebuilt
 rebuilt-length h f es b ps =
     let n = node-length h f es b ps in
-    cond-case (λ (m : Node). length (words m) ≤ length (words (node h f es b ps))) ((eqb (kindOf h) Kind.seq || eqb (kindOf h) Kind.par) && isNil (partAt ps 0))
+    cond-case (λ (m : Node). length (words m) ≤ length (words (node h f es b ps)))
+    ((eqb (kindOf h) Kind.seq || eqb (kindOf h) Kind.par) && isNil (partAt ps 0))
     (λ t. let q = part-length ps 1 in omega arith)
     (λ t. cond-case (λ (m : Node). length (words m) ≤ length (words (node h f es b ps))) (eqb (kindOf h) Kind.par && isNil (partAt ps 1))
     (λ u. let q = part-length ps 0 in omega arith)
@@ -71,7 +70,8 @@ module _ (o : Node) where
   built h f es b ps new small =
       rw (node-length h f es b ps)
       (le-trans (rw (node-length h f es b new) at (rebuilt-length h f es b new))
-      (grows (suc (length f + length (exprsWords es) + length (blockWords b))) (length (nodesWords ps)) (length (words o)) (length (nodesWords new)) small))
+      (grows (suc (length f + length (exprsWords es) + length (blockWords b))) (length (nodesWords ps)) (length (words o))
+      (length (nodesWords new)) small))
 
   both :
       (a b c d : List ℕ) →

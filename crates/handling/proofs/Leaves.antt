@@ -26,7 +26,8 @@ pub record Leaves (e : ℕ) (nil : Bool) (levels : ℕ) (new : List ℕ) (spare 
 
 -- the walk does this from a position on, wherever it writes
 abbrev pub Does : Walk → ℕ → ℕ → Bool → ℕ → List ℕ → ℕ → Type 0
-Does sub at e nil levels new spare = (out : List ℕ) (to : ℕ) → Near (to + length new + spare) → Leaves e nil levels new spare out to (sub at out to)
+Does sub at e nil levels new spare = (out : List ℕ) (to : ℕ) → Near (to + length new + spare) →
+    Leaves e nil levels new spare out to (sub at out to)
 
 -- ---- places and lengths
 
@@ -66,11 +67,13 @@ laid-none out to =
 -- ---- two parts behind a head
 
 module _
-    (sub : Walk) {e1 e2 : ℕ} {nb : Bool} {la lb : ℕ} {a b : List ℕ} (r head : ℕ) (fb : Does sub e1 e2 nb lb b r) {out : List ℕ} {to : ℕ} {p : Wrote}
+    (sub : Walk) {e1 e2 : ℕ} {nb : Bool} {la lb : ℕ} {a b : List ℕ} (r head : ℕ) (fb : Does sub e1 e2 nb lb b r) {out : List ℕ} {to : ℕ}
+    {p : Wrote}
   where
     -- the head and the first
     first-laid :
-        {na : Bool} → Leaves e1 na la a r (set out to head) (to + 1) p → to + 1 + length a + r ≤ length out → Laid out to (head ∷ a) (p .out)
+        {na : Bool} → Leaves e1 na la a r (set out to head) (to + 1) p → to + 1 + length a + r ≤ length out →
+        Laid out to (head ∷ a) (p .out)
     first-laid x room =
         let l = length-set out to head in
         laid-then (laid-put out to head (omega arith)) (x .laid (omega arith))
@@ -157,8 +160,10 @@ module _
         let k = onward-one i (i + 1) near-i (le-refl (i + 1)) in
         let t = onward-one to all near (omega arith) in
         let x = rw z at (fa (set out to 4096) (to + 1) (near-below (to + 1 + length a + r) all near (omega arith))) in
-        let y = fb (sub (i + 1) (set out to 4096) (to + 1) .out) (to + 1 + length a) (near-below (to + 1 + length a + length b + r) all near (omega arith)) in
-        rw (k, t, x .empty, x .ends, x .reaches) (both-stay sub r 4096 fb x ka kb near (sub e1 (sub (i + 1) (set out to 4096) (to + 1) .out) (to + 1 + length a)) y)
+        let y = fb (sub (i + 1) (set out to 4096) (to + 1) .out) (to + 1 + length a)
+        (near-below (to + 1 + length a + length b + r) all near (omega arith)) in
+        rw (k, t, x .empty, x .ends, x .reaches)
+        (both-stay sub r 4096 fb x ka kb near (sub e1 (sub (i + 1) (set out to 4096) (to + 1) .out) (to + 1 + length a)) y)
 
     pub par-second : na ≡ true → length a ≡ 1 → Near (to + length b + (2 + r)) → Leaves e2 nb lb b (2 + r) out to (parW sub i out to)
     unfolding parW parAfter
@@ -178,7 +183,8 @@ module _
         let k = onward-one i (i + 1) near-i (le-refl (i + 1)) in
         let t = onward-one to all near (omega arith) in
         let x = rw z at (fa (set out to 6144) (to + 1) (near-below (to + 1 + length a + r) all near (omega arith))) in
-        let y = fb (sub (i + 1) (set out to 6144) (to + 1) .out) (to + 1 + length a) (near-below (to + 1 + length a + length b + r) all near (omega arith)) in
+        let y = fb (sub (i + 1) (set out to 6144) (to + 1) .out) (to + 1 + length a)
+        (near-below (to + 1 + length a + length b + r) all near (omega arith)) in
         rw (k, t, x .empty, x .ends, x .reaches, y .empty ∙ z′)
         (both-stay sub r 6144 fb x ka kb near (sub e1 (sub (i + 1) (set out to 6144) (to + 1) .out) (to + 1 + length a)) y)
 
@@ -190,6 +196,8 @@ module _
         let k = onward-one i (i + 1) near-i (le-refl (i + 1)) in
         let t = onward-one to all near (omega arith) in
         let x = rw z at (fa (set out to 6144) (to + 1) (near-below (to + 1 + length a + r) all near (omega arith))) in
-        let y = fb (sub (i + 1) (set out to 6144) (to + 1) .out) (to + 1 + length a) (near-below (to + 1 + length a + length b + r) all near (omega arith)) in
+        let y = fb (sub (i + 1) (set out to 6144) (to + 1) .out) (to + 1 + length a)
+        (near-below (to + 1 + length a + length b + r) all near (omega arith)) in
         rw (k, t, x .empty, x .ends, x .reaches, y .empty ∙ z′)
-        (rw (x .reaches) at (first-alone sub r 6144 fb {out = out} {to = to} x z′ one (sub e1 (sub (i + 1) (set out to 6144) (to + 1) .out) (to + 1 + length a)) y))
+        (rw (x .reaches) at (first-alone sub r 6144 fb {out = out} {to = to} x z′ one
+        (sub e1 (sub (i + 1) (set out to 6144) (to + 1) .out) (to + 1 + length a)) y))

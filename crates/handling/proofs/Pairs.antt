@@ -55,7 +55,10 @@ unfolding depth exprsDepth
 pair-depth h x y = omega arith
 
 pair-length : (h : ℕ) (x y : Node) → length (words (pair h x y)) ≡ 1 + length (words x) + length (words y)
-pair-length h x y = ap length (pair-words h x y) ∙ (let l = length-append (words x) (words y) in let q : suc (length (words x ++ words y)) ≡ 1 + length (words x) + length (words y) = omega arith in q)
+pair-length h x y =
+    let k = ap length (pair-words h x y) in
+    let l = length-append (words x) (words y) in
+    omega arith
 
 module _ (ws : List ℕ) (near : Near (length ws)) (old : Old) (o : Node) (fo : Fits (code false) anywhere o) where
   -- what is to be shown of a node, from what it is replaced to
@@ -66,7 +69,8 @@ module _ (ws : List ℕ) (near : Near (length ws)) (old : Old) (o : Node) (fo : 
 
   pub turned :
       (d : ℕ) (m r : Node) (i : ℕ) (out : List ℕ) (to : ℕ) (w : Wrote) → replaced o m ≡ r →
-      (Near (to + length (words r) + 2 * d) → Leaves (i + length (words m)) (isNil r) (depth r) (words r) (2 * d) out to w) → Right d m i out to w
+      (Near (to + length (words r) + 2 * d) → Leaves (i + length (words m)) (isNil r) (depth r) (words r) (2 * d) out to w) →
+      Right d m i out to w
   turned d m r i out to w q g room = rw q (g (rw q at room))
 
   module _ (d : ℕ) (below : Replaces ws near old o d) where
@@ -77,7 +81,9 @@ module _ (ws : List ℕ) (near : Near (length ws)) (old : Old) (o : Node) (fo : 
         (i : ℕ) (rest : List ℕ) (e : drop i ws ≡ words (pair h x y) ++ rest) (out : List ℕ) (to : ℕ)
       where
         first : At ws i h (words x ++ (words y ++ rest))
-        first = at-head ws i h (words x ++ (words y ++ rest)) (e ∙ ap (λ (l : List ℕ). l ++ rest) (pair-words h x y) ∙ ap (λ (l : List ℕ). h ∷ l) (append-assoc (words x) (words y) rest))
+        first =
+            at-head ws i h (words x ++ (words y ++ rest))
+            (e ∙ ap (λ (l : List ℕ). l ++ rest) (pair-words h x y) ∙ ap (λ (l : List ℕ). h ∷ l) (append-assoc (words x) (words y) rest))
 
         near-next : Near (i + 1)
         near-next = let z : i < length ws = first .inside in near-below (i + 1) (length ws) near (omega arith)
@@ -85,15 +91,18 @@ module _ (ws : List ℕ) (near : Near (length ws)) (old : Old) (o : Node) (fo : 
         end-second : i + 1 + length (words x) + length (words y) ≡ i + length (words (pair h x y))
         end-second = let l = pair-length h x y in omega arith
 
-        does-first : Does (replaceW d ws old) (i + 1) (i + 1 + length (words x)) (isNil (replaced o x)) (depth (replaced o x)) (words (replaced o x)) (2 * d)
+        does-first :
+            Does (replaceW d ws old) (i + 1) (i + 1 + length (words x)) (isNil (replaced o x)) (depth (replaced o x)) (words (replaced o x))
+            (2 * d)
         does-first = let l = pair-depth h x y in below c p x fx (omega arith) (i + 1) (words y ++ rest) (first .next)
 
         does-second :
-            Does (replaceW d ws old) (i + 1 + length (words x)) (i + length (words (pair h x y))) (isNil (replaced o y)) (depth (replaced o y))
-            (words (replaced o y)) (2 * d)
+            Does (replaceW d ws old) (i + 1 + length (words x)) (i + length (words (pair h x y))) (isNil (replaced o y))
+            (depth (replaced o y)) (words (replaced o y)) (2 * d)
         does-second =
             let l = pair-depth h x y in
-            rw (← end-second) (below c p′ y fy (omega arith) (i + 1 + length (words x)) rest (at-past ws (words x) (words y ++ rest) (i + 1) (first .next)))
+            rw (← end-second) (below c p′ y fy (omega arith) (i + 1 + length (words x)) rest
+            (at-past ws (words x) (words y ++ rest) (i + 1) (first .next)))
 
         spare : 2 + 2 * d ≡ 2 * suc d
         spare = omega arith
@@ -103,39 +112,50 @@ module _ (ws : List ℕ) (near : Near (length ws)) (old : Old) (o : Node) (fo : 
           where
             by : (n : Bool) → isNil (replaced o x) ≡ n → Right (suc d) (pair h x y) i out to (seqW (replaceW d ws old) i out to)
             by true n =
-                turned (suc d) (pair h x y) (replaced o y) i out to _ (ap (λ (j : ℕ). replaced o (pair j x y)) z ∙ seq-second-left o x y n) λ room.
+                turned (suc d) (pair h x y) (replaced o y) i out to _
+                (ap (λ (j : ℕ). replaced o (pair j x y)) z ∙ seq-second-left o x y n) λ room.
                 relabel refl refl refl refl spare
                 (seq-second (replaceW d ws old) i (2 * d) does-first does-second near-next out to n (became-nil o fo fx n)
-                (near-below (to + length (words (replaced o y)) + (2 + 2 * d)) (to + length (words (replaced o y)) + 2 * suc d) room (omega arith)))
+                (near-below (to + length (words (replaced o y)) + (2 + 2 * d)) (to + length (words (replaced o y)) + 2 * suc d) room
+                (omega arith)))
             by false n =
                 let r : Node = pair 4096 (replaced o x) (replaced o y) in
                 let l : words r ≡ 4096 ∷ words (replaced o x) ++ words (replaced o y) = pair-words 4096 (replaced o x) (replaced o y) in
                 let s : length (words r) ≡ suc (length (words (replaced o x) ++ words (replaced o y))) = ap length l in
                 turned (suc d) (pair h x y) r i out to _ (ap (λ (j : ℕ). replaced o (pair j x y)) z ∙ seq-stays o x y n) λ room.
                 relabel refl refl (sym (pair-depth 4096 (replaced o x) (replaced o y))) (sym l) spare
-                (seq-both (replaceW d ws old) i (2 * d) does-first does-second near-next out to n (shallow (replaced o x)) (shallow (replaced o y))
-                (near-below (to + length (4096 ∷ words (replaced o x) ++ words (replaced o y)) + (2 + 2 * d)) (to + length (words r) + 2 * suc d) room (omega arith)))
+                (seq-both (replaceW d ws old) i (2 * d) does-first does-second near-next out to n (shallow (replaced o x))
+                (shallow (replaced o y))
+                (near-below (to + length (4096 ∷ words (replaced o x) ++ words (replaced o y)) + (2 + 2 * d))
+                (to + length (words r) + 2 * suc d) room (omega arith)))
 
         pub par-right : h ≡ 6144 → Right (suc d) (pair h x y) i out to (parW (replaceW d ws old) i out to)
         par-right z = by (isNil (replaced o x)) (isNil (replaced o y)) refl refl
           where
             by :
-                (n n′ : Bool) → isNil (replaced o x) ≡ n → isNil (replaced o y) ≡ n′ → Right (suc d) (pair h x y) i out to (parW (replaceW d ws old) i out to)
+                (n n′ : Bool) → isNil (replaced o x) ≡ n → isNil (replaced o y) ≡ n′ →
+                Right (suc d) (pair h x y) i out to (parW (replaceW d ws old) i out to)
             by true n′ u v =
-                turned (suc d) (pair h x y) (replaced o y) i out to _ (ap (λ (j : ℕ). replaced o (pair j x y)) z ∙ par-second-left o x y u) λ room.
+                turned (suc d) (pair h x y) (replaced o y) i out to _
+                (ap (λ (j : ℕ). replaced o (pair j x y)) z ∙ par-second-left o x y u) λ room.
                 relabel refl refl refl refl spare
                 (par-second (replaceW d ws old) i (2 * d) does-first does-second near-next out to u (became-nil o fo fx u)
-                (near-below (to + length (words (replaced o y)) + (2 + 2 * d)) (to + length (words (replaced o y)) + 2 * suc d) room (omega arith)))
+                (near-below (to + length (words (replaced o y)) + (2 + 2 * d)) (to + length (words (replaced o y)) + 2 * suc d) room
+                (omega arith)))
             by false true u v =
-                turned (suc d) (pair h x y) (replaced o x) i out to _ (ap (λ (j : ℕ). replaced o (pair j x y)) z ∙ par-first-left o x y u v) λ room.
+                turned (suc d) (pair h x y) (replaced o x) i out to _
+                (ap (λ (j : ℕ). replaced o (pair j x y)) z ∙ par-first-left o x y u v) λ room.
                 relabel refl (sym u) refl refl spare
                 (par-first (replaceW d ws old) i (2 * d) does-first does-second near-next out to u v (became-nil o fo fy v)
-                (near-below (to + length (words (replaced o x)) + (2 + 2 * d)) (to + length (words (replaced o x)) + 2 * suc d) room (omega arith)))
+                (near-below (to + length (words (replaced o x)) + (2 + 2 * d)) (to + length (words (replaced o x)) + 2 * suc d) room
+                (omega arith)))
             by false false u v =
                 let r : Node = pair 6144 (replaced o x) (replaced o y) in
                 let l : words r ≡ 6144 ∷ words (replaced o x) ++ words (replaced o y) = pair-words 6144 (replaced o x) (replaced o y) in
                 let s : length (words r) ≡ suc (length (words (replaced o x) ++ words (replaced o y))) = ap length l in
                 turned (suc d) (pair h x y) r i out to _ (ap (λ (j : ℕ). replaced o (pair j x y)) z ∙ par-stays o x y u v) λ room.
                 relabel refl refl (sym (pair-depth 6144 (replaced o x) (replaced o y))) (sym l) spare
-                (par-both (replaceW d ws old) i (2 * d) does-first does-second near-next out to u v (shallow (replaced o x)) (shallow (replaced o y))
-                (near-below (to + length (6144 ∷ words (replaced o x) ++ words (replaced o y)) + (2 + 2 * d)) (to + length (words r) + 2 * suc d) room (omega arith)))
+                (par-both (replaceW d ws old) i (2 * d) does-first does-second near-next out to u v (shallow (replaced o x))
+                (shallow (replaced o y))
+                (near-below (to + length (6144 ∷ words (replaced o x) ++ words (replaced o y)) + (2 + 2 * d))
+                (to + length (words r) + 2 * suc d) room (omega arith)))

@@ -65,6 +65,9 @@ pub became-nil :
     isNil (replaced o m) ≡ true → length (words (replaced o m)) ≡ 1
 became-nil {c} o g f z = ap length (nil-words (replaced-fits o g (code-any c f)) z)
 
+deepest : (a b c : ℕ) → max (max a (suc b)) (suc c) ≡ max a (suc (max b c))
+deepest a b c = omega arith
+
 some-depth : (m : Node) → 1 ≤ depth m
 unfolding depth
 some-depth (node h f es b ps) = omega arith
@@ -81,7 +84,8 @@ module _ (ws : List ℕ) (near : Near (length ws)) (old : Old) (o : Node) where
         {c : Bool} {k n : ℕ} {ps : Nodes} → FitsParts (code c) k n ps → nodesDepth ps ≤ d → (levels : ℕ) → 1 ≤ levels →
         (i : ℕ) (rest : List ℕ) → drop i ws ≡ nodesWords ps ++ rest →
         (out : List ℕ) (to : ℕ) → Near (to + length (nodesWords (allReplaced o ps)) + 2 * d) →
-        Leaves (i + length (nodesWords ps)) false (max levels (suc (nodesDepth (allReplaced o ps)))) (nodesWords (allReplaced o ps)) (2 * d) out to
+        Leaves (i + length (nodesWords ps)) false (max levels (suc (nodesDepth (allReplaced o ps)))) (nodesWords (allReplaced o ps))
+        (2 * d) out to
         (partsW (replaceW d ws old) n levels i out to)
     unfolding partsW words depth replaced partStratum
     parts-written noPart h levels one i rest e out to room =
@@ -103,19 +107,20 @@ module _ (ws : List ℕ) (near : Near (length ws)) (old : Old) (o : Node) where
         let all : ℕ = to + length (a ++ b) + 2 * d in
         let s = shallow (replaced o p) in
         let s′ = some-depth p in
-        let g = below c (partPlace k n) p f (omega arith) i (nodesWords ps ++ rest) x out to (near-below (to + length a + 2 * d) all room (omega arith)) in
-        let deeper : onward (depth (replaced o p)) 1 ≡ suc (depth (replaced o p)) = onward-suc (depth (replaced o p)) all room (omega arith) in
+        let g = below c (partPlace k n) p f (omega arith) i (nodesWords ps ++ rest) x out to
+        (near-below (to + length a + 2 * d) all room (omega arith)) in
+        let deeper : onward (depth (replaced o p)) 1 ≡ suc (depth (replaced o p)) =
+        onward-suc (depth (replaced o p)) all room (omega arith) in
         let q =
         parts-written fs (omega arith) (max levels (suc (depth (replaced o p)))) (omega arith) (i + length (words p)) rest y
         (replaceW d ws old i out to .out) (to + length a) (near-below (to + length a + length b + 2 * d) all room (omega arith)) in
         let kept : length (replaceW d ws old i out to .out) ≡ length out = g .keeps in
+        let u : i + length (words p) + length (nodesWords ps) ≡ i + length (words p ++ nodesWords ps) = omega arith in
         rw (g .deep, deeper, g .ends, g .reaches)
         (record {
-          ends = q .ends ∙ (let u : i + length (words p) + length (nodesWords ps) ≡ i + length (words p ++ nodesWords ps) = omega arith in u);
+          ends = q .ends ∙ u;
           empty = q .empty;
-          deep =
-              q .deep
-              ∙ (let v : max (max levels (suc (depth (replaced o p)))) (suc (nodesDepth (allReplaced o ps))) ≡ max levels (suc (max (depth (replaced o p)) (nodesDepth (allReplaced o ps)))) = omega arith in v);
+          deep = q .deep ∙ deepest levels (depth (replaced o p)) (nodesDepth (allReplaced o ps));
           reaches = q .reaches ∙ (let u : to + length a + length b ≡ to + length (a ++ b) = omega arith in u);
           keeps = q .keeps ∙ kept;
           laid = λ r. laid-then (g .laid (omega arith)) (q .laid (omega arith));
@@ -126,17 +131,20 @@ module _ (ws : List ℕ) (near : Near (length ws)) (old : Old) (o : Node) where
         {c : Bool} {k n : ℕ} {ps : Nodes} → FitsParts (code c) k n ps → nodesDepth ps ≤ d → (levels : ℕ) → 1 ≤ levels →
         (x : List ℕ) (i : ℕ) (rest : List ℕ) → drop i ws ≡ x ++ (nodesWords ps ++ rest) → i ≤ length ws →
         (out : List ℕ) (to : ℕ) → Near (to + length (x ++ nodesWords (allReplaced o ps)) + 2 * suc d) →
-        Leaves (i + length x + length (nodesWords ps)) false (max levels (suc (nodesDepth (allReplaced o ps)))) (x ++ nodesWords (allReplaced o ps)) (2 * suc d) out to
+        Leaves (i + length x + length (nodesWords ps)) false (max levels (suc (nodesDepth (allReplaced o ps))))
+        (x ++ nodesWords (allReplaced o ps)) (2 * suc d) out to
         (keptW (replaceW d ws old) ws i (i + length x) levels n out to)
     unfolding keptW
     kept-written {ps = ps} pt h levels one x i rest e inside out to room =
         let b : List ℕ = nodesWords (allReplaced o ps) in
         let l : length (x ++ b) ≡ length x + length b = length-append x b in
         let all : ℕ = to + length (x ++ b) + 2 * suc d in
-        let t : pastedEnd ws i (i + length x) to ≡ to + length x = copy-end ws x (nodesWords ps ++ rest) i (i + length x) to all e inside refl room (omega arith) in
+        let t : pastedEnd ws i (i + length x) to ≡ to + length x =
+        copy-end ws x (nodesWords ps ++ rest) i (i + length x) to all e inside refl room (omega arith) in
         let kept = pasted-keeps ws i (i + length x) out to in
         let q =
-        parts-written pt h levels one (i + length x) rest (at-past ws x (nodesWords ps ++ rest) i e) (pasted ws i (i + length x) out to) (to + length x)
+        parts-written pt h levels one (i + length x) rest (at-past ws x (nodesWords ps ++ rest) i e) (pasted ws i (i + length x) out to)
+        (to + length x)
         (near-below (to + length x + length b + 2 * d) all room (omega arith)) in
         rw t
         (record {
@@ -146,14 +154,16 @@ module _ (ws : List ℕ) (near : Near (length ws)) (old : Old) (o : Node) where
           reaches = q .reaches ∙ (let u : to + length x + length b ≡ to + length (x ++ b) = omega arith in u);
           keeps = q .keeps ∙ kept;
           laid = λ r.
-              laid-then (laid-copy ws x (nodesWords ps ++ rest) i (i + length x) out to e inside refl (omega arith)) (q .laid (omega arith));
+              laid-then (laid-copy ws x (nodesWords ps ++ rest) i (i + length x) out to e inside refl (omega arith))
+              (q .laid (omega arith));
         })
 
   -- a node that is kept whole
   pub whole-written :
       (x : List ℕ) (levels spare i : ℕ) (rest : List ℕ) → drop i ws ≡ x ++ rest → i ≤ length ws → (measure : ℕ → Measured) →
       measure i ≡ measured (i + length x) levels →
-      (out : List ℕ) (to : ℕ) → Near (to + length x + spare) → Leaves (i + length x) false levels x spare out to (otherW measure ws i out to)
+      (out : List ℕ) (to : ℕ) → Near (to + length x + spare) →
+      Leaves (i + length x) false levels x spare out to (otherW measure ws i out to)
   unfolding otherW
   whole-written x levels spare i rest e inside measure m out to room =
       rw m
@@ -167,7 +177,9 @@ module _ (ws : List ℕ) (near : Near (length ws)) (old : Old) (o : Node) where
       })
 
   -- nil
-  pub nil-written : (spare i : ℕ) → i < length ws → (out : List ℕ) (to : ℕ) → Near (to + 1 + spare) → Leaves (i + 1) true 1 (0 ∷ []) spare out to (nilW i out to)
+  pub nil-written :
+      (spare i : ℕ) → i < length ws → (out : List ℕ) (to : ℕ) → Near (to + 1 + spare) →
+      Leaves (i + 1) true 1 (0 ∷ []) spare out to (nilW i out to)
   unfolding nilW
   nil-written spare i inside out to room =
       record {
@@ -182,7 +194,8 @@ module _ (ws : List ℕ) (near : Near (length ws)) (old : Old) (o : Node) where
   -- cH
   pub old-written :
       Fits (code false) anywhere o → OldIs ws old o → (spare i : ℕ) → i < length ws →
-      (out : List ℕ) (to : ℕ) → Near (to + length (words o) + spare) → Leaves (i + 1) (isNil o) (depth o) (words o) spare out to (cHW ws old i out to)
+      (out : List ℕ) (to : ℕ) → Near (to + length (words o) + spare) →
+      Leaves (i + 1) (isNil o) (depth o) (words o) spare out to (cHW ws old i out to)
   unfolding cHW oldEnd oldOut words
   old-written fo is spare i inside out to room = by (isNil o) refl
     where
@@ -206,13 +219,15 @@ module _ (ws : List ℕ) (near : Near (length ws)) (old : Old) (o : Node) where
           let u : old .upto ≡ old .from + length (words o) = s .1 .1 in
           let deep-enough : depth o ≤ length (words o) = shallow o in
           let some : 0 < length (words o) = long o in
-          let l : length ws - old .from ≡ length (words o) + length rest = sym (length-drop (old .from) ws) ∙ ap length e ∙ length-append (words o) rest in
+          let l : length ws - old .from ≡ length (words o) + length rest =
+          sym (length-drop (old .from) ws) ∙ ap length e ∙ length-append (words o) rest in
           rw (is .empty ∙ z)
           (record {
             ends = onward-one i (length ws) near (omega arith);
             empty = sym z;
             deep = is .deep;
-            reaches = copy-end ws (words o) rest (old .from) (old .upto) to (to + length (words o) + spare) e (omega arith) u room (omega arith);
+            reaches = copy-end ws (words o) rest (old .from) (old .upto) to (to + length (words o) + spare) e (omega arith) u room
+                (omega arith);
             keeps = pasted-keeps ws (old .from) (old .upto) out to;
             laid = λ r. laid-copy ws (words o) rest (old .from) (old .upto) out to e (omega arith) u (omega arith);
           })

@@ -39,7 +39,8 @@ Plain k = (eqb k 0 ≡ false) × (eqb k 2 ≡ false) × (eqb k 3 ≡ false) × (
 
 -- neither seq, par nor cH
 stays :
-    (o : Node) (h : ℕ) {k : ℕ} (f : List ℕ) (es : List Expr) (b : Block) (ps : Nodes) → kindOf h ≡ k → eqb k 2 ≡ false → eqb k 3 ≡ false → eqb k 15 ≡ false →
+    (o : Node) (h : ℕ) {k : ℕ} (f : List ℕ) (es : List Expr) (b : Block) (ps : Nodes) → kindOf h ≡ k → eqb k 2 ≡ false → eqb k 3 ≡ false →
+    eqb k 15 ≡ false →
     replaced o (node h f es b ps) ≡ node h f es b (allReplaced o ps)
 unfolding replaced rebuilt
 stays o h f es b ps q x y z = rw (q, z, x, y)
@@ -53,7 +54,8 @@ head-of : (h k : ℕ) → kindOf h ≡ k → T (clear 2048 h) → h ≡ k * 2048
 head-of h k q t = let z : h % 2048 ≡ 0 = eqb→eq (h % 2048) 0 t in omega arith
 
 three-words :
-    (h : ℕ) {f : List ℕ} {es : List Expr} {b : Block} {m : ℕ} {l : Bool} → FitsFixed (m ∷ []) f → FitsExprs 0 es → FitsBlock l 1 b → (ps : Nodes) →
+    (h : ℕ) {f : List ℕ} {es : List Expr} {b : Block} {m : ℕ} {l : Bool} → FitsFixed (m ∷ []) f → FitsExprs 0 es → FitsBlock l 1 b →
+    (ps : Nodes) →
     3 ≤ length (words (node h f es b ps))
 unfolding words exprsWords
 three-words h (oneFixed t noFixed) noExprs (aList g) ps = omega arith
@@ -72,7 +74,8 @@ module _ (ws : List ℕ) (near : Near (length ws)) (old : Old) (o : Node) (fo : 
     with-parts :
         (h : ℕ) (f : List ℕ) {es : List Expr} {b : Block} {ps : Nodes} {c l : Bool} {k n : ℕ} → kindOf h ≡ k → Plain k →
         FitsExprs 0 es → FitsBlock l 0 b → FitsParts (code c) k n ps →
-        depth (node h f es b ps) ≤ suc d → (i : ℕ) (rest : List ℕ) → drop i ws ≡ words (node h f es b ps) ++ rest → (out : List ℕ) (to : ℕ) →
+        depth (node h f es b ps) ≤ suc d → (i : ℕ) (rest : List ℕ) → drop i ws ≡ words (node h f es b ps) ++ rest →
+        (out : List ℕ) (to : ℕ) →
         Right ws near old o fo (suc d) (node h f es b ps) i out to (keptW (replaceW d ws old) ws i (i + suc (length f)) 1 n out to)
     unfolding words depth exprsWords exprsDepth
     with-parts h f {ps = ps} q plain noExprs noList pt low i rest e out to =
@@ -83,13 +86,15 @@ module _ (ws : List ℕ) (near : Near (length ws)) (old : Old) (o : Node) (fo : 
         let u : i + suc (length f) + length (nodesWords ps) ≡ i + suc (length (f ++ nodesWords ps)) = omega arith in
         let v : max 1 (suc (nodesDepth (allReplaced o ps))) ≡ suc (max 0 (max 0 (nodesDepth (allReplaced o ps)))) = omega arith in
         relabel u (sym (rw q (plain .0))) v refl refl
-        (kept-written ws near old o d below pt (omega arith) 1 (omega arith) (h ∷ f) i rest (e ∙ append-assoc (h ∷ f) (nodesWords ps) rest) (omega arith) out to room)
+        (kept-written ws near old o d below pt (omega arith) 1 (omega arith) (h ∷ f) i rest (e ∙ append-assoc (h ∷ f) (nodesWords ps) rest)
+        (omega arith) out to room)
 
     -- an expression and processes
     with-expr :
         (h : ℕ) {f : List ℕ} {es : List Expr} {b : Block} {ps : Nodes} {c l : Bool} {k n : ℕ} → kindOf h ≡ k → Plain k →
         FitsFixed [] f → FitsExprs 1 es → FitsBlock l 0 b → FitsParts (code c) k n ps →
-        depth (node h f es b ps) ≤ suc d → (i : ℕ) (rest : List ℕ) → drop i ws ≡ words (node h f es b ps) ++ rest → (out : List ℕ) (to : ℕ) →
+        depth (node h f es b ps) ≤ suc d → (i : ℕ) (rest : List ℕ) → drop i ws ≡ words (node h f es b ps) ++ rest →
+        (out : List ℕ) (to : ℕ) →
         Right ws near old o fo (suc d) (node h f es b ps) i out to (conditionW (expressionLevels d ws) (replaceW d ws old) ws i n out to)
     unfolding words depth exprsWords exprsDepth conditionW
     with-expr h {ps = ps} {n = n} q plain noFixed (oneExpr {e = x} g noExprs) noList pt low i rest e out to =
@@ -107,25 +112,30 @@ module _ (ws : List ℕ) (near : Near (length ws)) (old : Old) (o : Node) (fo : 
         let j = onward-one i (length ws) near (omega arith) in
         let y : i + 1 + length (exprWords x) ≡ i + length (h ∷ exprWords x ++ []) = omega arith in
         let z = onward-suc (exprDepth x) (length ws) near (omega arith) in
-        let u : i + length (h ∷ exprWords x ++ []) + length (nodesWords ps) ≡ i + suc (length ((exprWords x ++ []) ++ nodesWords ps)) = omega arith in
-        let v : max (suc (exprDepth x)) (suc (nodesDepth (allReplaced o ps))) ≡ suc (max (max (exprDepth x) 0) (max 0 (nodesDepth (allReplaced o ps)))) = levels-of (exprDepth x) (nodesDepth (allReplaced o ps)) in
+        let u : i + length (h ∷ exprWords x ++ []) + length (nodesWords ps) ≡ i + suc (length ((exprWords x ++ []) ++ nodesWords ps)) =
+        omega arith in
+        let v = levels-of (exprDepth x) (nodesDepth (allReplaced o ps)) in
         rw
-        (ap (λ (j : ℕ). keptW (replaceW d ws old) ws i (expressionLevels d ws j .end) (onward (expressionLevels d ws j .levels) 1) n out to) j
+        (ap (λ (j : ℕ). keptW (replaceW d ws old) ws i (expressionLevels d ws j .end)
+        (onward (expressionLevels d ws j .levels) 1) n out to) j
         ∙ ap (λ (r : Measured). keptW (replaceW d ws old) ws i (r .end) (onward (r .levels) 1) n out to) m
         ∙ ap₂ (λ (from levels : ℕ). keptW (replaceW d ws old) ws i from levels n out to) y z)
         (relabel u (sym (rw q (plain .0))) v refl refl
-        (kept-written ws near old o d below pt (parts-below (exprDepth x) (nodesDepth ps) d low) (suc (exprDepth x)) (omega arith) (h ∷ exprWords x ++ []) i rest
+        (kept-written ws near old o d below pt (parts-below (exprDepth x) (nodesDepth ps) d low) (suc (exprDepth x)) (omega arith)
+        (h ∷ exprWords x ++ []) i rest
         (e ∙ append-assoc (h ∷ exprWords x ++ []) (nodesWords ps) rest) (omega arith) out to room))
 
     -- a scope's fixed word, its empty list, and a process
     with-scope :
         (h : ℕ) {f : List ℕ} {es : List Expr} {b : Block} {ps : Nodes} {c l : Bool} {k m : ℕ} → kindOf h ≡ k → Plain k →
         FitsFixed (m ∷ []) f → FitsExprs 0 es → FitsBlock l 1 b → FitsParts (code c) k 1 ps → T (isEmpty (entriesOf b)) →
-        depth (node h f es b ps) ≤ suc d → (i : ℕ) (rest : List ℕ) → drop i ws ≡ words (node h f es b ps) ++ rest → (out : List ℕ) (to : ℕ) →
+        depth (node h f es b ps) ≤ suc d → (i : ℕ) (rest : List ℕ) → drop i ws ≡ words (node h f es b ps) ++ rest →
+        (out : List ℕ) (to : ℕ) →
         Right ws near old o fo (suc d) (node h f es b ps) i out to (keptW (replaceW d ws old) ws i (i + 3) 1 1 out to)
     unfolding words depth exprsWords exprsDepth isEmpty count
     with-scope h {ps = ps} q plain (oneFixed {w = w} t noFixed) noExprs (aList emptyFits) pt empty low i rest e out to =
-        turned ws near old o fo (suc d) (node h (w ∷ []) [] (list noEntries) ps) (node h (w ∷ []) [] (list noEntries) (allReplaced o ps)) i out to _
+        turned ws near old o fo (suc d) (node h (w ∷ []) [] (list noEntries) ps)
+        (node h (w ∷ []) [] (list noEntries) (allReplaced o ps)) i out to _
         (stays o h (w ∷ []) [] (list noEntries) ps q (plain .1) (plain .2) (plain .3)) λ room.
         let inside : i < length ws = at-head ws i h (w ∷ 0 ∷ nodesWords ps ++ rest) e .inside in
         let u : i + 3 + length (nodesWords ps) ≡ i + suc (suc (suc (length (nodesWords ps)))) = omega arith in
@@ -136,7 +146,8 @@ module _ (ws : List ℕ) (near : Near (length ws)) (old : Old) (o : Node) (fo : 
 
     -- no processes
     whole :
-        (h : ℕ) (f : List ℕ) (es : List Expr) (b : Block) {ps : Nodes} {c : Bool} {k : ℕ} → kindOf h ≡ k → Plain k → FitsParts (code c) k 0 ps →
+        (h : ℕ) (f : List ℕ) (es : List Expr) (b : Block) {ps : Nodes} {c : Bool} {k : ℕ} → kindOf h ≡ k → Plain k →
+        FitsParts (code c) k 0 ps →
         (i : ℕ) (rest : List ℕ) → drop i ws ≡ words (node h f es b ps) ++ rest → (out : List ℕ) (to : ℕ) →
         codeLevels (suc d) ws i ≡ measured (i + length (words (node h f es b ps))) (depth (node h f es b ps)) →
         Right ws near old o fo (suc d) (node h f es b ps) i out to (otherW (codeLevels (suc d) ws) ws i out to)
@@ -156,7 +167,8 @@ module _ (ws : List ℕ) (near : Near (length ws)) (old : Old) (o : Node) (fo : 
         Right ws near old o fo (suc d) (node h f es b ps) i out to (nilW i out to)
     unfolding words depth exprsWords exprsDepth replaced
     with-nil h q z noFixed noExprs noList noPart i inside out to =
-        turned ws near old o fo (suc d) (node h [] [] absent noParts) (node h [] [] absent noParts) i out to _ (stays o h [] [] absent noParts q refl refl refl) λ room.
+        turned ws near old o fo (suc d) (node h [] [] absent noParts) (node h [] [] absent noParts) i out to _
+        (stays o h [] [] absent noParts q refl refl refl) λ room.
         relabel refl (rw q) refl (ap (λ (n : ℕ). n ∷ []) (sym z)) refl (nil-written ws near old o (2 * suc d) i inside out to room)
 
     -- cH
@@ -173,7 +185,8 @@ module _ (ws : List ℕ) (near : Near (length ws)) (old : Old) (o : Node) (fo : 
     with-seq :
         (h : ℕ) {f : List ℕ} {es : List Expr} {b : Block} {ps : Nodes} {c l : Bool} {k : ℕ} → h ≡ 4096 →
         FitsFixed [] f → FitsExprs 0 es → FitsBlock l 0 b → FitsParts (code c) k 2 ps →
-        depth (node h f es b ps) ≤ suc d → (i : ℕ) (rest : List ℕ) → drop i ws ≡ words (node h f es b ps) ++ rest → (out : List ℕ) (to : ℕ) →
+        depth (node h f es b ps) ≤ suc d → (i : ℕ) (rest : List ℕ) → drop i ws ≡ words (node h f es b ps) ++ rest →
+        (out : List ℕ) (to : ℕ) →
         Right ws near old o fo (suc d) (node h f es b ps) i out to (seqW (replaceW d ws old) i out to)
     unfolding partStratum
     with-seq h z noFixed noExprs noList (onePart {p = x} g (onePart {p = y} g′ noPart)) low i rest e out to =
@@ -182,15 +195,17 @@ module _ (ws : List ℕ) (near : Near (length ws)) (old : Old) (o : Node) (fo : 
     with-par :
         (h : ℕ) {f : List ℕ} {es : List Expr} {b : Block} {ps : Nodes} {c l : Bool} {k : ℕ} → h ≡ 6144 →
         FitsFixed [] f → FitsExprs 0 es → FitsBlock l 0 b → FitsParts (code c) k 2 ps →
-        depth (node h f es b ps) ≤ suc d → (i : ℕ) (rest : List ℕ) → drop i ws ≡ words (node h f es b ps) ++ rest → (out : List ℕ) (to : ℕ) →
+        depth (node h f es b ps) ≤ suc d → (i : ℕ) (rest : List ℕ) → drop i ws ≡ words (node h f es b ps) ++ rest →
+        (out : List ℕ) (to : ℕ) →
         Right ws near old o fo (suc d) (node h f es b ps) i out to (parW (replaceW d ws old) i out to)
     unfolding partStratum
     with-par h z noFixed noExprs noList (onePart {p = x} g (onePart {p = y} g′ noPart)) low i rest e out to =
         par-right ws near old o fo d below h x y g g′ low i rest e out to z
 
     module _
-        (c : Bool) (h : ℕ) (f : List ℕ) (es : List Expr) (b : Block) (ps : Nodes) (low : depth (node h f es b ps) ≤ suc d) (i : ℕ) (rest : List ℕ)
-        (e : drop i ws ≡ words (node h f es b ps) ++ rest) (levels : codeLevels (suc d) ws i ≡ measured (i + length (words (node h f es b ps))) (depth (node h f es b ps)))
+        (c : Bool) (h : ℕ) (f : List ℕ) (es : List Expr) (b : Block) (ps : Nodes) (low : depth (node h f es b ps) ≤ suc d)
+        (i : ℕ) (rest : List ℕ) (e : drop i ws ≡ words (node h f es b ps) ++ rest)
+        (levels : codeLevels (suc d) ws i ≡ measured (i + length (words (node h f es b ps))) (depth (node h f es b ps)))
         (out : List ℕ) (to : ℕ)
       where
         abbrev Holds : Wrote → Type 0
@@ -219,7 +234,8 @@ module _ (ws : List ℕ) (near : Near (length ws)) (old : Old) (o : Node) (fo : 
             onward-near i 3 (length ws) near (omega arith)
 
         at-parts :
-            {j n k : ℕ} {l : Bool} → j ≡ i + suc (length f) → kindOf h ≡ k → Plain k → FitsExprs 0 es → FitsBlock l 0 b → FitsParts (code c) k n ps →
+            {j n k : ℕ} {l : Bool} → j ≡ i + suc (length f) → kindOf h ≡ k → Plain k → FitsExprs 0 es → FitsBlock l 0 b →
+            FitsParts (code c) k n ps →
             Holds (keptW (replaceW d ws old) ws i j 1 n out to)
         at-parts z q plain ex bl pt = rw z (with-parts h f q plain ex bl pt low i rest e out to)
 
@@ -231,7 +247,8 @@ module _ (ws : List ℕ) (near : Near (length ws)) (old : Old) (o : Node) (fo : 
         empty q t = four (eqb (markOf h) 0) (eqb (zombieOf h) 0) (eqb (firstName (fixedAt f 0)) 0) (isEmpty (entriesOf b)) (rw q at t) .3
 
         at-scope :
-            {m : ℕ} {l : Bool} → kindOf h ≡ Kind.scope → FitsFixed (m ∷ []) f → FitsExprs 0 es → FitsBlock l 1 b → FitsParts (code c) Kind.scope 1 ps →
+            {m : ℕ} {l : Bool} → kindOf h ≡ Kind.scope → FitsFixed (m ∷ []) f → FitsExprs 0 es → FitsBlock l 1 b →
+            FitsParts (code c) Kind.scope 1 ps →
             T (nodeFits (code c) h f b) → Holds (keptW (replaceW d ws old) ws i (onward i 3) 1 1 out to)
         at-scope q fx ex bl pt t = rw (three fx ex bl) (with-scope h q (refl, refl, refl, refl) fx ex bl pt (empty q t) low i rest e out to)
 
