@@ -1,0 +1,46 @@
+-- `branch` of `rules::alone` meets its contract: the code is its mirror in specs/.
+-- Assumes nothing.
+use Rattle.rules.specs.Turning.{branchW}
+use Rattle.moving.proofs.Tests.{tests}
+use borrow.Author.Needs.{needs}
+use Rattle.rules.proofs.alone.branch.Statement.{statement}
+use Rattle.rules.proofs.alone.branch.Tie as tie
+
+evaluate-requires : tie.Need-evaluate-requires
+evaluate-requires c κs = search needs
+
+process-requires : tie.Need-process-requires
+process-requires c κs = search needs
+
+process-requires-2 : tie.Need-process-requires-2
+process-requires-2 c κs = search needs
+
+to-part-requires : tie.Need-to-part-requires
+to-part-requires c κs = search needs
+
+returns : tie.Need-returns
+unfolding branchW
+returns c =
+    let f0 = c .before .if1 .taken in
+    simp (tests, ← (c .to-part .ensures), f0, ← (c .before .before .before .process2 .ensures), ← (c .before .before .before .before .process .ensures), ← (c .before .before .before .before .before .evaluate .ensures))
+
+to-part-requires-2 : tie.Need-to-part-requires-2
+to-part-requires-2 c κs = search needs
+
+returns-2 : tie.Need-returns-2
+unfolding branchW
+returns-2 c =
+    let f0 = c .before .if1 .left in
+    simp (tests, ← (c .to-part2 .ensures), f0, ← (c .before .before .before .process2 .ensures), ← (c .before .before .before .before .process .ensures), ← (c .before .before .before .before .before .evaluate .ensures))
+
+pub branch-spec : {M : Type 1} → statement M
+branch-spec =
+    tie.close
+    (tie.spec
+    evaluate-requires
+    process-requires
+    process-requires-2
+    to-part-requires
+    returns
+    to-part-requires-2
+    returns-2)

@@ -1,0 +1,50 @@
+-- `ask` of `rules::pair` meets its contract: the code is its mirror in specs/.
+-- Assumes nothing.
+use Rattle.rules.specs.Offering.{askW}
+use Rattle.moving.proofs.Tests.{tests}
+use borrow.Author.Needs.{needs}
+use Rattle.rules.proofs.pair.ask.Statement.{statement}
+use Rattle.rules.proofs.pair.ask.Tie as tie
+
+word-requires : tie.Need-word-requires
+word-requires c κs = search needs
+
+word-requires-2 : tie.Need-word-requires-2
+word-requires-2 c κs = search needs
+
+waiter-head-requires : tie.Need-waiter-head-requires
+waiter-head-requires c κs = search needs
+
+mul-three : tie.Need-mul-three
+mul-three c = search needs
+
+three-requires : tie.Need-three-requires
+three-requires c κs = search needs
+
+process-requires : tie.Need-process-requires
+process-requires c κs = search needs
+
+keep-requires : tie.Need-keep-requires
+keep-requires c κs = search needs
+
+same-length : tie.Need-same-length
+same-length c = search needs
+
+returns : tie.Need-returns
+unfolding askW
+returns c =
+    (simp (tests, ← (c .keep .ensures), ← (c .before .process .ensures), ← (c .before .before .before .before .three .ensures .0), ← (c .before .before .before .before .three .ensures .1), ← (c .before .before .before .before .before .waiter-head .ensures), ← (c .before .before .before .before .before .before .word2 .ensures), ← (c .before .before .before .before .before .before .before .word .ensures)), simp (tests, ← (c .keep .ensures), ← (c .before .process .ensures), ← (c .before .before .before .before .three .ensures .0), ← (c .before .before .before .before .three .ensures .1), ← (c .before .before .before .before .before .waiter-head .ensures), ← (c .before .before .before .before .before .before .word2 .ensures), ← (c .before .before .before .before .before .before .before .word .ensures)))
+
+pub ask-spec : {M : Type 1} → statement M
+ask-spec =
+    tie.close
+    (tie.spec
+    word-requires
+    word-requires-2
+    waiter-head-requires
+    mul-three
+    three-requires
+    process-requires
+    keep-requires
+    same-length
+    returns)

@@ -1,0 +1,28 @@
+-- `bare` of `rules::pair` meets its contract: the code is its mirror in specs/.
+-- Assumes nothing.
+use Rattle.rules.specs.Offering.{bareW}
+use Rattle.moving.proofs.Tests.{tests}
+use borrow.Author.Needs.{needs}
+use Rattle.rules.proofs.pair.bare.Statement.{statement}
+use Rattle.rules.proofs.pair.bare.Tie as tie
+
+nothing-requires : tie.Need-nothing-requires
+nothing-requires c κs = search needs
+
+returns : tie.Need-returns
+unfolding bareW
+returns c =
+    let f0 = c .before .if1 .taken in
+    simp (tests, ← (c .nothing .ensures), f0)
+
+process-requires : tie.Need-process-requires
+process-requires c κs = search needs
+
+returns-2 : tie.Need-returns-2
+unfolding bareW
+returns-2 c =
+    let f0 = c .before .if1 .left in
+    simp (tests, ← (c .process .ensures), f0)
+
+pub bare-spec : {M : Type 1} → statement M
+bare-spec = tie.close (tie.spec nothing-requires returns process-requires returns-2)

@@ -1,0 +1,54 @@
+-- `fail` of `rules::pair` meets its contract: the code is its mirror in specs/.
+-- Assumes nothing.
+use Rattle.rules.specs.Offering.{failW}
+use Rattle.moving.proofs.Tests.{tests}
+use borrow.Author.Needs.{needs}
+use Rattle.rules.proofs.pair.fail.Statement.{statement}
+use Rattle.rules.proofs.pair.fail.Tie as tie
+
+word-requires : tie.Need-word-requires
+word-requires c κs = search needs
+
+to-nil-requires : tie.Need-to-nil-requires
+to-nil-requires c κs = search needs
+
+returns : tie.Need-returns
+unfolding failW
+returns c =
+    let f0 = c .before .if1 .taken in
+    (simp (tests, ← (c .to-nil .ensures), f0, ← (c .before .before .word .ensures)), simp (tests, ← (c .to-nil .ensures), f0, ← (c .before .before .word .ensures)))
+
+throw-head-requires : tie.Need-throw-head-requires
+throw-head-requires c κs = search needs
+
+put-requires : tie.Need-put-requires
+put-requires c κs = search needs
+
+process-requires : tie.Need-process-requires
+process-requires c κs = search needs
+
+keep-requires : tie.Need-keep-requires
+keep-requires c κs = search needs
+
+same-length : tie.Need-same-length
+same-length c = search needs
+
+returns-2 : tie.Need-returns-2
+unfolding failW
+returns-2 c =
+    let f0 = c .before .before .before .before .before .before .before .if1 .left in
+    (simp (tests, ← (c .keep .ensures), ← (c .before .process .ensures), ← (c .before .before .before .before .put .ensures .0), ← (c .before .before .before .before .put .ensures .1), ← (c .before .before .before .before .before .throw-head .ensures), f0, ← (c .before .before .before .before .before .before .before .before .word .ensures)), simp (tests, ← (c .keep .ensures), ← (c .before .process .ensures), ← (c .before .before .before .before .put .ensures .0), ← (c .before .before .before .before .put .ensures .1), ← (c .before .before .before .before .before .throw-head .ensures), f0, ← (c .before .before .before .before .before .before .before .before .word .ensures)))
+
+pub fail-spec : {M : Type 1} → statement M
+fail-spec =
+    tie.close
+    (tie.spec
+    word-requires
+    to-nil-requires
+    returns
+    throw-head-requires
+    put-requires
+    process-requires
+    keep-requires
+    same-length
+    returns-2)

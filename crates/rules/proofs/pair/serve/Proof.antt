@@ -1,0 +1,62 @@
+-- `serve` of `rules::pair` meets its contract: the code is its mirror in specs/.
+-- Assumes nothing.
+use Rattle.rules.specs.Offering.{serveW}
+use Rattle.moving.proofs.Tests.{tests}
+use borrow.Author.Needs.{needs}
+use Rattle.rules.proofs.pair.serve.Statement.{statement}
+use Rattle.rules.proofs.pair.serve.Tie as tie
+
+word-requires : tie.Need-word-requires
+word-requires c κs = search needs
+
+further-requires : tie.Need-further-requires
+further-requires c κs = search needs
+
+word-requires-2 : tie.Need-word-requires-2
+word-requires-2 c κs = search needs
+
+seq-first-requires : tie.Need-seq-first-requires
+seq-first-requires c κs = search needs
+
+executor-head-requires : tie.Need-executor-head-requires
+executor-head-requires c κs = search needs
+
+mul-three : tie.Need-mul-three
+mul-three c = search needs
+
+three-requires : tie.Need-three-requires
+three-requires c κs = search needs
+
+further-requires-2 : tie.Need-further-requires-2
+further-requires-2 c κs = search needs
+
+wide-requires : tie.Need-wide-requires
+wide-requires c κs = search needs
+
+keep-requires : tie.Need-keep-requires
+keep-requires c κs = search needs
+
+same-length : tie.Need-same-length
+same-length c = search needs
+
+returns : tie.Need-returns
+unfolding serveW
+returns c =
+    (simp (tests, ← (c .keep .ensures), ← (c .before .wide .ensures .0), ← (c .before .before .further2 .ensures), ← (c .before .before .before .before .before .three .ensures .0), ← (c .before .before .before .before .before .three .ensures .1), ← (c .before .before .before .before .before .before .executor-head .ensures), ← (c .before .before .before .before .before .before .before .before .before .before .seq-first .ensures .0), ← (c .before .before .before .before .before .before .before .before .before .before .seq-first .ensures .1), ← (c .before .before .before .before .before .before .before .before .before .before .before .before .word2 .ensures), ← (c .before .before .before .before .before .before .before .before .before .before .before .before .before .further .ensures), ← (c .before .before .before .before .before .before .before .before .before .before .before .before .before .before .word .ensures)), simp (tests, ← (c .keep .ensures), ← (c .before .before .further2 .ensures), ← (c .before .before .before .before .before .three .ensures .0), ← (c .before .before .before .before .before .three .ensures .1), ← (c .before .before .before .before .before .before .executor-head .ensures), ← (c .before .before .before .before .before .before .before .before .before .before .seq-first .ensures .0), ← (c .before .before .before .before .before .before .before .before .before .before .seq-first .ensures .1), ← (c .before .before .before .before .before .before .before .before .before .before .before .before .word2 .ensures), ← (c .before .before .before .before .before .before .before .before .before .before .before .before .before .further .ensures), ← (c .before .before .before .before .before .before .before .before .before .before .before .before .before .before .word .ensures)))
+
+pub serve-spec : {M : Type 1} → statement M
+serve-spec =
+    tie.close
+    (tie.spec
+    word-requires
+    further-requires
+    word-requires-2
+    seq-first-requires
+    executor-head-requires
+    mul-three
+    three-requires
+    further-requires-2
+    wide-requires
+    keep-requires
+    same-length
+    returns)

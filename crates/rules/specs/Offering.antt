@@ -1,0 +1,108 @@
+-- The rules between two engines on words, as the code goes. No public contract of the library names it.
+use Prim.Native.Nat.{ℕ, zero, suc, _+_, _-_, _*_, _/_, _%_}
+use mathlib.Core.Bool.{Bool, true, false, not, _&&_, cond}
+use mathlib.Core.List.{List}
+use lib.Dec.{leb, ltb, eqb}
+use lib.ListN.{length, getD, set}
+use Rattle.reading.specs.Walk.{processEnd}
+use Rattle.moving.specs.Writing.{onward}
+use Rattle.rules.specs.Turning.{Turned, turned, vanishing, keeping, at, partW, codeEnd}
+use Rattle.rules.specs.declared.turn.Turn.{Turn}
+use Rattle.rules.specs.declared.pair.Offer.{Offer}
+
+-- ---- what is offered
+
+abbrev pub offering : ℕ → ℕ → ℕ → ℕ → Offer
+offering guard next upto end = record { some = true; guard = guard; next = next; upto = upto; end = end }
+
+abbrev pub noOffer : Offer
+noOffer = record { some = false; guard = 0; next = 0; upto = 0; end = 0 }
+
+unfoldable pub bareW : ℕ → List ℕ → ℕ → Offer
+bareW bound ws i = cond (eqb i 0) (offering 0 0 (codeEnd bound ws 0) (codeEnd bound ws 0)) noOffer
+
+unfoldable pub branchAt : ℕ → List ℕ → ℕ → ℕ → ℕ
+branchAt bound ws zero i = i
+branchAt bound ws (suc n) i = branchAt bound ws n (codeEnd bound ws (codeEnd bound ws i))
+
+unfoldable pub chosenW : ℕ → List ℕ → ℕ → Offer
+chosenW bound ws guard = offering guard (codeEnd bound ws guard) (codeEnd bound ws (codeEnd bound ws guard)) (codeEnd bound ws 0)
+
+unfoldable pub choiceW : ℕ → List ℕ → ℕ → ℕ → Offer
+choiceW bound ws count i = cond (eqb i 0) noOffer (cond (ltb count i) noOffer (chosenW bound ws (branchAt bound ws (i - 1) 1)))
+
+unfoldable pub offerW : ℕ → List ℕ → ℕ → Offer
+offerW bound ws i = cond (eqb (at ws 0 / 2048) 6) (choiceW bound ws (at ws 0 % 2048) i) (bareW bound ws i)
+
+unfoldable pub receivesW : ℕ → ℕ → ℕ → Bool
+receivesW g kind h = cond (eqb (g / 2048) kind) (cond (eqb (g / 32 % 64) (h / 32 % 64)) true false) false
+
+unfoldable pub fitsW : List ℕ → Offer → ℕ → ℕ → Bool
+fitsW ws o kind h =
+    cond (o .some) (receivesW (at ws (o .guard)) kind h) false
+
+-- ---- what the two turn into
+
+unfoldable pub hearW : List ℕ → Offer → ℕ → Turn
+hearW ws o v =
+    cond (eqb (o .next) 0) (vanishing (at ws (o .guard) % 32) v)
+    (partW ws (o .next) (o .upto) (o .end) (at ws (o .guard) % 32) v)
+
+abbrev pub executorHead : ℕ → ℕ → ℕ
+executorHead h w = 32768 + h / 32 % 64 * 32 + w / 2048
+
+abbrev pub waiterHead : ℕ → ℕ → ℕ
+waiterHead h w = 34816 + h / 32 % 64 * 32 + w / 64 % 32
+
+abbrev pub throwHead : ℕ → ℕ
+throwHead w = 26624 + w / 1024 * 32
+
+-- a place in the fresh words, and those
+pub record Placed : Type 0 where
+  pub to : ℕ
+  pub fresh : List ℕ
+
+abbrev pub placed : ℕ → List ℕ → Placed
+placed to fresh = record { to = to; fresh = fresh }
+
+unfoldable pub seqFirst : ℕ → List ℕ → Placed
+seqFirst next fresh = cond (eqb next 0) (placed 0 fresh) (placed (onward 0 1) (set fresh 0 4096))
+
+-- three words from a place on
+unfoldable pub threeTo : ℕ → ℕ
+threeTo to = onward (onward (onward to 1) 1) 1
+
+unfoldable pub threeW : List ℕ → ℕ → ℕ → ℕ → ℕ → List ℕ
+threeW fresh to a b c = set (set (set fresh to a) (onward to 1) b) (onward (onward to 1) 1) c
+
+unfoldable pub serveW : List ℕ → Offer → ℕ → ℕ → ℕ → List ℕ → Turned
+serveW ws o client serial v fresh =
+    let h = at ws (o .guard) in
+    let s = seqFirst (o .next) fresh in
+    turned (keeping (threeTo (s .to)) (onward (o .guard) 2) (o .upto) (o .end) (h % 32) v)
+    (threeW (s .fresh) (s .to) (executorHead h (at ws (onward (o .guard) 1))) (client * 8192) serial)
+
+unfoldable pub askW : ℕ → List ℕ → ℕ → ℕ → List ℕ → Turned
+askW bound ws server serial fresh =
+    turned (keeping (threeTo 0) 2 (codeEnd bound ws 0) (codeEnd bound ws 0) 32 0)
+    (threeW fresh 0 (waiterHead (at ws 0) (at ws 1)) (server * 4096) serial)
+
+unfoldable pub waitsW : List ℕ → ℕ → ℕ → Bool
+waitsW ws h serial = cond (receivesW (at ws 0) 17 h) (eqb (at ws 2) serial) false
+
+unfoldable pub awaitsW : List ℕ → ℕ → ℕ → ℕ → ℕ → ℕ → Bool
+awaitsW ws h serial client sender receiver =
+    cond (eqb client receiver) (cond (eqb (at ws 1 / 4096 % 8) sender) (waitsW ws h serial) false) false
+
+-- where what runs at the start ends
+abbrev pub runEnd : ℕ → List ℕ → ℕ
+runEnd bound ws = processEnd 64 ws bound 8 0
+
+unfoldable pub answerW : ℕ → List ℕ → ℕ → List ℕ → Turned
+answerW bound ws v fresh =
+    turned (keeping (onward 0 1) 3 (runEnd bound ws) (runEnd bound ws) (at ws 0 % 32) v) (set fresh 0 24576)
+
+unfoldable pub failW : ℕ → List ℕ → ℕ → List ℕ → Turned
+failW bound ws w fresh =
+    cond (leb 32768 (at ws 1)) (turned (vanishing 32 0) fresh)
+    (turned (keeping (onward 0 1) (runEnd bound ws) (runEnd bound ws) (runEnd bound ws) 32 0) (set fresh 0 (throwHead w)))

@@ -1,0 +1,235 @@
+// The rules between two engines: what is offered to a sender, whether the two fit, and what each of them turns into.
+use crate::turn::keep;
+use crate::turn::to_nil;
+use crate::turn::to_part;
+use crate::turn::word;
+use crate::turn::Turn;
+use moving::write::further;
+use moving::write::put;
+use reading::reader::process;
+use reading::reader::wide;
+ghost use mathlib.Core.Path.{_≡_};
+ghost use Prim.Native.Nat.{_<_};
+ghost use Rattle.rules.specs.Offering.{noOffer, bareW, branchAt, choiceW, offerW, receivesW, fitsW, hearW, executorHead, seqFirst, threeTo, threeW, serveW, waiterHead, askW, waitsW, awaitsW, answerW, throwHead, failW};
+
+// Where a receiver stands in the words, and from next..upto the process that follows a chosen branch; next is 0 where none does.
+pub struct Offer {
+    pub some: bool,
+    pub guard: usize,
+    pub next: usize,
+    pub upto: usize,
+    pub end: usize,
+}
+
+fn nothing() -> Offer
+    ensures { λ r. ⌜ r ≡ noOffer ⌝ }
+{
+    Offer {
+        some: false,
+        guard: 0,
+        next: 0,
+        upto: 0,
+        end: 0,
+    }
+}
+
+// A bare receiver, for branch 0.
+fn bare(part: &[u16], branch: usize, bound: usize) -> Offer
+    ensures { λ r. ⌜ r ≡ bareW bound (now (part .entry)) branch ⌝ }
+{
+    if branch != 0 {
+        return nothing();
+    }
+    let end = process(part, 0, 64, 0, bound);
+    Offer {
+        some: true,
+        guard: 0,
+        next: 0,
+        upto: end,
+        end,
+    }
+}
+
+// Where the branch with `before` others in front of it begins.
+fn branch_at(part: &[u16], before: usize, bound: usize) -> usize
+    ensures { λ r. ⌜ r ≡ branchAt bound (now (part .entry)) before 1 ⌝ }
+{
+    let mut at = 1;
+    let mut left = before;
+    while 0 < left {
+        let p = process(part, at, 64, 0, bound);
+        at = process(part, p, 64, 0, bound);
+        left = left - 1;
+    }
+    at
+}
+
+// A choice's branch, counted from 1.
+fn chosen(part: &[u16], count: usize, branch: usize, bound: usize) -> Offer
+    ensures { λ r. ⌜ r ≡ choiceW bound (now (part .entry)) count branch ⌝ }
+{
+    if branch == 0 {
+        return nothing();
+    }
+    if count < branch {
+        return nothing();
+    }
+    let guard = branch_at(part, branch - 1, bound);
+    let next = process(part, guard, 64, 0, bound);
+    let upto = process(part, next, 64, 0, bound);
+    let end = process(part, 0, 64, 0, bound);
+    Offer {
+        some: true,
+        guard,
+        next,
+        upto,
+        end,
+    }
+}
+
+pub fn offered(part: &[u16], branch: usize, bound: usize) -> Offer
+    ensures { λ r. ⌜ r ≡ offerW bound (now (part .entry)) branch ⌝ }
+{
+    let h = wide(word(part, 0));
+    if h / 2048 == 6 {
+        return chosen(part, h % 2048, branch, bound);
+    }
+    bare(part, branch, bound)
+}
+
+// Whether the head g is of that kind, with the operation of the head h.
+fn receives(g: usize, kind: usize, h: usize) -> bool
+    ensures { λ r. ⌜ r ≡ receivesW g kind h ⌝ }
+{
+    if g / 2048 != kind {
+        return false;
+    }
+    if g / 32 % 64 != h / 32 % 64 {
+        return false;
+    }
+    true
+}
+
+// Whether a receiver of that kind stands there, with the operation of the head h.
+pub fn fits(part: &[u16], o: Offer, kind: usize, h: usize) -> bool
+    ensures { λ r. ⌜ r ≡ fitsW (now (part .entry)) o kind h ⌝ }
+{
+    if o.some {
+        return receives(wide(word(part, o.guard)), kind, h);
+    }
+    false
+}
+
+// A one-way hears v.
+pub fn hear(part: &[u16], o: Offer, v: u32) -> Turn
+    ensures { λ r. ⌜ r ≡ hearW (now (part .entry)) o v ⌝ }
+{
+    let x = wide(word(part, o.guard)) % 32;
+    if o.next == 0 {
+        return to_nil(x, v);
+    }
+    to_part(part, o.next, o.upto, o.end, x, v)
+}
+
+fn executor_head(h: u16, w: u16) -> u16
+    ensures { λ r. ⌜ r ≡ executorHead h w ⌝ }
+{
+    32768 + h / 32 % 64 * 32 + w / 2048
+}
+
+// The head of a seq, where a process follows.
+fn seq_first(next: usize, fresh: &mut [u16]) -> usize
+    ensures { λ r. ⌜ (r ≡ seqFirst next (now (fresh .entry)) .to) × (now (fresh .exit) ≡ seqFirst next (now (fresh .entry)) .fresh) ⌝ }
+{
+    if next == 0 {
+        return 0;
+    }
+    put(fresh, 0, 4096)
+}
+
+// Three words from a place on.
+fn three(fresh: &mut [u16], to: usize, a: u16, b: u16, c: u16) -> usize
+    ensures { λ r. ⌜ (r ≡ threeTo to) × (now (fresh .exit) ≡ threeW (now (fresh .entry)) to a b c) ⌝ }
+{
+    let t = put(fresh, to, a);
+    let u = put(fresh, t, b);
+    put(fresh, u, c)
+}
+
+// A request hears v and becomes an executor.
+pub fn serve(part: &[u16], o: Offer, client: u16, serial: u16, v: u32, fresh: &mut [u16]) -> Turn
+    requires { ⌜ client < 8 ⌝ }
+    ensures { λ r. ⌜ (r ≡ serveW (now (part .entry)) o client serial v (now (fresh .entry)) .turn) × (now (fresh .exit) ≡ serveW (now (part .entry)) o client serial v (now (fresh .entry)) .fresh) ⌝ }
+{
+    let h = word(part, o.guard);
+    let y = word(part, further(o.guard, 1));
+    let a = seq_first(o.next, fresh);
+    let g = three(fresh, a, executor_head(h, y), client * 8192, serial);
+    keep(g, further(o.guard, 2), o.upto, o.end, wide(h) % 32, v)
+}
+
+fn waiter_head(h: u16, w: u16) -> u16
+    ensures { λ r. ⌜ r ≡ waiterHead h w ⌝ }
+{
+    34816 + h / 32 % 64 * 32 + w / 64 % 32
+}
+
+// A solicit becomes a waiter.
+pub fn ask(part: &[u16], server: u16, serial: u16, bound: usize, fresh: &mut [u16]) -> Turn
+    requires { ⌜ server < 8 ⌝ }
+    ensures { λ r. ⌜ (r ≡ askW bound (now (part .entry)) server serial (now (fresh .entry)) .turn) × (now (fresh .exit) ≡ askW bound (now (part .entry)) server serial (now (fresh .entry)) .fresh) ⌝ }
+{
+    let g = three(fresh, 0, waiter_head(word(part, 0), word(part, 1)), server * 4096, serial);
+    let end = process(part, 0, 64, 0, bound);
+    keep(g, 2, end, end, 32, 0)
+}
+
+// Whether a waiter stands in `part`, with the operation of the head h and that serial.
+fn waits(part: &[u16], h: usize, serial: u16) -> bool
+    ensures { λ r. ⌜ r ≡ waitsW (now (part .entry)) h serial ⌝ }
+{
+    if receives(wide(word(part, 0)), 17, h) {
+        return word(part, 2) == serial;
+    }
+    false
+}
+
+// Whether it does so for an end in the engine `sender` that names `client`, itself in the engine `receiver`.
+pub fn awaits(part: &[u16], h: usize, serial: u16, client: usize, sender: usize, receiver: usize) -> bool
+    ensures { λ r. ⌜ r ≡ awaitsW (now (part .entry)) h serial client sender receiver ⌝ }
+{
+    if client != receiver {
+        return false;
+    }
+    if wide(word(part, 1)) / 4096 % 8 != sender {
+        return false;
+    }
+    waits(part, h, serial)
+}
+
+// A reply: x takes v, and the waiter becomes inst of its list.
+pub fn answer(part: &[u16], v: u32, bound: usize, fresh: &mut [u16]) -> Turn
+    ensures { λ r. ⌜ (r ≡ answerW bound (now (part .entry)) v (now (fresh .entry)) .turn) × (now (fresh .exit) ≡ answerW bound (now (part .entry)) v (now (fresh .entry)) .fresh) ⌝ }
+{
+    let g = put(fresh, 0, 24576);
+    let end = process(part, 0, 64, 8, bound);
+    keep(g, 3, end, end, wide(word(part, 0)) % 32, v)
+}
+
+fn throw_head(w: u16) -> u16
+    ensures { λ r. ⌜ r ≡ throwHead w ⌝ }
+{
+    26624 + w / 1024 * 32
+}
+
+// A fault, from the word w of its notice: a live waiter becomes throw, a dead one nil.
+pub fn fail(part: &[u16], w: u16, bound: usize, fresh: &mut [u16]) -> Turn
+    ensures { λ r. ⌜ (r ≡ failW bound (now (part .entry)) w (now (fresh .entry)) .turn) × (now (fresh .exit) ≡ failW bound (now (part .entry)) w (now (fresh .entry)) .fresh) ⌝ }
+{
+    if 32768 <= word(part, 1) {
+        return to_nil(32, 0);
+    }
+    let g = put(fresh, 0, throw_head(w));
+    let end = process(part, 0, 64, 8, bound);
+    keep(g, end, end, end, 32, 0)
+}
