@@ -18,7 +18,7 @@ use Rattle.moving.specs.Evaluating.{valueIn, operated, constantAt, both,
 
 -- ---- values
 
-value-in : {vs : List ℕ} → AllBelow 4294967296 vs → (x : ℕ) → valueIn (valuesWords vs) x ≡ valueAt vs x
+pub value-in : {vs : List ℕ} → AllBelow 4294967296 vs → (x : ℕ) → valueIn (valuesWords vs) x ≡ valueAt vs x
 unfolding valueIn valuesWords
 value-in noneBelow x = refl
 value-in (oneBelow {v = v} b bs) zero = omega arith

@@ -1,1 +1,4 @@
 pub mod Branches
+pub mod Deep
+pub mod Shapes
+pub mod Turns

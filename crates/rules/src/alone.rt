@@ -1,10 +1,10 @@
 // Assign, if and while. A rule is handed the words from the process's position on.
+use crate::turn::Turn;
 use crate::turn::keep;
 use crate::turn::refusal;
 use crate::turn::to_nil;
 use crate::turn::to_part;
 use crate::turn::word;
-use crate::turn::Turn;
 use moving::evaluate::evaluate;
 use moving::write::copy;
 use moving::write::put;

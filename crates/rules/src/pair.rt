@@ -1,9 +1,9 @@
 // The rules between two engines: what is offered to a sender, whether the two fit, and what each of them turns into.
+use crate::turn::Turn;
 use crate::turn::keep;
 use crate::turn::to_nil;
 use crate::turn::to_part;
 use crate::turn::word;
-use crate::turn::Turn;
 use moving::write::further;
 use moving::write::put;
 use reading::reader::process;
@@ -179,7 +179,13 @@ pub fn ask(part: &[u16], server: u16, serial: u16, bound: usize, fresh: &mut [u1
     requires { ⌜ server < 8 ⌝ }
     ensures { λ r. ⌜ (r ≡ askW bound (now (part .entry)) server serial (now (fresh .entry)) .turn) × (now (fresh .exit) ≡ askW bound (now (part .entry)) server serial (now (fresh .entry)) .fresh) ⌝ }
 {
-    let g = three(fresh, 0, waiter_head(word(part, 0), word(part, 1)), server * 4096, serial);
+    let g = three(
+        fresh,
+        0,
+        waiter_head(word(part, 0), word(part, 1)),
+        server * 4096,
+        serial,
+    );
     let end = process(part, 0, 64, 0, bound);
     keep(g, 2, end, end, 32, 0)
 }
@@ -195,7 +201,14 @@ fn waits(part: &[u16], h: usize, serial: u16) -> bool
 }
 
 // Whether it does so for an end in the engine `sender` that names `client`, itself in the engine `receiver`.
-pub fn awaits(part: &[u16], h: usize, serial: u16, client: usize, sender: usize, receiver: usize) -> bool
+pub fn awaits(
+    part: &[u16],
+    h: usize,
+    serial: u16,
+    client: usize,
+    sender: usize,
+    receiver: usize,
+) -> bool
     ensures { λ r. ⌜ r ≡ awaitsW (now (part .entry)) h serial client sender receiver ⌝ }
 {
     if client != receiver {

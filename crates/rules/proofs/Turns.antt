@@ -1,0 +1,268 @@
+-- What a turn says of the process before and after; and the laws of assign, if and while.
+-- Assumes nothing.
+use Prim.Native.Nat.{ℕ, zero, suc, _+_, _-_, _*_, _/_, _%_, _≤_, _<_, max}
+use native.Mathlib.Omega.{arith}
+use mathlib.Core.Path.{_≡_, refl, sym, ap, _∙_}
+use mathlib.Core.Bool.{Bool, true, false, not, cond}
+use mathlib.Core.List.{List, [], _∷_, _++_, append-nil, append-assoc}
+use borrow.Author.Tests.{lt-ltb, ne-eqb, eq-eqb}
+use lib.Dec.{T, eqb, leb, ltb}
+use lib.ListN.{length, getD, take, drop, set, length-append, length-set}
+use lib.Seq.{take-at, drop-at, getD-drop}
+use Rattle.sock.specs.Words.{kindOf, variableOf, bit}
+use Rattle.sock.specs.Term.{Expr, Node, node, absent, Nodes, noParts, _&_, headWord, kind, isNil}
+use Rattle.sock.specs.Layout.{exprWords, exprsWords, exprDepth, exprsDepth, words, nodesWords, depth, nodesDepth}
+use Rattle.sock.specs.Reading.{code, anywhere}
+use Rattle.sock.specs.Running.{Run, nil, seq, act, asNode, runWords, size, runDepth, forms, inForm, opened, enable}
+use Rattle.sock.specs.Configuration.{valuesWords}
+use Rattle.sock.specs.Evaluation.{evaluate, isTrue}
+use Rattle.sock.specs.Frames.{isDone, seqOf}
+use Rattle.sock.specs.Rules.{Action, assign, branch, repeat, action}
+use Rattle.sock.proofs.Fits.{Fits, FitsExpr, AllBelow}
+use Rattle.sock.proofs.Running.{enable-asNode, enable-done}
+use Rattle.sock.proofs.Measures.{words-act}
+use Rattle.reading.specs.Walk.{processEnd}
+use Rattle.reading.proofs.Combining.{Words}
+use Rattle.reading.proofs.Ended.{code-end}
+use Rattle.moving.specs.Evaluating.{evaluated}
+use Rattle.moving.proofs.Evaluates.{evaluates}
+use Rattle.moving.proofs.Laid.{Near, Laid, laid-put, laid-then, laid-copy, copy-end}
+use Rattle.rules.specs.declared.turn.Turn.{Turn}
+use Rattle.rules.specs.Turning.{Turned, turned, vanishing, keeping, refused, at, partW, assignW, codeEnd, branchW, levelsLeft, unrollW, repeatW}
+use Rattle.rules.proofs.Deep.{head-nil}
+
+-- the words of q, which is not nil: fresh ones, then a part of r's own
+pub record Pieces (r q : Run) (t : Turn) (fresh : List ℕ) : Type 0 where
+  pub before : List ℕ
+  pub kept : List ℕ
+  pub behind : List ℕ
+  pub whole : runWords r ≡ before ++ (kept ++ behind)
+  pub made : runWords q ≡ take (t .fresh) fresh ++ kept
+  pub from : t .from ≡ length before
+  pub upto : t .upto ≡ t .from + length kept
+  pub ends : t .end ≡ t .upto + length behind
+  pub room : t .fresh ≤ length fresh
+
+pub both-ways : (b : Bool) → b ≡ true → b ≡ false → ⊥
+both-ways b p q = let z : bit true ≡ bit false = ap bit (sym p ∙ q) in omega arith
+
+-- r turns into q
+pub record Becomes (r q : Run) (t : Turn) (fresh : List ℕ) : Type 0 where
+  pub accepted : t .number ≡ 0
+  pub empty : t .nil ≡ isDone q
+  pub pieces : isDone q ≡ false → Pieces r q t fresh
+
+pub becomes-nil : (r : Run) (x v : ℕ) (fresh : List ℕ) → Becomes r nil (vanishing x v) fresh
+unfolding isDone
+becomes-nil r x v fresh = record { accepted = refl; empty = refl; pieces = λ z. absurd (both-ways true refl z) }
+
+-- ---- a part of its own
+
+-- words that stand at a place of a list, and what follows them
+pub after : (ws a b : List ℕ) (i : ℕ) → ws ≡ a ++ b → i ≡ length a → drop i ws ≡ b
+after ws a b i e p = ap (drop i) e ∙ drop-at a b i (sym p)
+
+pub first-at : (ws : List ℕ) (i w : ℕ) (rest : List ℕ) → drop i ws ≡ w ∷ rest → at ws i ≡ w
+first-at ws i w rest e = ap (λ k. getD ws k 0) (let z : i ≡ i + 0 = omega arith in z) ∙ sym (getD-drop i ws 0 0) ∙ ap (λ l. getD l 0 0) e
+
+node-head : (m : Node) (rest : List ℕ) → (tail : List ℕ) × (words m ++ rest ≡ headWord m ∷ tail)
+unfolding words
+node-head (node h f es b ps) rest = (_, refl)
+
+pub head-on : (ws : List ℕ) (i : ℕ) (m : Node) (rest : List ℕ) → drop i ws ≡ words m ++ rest → at ws i ≡ headWord m
+head-on ws i m rest e = let h = node-head m rest in first-at ws i (headWord m) (h .0) (e ∙ h .1)
+
+pub enable-words : {m : Node} → Fits (code false) anywhere m → runWords (enable m) ≡ words m
+unfolding runWords
+enable-words f = ap words (enable-asNode f)
+
+-- code within r that becomes enabled
+module _ (ws rest : List ℕ) (r : Run) (p : Node) (f : Fits (code false) anywhere p) (before behind : List ℕ)
+    (stands : ws ≡ runWords r ++ rest) (whole : runWords r ≡ before ++ (words p ++ behind)) (x v : ℕ) (fresh : List ℕ) where
+  pub part-stands : drop (length before) ws ≡ words p ++ (behind ++ rest)
+  part-stands =
+      after ws before (words p ++ (behind ++ rest)) (length before)
+      (stands ∙ (ap (λ l. l ++ rest) whole ∙ (append-assoc before (words p ++ behind) rest ∙ ap (λ l. before ++ l) (append-assoc (words p) behind rest)))) refl
+
+  pub part-becomes :
+      (from upto end : ℕ) → from ≡ length before → upto ≡ from + length (words p) → end ≡ upto + length behind →
+      Becomes r (enable p) (partW ws from upto end x v) fresh
+  unfolding partW
+  part-becomes from upto end a b c =
+      let head : at ws from ≡ headWord p = head-on ws from p (behind ++ rest) (rw a part-stands) in
+      by (isNil p) (ap (λ w. eqb w 0) head ∙ head-nil f) (enable-done f)
+    where
+      by : (b : Bool) → eqb (at ws from) 0 ≡ b → isDone (enable p) ≡ b → Becomes r (enable p) (cond (eqb (at ws from) 0) (vanishing x v) (keeping 0 from upto end x v)) fresh
+      by true q z = rw q (record { accepted = refl; empty = sym z; pieces = λ n. absurd (both-ways (isDone (enable p)) z n) })
+      by false q z =
+          rw q
+          (record {
+            accepted = refl;
+            empty = sym z;
+            pieces = λ n.
+                record {
+                  before = before;
+                  kept = words p;
+                  behind = behind;
+                  whole = whole;
+                  made = enable-words f;
+                  from = a;
+                  upto = b;
+                  ends = c;
+                  room = omega arith;
+                };
+          })
+
+-- ---- assign, if, while, at the words of the process
+
+module _ (n issued : ℕ) (ws : List ℕ) (ok : Words ws) (few : n ≤ 8) (small : issued < 65536) (vs : List ℕ) (below : AllBelow 4294967296 vs) (rest : List ℕ) where
+  abbrev bound : ℕ
+  bound = n * 65536 + issued
+
+  -- an expression behind the head
+  module _ (h : ℕ) (e : Expr) (ps : Nodes) (g : FitsExpr e) (deep : depth (node h [] (e ∷ []) absent ps) ≤ 64)
+      (stands : ws ≡ words (node h [] (e ∷ []) absent ps) ++ rest) where
+    expr-words : words (node h [] (e ∷ []) absent ps) ≡ (h ∷ exprWords e) ++ nodesWords ps
+    unfolding words exprsWords
+    expr-words = ap (λ l. h ∷ (l ++ nodesWords ps)) (append-nil (exprWords e))
+
+    expr-stands : drop 1 ws ≡ exprWords e ++ (nodesWords ps ++ rest)
+    expr-stands = ap (drop 1) (stands ∙ ap (λ l. l ++ rest) expr-words) ∙ append-assoc (exprWords e) (nodesWords ps) rest
+
+    expr-value : evaluated 64 ws (valuesWords vs) 1 ≡ record { end = length (h ∷ exprWords e); value = evaluate vs e }
+    unfolding depth exprsDepth
+    expr-value =
+        evaluates vs below ws g 64 (omega arith) 1 (nodesWords ps ++ rest) expr-stands
+        ∙ ap (λ (k : ℕ). record { end = k; value = evaluate vs e }) (let z : 1 + length (exprWords e) ≡ suc (length (exprWords e)) = omega arith in z)
+
+    expr-head : at ws 0 ≡ h
+    expr-head = ap (λ l. getD l 0 0) (stands ∙ ap (λ l. l ++ rest) expr-words)
+
+  pub assign-turns :
+      (h : ℕ) (e : Expr) → FitsExpr e → depth (node h [] (e ∷ []) absent noParts) ≤ 64 → ws ≡ words (node h [] (e ∷ []) absent noParts) ++ rest →
+      assignW ws (valuesWords vs) ≡ vanishing (variableOf h) (evaluate vs e)
+  unfolding assignW
+  assign-turns h e g deep stands = rw (expr-value h e noParts g deep stands, expr-head h e noParts g deep stands)
+
+  -- code that stands at a position ends there
+  ends-at : (i : ℕ) (m : Node) (more : List ℕ) → Fits (code false) anywhere m → depth m ≤ 64 → drop i ws ≡ words m ++ more → codeEnd bound ws i ≡ i + length (words m)
+  ends-at i m more f deep e = code-end ws ok n issued few small f 64 i deep more e
+
+  module _ (h : ℕ) (e : Expr) (p q : Node) (g : FitsExpr e) (fp : Fits (code false) anywhere p) (fq : Fits (code false) anywhere q)
+      (deep : depth (node h [] (e ∷ []) absent (p & q & noParts)) ≤ 64) (stands : ws ≡ words (node h [] (e ∷ []) absent (p & q & noParts)) ++ rest)
+      (fresh : List ℕ) where
+    abbrev m : Node
+    m = node h [] (e ∷ []) absent (p & q & noParts)
+
+    two-words : runWords (act m) ≡ (h ∷ exprWords e) ++ (words p ++ words q)
+    unfolding words
+    two-words = words-act m ∙ expr-words h e (p & q & noParts) g deep stands ∙ ap (λ l. (h ∷ exprWords e) ++ (words p ++ l)) (append-nil (words q))
+
+    stands-act : ws ≡ runWords (act m) ++ rest
+    stands-act = stands ∙ ap (λ l. l ++ rest) (sym (words-act m))
+
+    first-ends : codeEnd bound ws (length (h ∷ exprWords e)) ≡ length (h ∷ exprWords e) + length (words p)
+    unfolding depth
+    first-ends =
+        ends-at (length (h ∷ exprWords e)) p (words q ++ rest) fp (omega arith)
+        (part-stands ws rest (act m) p fp (h ∷ exprWords e) (words q) stands-act two-words 32 0 fresh)
+
+    again : runWords (act m) ≡ ((h ∷ exprWords e) ++ words p) ++ (words q ++ [])
+    again = two-words ∙ (sym (append-assoc (h ∷ exprWords e) (words p) (words q)) ∙ ap (λ l. ((h ∷ exprWords e) ++ words p) ++ l) (sym (append-nil (words q))))
+
+    long : length ((h ∷ exprWords e) ++ words p) ≡ length (h ∷ exprWords e) + length (words p)
+    long = length-append (h ∷ exprWords e) (words p)
+
+    second-ends : codeEnd bound ws (length (h ∷ exprWords e) + length (words p)) ≡ length (h ∷ exprWords e) + length (words p) + length (words q)
+    unfolding depth
+    second-ends =
+        ends-at (length (h ∷ exprWords e) + length (words p)) q rest fq (omega arith)
+        (rw (← long) (part-stands ws rest (act m) q fq ((h ∷ exprWords e) ++ words p) [] stands-act again 32 0 fresh))
+
+    pub branch-turns : Becomes (act m) (enable (cond (isTrue (evaluate vs e)) p q)) (branchW bound ws (valuesWords vs)) fresh
+    unfolding branchW isTrue
+    branch-turns =
+        rw (expr-value h e (p & q & noParts) g deep stands, first-ends, second-ends) (by (eqb (evaluate vs e) 0))
+      where
+        by :
+            (b : Bool) →
+            Becomes (act m) (enable (cond (not b) p q))
+            (cond b
+            (partW ws (length (h ∷ exprWords e) + length (words p)) (length (h ∷ exprWords e) + length (words p) + length (words q)) (length (h ∷ exprWords e) + length (words p) + length (words q)) 32 0)
+            (partW ws (length (h ∷ exprWords e)) (length (h ∷ exprWords e) + length (words p)) (length (h ∷ exprWords e) + length (words p) + length (words q)) 32 0))
+            fresh
+        by true = part-becomes ws rest (act m) q fq ((h ∷ exprWords e) ++ words p) [] stands-act again 32 0 fresh _ _ _ (sym long) refl (omega arith)
+        by false = part-becomes ws rest (act m) p fp (h ∷ exprWords e) (words q) stands-act two-words 32 0 fresh _ _ _ refl refl refl
+
+  -- a while, `level` levels deep
+  module _ (h : ℕ) (kind : kindOf h ≡ 5) (e : Expr) (p : Node) (g : FitsExpr e) (fp : Fits (code false) anywhere p)
+      (deep : depth (node h [] (e ∷ []) absent (p & noParts)) ≤ 64) (stands : ws ≡ words (node h [] (e ∷ []) absent (p & noParts)) ++ rest)
+      (fm : Fits (code false) anywhere (node h [] (e ∷ []) absent (p & noParts)))
+      (fresh : List ℕ) (wide : length ws ≤ length fresh) (near : Near (length fresh)) (level : ℕ) where
+    abbrev w : Node
+    w = node h [] (e ∷ []) absent (p & noParts)
+
+    one-words : runWords (act w) ≡ (h ∷ exprWords e) ++ (words p ++ [])
+    unfolding words
+    one-words = words-act w ∙ expr-words h e (p & noParts) g deep stands
+
+    stands-while : ws ≡ runWords (act w) ++ rest
+    stands-while = stands ∙ ap (λ l. l ++ rest) (sym (words-act w))
+
+    body-stands : drop (length (h ∷ exprWords e)) ws ≡ words p ++ rest
+    body-stands = part-stands ws rest (act w) p fp (h ∷ exprWords e) [] stands-while one-words 32 0 fresh
+
+    body-ends : codeEnd bound ws (length (h ∷ exprWords e)) ≡ length (h ∷ exprWords e) + length (words p)
+    unfolding depth
+    body-ends = ends-at (length (h ∷ exprWords e)) p rest fp (omega arith) body-stands
+
+    whole-length : length (runWords (act w)) ≡ length (h ∷ exprWords e) + length (words p)
+    whole-length = ap length one-words ∙ (length-append (h ∷ exprWords e) (words p ++ []) ∙ ap (λ l. length (h ∷ exprWords e) + length l) (append-nil (words p)))
+
+    within : length (h ∷ exprWords e) + length (words p) ≤ length ws
+    within = omega (arith, whole-length, ap length stands-while, length-append (runWords (act w)) rest)
+
+    body-head : eqb (at ws (length (h ∷ exprWords e))) 0 ≡ isNil p
+    body-head = ap (λ v. eqb v 0) (head-on ws (length (h ∷ exprWords e)) p rest body-stands) ∙ head-nil fp
+
+    same-again : enable w ≡ act w
+    unfolding enable opened inForm forms
+    same-again = rw kind
+
+    -- the same words again
+    itself : (made : List ℕ) (t : Turn) →
+        t .number ≡ 0 → t .nil ≡ false → t .from ≡ 0 → t .upto ≡ size (act w) → t .end ≡ size (act w) →
+        t .fresh ≤ length made → (q : Run) → isDone q ≡ false → runWords q ≡ take (t .fresh) made ++ runWords (act w) →
+        Becomes (act w) q t made
+    unfolding size
+    itself made t a b c d k r q lives f =
+        record {
+          accepted = a;
+          empty = b ∙ sym lives;
+          pieces = λ z.
+              record {
+                before = [];
+                kept = runWords (act w);
+                behind = [];
+                whole = sym (append-nil (runWords (act w)));
+                made = f;
+                from = c;
+                upto = omega (arith, c, d);
+                ends = omega (arith, d, k);
+                room = r;
+              };
+        }
+
+    unrolled : Laid fresh 0 (4096 ∷ words p) (unrollW ws (length (h ∷ exprWords e)) (length (h ∷ exprWords e) + length (words p)) fresh .fresh)
+    unfolding unrollW
+    unrolled =
+        laid-then (laid-put fresh 0 4096 (omega (arith, within)))
+        (laid-copy ws (words p) rest (length (h ∷ exprWords e)) (length (h ∷ exprWords e) + length (words p)) (set fresh 0 4096) 1 body-stands
+        (omega (arith, within)) refl (omega (arith, within, length-set fresh 0 4096)))
+
+    unrolled-count : unrollW ws (length (h ∷ exprWords e)) (length (h ∷ exprWords e) + length (words p)) fresh .turn .fresh ≡ suc (length (words p))
+    unfolding unrollW
+    unrolled-count =
+        copy-end ws (words p) rest (length (h ∷ exprWords e)) (length (h ∷ exprWords e) + length (words p)) 1 (length fresh) body-stands
+        (omega (arith, within)) refl near (omega (arith, within))
+        ∙ (let z : 1 + length (words p) ≡ suc (length (words p)) = omega arith in z)
