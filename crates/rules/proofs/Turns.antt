@@ -5,7 +5,7 @@ use native.Mathlib.Omega.{arith}
 use mathlib.Core.Path.{_≡_, refl, sym, ap, _∙_}
 use mathlib.Core.Bool.{Bool, true, false, not, cond}
 use mathlib.Core.List.{List, [], _∷_, _++_, append-nil, append-assoc}
-use borrow.Author.Tests.{lt-ltb, ne-eqb, eq-eqb}
+use borrow.Author.Tests.{lt-ltb, ne-eqb, eq-eqb, leb-true, leb-false, ltb-false}
 use lib.Dec.{T, eqb, leb, ltb}
 use lib.ListN.{length, getD, take, drop, set, length-append, length-set}
 use lib.Seq.{take-at, drop-at, getD-drop}
@@ -20,7 +20,7 @@ use Rattle.sock.specs.Frames.{isDone, seqOf}
 use Rattle.sock.specs.Rules.{Action, assign, branch, repeat, action}
 use Rattle.sock.proofs.Fits.{Fits, FitsExpr, AllBelow}
 use Rattle.sock.proofs.Running.{enable-asNode, enable-done}
-use Rattle.sock.proofs.Measures.{words-act}
+use Rattle.sock.proofs.Measures.{words-act, words-seq, depth-nil, depth-seq, depth-act}
 use Rattle.reading.specs.Walk.{processEnd}
 use Rattle.reading.proofs.Combining.{Words}
 use Rattle.reading.proofs.Ended.{code-end}
@@ -29,7 +29,7 @@ use Rattle.moving.proofs.Evaluates.{evaluates}
 use Rattle.moving.proofs.Laid.{Near, Laid, laid-put, laid-then, laid-copy, copy-end}
 use Rattle.rules.specs.declared.turn.Turn.{Turn}
 use Rattle.rules.specs.Turning.{Turned, turned, vanishing, keeping, refused, at, partW, assignW, codeEnd, branchW, levelsLeft, unrollW, repeatW}
-use Rattle.rules.proofs.Deep.{head-nil}
+use Rattle.rules.proofs.Deep.{code-fits, head-nil}
 
 -- the words of q, which is not nil: fresh ones, then a part of r's own
 pub record Pieces (r q : Run) (t : Turn) (fresh : List ℕ) : Type 0 where
@@ -51,6 +51,11 @@ pub record Becomes (r q : Run) (t : Turn) (fresh : List ℕ) : Type 0 where
   pub accepted : t .number ≡ 0
   pub empty : t .nil ≡ isDone q
   pub pieces : isDone q ≡ false → Pieces r q t fresh
+
+-- r, `level` levels deep, turns into q and no value changes; or q would be too deep
+pub data Outcome (r : Run) (level : ℕ) (q : Run) (t : Turn) (fresh : List ℕ) : Type 0 where
+  deepens : t .number ≡ 8 → isDone q ≡ false → 65 < level + runDepth q → Outcome r level q t fresh
+  becomes : Becomes r q t fresh → t .x ≡ 32 → level + runDepth q ≤ 65 → Outcome r level q t fresh
 
 pub becomes-nil : (r : Run) (x v : ℕ) (fresh : List ℕ) → Becomes r nil (vanishing x v) fresh
 unfolding isDone
@@ -112,6 +117,14 @@ module _ (ws rest : List ℕ) (r : Run) (p : Node) (f : Fits (code false) anywhe
                   room = omega arith;
                 };
           })
+
+levels-left : (level : ℕ) → levelsLeft level ≡ 64 - level
+unfolding levelsLeft
+levels-left level = by (ltb level 64) refl
+  where
+    by : (b : Bool) → ltb level 64 ≡ b → cond b (64 - level) 0 ≡ 64 - level
+    by true q = refl
+    by false q = let z : 64 ≤ level = ltb-false level 64 q in omega arith
 
 -- ---- assign, if, while, at the words of the process
 
@@ -266,3 +279,69 @@ module _ (n issued : ℕ) (ws : List ℕ) (ok : Words ws) (few : n ≤ 8) (small
         copy-end ws (words p) rest (length (h ∷ exprWords e)) (length (h ∷ exprWords e) + length (words p)) 1 (length fresh) body-stands
         (omega (arith, within)) refl near (omega (arith, within))
         ∙ (let z : 1 + length (words p) ≡ suc (length (words p)) = omega arith in z)
+
+    twice : runWords (seq (enable p) w) ≡ (4096 ∷ words p) ++ runWords (act w)
+    twice = words-seq (enable p) w ∙ ap (λ l. 4096 ∷ l) (ap (λ l. l ++ words w) (enable-words fp) ∙ ap (λ l. words p ++ l) (sym (words-act w)))
+
+    twice-deep : runDepth (seq (enable p) w) ≡ suc (depth w)
+    unfolding runDepth depth
+    twice-deep = depth-seq (enable p) w ∙ (let z : depth (asNode (enable p)) ≡ depth p = ap depth (enable-asNode fp) in omega arith)
+
+    made-of : {last new : List ℕ} {k : ℕ} → Laid fresh 0 new last → k ≡ length new → take k last ≡ new
+    made-of {last} {new} l q = ap (λ i. take i last) (q ∙ (let z : length new ≡ 0 + length new = omega arith in z)) ∙ l .begins
+
+    abbrev Plain : Turn → Type 0
+    Plain t =
+        (t .number ≡ 0) × (t .nil ≡ false) × (t .from ≡ 0) × (t .upto ≡ length (h ∷ exprWords e) + length (words p))
+        × (t .end ≡ length (h ∷ exprWords e) + length (words p)) × (t .x ≡ 32)
+
+    unrolled-plain : Plain (unrollW ws (length (h ∷ exprWords e)) (length (h ∷ exprWords e) + length (words p)) fresh .turn)
+    unfolding unrollW
+    unrolled-plain = (refl, refl, refl, refl, refl, refl)
+
+    -- if there are levels left for it
+    unrolled-turns :
+        (b : Bool) → leb (depth w) (levelsLeft level) ≡ b → level ≤ 64 →
+        (let u = cond (eqb (cond b (length (words w)) 0) 0) (turned (refused 8) fresh)
+        (unrollW ws (length (h ∷ exprWords e)) (length (h ∷ exprWords e) + length (words p)) fresh) in
+        Outcome (act w) level (seq (enable p) w) (u .turn) (u .fresh))
+    unfolding isDone size
+    unrolled-turns false q low =
+        deepens refl refl (omega (arith, twice-deep, leb-false (depth w) (levelsLeft level) q, levels-left level))
+    unrolled-turns true q low =
+        rw (ne-eqb (length (words w)) 0 (λ z. omega (arith, whole-length, ap length (words-act w))))
+        (becomes
+        (itself _ _ (unrolled-plain .0) (unrolled-plain .1) (unrolled-plain .2) (unrolled-plain .3 ∙ sym whole-length) (unrolled-plain .4 ∙ sym whole-length)
+        (omega (arith, unrolled-count, unrolled .keeps, within)) (seq (enable p) w) refl (twice ∙ ap (λ l. l ++ runWords (act w)) (sym (made-of unrolled unrolled-count))))
+        (unrolled-plain .5)
+        (omega (arith, twice-deep, leb-true (depth w) (levelsLeft level) q, levels-left level)))
+
+    -- the rule: false, nothing is left; true, the body and the while again, where the body is not nil
+    pub repeat-turns :
+        level + depth w ≤ 65 → level ≤ 64 →
+        (let u = repeatW level bound ws (valuesWords vs) fresh in
+        Outcome (act w) level (cond (isTrue (evaluate vs e)) (seqOf (enable p) w) nil) (u .turn) (u .fresh))
+    unfolding repeatW isTrue seqOf isDone size depth
+    repeat-turns low few-levels =
+        rw (expr-value h e (p & noParts) g deep stands, body-ends, body-head, code-fits ws ok n issued few small fm (levelsLeft level) 0 rest stands, enable-done fp)
+        (by (eqb (evaluate vs e) 0) (isNil p))
+      where
+        by :
+            (a b : Bool) →
+            (let end : ℕ = length (h ∷ exprWords e) + length (words p) in
+            let u : Turned =
+            cond a (turned (vanishing 32 0) fresh)
+            (cond b (turned (keeping 0 0 end end 32 0) fresh)
+            (cond (eqb (cond (leb (depth w) (levelsLeft level)) (0 + length (words w)) 0) 0) (turned (refused 8) fresh)
+            (unrollW ws (length (h ∷ exprWords e)) end fresh))) in
+            Outcome (act w) level (cond (not a) (cond b (enable w) (seq (enable p) w)) nil) (u .turn) (u .fresh))
+        by true b = becomes (becomes-nil (act w) 32 0 fresh) refl (omega (arith, depth-nil))
+        by false true =
+            rw same-again
+            (becomes
+            (itself fresh _ refl refl refl (sym whole-length) (sym whole-length) (omega arith) (act w) refl refl)
+            refl
+            (omega (arith, depth-act w)))
+        by false false =
+            let z : 0 + length (words w) ≡ length (words w) = omega arith in
+            rw z (unrolled-turns (leb (depth w) (levelsLeft level)) refl few-levels)
