@@ -1,4 +1,5 @@
 pub mod Branches
 pub mod Deep
+pub mod Plans
 pub mod Shapes
 pub mod Turns

@@ -1,2 +1,3 @@
 pub mod Offering
+pub mod Planning
 pub mod Turning

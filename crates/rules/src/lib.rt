@@ -1,4 +1,5 @@
 // The rules that look at no scope's list: what a process turns into, alone or between two engines.
 pub mod alone;
 pub mod pair;
+pub mod plan;
 pub mod turn;

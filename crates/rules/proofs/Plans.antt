@@ -1,0 +1,274 @@
+-- What a plan says of an engine's process: its words afterwards, in pieces of the words before and fresh ones.
+-- Assumes nothing.
+use Prim.Native.Nat.{ℕ, zero, suc, _+_, _-_, _≤_, _<_}
+use native.Mathlib.Omega.{arith}
+use mathlib.Core.Path.{_≡_, refl, sym, ap, ap₂, _∙_}
+use mathlib.Core.Bool.{Bool, true, false, cond}
+use mathlib.Core.List.{List, [], _∷_, _++_, append-nil, append-assoc}
+use lib.Dec.{T}
+use lib.ListN.{length, take, drop, set, length-append, length-drop, length-set, take-append-drop}
+use lib.Seq.{take-at, take-add, drop-at, drop-drop, length-take-le, take-suc-set, take-set-le}
+use Rattle.sock.specs.Running.{Run, nil, seq, par, scope, executor, waiter, notice, act, runWords, size}
+use Rattle.sock.specs.Frames.{Frame, Located, isDone, plug}
+use Rattle.sock.proofs.Located.{size-positive}
+use Rattle.finding.specs.declared.find.Spot.{Spot}
+use Rattle.finding.proofs.Framing.{region}
+use Rattle.finding.proofs.Pieces.{hole, Swap, Cut}
+use Rattle.finding.proofs.Spots.{Spotted}
+use Rattle.finding.proofs.Edits.{part, edited, nil-plain, swap-plain, cut-order}
+use Rattle.moving.specs.Writing.{onward}
+use Rattle.moving.proofs.Laid.{Near, onward-near}
+use Rattle.rules.specs.declared.turn.Turn.{Turn}
+use Rattle.rules.specs.declared.plan.Plan.{Plan}
+use Rattle.rules.specs.Offering.{placed}
+use Rattle.rules.specs.Planning.{Planned, planned, hollowW, nilW, plainW}
+use Rattle.rules.proofs.Turns.{Pieces, Becomes, both-ways}
+
+-- a plan's words for the process start..end
+abbrev pub laidOut : List ℕ → ℕ → ℕ → Plan → List ℕ → List ℕ
+laidOut ws start end p fresh =
+    part start (p .l) ws
+    ++ (take (p .f) fresh
+    ++ (part (p .m) (p .a) ws ++ (part (p .f) (p .g) fresh ++ (part (p .b) (p .c) ws ++ part (p .d) end ws))))
+
+pub record Ordered (start end : ℕ) (p : Plan) : Type 0 where
+  pub l-in : start ≤ p .l
+  pub m-in : p .l ≤ p .m
+  pub a-in : p .m ≤ p .a
+  pub b-in : p .a ≤ p .b
+  pub c-in : p .b ≤ p .c
+  pub d-in : p .c ≤ p .d
+  pub end-in : p .d ≤ end
+  pub fresh-in : p .f ≤ p .g
+
+-- the process start..end becomes q, whose words are known if the fresh ones are not too many for any result
+pub record Plans (ws : List ℕ) (start end : ℕ) (p : Plan) (fresh : List ℕ) (q : Run) : Type 0 where
+  pub order : Ordered start end p
+  pub sized : size q + ((p .m - p .l) + ((p .b - p .a) + (p .d - p .c))) ≡ (end - start) + p .g
+  pub words : p .g ≤ 8192 → laidOut ws start end p fresh ≡ runWords q
+
+-- ---- from an edit of all the words
+
+-- the words f..t and those behind
+pub part-drop : (f t : ℕ) (ws : List ℕ) → f ≤ t → drop f ws ≡ part f t ws ++ drop t ws
+part-drop f t ws h =
+    let e : f + (t - f) ≡ t = omega arith in
+    sym (take-append-drop (t - f) (drop f ws)) ∙ ap (λ l. part f t ws ++ l) (drop-drop (t - f) f ws ∙ ap (λ k. drop k ws) e)
+
+pub part-length : (f t : ℕ) (ws : List ℕ) → f ≤ t → t ≤ length ws → length (part f t ws) ≡ t - f
+part-length f t ws h k = length-take-le (t - f) (drop f ws) (omega (arith, length-drop f ws))
+
+take-part : (f t : ℕ) (ws : List ℕ) → f ≤ t → take t ws ≡ take f ws ++ part f t ws
+take-part f t ws h =
+    let e : f + (t - f) ≡ t = omega arith in
+    ap (λ k. take k ws) (sym e) ∙ take-add f (t - f) ws
+
+part-first : (t : ℕ) (ws : List ℕ) → part 0 t ws ≡ take t ws
+part-first t ws = ap (λ k. take k ws) (let z : t - 0 ≡ t = omega arith in z)
+
+cancel-front : (x y z : List ℕ) → x ++ y ≡ x ++ z → y ≡ z
+cancel-front x y z e = sym (drop-at x y (length x) refl) ∙ (ap (drop (length x)) e ∙ drop-at x z (length x) refl)
+
+cancel-behind : (x y z : List ℕ) → x ++ z ≡ y ++ z → x ≡ y
+cancel-behind x y z e =
+    let n : length x + length z ≡ length y + length z = sym (length-append x z) ∙ (ap length e ∙ length-append y z) in
+    sym (take-at x z (length x) refl) ∙ (ap (take (length x)) e ∙ take-at y z (length x) (omega arith))
+
+in-front : (s a b c d e f g : List ℕ) → (s ++ a) ++ (b ++ (c ++ (d ++ (e ++ (f ++ g))))) ≡ s ++ ((a ++ (b ++ (c ++ (d ++ (e ++ f))))) ++ g)
+in-front s a b c d e f g = simp append-assoc
+
+module _ (ws : List ℕ) (start end : ℕ) (p : Plan) (fresh : List ℕ) (o : Ordered start end p) (inside : end ≤ length ws) where
+  pub edited-inside :
+      edited ws (p .l) (p .m) (take (p .f) fresh) (p .a) (p .b) (part (p .f) (p .g) fresh) (p .c) (p .d)
+      ≡ take start ws ++ (laidOut ws start end p fresh ++ drop end ws)
+  unfolding edited
+  edited-inside =
+      ap₂ (λ (x y : List ℕ). x ++ (take (p .f) fresh ++ (part (p .m) (p .a) ws ++ (part (p .f) (p .g) fresh ++ (part (p .b) (p .c) ws ++ y)))))
+      (take-part start (p .l) ws (o .l-in)) (part-drop (p .d) end ws (o .end-in))
+      ∙ in-front (take start ws) (part start (p .l) ws) (take (p .f) fresh) (part (p .m) (p .a) ws) (part (p .f) (p .g) fresh) (part (p .b) (p .c) ws)
+      (part (p .d) end ws) (drop end ws)
+
+  pub edited-words :
+      (q : Run) →
+      edited ws (p .l) (p .m) (take (p .f) fresh) (p .a) (p .b) (part (p .f) (p .g) fresh) (p .c) (p .d) ≡ take start ws ++ (runWords q ++ drop end ws) →
+      laidOut ws start end p fresh ≡ runWords q
+  edited-words q e = cancel-behind _ _ (drop end ws) (cancel-front (take start ws) _ _ (sym edited-inside ∙ e))
+
+  pub laid-length : p .g ≤ length fresh → length (laidOut ws start end p fresh) + ((p .m - p .l) + ((p .b - p .a) + (p .d - p .c))) ≡ (end - start) + p .g
+  laid-length room =
+      let x1 = part-length start (p .l) ws (o .l-in) (omega (arith, o .m-in, o .a-in, o .b-in, o .c-in, o .d-in, o .end-in)) in
+      let x2 = length-take-le (p .f) fresh (omega (arith, o .fresh-in)) in
+      let x3 = part-length (p .m) (p .a) ws (o .a-in) (omega (arith, o .b-in, o .c-in, o .d-in, o .end-in)) in
+      let x4 = part-length (p .f) (p .g) fresh (o .fresh-in) room in
+      let x5 = part-length (p .b) (p .c) ws (o .c-in) (omega (arith, o .d-in, o .end-in)) in
+      let x6 = part-length (p .d) end ws (o .end-in) inside in
+      let y5 = length-append (part (p .b) (p .c) ws) (part (p .d) end ws) in
+      let y4 = length-append (part (p .f) (p .g) fresh) (part (p .b) (p .c) ws ++ part (p .d) end ws) in
+      let y3 = length-append (part (p .m) (p .a) ws) (part (p .f) (p .g) fresh ++ (part (p .b) (p .c) ws ++ part (p .d) end ws)) in
+      let y2 = length-append (take (p .f) fresh) (part (p .m) (p .a) ws ++ (part (p .f) (p .g) fresh ++ (part (p .b) (p .c) ws ++ part (p .d) end ws))) in
+      let y1 = length-append (part start (p .l) ws)
+      (take (p .f) fresh ++ (part (p .m) (p .a) ws ++ (part (p .f) (p .g) fresh ++ (part (p .b) (p .c) ws ++ part (p .d) end ws)))) in
+      sums start (p .l) (p .m) (p .f) (p .a) (p .b) (p .g) (p .c) (p .d) end _ _ _ _ _ _ _ _ _
+      (gap start (p .l) (o .l-in)) (gap (p .l) (p .m) (o .m-in)) (gap (p .m) (p .a) (o .a-in)) (gap (p .a) (p .b) (o .b-in)) (gap (p .b) (p .c) (o .c-in))
+      (gap (p .c) (p .d) (o .d-in)) (gap (p .d) end (o .end-in)) (gap (p .f) (p .g) (o .fresh-in))
+      (y1 ∙ rw (x1, y2, x2, y3, x3, y4, x4, y5, x5, x6))
+    where
+      gap : (a b : ℕ) → a ≤ b → b ≡ a + (b - a)
+      gap a b h = omega arith
+
+      sums :
+          (s l m f a b g c d e n x1 y1 x2 y2 x3 y3 x4 x5 : ℕ) →
+          l ≡ s + x1 → m ≡ l + y1 → a ≡ m + x2 → b ≡ a + y2 → c ≡ b + x3 → d ≡ c + y3 → e ≡ d + x4 → g ≡ f + x5 →
+          n ≡ x1 + (f + (x2 + (x5 + (x3 + x4)))) → n + (y1 + (y2 + y3)) ≡ (e - s) + g
+      sums s l m f a b g c d e n x1 y1 x2 y2 x3 y3 x4 x5 h1 h2 h3 h4 h5 h6 h7 h8 q = omega arith
+
+  -- where the fresh words have room
+  pub plans-of :
+      (q : Run) → p .g ≤ length fresh →
+      edited ws (p .l) (p .m) (take (p .f) fresh) (p .a) (p .b) (part (p .f) (p .g) fresh) (p .c) (p .d) ≡ take start ws ++ (runWords q ++ drop end ws) →
+      Plans ws start end p fresh q
+  unfolding size
+  plans-of q room e =
+      let w = edited-words q e in
+      record { order = o; sized = rw w at (laid-length room); words = λ h. w }
+
+-- ---- of a process that was found
+
+done-nil : (q : Run) → isDone q ≡ true → q ≡ nil
+unfolding isDone
+done-nil nil e = refl
+done-nil (seq a p) e = absurd (both-ways false e refl)
+done-nil (par a b) e = absurd (both-ways false e refl)
+done-nil (scope name mark zombie h a) e = absurd (both-ways false e refl)
+done-nil (executor o y client serial a) e = absurd (both-ways false e refl)
+done-nil (waiter o x dead server serial l) e = absurd (both-ways false e refl)
+done-nil (notice o f client serial) e = absurd (both-ways false e refl)
+done-nil (act a) e = absurd (both-ways false e refl)
+
+-- the words behind the first f, if a nil is to stand there
+hollow-part : (hollow : Bool) (f : ℕ) (fresh : List ℕ) → f < length fresh → Near (length fresh) →
+    (part f (hollowW hollow f fresh .to) (hollowW hollow f fresh .fresh) ≡ hole hollow)
+    × (take f (hollowW hollow f fresh .fresh) ≡ take f fresh)
+    × ((f ≤ hollowW hollow f fresh .to) × (hollowW hollow f fresh .to ≤ suc f))
+    × (length (hollowW hollow f fresh .fresh) ≡ length fresh)
+unfolding hollowW
+hollow-part true f fresh h near =
+    let to : onward f 1 ≡ suc f = onward-near f 1 (length fresh) near (omega arith) ∙ (let z : f + 1 ≡ suc f = omega arith in z) in
+    let one : suc f - f ≡ 1 = omega arith in
+    let all : take (suc f) (set fresh f 0) ≡ take f fresh ++ (0 ∷ []) = take-suc-set fresh f 0 h in
+    let n : length (take f fresh) ≡ f = length-take-le f fresh (omega arith) in
+    let tail : part f (suc f) (set fresh f 0) ≡ 0 ∷ [] =
+    cancel-front (take f (set fresh f 0)) _ _ (sym (take-part f (suc f) (set fresh f 0) (omega arith)) ∙ (all ∙ ap (λ l. l ++ (0 ∷ [])) (sym (take-set-le f fresh f 0 (omega arith))))) in
+    rw to (tail, take-set-le f fresh f 0 (omega arith), (omega arith, omega arith), length-set fresh f 0)
+hollow-part false f fresh h near =
+    let none : f - f ≡ 0 = omega arith in
+    (rw none, refl, (omega arith, omega arith), refl)
+
+module _ (f target : ℕ) (r : Run) (start level : ℕ) (l : Located) (s : Spot) (ws : List ℕ) (words : drop start ws ≡ runWords r ++ drop (start + size r) ws)
+    (spotted : Spotted f target r start level l s) (near : Near (length ws)) where
+  inside : start + size r ≤ length ws
+  unfolding size
+  inside = omega (arith, size-positive r, sym (length-drop start ws) ∙ ap length words, length-append (runWords r) (drop (start + length (runWords r)) ws))
+
+  -- nil in its place
+  pub nil-plans :
+      (x v : ℕ) (fresh : List ℕ) → 0 < length fresh → Near (length fresh) →
+      (let u = nilW s start start 0 x v fresh in
+      Plans ws start (start + size r) (u .plan) (u .fresh) (plug (l .frames) nil))
+  unfolding nilW
+  nil-plans x v fresh room big =
+      let w = hollow-part (s .hollow) 0 fresh room big in
+      let c = cut-order f target r start level l s ws (drop (start + size r) ws) words spotted in
+      let o : Ordered start (start + size r) (nilW s start start 0 x v fresh .plan) =
+      record {
+        l-in = omega arith;
+        m-in = omega arith;
+        a-in = c .0;
+        b-in = c .1;
+        c-in = c .2;
+        d-in = c .3;
+        end-in = c .4;
+        fresh-in = omega arith;
+      } in
+      plans-of ws start (start + size r) (nilW s start start 0 x v fresh .plan) (hollowW (s .hollow) 0 fresh .fresh) o inside (plug (l .frames) nil)
+      (omega (arith, w .2 .1, w .3))
+      (ap (λ k. edited ws start start [] (s .a) (s .b) k (s .c) (s .d)) (w .0)
+      ∙ nil-plain f target r start level l s ws (drop (start + size r) ws) words spotted)
+
+  -- another in its place
+  module _ (q : Run) (t : Turn) (fresh : List ℕ) (lives : isDone q ≡ false) (p : Pieces (l .process) q t fresh) where
+    standing : (start ≤ target) × (target + size (l .process) ≤ start + size r)
+    unfolding size
+    standing =
+        let w : Swap r start (l .frames) (l .process) (s .scope) target = spotted .swap in (
+          omega (arith, w .from),
+          omega (
+            arith,
+            w .from,
+            ap length (w .whole),
+            length-append (w .before) (region (l .frames) ++ (w .between ++ (runWords (l .process) ++ w .after))),
+            length-append (region (l .frames)) (w .between ++ (runWords (l .process) ++ w .after)),
+            length-append (w .between) (runWords (l .process) ++ w .after),
+            length-append (runWords (l .process)) (w .after),
+          ),
+        )
+
+    process-size : size (l .process) ≡ t .end
+    unfolding size
+    process-size =
+        omega (
+          arith,
+          ap length (p .whole),
+          p .from,
+          p .upto,
+          p .ends,
+          length-append (p .before) (p .kept ++ p .behind),
+          length-append (p .kept) (p .behind),
+        )
+
+    further-on : (n : ℕ) → n ≤ t .end → onward (s .at) n ≡ target + n
+    further-on n h =
+        onward-near (s .at) n (length ws) near (omega (arith, spotted .at, standing .1, process-size, inside)) ∙ ap (λ k. k + n) (spotted .at)
+
+    pub swap-plans :
+        t .nil ≡ false →
+        (let u = plainW s start t fresh in
+        Plans ws start (start + size r) (u .plan) (u .fresh) (plug (l .frames) q))
+    unfolding plainW
+    swap-plans z =
+        let a = further-on (t .from) (omega (arith, p .upto, p .ends)) in
+        let b = further-on (t .upto) (omega (arith, p .ends)) in
+        let c = further-on (t .end) (omega arith) in
+        let room = p .room in
+        rw (z, a, b, c, spotted .at)
+        (plans-of ws start (start + size r) _ fresh
+        (record {
+          l-in = omega arith;
+          m-in = omega arith;
+          a-in = standing .0;
+          b-in = omega arith;
+          c-in = omega (arith, p .upto);
+          d-in = omega (arith, p .ends);
+          end-in = omega (arith, standing .1, process-size);
+          fresh-in = omega arith;
+        })
+        inside (plug (l .frames) q) room
+        (ap (λ k. edited ws start start [] target (target + t .from) k (target + t .upto) (target + t .end)) (part-first (t .fresh) fresh)
+        ∙ swap-plain f target r start level l s ws (drop (start + size r) ws) words spotted q (p .before) (p .kept) (p .behind) (take (t .fresh) fresh)
+        (target + t .from) (target + t .upto) (target + t .end) lives (p .whole) (p .made)
+        (omega (arith, p .from)) (omega (arith, p .upto)) (omega (arith, p .ends))))
+
+  -- what becomes of it, whatever that is
+  pub plain-plans :
+      (q : Run) (t : Turn) (fresh : List ℕ) → 0 < length fresh → Near (length fresh) → Becomes (l .process) q t fresh →
+      (let u = plainW s start t fresh in
+      Plans ws start (start + size r) (u .plan) (u .fresh) (plug (l .frames) q) × (u .plan .number ≡ 0) × (u .plan .x ≡ t .x) × (u .plan .v ≡ t .v))
+  unfolding plainW nilW
+  plain-plans q t fresh some big b = by (isDone q) refl
+    where
+      by :
+          (d : Bool) → isDone q ≡ d →
+          (let u = plainW s start t fresh in
+          Plans ws start (start + size r) (u .plan) (u .fresh) (plug (l .frames) q) × (u .plan .number ≡ 0) × (u .plan .x ≡ t .x) × (u .plan .v ≡ t .v))
+      by true e = rw (b .empty ∙ e, done-nil q e) (nil-plans (t .x) (t .v) fresh some big, refl, refl, refl)
+      by false e = (swap-plans q t fresh e (b .pieces e) (b .empty ∙ e), rw (b .empty ∙ e) (b .accepted), rw (b .empty ∙ e) refl, rw (b .empty ∙ e) refl)

@@ -1,0 +1,21 @@
+-- `become_nil` of `rules::plan` meets its contract: the code is its mirror in specs/.
+-- Assumes nothing.
+use Rattle.rules.specs.Planning.{nilW}
+use Rattle.moving.proofs.Tests.{tests}
+use borrow.Author.Needs.{needs}
+use Rattle.rules.proofs.plan.become_nil.Statement.{statement}
+use Rattle.rules.proofs.plan.become_nil.Tie as tie
+
+hollow-requires : tie.Need-hollow-requires
+hollow-requires c κs = search needs
+
+same-length : tie.Need-same-length
+same-length c = search needs
+
+returns : tie.Need-returns
+unfolding nilW
+returns c =
+    (simp (tests, ← (c .before .before .hollow .ensures .0), ← (c .before .before .hollow .ensures .1)), simp (tests, ← (c .before .before .hollow .ensures .0), ← (c .before .before .hollow .ensures .1)))
+
+pub become-nil-spec : {M : Type 1} → statement M
+become-nil-spec = tie.close (tie.spec hollow-requires same-length returns)
