@@ -1,0 +1,2 @@
+// The step: from a configuration's words to the next one's.
+pub mod writing;

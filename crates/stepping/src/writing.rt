@@ -1,0 +1,72 @@
+// Writing the result, once it is known to fit: the words of the configuration, with a plan's in the place of an engine's process.
+use moving::write::copy;
+use moving::write::further;
+use moving::write::put;
+use rules::plan::Plan;
+ghost use mathlib.Core.Path.{_≡_};
+ghost use Rattle.stepping.specs.Writing.{frontW, backW, processW, valueW, lentW, engineW};
+
+// What a plan puts in front: up to its second fresh words.
+fn front(ws: &[u16], start: usize, p: Plan, fresh: &[u16], out: &mut [u16]) -> usize
+    ensures { λ r. ⌜ (r ≡ frontW (now (ws .entry)) start p (now (fresh .entry)) (now (out .entry)) .to) × (now (out .exit) ≡ frontW (now (ws .entry)) start p (now (fresh .entry)) (now (out .entry)) .out) ⌝ }
+{
+    let t = copy(ws, start, p.l, out, 0);
+    let u = copy(fresh, 0, p.f, out, t);
+    copy(ws, p.m, p.a, out, u)
+}
+
+// And behind, from a place on.
+fn back(ws: &[u16], end: usize, p: Plan, fresh: &[u16], out: &mut [u16], to: usize) -> usize
+    ensures { λ r. ⌜ (r ≡ backW (now (ws .entry)) end p (now (fresh .entry)) (now (out .entry)) to .to) × (now (out .exit) ≡ backW (now (ws .entry)) end p (now (fresh .entry)) (now (out .entry)) to .out) ⌝ }
+{
+    let t = copy(fresh, p.f, p.g, out, to);
+    let u = copy(ws, p.b, p.c, out, t);
+    copy(ws, p.d, end, out, u)
+}
+
+// The process start..end under a plan, into the output's part from where it begins.
+pub fn process_words(ws: &[u16], start: usize, end: usize, p: Plan, fresh: &[u16], out: &mut [u16]) -> usize
+    ensures { λ r. ⌜ (r ≡ processW (now (ws .entry)) start end p (now (fresh .entry)) (now (out .entry)) .to) × (now (out .exit) ≡ processW (now (ws .entry)) start end p (now (fresh .entry)) (now (out .entry)) .out) ⌝ }
+{
+    let t = front(ws, start, p, fresh, out);
+    back(ws, end, p, fresh, out, t)
+}
+
+// Variable x of the values that end at `to` takes v; 32 is none.
+fn value(out: &mut [u16], to: usize, x: usize, v: u32) -> usize
+    ensures { λ r. ⌜ (r ≡ 0) × (now (out .exit) ≡ valueW (now (out .entry)) to x v) ⌝ }
+{
+    if 32 <= x {
+        return 0;
+    }
+    if to < 64 {
+        return 0;
+    }
+    if out.len() < to {
+        return 0;
+    }
+    let at = to - 64 + x * 2;
+    put(out, at, (v / 65536) as u16);
+    put(out, at + 1, (v % 65536) as u16);
+    0
+}
+
+// The output's part from a place on is lent to the process writer.
+fn lend(ws: &[u16], start: usize, end: usize, p: Plan, fresh: &[u16], out: &mut [u16], to: usize) -> usize
+    ensures { λ r. ⌜ (r ≡ lentW (now (ws .entry)) start end p (now (fresh .entry)) (now (out .entry)) to .to) × (now (out .exit) ≡ lentW (now (ws .entry)) start end p (now (fresh .entry)) (now (out .entry)) to .out) ⌝ }
+{
+    if out.len() < to {
+        return to;
+    }
+    let n = process_words(ws, start, end, p, fresh, &mut out[to..]);
+    further(to, n)
+}
+
+// The words from..start, which end in the engine's values, and its process, from a place on.
+pub fn engine(ws: &[u16], from: usize, start: usize, end: usize, p: Plan, fresh: &[u16], out: &mut [u16], to: usize) -> usize
+    ensures { λ r. ⌜ (r ≡ engineW (now (ws .entry)) from start end p (now (fresh .entry)) (now (out .entry)) to .to) × (now (out .exit) ≡ engineW (now (ws .entry)) from start end p (now (fresh .entry)) (now (out .entry)) to .out) ⌝ }
+{
+    let t = copy(ws, from, start, out, to);
+    value(out, t, p.x, p.v);
+    lend(ws, start, end, p, fresh, out, t)
+}
