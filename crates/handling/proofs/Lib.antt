@@ -8,3 +8,4 @@ pub mod Rebuilds
 pub mod Replaced
 pub mod Replacements
 pub mod Replaces
+pub mod Turns

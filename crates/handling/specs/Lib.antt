@@ -1,2 +1,4 @@
 pub mod Measuring
 pub mod Replacing
+pub mod Taking
+pub mod Updating

@@ -169,7 +169,7 @@ fn in_par(ws: &[u16], at: usize, old: Old, depth: usize, out: &mut [u16], to: us
     }
 }
 
-fn less_one(n: usize) -> usize
+pub fn less_one(n: usize) -> usize
     ensures { λ r. ⌜ r ≡ n - 1 ⌝ }
 {
     if n == 0 { 0 } else { n - 1 }
