@@ -1,11 +1,14 @@
 pub mod Grows
 pub mod Leaves
 pub mod Levels
+pub mod Listed
 pub mod Measures
+pub mod Merged
 pub mod Others
 pub mod Pairs
 pub mod Rebuilds
 pub mod Replaced
 pub mod Replacements
 pub mod Replaces
+pub mod Takes
 pub mod Turns
