@@ -10,5 +10,7 @@ pub mod Rebuilds
 pub mod Replaced
 pub mod Replacements
 pub mod Replaces
+pub mod Steps
 pub mod Takes
 pub mod Turns
+pub mod Updates

@@ -38,10 +38,15 @@ pub record FirstEntry (ws : List ℕ) (i k : ℕ) (p : Node) (behind : List ℕ)
   pub after : drop (i + 1 + length (words p)) ws ≡ behind
 
 -- a list has no more entries than there are keys
-pub few-entries : {o : Bool} {least : ℕ} {h : Entries} → FitsEntries o least h → least ≤ 128 → count h + least ≤ 128
+few-above : {o : Bool} {least : ℕ} {h : Entries} → FitsEntries o least h → least ≤ 128 → count h + least ≤ 128
 unfolding count
-few-entries emptyFits b = omega arith
-few-entries (entryFitsOn {k = k} x y z u v) b = let q = few-entries v (omega arith) in omega arith
+few-above emptyFits b = omega arith
+few-above (entryFitsOn {k = k} x y z u v) b = let q = few-above v (omega arith) in omega arith
+
+pub few-entries : {o : Bool} {least : ℕ} {h : Entries} → FitsEntries o least h → count h ≤ 128
+unfolding count
+few-entries emptyFits = omega arith
+few-entries (entryFitsOn {k = k} x y z u v) = let q = few-above v (omega arith) in omega arith
 
 -- a copy keeps the output's length
 pub pasted-length : (ws : List ℕ) (from upto : ℕ) (out : List ℕ) (to : ℕ) → length (pasted ws from upto out to) ≡ length out
