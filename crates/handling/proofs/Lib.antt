@@ -10,6 +10,7 @@ pub mod Rebuilds
 pub mod Replaced
 pub mod Replacements
 pub mod Replaces
+pub mod Sizes
 pub mod Steps
 pub mod Takes
 pub mod Turns

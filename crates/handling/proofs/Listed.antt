@@ -1,6 +1,6 @@
 -- The first entry of a list that stands at a position: its key, its process, and the entries behind it. What a copy of it lays.
 -- Assumes nothing.
-use Prim.Native.Nat.{ℕ, zero, suc, _+_, _-_, _*_, _≤_, _<_}
+use Prim.Native.Nat.{ℕ, suc, _+_, _-_, _≤_, _<_}
 use native.Mathlib.Omega.{arith}
 use mathlib.Core.Path.{_≡_, refl, sym, ap, _∙_}
 use mathlib.Core.Bool.{Bool, true, false, cond}
@@ -9,12 +9,12 @@ use lib.Dec.{ltb, nltb→le}
 use lib.ListN.{length, getD, set, take, drop, length-append, length-drop}
 use lib.Seq.{paste, length-paste, take-set-lt}
 use Rattle.sock.specs.Words.{keyWord}
-use Rattle.sock.specs.Term.{Node, Entries, noEntries, entry}
+use Rattle.sock.specs.Term.{Node, Entries, entry}
 use Rattle.sock.specs.Layout.{count, words, entriesWords, depth}
 use Rattle.sock.specs.Reading.{code, anywhere}
 use Rattle.sock.proofs.Logic.{false-test}
 use Rattle.sock.proofs.Fits.{Fits, FitsEntries, emptyFits, entryFitsOn}
-use Rattle.sock.proofs.Positions.{At, at-head, at-past}
+use Rattle.sock.proofs.Positions.{at-head, at-past}
 use Rattle.reading.specs.Walk.{processEnd}
 use Rattle.moving.specs.Writing.{onward, pasted, pastedEnd}
 use Rattle.moving.proofs.Laid.{Near, onward-near, Laid, laid-copy, copy-end}
@@ -51,10 +51,12 @@ few-entries (entryFitsOn {k = k} x y z u v) = let q = few-above v (omega arith) 
 -- a copy keeps the output's length
 pub pasted-length : (ws : List ℕ) (from upto : ℕ) (out : List ℕ) (to : ℕ) → length (pasted ws from upto out to) ≡ length out
 unfolding pasted
-pasted-length ws from upto out to = by (ltb (length ws) upto) (ltb upto from) (ltb (length out) to) (ltb (length out - to) (upto - from)) refl refl refl refl
+pasted-length ws from upto out to =
+    by (ltb (length ws) upto) (ltb upto from) (ltb (length out) to) (ltb (length out - to) (upto - from)) refl refl refl refl
   where
     by :
-        (a b c d : Bool) → ltb (length ws) upto ≡ a → ltb upto from ≡ b → ltb (length out) to ≡ c → ltb (length out - to) (upto - from) ≡ d →
+        (a b c d : Bool) → ltb (length ws) upto ≡ a → ltb upto from ≡ b → ltb (length out) to ≡ c →
+        ltb (length out - to) (upto - from) ≡ d →
         length (cond a out (cond b out (cond c out (cond d out (paste out to (drop from ws) (upto - from)))))) ≡ length out
     by true b c d x y z u = refl
     by false true c d x y z u = refl
@@ -77,10 +79,13 @@ count-laid [] x mid c l b = absurd (omega arith)
 count-laid (w ∷ out) x mid c l b = take-set-lt (1 + length x) mid 0 c (omega arith) ∙ ap (λ (y : List ℕ). set y 0 c) (l .begins)
 
 module _ (ws : List ℕ) (near : Near (length ws)) where
-  pub first-entry : (i k : ℕ) (p : Node) (es : Entries) (rest : List ℕ) → drop i ws ≡ entriesWords (entry k p es) ++ rest → FirstEntry ws i k p (entriesWords es ++ rest)
+  pub first-entry :
+      (i k : ℕ) (p : Node) (es : Entries) (rest : List ℕ) → drop i ws ≡ entriesWords (entry k p es) ++ rest →
+      FirstEntry ws i k p (entriesWords es ++ rest)
   unfolding words
   first-entry i k p es rest e =
-      let x : drop i ws ≡ keyWord k ∷ (words p ++ (entriesWords es ++ rest)) = e ∙ ap (λ l. keyWord k ∷ l) (append-assoc (words p) (entriesWords es) rest) in
+      let x : drop i ws ≡ keyWord k ∷ (words p ++ (entriesWords es ++ rest)) = e
+      ∙ ap (λ l. keyWord k ∷ l) (append-assoc (words p) (entriesWords es) rest) in
       let a = at-head ws i (keyWord k) (words p ++ (entriesWords es ++ rest)) x in
       let b : i < length ws = a .inside in
       let y : length ws - i ≡ suc (length (words p) + length (entriesWords es ++ rest)) =
@@ -97,7 +102,9 @@ module _ (ws : List ℕ) (near : Near (length ws)) where
 
   module _ {i k : ℕ} {p : Node} {behind : List ℕ} (f : FirstEntry ws i k p behind) where
     -- where the entry ends
-    pub entry-end : (bound : ℕ) → Coded ws bound → (d : ℕ) → Fits (code false) anywhere p → depth p ≤ d → processEnd d ws bound 0 (onward i 1) ≡ i + 1 + length (words p)
+    pub entry-end :
+        (bound : ℕ) → Coded ws bound → (d : ℕ) → Fits (code false) anywhere p → depth p ≤ d →
+        processEnd d ws bound 0 (onward i 1) ≡ i + 1 + length (words p)
     entry-end bound coded d g b = rw (f .next) (coded d (i + 1) p behind g b (f .process))
 
     -- the entry copied
@@ -105,13 +112,15 @@ module _ (ws : List ℕ) (near : Near (length ws)) where
     behind-it = omega arith
 
     pub entry-reaches :
-        (to room : ℕ) → Near room → to + suc (length (words p)) ≤ room → pastedEnd ws i (i + 1 + length (words p)) to ≡ to + suc (length (words p))
+        (to room : ℕ) → Near room → to + suc (length (words p)) ≤ room →
+        pastedEnd ws i (i + 1 + length (words p)) to ≡ to + suc (length (words p))
     entry-reaches to room n b =
         let x = f .inside in
         copy-end ws (keyWord k ∷ words p) behind i (i + 1 + length (words p)) to room (f .all) (omega arith) behind-it n b
 
     pub entry-laid :
-        (out : List ℕ) (to : ℕ) → to + suc (length (words p)) ≤ length out → Laid out to (keyWord k ∷ words p) (pasted ws i (i + 1 + length (words p)) out to)
+        (out : List ℕ) (to : ℕ) → to + suc (length (words p)) ≤ length out →
+        Laid out to (keyWord k ∷ words p) (pasted ws i (i + 1 + length (words p)) out to)
     entry-laid out to b =
         let x = f .inside in
         laid-copy ws (keyWord k ∷ words p) behind i (i + 1 + length (words p)) out to (f .all) (omega arith) behind-it b

@@ -4,19 +4,17 @@ use Prim.Native.Nat.{ℕ, zero, suc, _+_, _-_, _*_, _/_, _≤_, _<_}
 use native.Mathlib.Omega.{arith}
 use mathlib.Core.Path.{_≡_, refl, subst, sym, ap, _∙_}
 use mathlib.Core.Bool.{Bool, true, false, _||_, cond}
-use mathlib.Core.List.{List, [], _∷_, _++_}
+use mathlib.Core.List.{List, _∷_, _++_}
 use lib.Dec.{T, eqb}
-use lib.ListN.{length, getD, set, take, drop, length-append, length-set, length-drop}
+use lib.ListN.{length, take, drop, length-append, length-set, length-drop}
 use borrow.Author.Tests.{eq-eqb, ne-eqb, eqb-true, eqb-false}
-use Rattle.sock.specs.Words.{keyWord}
 use Rattle.sock.specs.Term.{Node, node, Entries, noEntries, entry, nilNode}
 use Rattle.sock.specs.Layout.{count, words, entriesWords, depth, entriesDepth}
 use Rattle.sock.specs.Reading.{code, anywhere, holds}
 use Rattle.sock.specs.Handlers.{handler, without}
 use Rattle.sock.proofs.Fits.{Fits, FitsEntries, emptyFits, entryFitsOn}
-use Rattle.sock.proofs.Positions.{At, at-head}
-use Rattle.reading.specs.Walk.{processEnd}
-use Rattle.moving.specs.Writing.{onward, pasted, pastedEnd}
+use Rattle.sock.proofs.Positions.{at-head}
+use Rattle.moving.specs.Writing.{pasted}
 use Rattle.moving.proofs.Laid.{Near, onward-near, Laid, laid-then}
 use Rattle.handling.specs.Taking.{Passed, Took, passing, passed, lessIf, passW, passesW, tookW, takeW}
 use Rattle.handling.specs.declared.take.Passing.{Passing}
@@ -52,7 +50,9 @@ unfolding holds without
 without-absent k noEntries e = refl
 without-absent k (entry j p es) e = all-stay (eqb k j) (holds k es) j p (without-absent k es) e
 
-one-goes : (b c : Bool) (j : ℕ) (p : Node) (es w : Entries) → (c ≡ true → count es ≡ suc (count w)) → b || c ≡ true → suc (count es) ≡ suc (count (cond b es (entry j p w)))
+one-goes :
+    (b c : Bool) (j : ℕ) (p : Node) (es w : Entries) → (c ≡ true → count es ≡ suc (count w)) → b || c ≡ true →
+    suc (count es) ≡ suc (count (cond b es (entry j p w)))
 unfolding count
 one-goes true c j p es w f e = refl
 one-goes false c j p es w f e = ap suc (f e)
@@ -73,7 +73,8 @@ pub record Passes (ws : List ℕ) (there : Bool) (m : Node) (g : Entries) (s : P
   pub present : there ≡ true → Stands ws (p .state .from) (p .state .upto) m
 
 module _ (ws : List ℕ) (near : Near (length ws)) (bound d key : ℕ) (coded : Coded ws bound) where
-  module _ {j : ℕ} {q : Node} {behind : List ℕ} (s : Passing) (out : List ℕ) (f : FirstEntry ws (s .at) j q behind) (g : Fits (code false) anywhere q) (b : depth q ≤ d) where
+  module _ {j : ℕ} {q : Node} {behind : List ℕ} (s : Passing) (out : List ℕ) (f : FirstEntry ws (s .at) j q behind)
+      (g : Fits (code false) anywhere q) (b : depth q ≤ d) where
     -- it is the one taken out
     pass-here :
         j ≡ key →
@@ -88,14 +89,16 @@ module _ (ws : List ℕ) (near : Near (length ws)) (bound d key : ℕ) (coded : 
         (j ≡ key → ⊥) →
         (room : ℕ) → Near room → s .to + suc (length (words q)) ≤ room →
         passW d bound ws key s out
-        ≡ passed (passing (s .at + 1 + length (words q)) (s .to + suc (length (words q))) (s .from) (s .upto)) (pasted ws (s .at) (s .at + 1 + length (words q)) out (s .to))
+        ≡ passed (passing (s .at + 1 + length (words q)) (s .to + suc (length (words q))) (s .from) (s .upto))
+        (pasted ws (s .at) (s .at + 1 + length (words q)) out (s .to))
     unfolding passW
     pass-other e room n r =
         let k : j * 512 / 512 ≡ j = omega arith in
         rw (entry-end ws near f bound coded d g b, f .key, k, ne-eqb j key e, entry-reaches ws near f (s .to) room n r)
 
   passes-from :
-      (n : ℕ) (s s′ : Passing) (out out′ : List ℕ) → passW d bound ws key s out ≡ passed s′ out′ → passesW d bound ws key (suc n) s out ≡ passesW d bound ws key n s′ out′
+      (n : ℕ) (s s′ : Passing) (out out′ : List ℕ) → passW d bound ws key s out ≡ passed s′ out′ →
+      passesW d bound ws key (suc n) s out ≡ passesW d bound ws key n s′ out′
   unfolding passesW
   passes-from n s s′ out out′ e = ap (λ (p : Passed). passesW d bound ws key n (p .state) (p .out)) e
 
@@ -109,8 +112,10 @@ module _ (ws : List ℕ) (near : Near (length ws)) (bound d key : ℕ) (coded : 
       Goes es s out (passesW d bound ws key (count es) s out)
 
   module _
-      {j : ℕ} {q : Node} (es : Entries) (rest : List ℕ) (s : Passing) (out : List ℕ) (f : FirstEntry ws (s .at) j q (entriesWords es ++ rest))
-      (g : Fits (code false) anywhere q) (b : depth q ≤ d) (room : s .to + length (entriesWords (entry j q es)) ≤ length ws) (below : Behind es rest)
+      {j : ℕ} {q : Node} (es : Entries) (rest : List ℕ) (s : Passing) (out : List ℕ)
+      (f : FirstEntry ws (s .at) j q (entriesWords es ++ rest))
+      (g : Fits (code false) anywhere q) (b : depth q ≤ d) (room : s .to + length (entriesWords (entry j q es)) ≤ length ws)
+      (below : Behind es rest)
     where
       passes-here : FitsEntries true (suc j) es → j ≡ key → Goes (entry j q es) s out (passesW d bound ws key (suc (count es)) s out)
       unfolding words holds handler without
@@ -121,6 +126,8 @@ module _ (ws : List ℕ) (near : Near (length ws)) (bound d key : ℕ) (coded : 
           below (passing (s .at + 1 + length (words q)) (s .to) (s .at + 1) (s .at + 1 + length (words q))) out (f .after) (omega arith) in
           let a = r .absent o in
           let w : without key es ≡ es = without-none key v (omega arith) in
+          let begins = ap (λ (i : ℕ). drop i ws) (a .0) ∙ f .process in
+          let ends = a .1 ∙ ap (λ (i : ℕ). i + length (words q)) (sym (a .0)) in
           subst (λ p. Goes (entry j q es) s out p) (sym (passes-from (count es) s _ out _ (pass-here s out f g b e)))
           (rw (eq-eqb key j (sym e))
           (record {
@@ -128,7 +135,7 @@ module _ (ws : List ℕ) (near : Near (length ws)) (bound d key : ℕ) (coded : 
             keeps = r .keeps;
             laid = rw w at (r .laid);
             absent = λ x. absurd (subst T x tt);
-            present = λ x. (entriesWords es ++ rest, (ap (λ (i : ℕ). drop i ws) (a .0) ∙ f .process, a .1 ∙ ap (λ (i : ℕ). i + length (words q)) (sym (a .0))));
+            present = λ x. (entriesWords es ++ rest, (begins, ends));
           }))
 
       passes-other : (j ≡ key → ⊥) → Goes (entry j q es) s out (passesW d bound ws key (suc (count es)) s out)
@@ -140,8 +147,10 @@ module _ (ws : List ℕ) (near : Near (length ws)) (bound d key : ℕ) (coded : 
           below (passing (s .at + 1 + length (words q)) (s .to + suc (length (words q))) (s .from) (s .upto))
           (pasted ws (s .at) (s .at + 1 + length (words q)) out (s .to)) (f .after) (omega arith) in
           let z = pasted-length ws (s .at) (s .at + 1 + length (words q)) out (s .to) in
-          let n : s .to + suc (length (words q)) + length (entriesWords (without key es)) ≡ s .to + suc (length (words q ++ entriesWords (without key es))) = omega arith in
-          subst (λ p. Goes (entry j q es) s out p) (sym (passes-from (count es) s _ out _ (pass-other s out f g b e (length ws) near (omega arith))))
+          let n : s .to + suc (length (words q)) + length (entriesWords (without key es))
+          ≡ s .to + suc (length (words q ++ entriesWords (without key es))) = omega arith in
+          subst (λ p. Goes (entry j q es) s out p)
+          (sym (passes-from (count es) s _ out _ (pass-other s out f g b e (length ws) near (omega arith))))
           (rw (ne-eqb key j (λ x. e (sym x)))
           (record {
             reaches = r .reaches ∙ n;
@@ -188,7 +197,8 @@ unfolding words
 words-some (node h f es b ps) = omega arith
 
 -- the count, and the words in front of which it is put
-module _ (ws : List ℕ) (k : ℕ) (h : Entries) (at : ℕ) (out : List ℕ) (p : Passed) (r : Passes ws (holds k h) (handler k h) (without k h) (passing at 1 0 0) out p) where
+module _ (ws : List ℕ) (k : ℕ) (h : Entries) (at : ℕ) (out : List ℕ) (p : Passed)
+    (r : Passes ws (holds k h) (handler k h) (without k h) (passing at 1 0 0) out p) where
   counted : (t : Bool) → holds k h ≡ t → lessIf (count h) (p .state .upto) ≡ count (without k h)
   unfolding lessIf
   counted true x =
@@ -215,12 +225,14 @@ module _ (ws : List ℕ) (k : ℕ) (h : Entries) (at : ℕ) (out : List ℕ) (p 
 
 module _ (ws : List ℕ) (near : Near (length ws)) (bound d : ℕ) (coded : Coded ws bound) where
   pub takes :
-      (k : ℕ) {h : Entries} → FitsEntries true zero h → entriesDepth h ≤ d → (list : ℕ) (rest : List ℕ) → drop list ws ≡ count h ∷ (entriesWords h ++ rest) →
+      (k : ℕ) {h : Entries} → FitsEntries true zero h → entriesDepth h ≤ d → (list : ℕ) (rest : List ℕ) →
+      drop list ws ≡ count h ∷ (entriesWords h ++ rest) →
       (out : List ℕ) → Takes ws k h out (takeW d bound ws list k out)
   unfolding takeW
   takes k {h} f b list rest e out =
       let a = at-head ws list (count h) (entriesWords h ++ rest) e in
       let i : list < length ws = a .inside in
-      let l : length ws - list ≡ suc (length (entriesWords h) + length rest) = sym (length-drop list ws) ∙ ap length e ∙ ap suc (length-append (entriesWords h) rest) in
+      let l : length ws - list ≡ suc (length (entriesWords h) + length rest) = sym (length-drop list ws) ∙ ap length e
+      ∙ ap suc (length-append (entriesWords h) rest) in
       rw (a .word, onward-near list 1 (length ws) near (omega arith))
       (took ws k h (list + 1) out _ (passes ws near bound d k coded f b rest (passing (list + 1) 1 0 0) out (a .next) (omega arith)))

@@ -35,7 +35,8 @@ passW depth bound ws key s out =
 
 unfoldable pub passesW : ℕ → ℕ → List ℕ → ℕ → ℕ → Passing → List ℕ → Passed
 passesW depth bound ws key zero s out = passed s out
-passesW depth bound ws key (suc n) s out = passesW depth bound ws key n (passW depth bound ws key s out .state) (passW depth bound ws key s out .out)
+passesW depth bound ws key (suc n) s out =
+    passesW depth bound ws key n (passW depth bound ws key s out .state) (passW depth bound ws key s out .out)
 
 unfoldable pub tookW : ℕ → Passed → Took
 tookW count p =

@@ -9,7 +9,7 @@ use Rattle.handling.proofs.take.less_if.Tie as tie
 returns : tie.Need-returns
 unfolding lessIf
 returns c =
-    simp (tests, (c .if1 .taken))
+    simp ((c .if1 .taken))
 
 sub-result : tie.Need-sub-result
 sub-result c = search needs
@@ -22,7 +22,7 @@ returns-2 c =
 returns-3 : tie.Need-returns-3
 unfolding lessIf
 returns-3 c =
-    simp (tests, (c .if2 .left), (c .before .if1 .left))
+    simp (tests, (c .before .if1 .left))
 
 pub less-if-spec : {M : Type 1} → statement M
 less-if-spec = tie.close (tie.spec returns sub-result returns-2 returns-3)

@@ -1,6 +1,5 @@
 -- `take` of `handling::take` meets its contract: the code is its mirror in specs/.
 -- Assumes nothing.
-use Prim.Native.Nat.{_<_}
 use mathlib.Core.Path.{_≡_, refl, sym, ap, _∙_}
 use lib.ListN.{length}
 use Rattle.handling.specs.Taking.{passesW, lessIf, tookW, takeW}
