@@ -63,7 +63,7 @@ take-part f t ws h =
     let e : f + (t - f) ≡ t = omega arith in
     ap (λ k. take k ws) (sym e) ∙ take-add f (t - f) ws
 
-part-first : (t : ℕ) (ws : List ℕ) → part 0 t ws ≡ take t ws
+pub part-first : (t : ℕ) (ws : List ℕ) → part 0 t ws ≡ take t ws
 part-first t ws = ap (λ k. take k ws) (let z : t - 0 ≡ t = omega arith in z)
 
 cancel-front : (x y z : List ℕ) → x ++ y ≡ x ++ z → y ≡ z

@@ -1,1 +1,3 @@
+pub mod Overs
+pub mod Writes
 pub mod Writings

@@ -1,0 +1,113 @@
+-- The result as it is written: an engine's process under a plan, its values, and the words in front of them.
+-- Assumes nothing.
+use Prim.Native.Nat.{ℕ, zero, suc, _+_, _-_, _*_, _/_, _%_, _≤_, _<_}
+use native.Mathlib.Omega.{arith}
+use mathlib.Core.Path.{_≡_, refl, sym, ap, ap₂, _∙_}
+use mathlib.Core.Bool.{Bool, true, false, cond}
+use mathlib.Core.List.{List, [], _∷_, _++_, append-nil, append-assoc}
+use borrow.Author.Tests.{le-ltb, le-leb, lt-leb}
+use lib.ListN.{length, take, drop, set, length-append, length-drop, length-set}
+use lib.Seq.{drop-drop, length-take-le, take-all, drop-length}
+use Rattle.sock.specs.Words.{highWord, lowWord}
+use Rattle.sock.specs.Running.{Run, runWords, size}
+use Rattle.sock.specs.Configuration.{valuesWords}
+use Rattle.sock.proofs.Located.{values-length}
+use Rattle.moving.specs.Writing.{onward}
+use Rattle.moving.proofs.Laid.{Near, near-below, onward-near}
+use Rattle.finding.proofs.Edits.{part}
+use Rattle.rules.specs.declared.plan.Plan.{Plan}
+use Rattle.rules.proofs.Plans.{laidOut, Ordered, Plans, part-length, part-first}
+use Rattle.stepping.specs.Writing.{Written, written, copyW, frontW, backW, processW, valueW, lentW, engineW}
+use Rattle.stepping.proofs.Overs.{Over, over-length, over-then, over-set, Wrote, wrote-none, wrote-copy}
+
+-- the words in front of others are no more than all
+front-room : (a b whole : List ℕ) (n : ℕ) → a ++ b ≡ whole → length whole ≤ n → length a ≤ n
+front-room a b whole n e h = omega (arith, ap length e, length-append a b)
+
+zero-room : (a b whole : List ℕ) (n : ℕ) → a ++ b ≡ whole → length whole ≤ n → 0 + length a ≤ n
+zero-room a b whole n e h = let k = front-room a b whole n e h in omega arith
+
+-- ---- a process under a plan
+
+module _ (ws : List ℕ) (start end : ℕ) (p : Plan) (fresh : List ℕ) (q : Run) (plans : Plans ws start end p fresh q) (inside : end ≤ length ws)
+    (few : p .g ≤ 8192) (wide : 8192 ≤ length fresh) (out : List ℕ) (room : size q ≤ length out) (near : Near (length out)) where
+  abbrev x1 : List ℕ
+  x1 = part start (p .l) ws
+
+  abbrev x2 : List ℕ
+  x2 = part 0 (p .f) fresh
+
+  abbrev x3 : List ℕ
+  x3 = part (p .m) (p .a) ws
+
+  abbrev x4 : List ℕ
+  x4 = part (p .f) (p .g) fresh
+
+  abbrev x5 : List ℕ
+  x5 = part (p .b) (p .c) ws
+
+  abbrev x6 : List ℕ
+  x6 = part (p .d) end ws
+
+  all-words : (((((x1 ++ x2) ++ x3) ++ x4) ++ x5) ++ x6) ≡ runWords q
+  all-words =
+      regrouped x1 x2 x3 x4 x5 x6
+      ∙ (ap (λ l. x1 ++ (l ++ (x3 ++ (x4 ++ (x5 ++ x6))))) (part-first (p .f) fresh) ∙ plans .words few)
+    where
+      regrouped : (a b c d e f : List ℕ) → (((((a ++ b) ++ c) ++ d) ++ e) ++ f) ≡ a ++ (b ++ (c ++ (d ++ (e ++ f))))
+      regrouped a b c d e f = simp append-assoc
+
+  fits : length (runWords q) ≤ length out
+  unfolding size
+  fits = room
+
+  o : Ordered start end p
+  o = plans .order
+
+  pub process-wrote : Wrote out 0 (runWords q) (processW ws start end p fresh out)
+  unfolding processW frontW backW
+  process-wrote =
+      let r6 : length (((((x1 ++ x2) ++ x3) ++ x4) ++ x5) ++ x6) ≤ length out = rw all-words fits in
+      let r5 = front-room ((((x1 ++ x2) ++ x3) ++ x4) ++ x5) x6 _ (length out) refl r6 in
+      let r4 = front-room (((x1 ++ x2) ++ x3) ++ x4) x5 _ (length out) refl r5 in
+      let r3 = front-room ((x1 ++ x2) ++ x3) x4 _ (length out) refl r4 in
+      let r2 = front-room (x1 ++ x2) x3 _ (length out) refl r3 in
+      let r1 = front-room x1 x2 _ (length out) refl r2 in
+      let l1 : p .l ≤ length ws = omega (arith, o .m-in, o .a-in, o .b-in, o .c-in, o .d-in, o .end-in) in
+      let l3 : p .a ≤ length ws = omega (arith, o .b-in, o .c-in, o .d-in, o .end-in) in
+      let l5 : p .c ≤ length ws = omega (arith, o .d-in, o .end-in) in
+      let w1 = wrote-copy ws start (p .l) (o .l-in) l1 (omega arith) near (wrote-none out 0) in
+      let w2 = wrote-copy fresh 0 (p .f) (omega arith) (omega (arith, o .fresh-in)) (omega arith) near w1 in
+      let w3 = wrote-copy ws (p .m) (p .a) (o .a-in) l3 (omega arith) near w2 in
+      let w4 = wrote-copy fresh (p .f) (p .g) (o .fresh-in) (omega arith) (omega arith) near w3 in
+      let w5 = wrote-copy ws (p .b) (p .c) (o .c-in) l5 (omega arith) near w4 in
+      let w6 = wrote-copy ws (p .d) end (o .end-in) inside (omega arith) near w5 in
+      rw all-words at w6
+
+-- ---- lent a part of the output
+
+module _ (ws : List ℕ) (start end : ℕ) (p : Plan) (fresh : List ℕ) (q : Run) (plans : Plans ws start end p fresh q) (inside : end ≤ length ws)
+    (few : p .g ≤ 8192) (wide : 8192 ≤ length fresh) (out : List ℕ) (t : ℕ) (room : t + size q ≤ length out) (near : Near (length out)) where
+  rest-length : length (drop t out) ≡ length out - t
+  rest-length = length-drop t out
+
+  whole-rest : take (length out - t) (drop t out) ≡ drop t out
+  whole-rest = take-all (length out - t) (drop t out) (omega (arith, rest-length))
+
+  none-left : drop (length out - t) (drop t out) ≡ []
+  none-left = ap (λ k. drop k (drop t out)) (sym rest-length) ∙ drop-length (drop t out)
+
+  pub lent-wrote : Wrote out t (runWords q) (lentW ws start end p fresh out t)
+  unfolding lentW size
+  lent-wrote =
+      let w : Wrote (drop t out) 0 (runWords q) (processW ws start end p fresh (drop t out)) =
+      process-wrote ws start end p fresh q plans inside few wide (drop t out) (omega (arith, rest-length)) (near-below (length (drop t out)) (length out) near (omega (arith, rest-length))) in
+      let n : length (runWords q) ≡ size q = refl in
+      let to : onward t (processW ws start end p fresh (drop t out) .to) ≡ t + length (runWords q) =
+      ap (onward t) (w .reaches ∙ (let z : 0 + length (runWords q) ≡ length (runWords q) = omega arith in z)) ∙ onward-near t (length (runWords q)) (length out) near (omega arith) in
+      let last : processW ws start end p fresh (drop t out) .out ++ [] ≡ runWords q ++ drop (t + length (runWords q)) out =
+      append-nil (processW ws start end p fresh (drop t out) .out)
+      ∙ (w .over .all
+      ∙ ap (λ l. runWords q ++ l) (drop-drop (0 + length (runWords q)) t out ∙ ap (λ k. drop k out) (let z : t + (0 + length (runWords q)) ≡ t + length (runWords q) = omega arith in z))) in
+      rw (le-ltb (length out) t (omega arith), whole-rest, none-left, last)
+      (record { reaches = to; over = record { all = sym (append-assoc (take t out) (runWords q) (drop (t + length (runWords q)) out)) } })
