@@ -1,5 +1,7 @@
 pub mod Branches
 pub mod Deep
+pub mod Depths
+pub mod Outcomes
 pub mod Plans
 pub mod Shapes
 pub mod Turns

@@ -134,7 +134,7 @@ module _ (ws : List ℕ) (start end : ℕ) (p : Plan) (fresh : List ℕ) (o : Or
 
 -- ---- of a process that was found
 
-done-nil : (q : Run) → isDone q ≡ true → q ≡ nil
+pub done-nil : (q : Run) → isDone q ≡ true → q ≡ nil
 unfolding isDone
 done-nil nil e = refl
 done-nil (seq a p) e = absurd (both-ways false e refl)

@@ -54,7 +54,7 @@ pub record Becomes (r q : Run) (t : Turn) (fresh : List ℕ) : Type 0 where
 
 -- r, `level` levels deep, turns into q and no value changes; or q would be too deep
 pub data Outcome (r : Run) (level : ℕ) (q : Run) (t : Turn) (fresh : List ℕ) : Type 0 where
-  deepens : t .number ≡ 8 → isDone q ≡ false → 65 < level + runDepth q → Outcome r level q t fresh
+  deepens : t .number ≡ 8 → t .nil ≡ false → isDone q ≡ false → 65 < level + runDepth q → Outcome r level q t fresh
   becomes : Becomes r q t fresh → t .x ≡ 32 → level + runDepth q ≤ 65 → Outcome r level q t fresh
 
 pub becomes-nil : (r : Run) (x v : ℕ) (fresh : List ℕ) → Becomes r nil (vanishing x v) fresh
@@ -307,7 +307,7 @@ module _ (n issued : ℕ) (ws : List ℕ) (ok : Words ws) (few : n ≤ 8) (small
         Outcome (act w) level (seq (enable p) w) (u .turn) (u .fresh))
     unfolding isDone size
     unrolled-turns false q low =
-        deepens refl refl (omega (arith, twice-deep, leb-false (depth w) (levelsLeft level) q, levels-left level))
+        deepens refl refl refl (omega (arith, twice-deep, leb-false (depth w) (levelsLeft level) q, levels-left level))
     unrolled-turns true q low =
         rw (ne-eqb (length (words w)) 0 (λ z. omega (arith, whole-length, ap length (words-act w))))
         (becomes

@@ -25,7 +25,14 @@ fn back(ws: &[u16], end: usize, p: Plan, fresh: &[u16], out: &mut [u16], to: usi
 }
 
 // The process start..end under a plan, into the output's part from where it begins.
-pub fn process_words(ws: &[u16], start: usize, end: usize, p: Plan, fresh: &[u16], out: &mut [u16]) -> usize
+pub fn process_words(
+    ws: &[u16],
+    start: usize,
+    end: usize,
+    p: Plan,
+    fresh: &[u16],
+    out: &mut [u16],
+) -> usize
     ensures { λ r. ⌜ (r ≡ processW (now (ws .entry)) start end p (now (fresh .entry)) (now (out .entry)) .to) × (now (out .exit) ≡ processW (now (ws .entry)) start end p (now (fresh .entry)) (now (out .entry)) .out) ⌝ }
 {
     let t = front(ws, start, p, fresh, out);
@@ -52,7 +59,15 @@ fn value(out: &mut [u16], to: usize, x: usize, v: u32) -> usize
 }
 
 // The output's part from a place on is lent to the process writer.
-fn lend(ws: &[u16], start: usize, end: usize, p: Plan, fresh: &[u16], out: &mut [u16], to: usize) -> usize
+fn lend(
+    ws: &[u16],
+    start: usize,
+    end: usize,
+    p: Plan,
+    fresh: &[u16],
+    out: &mut [u16],
+    to: usize,
+) -> usize
     ensures { λ r. ⌜ (r ≡ lentW (now (ws .entry)) start end p (now (fresh .entry)) (now (out .entry)) to .to) × (now (out .exit) ≡ lentW (now (ws .entry)) start end p (now (fresh .entry)) (now (out .entry)) to .out) ⌝ }
 {
     if out.len() < to {
@@ -63,7 +78,16 @@ fn lend(ws: &[u16], start: usize, end: usize, p: Plan, fresh: &[u16], out: &mut 
 }
 
 // The words from..start, which end in the engine's values, and its process, from a place on.
-pub fn engine(ws: &[u16], from: usize, start: usize, end: usize, p: Plan, fresh: &[u16], out: &mut [u16], to: usize) -> usize
+pub fn engine(
+    ws: &[u16],
+    from: usize,
+    start: usize,
+    end: usize,
+    p: Plan,
+    fresh: &[u16],
+    out: &mut [u16],
+    to: usize,
+) -> usize
     ensures { λ r. ⌜ (r ≡ engineW (now (ws .entry)) from start end p (now (fresh .entry)) (now (out .entry)) to .to) × (now (out .exit) ≡ engineW (now (ws .entry)) from start end p (now (fresh .entry)) (now (out .entry)) to .out) ⌝ }
 {
     let t = copy(ws, from, start, out, to);

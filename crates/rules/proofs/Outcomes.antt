@@ -1,0 +1,60 @@
+-- What a rule alone makes of an engine's process, as a plan.
+-- Assumes nothing.
+use Prim.Native.Nat.{ℕ, suc, _+_, _≤_, _<_}
+use native.Mathlib.Omega.{arith}
+use mathlib.Core.Path.{_≡_, refl, sym, ap, _∙_}
+use mathlib.Core.Bool.{Bool, true, false}
+use mathlib.Core.Option.{Option, none, some}
+use mathlib.Core.List.{List, _++_}
+use lib.ListN.{length, drop}
+use Rattle.sock.specs.Running.{Run, nil, runWords, size, runDepth}
+use Rattle.sock.specs.Frames.{Frame, Located, isDone, plug}
+use Rattle.sock.proofs.Fits.{SoundFrames}
+use Rattle.sock.proofs.Located.{wrap, size-positive}
+use Rattle.sock.proofs.Measures.{size-nil, depth-nil}
+use Rattle.sock.proofs.Shrinking.{NoLarger, plug-shrinks}
+use Rattle.finding.specs.declared.find.Spot.{Spot}
+use Rattle.finding.proofs.Spots.{Spotted}
+use Rattle.moving.proofs.Laid.{Near}
+use Rattle.rules.specs.declared.turn.Turn.{Turn}
+use Rattle.rules.specs.declared.plan.Plan.{Plan}
+use Rattle.rules.specs.Planning.{plainW}
+use Rattle.rules.proofs.Turns.{Becomes, Outcome, deepens, becomes}
+use Rattle.rules.proofs.Plans.{Plans, done-nil, plain-plans}
+use Rattle.rules.proofs.Depths.{depth-some, plug-fits, plug-too-deep}
+
+-- the rule's result for the process start..end: none where something can't be killed
+pub data Ruled (ws : List ℕ) (start end : ℕ) (p : Plan) (fresh : List ℕ) : Option Run → Type 0 where
+  unkillable : p .number ≡ 6 → Ruled ws start end p fresh none
+  tooDeep : {q : Run} → p .number ≡ 8 → 64 < runDepth q → Ruled ws start end p fresh (some q)
+  ruled : {q : Run} → p .number ≡ 0 → Plans ws start end p fresh q → runDepth q ≤ 64 → Ruled ws start end p fresh (some q)
+
+module _ (f target : ℕ) (r : Run) (start : ℕ) (l : Located) (s : Spot) (ws : List ℕ) (words : drop start ws ≡ runWords r ++ drop (start + size r) ws)
+    (spotted : Spotted f target r start 1 l s) (near : Near (length ws)) {n issued : ℕ} (frames : SoundFrames n issued (l .frames)) (deep : runDepth r ≤ 64) where
+  whole : wrap (l .frames) (l .process) ≡ r
+  whole = spotted .wraps
+
+  -- nil is no deeper than what it takes the place of
+  nil-fits : runDepth (plug (l .frames) nil) ≤ 64
+  nil-fits =
+      let s : NoLarger nil (l .process) = record { shorter = omega (arith, size-nil, size-positive (l .process)); shallower = omega (arith, depth-nil, depth-some (l .process)) } in
+      let p : runDepth (plug (l .frames) nil) ≤ runDepth (wrap (l .frames) (l .process)) = plug-shrinks frames s .shallower in
+      omega (arith, p, ap runDepth whole)
+
+  pub becomes-ruled :
+      (q : Run) (t : Turn) (fresh : List ℕ) → 0 < length fresh → Near (length fresh) → Becomes (l .process) q t fresh → s .level + runDepth q ≤ 65 →
+      (let u = plainW s start t fresh in Ruled ws start (start + size r) (u .plan) (u .fresh) (some (plug (l .frames) q)) × (u .plan .x ≡ t .x) × (u .plan .v ≡ t .v))
+  becomes-ruled q t fresh room big b low =
+      let p = plain-plans f target r start 1 l s ws words spotted near q t fresh room big b in
+      (ruled (p .1) (p .0) (by (isDone q) refl), p .2, p .3)
+    where
+      by : (b : Bool) → isDone q ≡ b → runDepth (plug (l .frames) q) ≤ 64
+      by true e = rw (done-nil q e) nil-fits
+      by false e = plug-fits frames (l .process) q 64 e (omega (arith, deep, ap runDepth whole)) (omega (arith, spotted .level))
+
+  pub outcome-ruled :
+      (q : Run) (t : Turn) (fresh : List ℕ) → 0 < length fresh → Near (length fresh) → Outcome (l .process) (s .level) q t fresh →
+      (let u = plainW s start t fresh in Ruled ws start (start + size r) (u .plan) (u .fresh) (some (plug (l .frames) q)))
+  unfolding plainW
+  outcome-ruled q t fresh room big (deepens a e d h) = rw e (tooDeep a (plug-too-deep frames q 64 d (omega (arith, spotted .level))))
+  outcome-ruled q t fresh room big (becomes b x low) = becomes-ruled q t fresh room big b low .0

@@ -1,0 +1,2 @@
+// The rules that look at scopes: endings, inst, comp and throw, as plans.
+pub mod level;
