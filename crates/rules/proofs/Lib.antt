@@ -1,6 +1,7 @@
 pub mod Branches
 pub mod Deep
 pub mod Depths
+pub mod Offers
 pub mod Outcomes
 pub mod Plans
 pub mod Shapes
