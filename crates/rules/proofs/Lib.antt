@@ -1,8 +1,11 @@
 pub mod Branches
 pub mod Deep
 pub mod Depths
+pub mod Exchanges
+pub mod Meetings
 pub mod Offers
 pub mod Outcomes
 pub mod Plans
 pub mod Shapes
 pub mod Turns
+pub mod Waiters

@@ -1,13 +1,13 @@
 -- What a process offers, on words: nothing that receives, a one-way or a request, bare or as a choice's branch, and where its words stand.
 -- Assumes nothing.
-use Prim.Native.Nat.{ℕ, zero, suc, _+_, _-_, _*_, _/_, _%_, _≤_, _<_, max}
+use Prim.Native.Nat.{ℕ, zero, suc, _+_, _-_, _*_, _≤_, _<_}
 use native.Mathlib.Omega.{arith}
 use mathlib.Core.Path.{_≡_, refl, sym, ap, _∙_}
 use mathlib.Core.Bool.{Bool, true, false, cond}
 use mathlib.Core.Option.{Option, none, some}
-use mathlib.Core.List.{List, [], _∷_, _++_, append-nil, append-assoc}
-use borrow.Author.Tests.{eq-eqb, ne-eqb, lt-ltb, le-ltb, ltb-true, ltb-false, eqb-true, eqb-false}
-use lib.Dec.{T, eqb, ltb, ltb→lt}
+use mathlib.Core.List.{List, [], _∷_, _++_, append-assoc}
+use borrow.Author.Tests.{ne-eqb, lt-ltb, le-ltb, ltb-true, ltb-false, eqb-true, eqb-false}
+use lib.Dec.{eqb, ltb, ltb→lt}
 use lib.Ieee.Fits.{and-l}
 use lib.ListN.{length, drop, length-append}
 use lib.Seq.{drop-drop, drop-append-seam}
@@ -15,9 +15,9 @@ use Rattle.sock.specs.Words.{kindOf, countOf, nameOf, secondOf, firstVariable, 
 use Rattle.sock.specs.Term.{Node, node, absent, Nodes, noParts, _&_, headWord, kind, partAt}
 use Rattle.sock.specs.Layout.{words, nodesWords, depth, nodesDepth, exprsWords}
 use Rattle.sock.specs.Reading.{code, anywhere}
-use Rattle.sock.specs.Running.{Run, nil, seq, par, scope, executor, waiter, notice, act, asNode, runWords, runDepth}
+use Rattle.sock.specs.Running.{Run, act, asNode, runWords, runDepth}
 use Rattle.sock.specs.Rules.{Receiver, deaf, hears, serves, receiver, chosen, bare, offered, offer}
-use Rattle.sock.proofs.Fits.{Fits, FitsParts, noPart, onePart, isPlain, Sound, nilSound, seqSound, parSound, scopeSound, executorSound, waiterSound, noticeSound, actSound}
+use Rattle.sock.proofs.Fits.{Fits, FitsParts, noPart, onePart, Sound, nilSound, seqSound, parSound, scopeSound, executorSound, waiterSound, noticeSound, actSound}
 use Rattle.sock.proofs.Nodes.{part-fits}
 use Rattle.sock.proofs.ByKind.{runKind, kind-asNode}
 use Rattle.sock.proofs.Measures.{words-act, depth-act}
@@ -27,7 +27,7 @@ use Rattle.rules.specs.declared.pair.Offer.{Offer}
 use Rattle.rules.specs.Turning.{at, codeEnd}
 use Rattle.rules.specs.Offering.{offering, noOffer, bareW, branchAt, chosenW, choiceW, offerW, receivesW, fitsW}
 use Rattle.rules.proofs.Shapes.{Shape, assigns, branches, repeats, chooses, hears, serves, notifies, solicits, installs, throws, compensates, shape}
-use Rattle.rules.proofs.Turns.{after, head-on}
+use Rattle.rules.proofs.Turns.{head-on}
 
 -- ---- what code receives
 
@@ -85,7 +85,8 @@ pub data Stands (r : Run) (o : Offer) (m : Node) : Option Node → Type 0 where
   branchStands :
       {q : Node} (before behind : List ℕ) →
       runWords r ≡ before ++ (words m ++ (words q ++ behind)) → Fits (code false) anywhere q → depth m < runDepth r → depth q < runDepth r →
-      o .guard ≡ length before → o .next ≡ length before + length (words m) → o .upto ≡ o .next + length (words q) → o .end ≡ o .upto + length behind →
+      o .guard ≡ length before → o .next ≡ length before + length (words m) → o .upto ≡ o .next + length (words q) →
+      o .end ≡ o .upto + length behind →
       Stands r o m (some q)
 
 pub data Offers (ws : List ℕ) (r : Run) (o : Offer) : Receiver → Option Node → Type 0 where
@@ -100,7 +101,7 @@ pub data Offers (ws : List ℕ) (r : Run) (o : Offer) : Receiver → Option Node
       Offers ws r o (serves (nameOf g) (secondOf g) (firstVariable w) p) next
 
 module _ (ws : List ℕ) (r : Run) (o : Offer) where
-  not-kind : (k h : ℕ) → (kindOf (at ws (o .guard)) ≡ k → ⊥) → fitsW ws o k h ≡ false
+  pub not-kind : (k h : ℕ) → (kindOf (at ws (o .guard)) ≡ k → ⊥) → fitsW ws o k h ≡ false
   unfolding fitsW receivesW
   not-kind k h never = rw (ne-eqb (kindOf (at ws (o .guard))) k never) (by (o .some))
     where
@@ -108,7 +109,8 @@ module _ (ws : List ℕ) (r : Run) (o : Offer) where
       by true = refl
       by false = refl
 
-  offers-as : {m : Node} {v : Receiver} {next : Option Node} → o .some ≡ true → at ws (o .guard) ≡ headWord m → Stands r o m next → Heard m v → Offers ws r o v next
+  offers-as : {m : Node} {v : Receiver} {next : Option Node} → o .some ≡ true → at ws (o .guard) ≡ headWord m → Stands r o m next →
+      Heard m v → Offers ws r o v next
   offers-as s h p (nothingHeard a b) = silent (λ k. not-kind 7 k (rw h a)) (λ k. not-kind 8 k (rw h b))
   offers-as s h p (oneWay k) = hearing k s h p
   offers-as s h p (request k w f) = serving k s h w f p
@@ -135,15 +137,43 @@ module _ (n issued : ℕ) (ws : List ℕ) (ok : Words ws) (few : n ≤ 8) (small
   abbrev bound : ℕ
   bound = n * 65536 + issued
 
-  ends-at : (i : ℕ) (m : Node) (more : List ℕ) → Fits (code false) anywhere m → depth m ≤ 64 → drop i ws ≡ words m ++ more → codeEnd bound ws i ≡ i + length (words m)
+  ends-at : (i : ℕ) (m : Node) (more : List ℕ) → Fits (code false) anywhere m → depth m ≤ 64 → drop i ws ≡ words m ++ more →
+      codeEnd bound ws i ≡ i + length (words m)
   ends-at i m more f deep e = code-end ws ok n issued few small f 64 i deep more e
 
   -- what stands further on
   further : (i : ℕ) (a b : List ℕ) → drop i ws ≡ a ++ b → drop (i + length a) ws ≡ b
   further i a b e = sym (drop-drop (length a) i ws) ∙ (ap (drop (length a)) e ∙ drop-append-seam a b)
 
+  -- one branch more in front
+  passed :
+      (p q : Node) (ps : Nodes) (j place : ℕ) →
+      codeEnd bound ws place ≡ place + length (words p) →
+      codeEnd bound ws (place + length (words p)) ≡ place + length (words p) + length (words q) →
+      Branch bound ws ps j (place + length (words p) + length (words q)) →
+      Branch bound ws (p & q & ps) (suc j) place
+  unfolding nodesWords nodesDepth branchAt
+  passed p q ps j place one two b =
+      let x : 2 * suc j ≡ suc (suc (2 * j)) = omega arith in
+      let y : 2 * suc j + 1 ≡ suc (suc (2 * j + 1)) = omega arith in
+      let sum : length (words p ++ (words q ++ b .before)) ≡ length (words p) + (length (words q) + length (b .before)) =
+      length-append (words p) (words q ++ b .before) ∙ ap (λ k. length (words p) + k) (length-append (words q) (b .before)) in
+      record {
+        before = words p ++ (words q ++ b .before);
+        behind = b .behind;
+        whole =
+            rw (y, x)
+            (ap (λ l. words p ++ (words q ++ l)) (b .whole)
+            ∙ (ap (λ l. words p ++ l) (sym (append-assoc (words q) (b .before) _))
+            ∙ sym (append-assoc (words p) (words q ++ b .before) _)));
+        stands = rw (one, two) (omega (arith, sum));
+        first-deep = rw x (omega arith);
+        second-deep = rw y (omega arith);
+      }
+
   branch :
-      (j place : ℕ) (rest : List ℕ) {c : ℕ} {ps : Nodes} → FitsParts (code false) 6 c ps → 2 * j + 1 < c → nodesDepth ps ≤ 64 → drop place ws ≡ nodesWords ps ++ rest →
+      (j place : ℕ) (rest : List ℕ) {c : ℕ} {ps : Nodes} → FitsParts (code false) 6 c ps → 2 * j + 1 < c → nodesDepth ps ≤ 64 →
+      drop place ws ≡ nodesWords ps ++ rest →
       Branch bound ws ps j place
   unfolding nodesWords nodesDepth branchAt
   branch zero place rest noPart h deep e = absurd (omega arith)
@@ -164,26 +194,12 @@ module _ (n issued : ℕ) (ws : List ℕ) (ok : Words ws) (few : n ≤ 8) (small
       let at-p : drop place ws ≡ words p ++ (words q ++ (nodesWords ps ++ rest)) =
       e ∙ (append-assoc (words p) (words q ++ nodesWords ps) rest ∙ ap (λ l. words p ++ l) (append-assoc (words q) (nodesWords ps) rest)) in
       let at-q : drop (place + length (words p)) ws ≡ words q ++ (nodesWords ps ++ rest) = further place (words p) _ at-p in
-      let at-ps : drop (place + length (words p) + length (words q)) ws ≡ nodesWords ps ++ rest = further (place + length (words p)) (words q) _ at-q in
+      let at-ps : drop (place + length (words p) + length (words q)) ws ≡ nodesWords ps ++ rest =
+      further (place + length (words p)) (words q) _ at-q in
       let one : codeEnd bound ws place ≡ place + length (words p) = ends-at place p _ (part-fits all 0) (omega arith) at-p in
       let two : codeEnd bound ws (place + length (words p)) ≡ place + length (words p) + length (words q) =
       ends-at (place + length (words p)) q _ (part-fits all 1) (omega arith) at-q in
-      let b = branch j (place + length (words p) + length (words q)) rest fs (omega arith) (omega arith) at-ps in
-      let x : 2 * suc j ≡ suc (suc (2 * j)) = omega arith in
-      let y : 2 * suc j + 1 ≡ suc (suc (2 * j + 1)) = omega arith in
-      let sum : length (words p ++ (words q ++ b .before)) ≡ length (words p) + (length (words q) + length (b .before)) =
-      length-append (words p) (words q ++ b .before) ∙ ap (λ k. length (words p) + k) (length-append (words q) (b .before)) in
-      record {
-        before = words p ++ (words q ++ b .before);
-        behind = b .behind;
-        whole =
-            rw (y, x)
-            (ap (λ l. words p ++ (words q ++ l)) (b .whole)
-            ∙ (ap (λ l. words p ++ l) (sym (append-assoc (words q) (b .before) _)) ∙ sym (append-assoc (words p) (words q ++ b .before) _)));
-        stands = rw (one, two) (omega (arith, b .stands, sum));
-        first-deep = rw x (omega (arith, b .first-deep));
-        second-deep = rw y (omega (arith, b .second-deep));
-      }
+      passed p q ps j place one two (branch j (place + length (words p) + length (words q)) rest fs (omega arith) (omega arith) at-ps)
 
   -- ---- what a process offers
 
@@ -193,7 +209,8 @@ module _ (n issued : ℕ) (ws : List ℕ) (ok : Words ws) (few : n ≤ 8) (small
       unfolding runWords
       head-at = head-on ws 0 (asNode r) rest stands
 
-      quiet : (i : ℕ) {next : Option Node} → (kind (asNode r) ≡ 6 → ⊥) → (kind (asNode r) ≡ 7 → ⊥) → (kind (asNode r) ≡ 8 → ⊥) → Offers ws r (offerW bound ws i) deaf next
+      quiet : (i : ℕ) {next : Option Node} → (kind (asNode r) ≡ 6 → ⊥) → (kind (asNode r) ≡ 7 → ⊥) → (kind (asNode r) ≡ 8 → ⊥) →
+          Offers ws r (offerW bound ws i) deaf next
       unfolding offerW bareW
       quiet i {next} a b c = rw (ne-eqb (kindOf (at ws 0)) 6 (rw head-at a)) (by (eqb i 0))
         where
@@ -210,15 +227,18 @@ module _ (n issued : ℕ) (ws : List ℕ) (ok : Words ws) (few : n ≤ 8) (small
     unfolding offerW bareW bare
     bare-offers m f other deep stands zero =
         let head : at ws 0 ≡ headWord m = head-on ws 0 m rest stands in
-        let end : codeEnd bound ws 0 ≡ length (words m) = ends-at 0 m rest f deep stands ∙ (let z : 0 + length (words m) ≡ length (words m) = omega arith in z) in
+        let end : codeEnd bound ws 0 ≡ length (words m) = ends-at 0 m rest f deep stands
+        ∙ (let z : 0 + length (words m) ≡ length (words m) = omega arith in z) in
         let d : depth m ≤ runDepth (act m) = omega (arith, depth-act m) in
         rw (ne-eqb (kindOf (at ws 0)) 6 (rw head other))
-        (offers-as ws (act m) (offering 0 0 (codeEnd bound ws 0) (codeEnd bound ws 0)) refl head (bareStands (words-act m) d refl refl end end) (heard m f))
+        (offers-as ws (act m) (offering 0 0 (codeEnd bound ws 0) (codeEnd bound ws 0)) refl head
+        (bareStands (words-act m) d refl refl end end) (heard m f))
     bare-offers m f other deep stands (suc i) =
         let head : at ws 0 ≡ headWord m = head-on ws 0 m rest stands in
         rw (ne-eqb (kindOf (at ws 0)) 6 (rw head other), never-zero i) (nothing-offered ws (act m) noOffer refl)
 
-    module _ (h : ℕ) (ps : Nodes) (k : kindOf h ≡ 6) (pt : FitsParts (code false) 6 (countOf h * 2) ps) (f : Fits (code false) anywhere (node h [] [] absent ps))
+    module _ (h : ℕ) (ps : Nodes) (k : kindOf h ≡ 6) (pt : FitsParts (code false) 6 (countOf h * 2) ps)
+        (f : Fits (code false) anywhere (node h [] [] absent ps))
         (deep : depth (node h [] [] absent ps) ≤ 64) (stands : ws ≡ words (node h [] [] absent ps) ++ rest) where
       abbrev whole : Node
       whole = node h [] [] absent ps
@@ -236,12 +256,15 @@ module _ (n issued : ℕ) (ws : List ℕ) (ok : Words ws) (few : n ≤ 8) (small
       parts-stand : drop 1 ws ≡ nodesWords ps ++ rest
       parts-stand = ap (drop 1) (stands ∙ ap (λ l. l ++ rest) choice-words)
 
+      parted : (i : ℕ) → i < countOf h → Branch bound ws ps i 1
+      unfolding depth
+      parted i below = branch i 1 rest pt (omega arith) (omega arith) parts-stand
+
       branch-offers :
-          (i : ℕ) → i < countOf h →
+          (i : ℕ) → Branch bound ws ps i 1 →
           Offers ws (act whole) (chosenW bound ws (branchAt bound ws i 1)) (receiver (partAt ps (2 * i))) (some (partAt ps (2 * i + 1)))
       unfolding chosenW depth
-      branch-offers i below =
-          let b = branch i 1 rest pt (omega arith) (omega arith) parts-stand in
+      branch-offers i b =
           let m = partAt ps (2 * i) in
           let q = partAt ps (2 * i + 1) in
           let fm : Fits (code false) anywhere m = part-fits pt (2 * i) in
@@ -250,26 +273,32 @@ module _ (n issued : ℕ) (ws : List ℕ) (ok : Words ws) (few : n ≤ 8) (small
           let all : drop 1 ws ≡ b .before ++ (words m ++ (words q ++ (b .behind ++ rest))) =
           parts-stand
           ∙ (ap (λ l. l ++ rest) (b .whole)
-          ∙ (append-assoc (b .before) _ rest ∙ ap (λ l. b .before ++ l) (append-assoc (words m) _ rest ∙ ap (λ l. words m ++ l) (append-assoc (words q) (b .behind) rest)))) in
+          ∙ (append-assoc (b .before) _ rest
+          ∙ ap (λ l. b .before ++ l) (append-assoc (words m) _ rest ∙ ap (λ l. words m ++ l) (append-assoc (words q) (b .behind) rest)))) in
           let guard-stands : drop (1 + length (b .before)) ws ≡ words m ++ (words q ++ (b .behind ++ rest)) = further 1 (b .before) _ all in
           let next-stands : drop (1 + length (b .before) + length (words m)) ws ≡ words q ++ (b .behind ++ rest) =
           further (1 + length (b .before)) (words m) _ guard-stands in
           let one : codeEnd bound ws (1 + length (b .before)) ≡ 1 + length (b .before) + length (words m) =
           ends-at (1 + length (b .before)) m _ fm (omega (arith, b .first-deep)) guard-stands in
-          let two : codeEnd bound ws (1 + length (b .before) + length (words m)) ≡ 1 + length (b .before) + length (words m) + length (words q) =
+          let two :
+          codeEnd bound ws (1 + length (b .before) + length (words m)) ≡ 1 + length (b .before) + length (words m) + length (words q) =
           ends-at (1 + length (b .before) + length (words m)) q _ fq (omega (arith, b .second-deep)) next-stands in
           let head : at ws (1 + length (b .before)) ≡ headWord m = head-on ws (1 + length (b .before)) m _ guard-stands in
-          let o = offering (1 + length (b .before)) (1 + length (b .before) + length (words m)) (1 + length (b .before) + length (words m) + length (words q)) (length (words whole)) in
-          let w : runWords (act whole) ≡ (h ∷ b .before) ++ (words m ++ (words q ++ b .behind)) = words-act whole ∙ (choice-words ∙ ap (λ l. h ∷ l) (b .whole)) in
+          let o = offering (1 + length (b .before)) (1 + length (b .before) + length (words m))
+          (1 + length (b .before) + length (words m) + length (words q)) (length (words whole)) in
+          let w : runWords (act whole) ≡ (h ∷ b .before) ++ (words m ++ (words q ++ b .behind)) = words-act whole
+          ∙ (choice-words ∙ ap (λ l. h ∷ l) (b .whole)) in
           let long : length (words whole) ≡ 1 + length (b .before) + length (words m) + length (words q) + length (b .behind) =
           ap length (sym (words-act whole) ∙ w)
           ∙ (length-append (h ∷ b .before) _
           ∙ omega (arith, length-append (words m) (words q ++ b .behind), length-append (words q) (b .behind))) in
           let s : Stands (act whole) o m (some q) =
-          branchStands (h ∷ b .before) (b .behind) w fq (omega (arith, depth-act whole, b .first-deep)) (omega (arith, depth-act whole, b .second-deep)) shift (omega arith) refl long in
+          branchStands (h ∷ b .before) (b .behind) w fq (omega (arith, depth-act whole, b .first-deep))
+          (omega (arith, depth-act whole, b .second-deep)) shift (omega arith) refl long in
           rw (b .stands, one, two, choice-end) (offers-as ws (act whole) o refl head s (heard m fm))
 
-      choice-offers : (i : ℕ) → Offers ws (act whole) (offerW bound ws i) (chosen (countOf h) ps i .receives) (chosen (countOf h) ps i .next)
+      choice-offers : (i : ℕ) → Offers ws (act whole) (offerW bound ws i) (chosen (countOf h) ps i .receives)
+          (chosen (countOf h) ps i .next)
       unfolding offerW choiceW chosen
       choice-offers zero = rw (choice-head, k) (nothing-offered ws (act whole) noOffer refl)
       choice-offers (suc i) = rw (choice-head, k, never-zero i) (by (ltb i (countOf h)) refl)
@@ -281,7 +310,7 @@ module _ (n issued : ℕ) (ws : List ℕ) (ok : Words ws) (few : n ≤ 8) (small
           by true e =
               let below : i < countOf h = ltb-true i (countOf h) e in
               let p : suc i - 1 ≡ i = omega arith in
-              rw (e, le-ltb (countOf h) (suc i) (omega arith), p) (branch-offers i below)
+              rw (e, le-ltb (countOf h) (suc i) (omega arith), p) (branch-offers i (parted i below))
           by false e =
               let above : countOf h ≤ i = ltb-false i (countOf h) e in
               rw (e, lt-ltb (countOf h) (suc i) (omega arith)) (nothing-offered ws (act whole) noOffer refl)
@@ -308,14 +337,19 @@ module _ (n issued : ℕ) (ws : List ℕ) (ok : Words ws) (few : n ≤ 8) (small
     calm r s stands i a b c = let k = kind-asNode s in quiet r stands i (λ e. a (sym k ∙ e)) (λ e. b (sym k ∙ e)) (λ e. c (sym k ∙ e))
 
     -- what the process at the words offers a sender, by branch
-    pub offers : (r : Run) → Sound n issued r → runDepth r ≤ 64 → ws ≡ runWords r ++ rest → (i : ℕ) → Offers ws r (offerW bound ws i) (offer r i .receives) (offer r i .next)
+    pub offers : (r : Run) → Sound n issued r → runDepth r ≤ 64 → ws ≡ runWords r ++ rest → (i : ℕ) →
+        Offers ws r (offerW bound ws i) (offer r i .receives) (offer r i .next)
     unfolding offer
     offers r nilSound deep stands i = calm r nilSound stands i (λ e. omega arith) (λ e. omega arith) (λ e. omega arith)
     offers r (seqSound a d q) deep stands i = calm r (seqSound a d q) stands i (λ e. omega arith) (λ e. omega arith) (λ e. omega arith)
     offers r (parSound a d b t) deep stands i = calm r (parSound a d b t) stands i (λ e. omega arith) (λ e. omega arith) (λ e. omega arith)
-    offers r (scopeSound b m l a) deep stands i = calm r (scopeSound b m l a) stands i (λ e. omega arith) (λ e. omega arith) (λ e. omega arith)
-    offers r (executorSound b y t a) deep stands i = calm r (executorSound b y t a) stands i (λ e. omega arith) (λ e. omega arith) (λ e. omega arith)
-    offers r (waiterSound b x t l) deep stands i = calm r (waiterSound b x t l) stands i (λ e. omega arith) (λ e. omega arith) (λ e. omega arith)
-    offers r (noticeSound b f t) deep stands i = calm r (noticeSound b f t) stands i (λ e. omega arith) (λ e. omega arith) (λ e. omega arith)
+    offers r (scopeSound b m l a) deep stands i =
+        calm r (scopeSound b m l a) stands i (λ e. omega arith) (λ e. omega arith) (λ e. omega arith)
+    offers r (executorSound b y t a) deep stands i =
+        calm r (executorSound b y t a) stands i (λ e. omega arith) (λ e. omega arith) (λ e. omega arith)
+    offers r (waiterSound b x t l) deep stands i =
+        calm r (waiterSound b x t l) stands i (λ e. omega arith) (λ e. omega arith) (λ e. omega arith)
+    offers r (noticeSound b f t) deep stands i =
+        calm r (noticeSound b f t) stands i (λ e. omega arith) (λ e. omega arith) (λ e. omega arith)
     offers r (actSound {p = m} t f) deep stands i =
         act-offers m (shape t f) f (omega (arith, depth-act m)) (stands ∙ ap (λ l. l ++ rest) (words-act m)) i
