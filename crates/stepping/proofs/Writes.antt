@@ -5,7 +5,8 @@ use native.Mathlib.Omega.{arith}
 use mathlib.Core.Path.{_≡_, refl, sym, ap, ap₂, _∙_}
 use mathlib.Core.Bool.{Bool, true, false, cond}
 use mathlib.Core.List.{List, [], _∷_, _++_, append-nil, append-assoc}
-use borrow.Author.Tests.{le-ltb, le-leb, lt-leb}
+use borrow.Author.Tests.{le-ltb, leb-false}
+use lib.Dec.{leb, ltb}
 use lib.ListN.{length, take, drop, set, length-append, length-drop, length-set}
 use lib.Seq.{drop-drop, length-take-le, take-all, drop-length}
 use Rattle.sock.specs.Words.{highWord, lowWord}
@@ -111,3 +112,96 @@ module _ (ws : List ℕ) (start end : ℕ) (p : Plan) (fresh : List ℕ) (q : Ru
       ∙ ap (λ l. runWords q ++ l) (drop-drop (0 + length (runWords q)) t out ∙ ap (λ k. drop k out) (let z : t + (0 + length (runWords q)) ≡ t + length (runWords q) = omega arith in z))) in
       rw (le-ltb (length out) t (omega arith), whole-rest, none-left, last)
       (record { reaches = to; over = record { all = sym (append-assoc (take t out) (runWords q) (drop (t + length (runWords q)) out)) } })
+
+-- ---- a value
+
+-- variable x takes v; 32 is none
+abbrev pub valued : List ℕ → ℕ → ℕ → List ℕ
+valued vs x v = cond (leb 32 x) vs (set vs x v)
+
+set-words : (vs : List ℕ) (x v : ℕ) → x < length vs → set (set (valuesWords vs) (x * 2) (v / 65536)) (x * 2 + 1) (v % 65536) ≡ valuesWords (set vs x v)
+unfolding valuesWords
+set-words [] x v h = absurd (omega arith)
+set-words (u ∷ vs) zero v h = refl
+set-words (u ∷ vs) (suc x) v h =
+    let a : suc x * 2 ≡ suc (suc (x * 2)) = omega arith in
+    let b : suc x * 2 + 1 ≡ suc (suc (x * 2 + 1)) = omega arith in
+    rw (b, a) (ap (λ l. highWord u ∷ lowWord u ∷ l) (set-words vs x v (omega arith)))
+
+set-after : (pre l : List ℕ) (k i w : ℕ) → k ≡ length pre + i → set (pre ++ l) k w ≡ pre ++ set l i w
+set-after [] l k i w e = ap (λ j. set l j w) (e ∙ (let z : 0 + i ≡ i = omega arith in z))
+set-after (p ∷ pre) l zero i w e = absurd (omega arith)
+set-after (p ∷ pre) l (suc k) i w e = ap (λ r. p ∷ r) (set-after pre l k i w (omega arith))
+
+module _ {out : List ℕ} {to : ℕ} (pre vs : List ℕ) {last : List ℕ} (o : Over out to (pre ++ valuesWords vs) last) (room : to + length (pre ++ valuesWords vs) ≤ length out)
+    (many : length vs ≡ 32) (x v : ℕ) where
+  pub value-over : Over out to (pre ++ valuesWords (valued vs x v)) (valueW last (to + length (pre ++ valuesWords vs)) x v)
+  unfolding valueW
+  value-over = by (leb 32 x) refl
+    where
+      n : length (valuesWords vs) ≡ 64
+      n = omega (arith, values-length vs)
+
+      l : length (pre ++ valuesWords vs) ≡ length pre + 64
+      l = length-append pre (valuesWords vs) ∙ ap (λ k. length pre + k) n
+
+      t : ℕ
+      t = to + length (pre ++ valuesWords vs)
+
+      by :
+          (b : Bool) → leb 32 x ≡ b →
+          Over out to (pre ++ valuesWords (cond b vs (set vs x v)))
+          (cond b last
+          (cond (ltb (to + length (pre ++ valuesWords vs)) 64) last
+          (cond (ltb (length last) (to + length (pre ++ valuesWords vs))) last
+          (set (set last (to + length (pre ++ valuesWords vs) - 64 + x * 2) (v / 65536)) (to + length (pre ++ valuesWords vs) - 64 + x * 2 + 1) (v % 65536)))))
+      by true e = o
+      by false e =
+          let small : x < 32 = leb-false 32 x e in
+          let len : length last ≡ length out = over-length o room in
+          let i1 : to + length (pre ++ valuesWords vs) - 64 + x * 2 ≡ to + (length pre + x * 2) = omega (arith, l) in
+          let i2 : to + (length pre + x * 2) + 1 ≡ to + (length pre + (x * 2 + 1)) = omega arith in
+          let first = over-set o room (length pre + x * 2) (v / 65536) (omega (arith, l)) in
+          let kept : length (set (pre ++ valuesWords vs) (length pre + x * 2) (v / 65536)) ≡ length (pre ++ valuesWords vs) = length-set (pre ++ valuesWords vs) (length pre + x * 2) (v / 65536) in
+          let second = over-set first (omega (arith, kept)) (length pre + (x * 2 + 1)) (v % 65536) (omega (arith, kept, l)) in
+          let same : set (set (pre ++ valuesWords vs) (length pre + x * 2) (v / 65536)) (length pre + (x * 2 + 1)) (v % 65536) ≡ pre ++ valuesWords (set vs x v) =
+          ap (λ k. set k (length pre + (x * 2 + 1)) (v % 65536)) (set-after pre (valuesWords vs) (length pre + x * 2) (x * 2) (v / 65536) refl)
+          ∙ (set-after pre (set (valuesWords vs) (x * 2) (v / 65536)) (length pre + (x * 2 + 1)) (x * 2 + 1) (v % 65536) refl
+          ∙ ap (λ k. pre ++ k) (set-words vs x v (omega arith))) in
+          rw (le-ltb (to + length (pre ++ valuesWords vs)) 64 (omega (arith, l)), le-ltb (length last) (to + length (pre ++ valuesWords vs)) (omega (arith, len)), i1, i2)
+          (rw same at second)
+
+-- ---- the words in front, the values and the process
+
+module _ (ws : List ℕ) (from start end : ℕ) (p : Plan) (fresh : List ℕ) (q : Run) (plans : Plans ws start end p fresh q) (inside : end ≤ length ws) (before : from ≤ start)
+    (few : p .g ≤ 8192) (wide : 8192 ≤ length fresh) (pre vs : List ℕ) (many : length vs ≡ 32) (stands : part from start ws ≡ pre ++ valuesWords vs)
+    (out : List ℕ) (to : ℕ) (room : to + (length (pre ++ valuesWords vs) + size q) ≤ length out) (near : Near (length out)) where
+  same-length : length (pre ++ valuesWords (valued vs (p .x) (p .v))) ≡ length (pre ++ valuesWords vs)
+  same-length =
+      length-append pre (valuesWords (valued vs (p .x) (p .v)))
+      ∙ (ap (λ k. length pre + k) (values-length (valued vs (p .x) (p .v)) ∙ (ap (λ k. k + k) (by (leb 32 (p .x))) ∙ sym (values-length vs)))
+      ∙ sym (length-append pre (valuesWords vs)))
+    where
+      by : (b : Bool) → length (cond b vs (set vs (p .x) (p .v))) ≡ length vs
+      by true = refl
+      by false = length-set vs (p .x) (p .v)
+
+  pub engine-wrote : Wrote out to ((pre ++ valuesWords (valued vs (p .x) (p .v))) ++ runWords q) (engineW ws from start end p fresh out to)
+  unfolding engineW size
+  engine-wrote =
+      let in-ws : start ≤ length ws = omega (arith, plans .order .l-in, plans .order .m-in, plans .order .a-in, plans .order .b-in, plans .order .c-in, plans .order .d-in, plans .order .end-in) in
+      let chunk : length (part from start ws) ≡ length (pre ++ valuesWords vs) = ap length stands in
+      let w : Wrote out to (pre ++ valuesWords vs) (copyW ws from start (written to out)) =
+      rw stands at (wrote-copy ws from start before in-ws (omega arith) near (wrote-none out to)) in
+      let t : copyW ws from start (written to out) .to ≡ to + length (pre ++ valuesWords vs) = w .reaches in
+      let o = value-over pre vs (w .over) (omega arith) many (p .x) (p .v) in
+      let room1 : to + length (pre ++ valuesWords (valued vs (p .x) (p .v))) ≤ length out = omega (arith, same-length) in
+      let len : length (valueW (copyW ws from start (written to out) .out) (to + length (pre ++ valuesWords vs)) (p .x) (p .v)) ≡ length out = over-length o room1 in
+      let l = lent-wrote ws start end p fresh q plans inside few wide
+      (valueW (copyW ws from start (written to out) .out) (to + length (pre ++ valuesWords vs)) (p .x) (p .v)) (to + length (pre ++ valuesWords vs))
+      (omega (arith, len)) (rw len near) in
+      rw t
+      (record {
+        reaches = l .reaches ∙ (let a = length-append (pre ++ valuesWords (valued vs (p .x) (p .v))) (runWords q) in let b = same-length in let z : to + length (pre ++ valuesWords vs) + length (runWords q) ≡ to + length ((pre ++ valuesWords (valued vs (p .x) (p .v))) ++ runWords q) = omega arith in z);
+        over = over-then o room1 (omega (arith, same-length)) (rw same-length (l .over));
+      })
