@@ -1,11 +1,13 @@
--- An engine written: from what each call of it leaves.
+-- An engine written, and two: from what each call leaves.
 -- Assumes nothing.
 use Prim.Native.Nat.{ℕ}
 use mathlib.Core.Path.{_≡_, refl, sym, _∙_}
 use mathlib.Core.List.{List}
+use lib.ListN.{length, set}
 use Rattle.moving.specs.Writing.{pasted, pastedEnd}
 use Rattle.rules.specs.declared.plan.Plan.{Plan}
 use Rattle.stepping.specs.Writing.{Written, written, copyW, valueW, lentW, engineW}
+use Rattle.stepping.specs.Answering.{writeTwoW}
 
 pub engine-made :
     (ws : List ℕ) (from start end : ℕ) (p : Plan) (fresh out : List ℕ) (to : ℕ) (t : ℕ) (o1 o2 : List ℕ) →
@@ -13,3 +15,13 @@ pub engine-made :
     lentW ws start end p fresh o2 t ≡ engineW ws from start end p fresh out to
 unfolding engineW copyW
 engine-made ws from start end p fresh out to t o1 o2 e1 e2 e3 = rw (e3, e2, e1)
+
+pub two-made :
+    (ws : List ℕ) (start end : ℕ) (p : Plan) (fresh : List ℕ) (start2 end2 : ℕ) (p2 : Plan) (fresh2 : List ℕ) (issued : ℕ) (out : List ℕ)
+    (t u : ℕ) (o1 o2 o3 : List ℕ) →
+    t ≡ engineW ws 0 start end p fresh out 0 .to → o1 ≡ engineW ws 0 start end p fresh out 0 .out →
+    u ≡ engineW ws end start2 end2 p2 fresh2 o1 t .to → o2 ≡ engineW ws end start2 end2 p2 fresh2 o1 t .out →
+    o3 ≡ pasted ws end2 (length ws) o2 u →
+    set o3 1 issued ≡ writeTwoW ws start end p fresh start2 end2 p2 fresh2 issued out
+unfolding writeTwoW copyW
+two-made ws start end p fresh start2 end2 p2 fresh2 issued out t u o1 o2 o3 e1 e2 e3 e4 e5 = rw (e5, e4, e3, e2, e1)

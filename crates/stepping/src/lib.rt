@@ -1,2 +1,4 @@
 // The step: from a configuration's words to the next one's.
+pub mod answer;
+pub mod meeting;
 pub mod writing;

@@ -1,0 +1,46 @@
+-- `sized` of `stepping::answer` meets its contract: the code is its mirror in specs/.
+-- Assumes nothing.
+use Rattle.stepping.specs.Answering.{sizedW}
+use Rattle.moving.proofs.Tests.{tests}
+use borrow.Author.Needs.{needs}
+use Rattle.stepping.proofs.answer.sized.Statement.{statement}
+use Rattle.stepping.proofs.answer.sized.Tie as tie
+
+further-requires : tie.Need-further-requires
+further-requires c κs = search needs
+
+less-requires : tie.Need-less-requires
+less-requires c κs = search needs
+
+less-requires-2 : tie.Need-less-requires-2
+less-requires-2 c κs = search needs
+
+less-requires-3 : tie.Need-less-requires-3
+less-requires-3 c κs = search needs
+
+less-requires-4 : tie.Need-less-requires-4
+less-requires-4 c κs = search needs
+
+less-requires-5 : tie.Need-less-requires-5
+less-requires-5 c κs = search needs
+
+less-requires-6 : tie.Need-less-requires-6
+less-requires-6 c κs = search needs
+
+returns : tie.Need-returns
+unfolding sizedW
+returns c =
+    simp (tests, ← (c .less6 .ensures), ← (c .before .less5 .ensures), ← (c .before .before .less4 .ensures), ← (c .before .before .before .less3 .ensures), ← (c .before .before .before .before .less2 .ensures), ← (c .before .before .before .before .before .less .ensures), ← (c .before .before .before .before .before .before .further .ensures))
+
+pub sized-spec : {M : Type 1} → statement M
+sized-spec =
+    tie.close
+    (tie.spec
+    further-requires
+    less-requires
+    less-requires-2
+    less-requires-3
+    less-requires-4
+    less-requires-5
+    less-requires-6
+    returns)

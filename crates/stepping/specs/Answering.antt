@@ -1,0 +1,54 @@
+-- The answer of a step and the result written, as the code goes.
+use Prim.Native.Nat.{ℕ, _+_, _-_, _%_}
+use mathlib.Core.Bool.{Bool, true, false, cond}
+use mathlib.Core.List.{List}
+use lib.Dec.{leb, ltb, eqb}
+use lib.ListN.{length, set}
+use Rattle.moving.specs.Writing.{onward}
+use Rattle.rules.specs.declared.plan.Plan.{Plan}
+use Rattle.stepping.specs.declared.answer.Answer.{Answer}
+use Rattle.stepping.specs.Writing.{Written, written, copyW, engineW}
+
+-- an answer, and the output afterwards
+pub record Answered : Type 0 where
+  pub answer : Answer
+  pub out : List ℕ
+
+abbrev pub answered : Answer → List ℕ → Answered
+answered a out = record { answer = a; out = out }
+
+abbrev pub refusing : ℕ → Answer
+refusing n = record { number = n; kind = 0; serial = 0; fault = 0; length = 0 }
+
+abbrev pub accepting : ℕ → ℕ → ℕ → ℕ → Answer
+accepting kind serial fault length = record { number = 0; kind = kind; serial = serial; fault = fault; length = length }
+
+unfoldable pub sizedW : ℕ → Plan → ℕ
+sizedW words p = onward words (p .g) - (p .m - p .l) - (p .b - p .a) - (p .d - p .c)
+
+unfoldable pub writeOneW : List ℕ → ℕ → ℕ → Plan → List ℕ → List ℕ → Written
+writeOneW ws start end p fresh out = copyW ws end (length ws) (engineW ws 0 start end p fresh out 0)
+
+unfoldable pub lengthOf : ℕ → ℕ → ℕ
+lengthOf length room = cond (ltb 8192 length) 9 (cond (ltb room length) 10 0)
+
+unfoldable pub oneW : List ℕ → ℕ → ℕ → Plan → ℕ → List ℕ → List ℕ → Answered
+oneW ws start end p kind fresh out =
+    let size = sizedW (length ws) p in
+    cond (eqb (p .number) 0)
+    (cond (eqb (lengthOf size (length out)) 0)
+    (answered (accepting kind 0 0 (size % 65536)) (writeOneW ws start end p fresh out .out))
+    (answered (refusing (lengthOf size (length out))) out))
+    (answered (refusing (p .number)) out)
+
+unfoldable pub writeTwoW : List ℕ → ℕ → ℕ → Plan → List ℕ → ℕ → ℕ → Plan → List ℕ → ℕ → List ℕ → List ℕ
+writeTwoW ws start end p fresh start2 end2 p2 fresh2 issued out =
+    let w = engineW ws 0 start end p fresh out 0 in
+    set (copyW ws end2 (length ws) (engineW ws end start2 end2 p2 fresh2 (w .out) (w .to)) .out) 1 issued
+
+unfoldable pub twoW : List ℕ → ℕ → ℕ → Plan → List ℕ → ℕ → ℕ → Plan → List ℕ → ℕ → Answer → List ℕ → Answered
+twoW ws start end p fresh start2 end2 p2 fresh2 issued a out =
+    let size = sizedW (sizedW (length ws) p) p2 in
+    cond (eqb (lengthOf size (length out)) 0)
+    (answered (accepting (a .kind) (a .serial) (a .fault) (size % 65536)) (writeTwoW ws start end p fresh start2 end2 p2 fresh2 issued out))
+    (answered (refusing (lengthOf size (length out))) out)

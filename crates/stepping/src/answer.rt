@@ -1,0 +1,159 @@
+// The answer of a step, and the result written if it fits.
+use crate::writing::engine;
+use moving::write::copy;
+use moving::write::further;
+use moving::write::put;
+use rules::plan::Plan;
+ghost use mathlib.Core.Path.{_≡_};
+ghost use Prim.Native.Nat.{_-_};
+ghost use Rattle.stepping.specs.Answering.{refusing, accepting, sizedW, writeOneW, lengthOf, oneW, writeTwoW, twoW};
+
+// A refusal's number, or 0; the kind of the process that moved, the serial and whether a fault was delivered; the words of the result.
+pub struct Answer {
+    pub number: u8,
+    pub kind: u8,
+    pub serial: u16,
+    pub fault: u8,
+    pub length: u16,
+}
+
+pub fn refuse(number: u8) -> Answer
+    ensures { λ r. ⌜ r ≡ refusing number ⌝ }
+{
+    Answer {
+        number,
+        kind: 0,
+        serial: 0,
+        fault: 0,
+        length: 0,
+    }
+}
+
+pub fn accept(kind: u8, serial: u16, fault: u8, length: u16) -> Answer
+    ensures { λ r. ⌜ r ≡ accepting kind serial fault length ⌝ }
+{
+    Answer {
+        number: 0,
+        kind,
+        serial,
+        fault,
+        length,
+    }
+}
+
+fn less(a: usize, b: usize) -> usize
+    ensures { λ r. ⌜ r ≡ a - b ⌝ }
+{
+    if a < b { 0 } else { a - b }
+}
+
+// How many words there are once a plan is carried out on so many.
+fn sized(words: usize, p: Plan) -> usize
+    ensures { λ r. ⌜ r ≡ sizedW words p ⌝ }
+{
+    let a = further(words, p.g);
+    let b = less(a, less(p.m, p.l));
+    let c = less(b, less(p.b, p.a));
+    less(c, less(p.d, p.c))
+}
+
+fn write_one(ws: &[u16], start: usize, end: usize, p: Plan, fresh: &[u16], out: &mut [u16]) -> usize
+    ensures { λ r. ⌜ (r ≡ writeOneW (now (ws .entry)) start end p (now (fresh .entry)) (now (out .entry)) .to) × (now (out .exit) ≡ writeOneW (now (ws .entry)) start end p (now (fresh .entry)) (now (out .entry)) .out) ⌝ }
+{
+    let t = engine(ws, 0, start, end, p, fresh, out, 0);
+    copy(ws, end, ws.len(), out, t)
+}
+
+// The refusal of a length, or 0.
+fn fitting(length: usize, room: usize) -> u8
+    ensures { λ r. ⌜ r ≡ lengthOf length room ⌝ }
+{
+    if 8192 < length {
+        return 9;
+    }
+    if room < length {
+        return 10;
+    }
+    0
+}
+
+// One engine's process start..end under a plan.
+pub fn one(ws: &[u16], start: usize, end: usize, p: Plan, kind: u8, fresh: &[u16], out: &mut [u16]) -> Answer
+    ensures { λ r. ⌜ (r ≡ oneW (now (ws .entry)) start end p kind (now (fresh .entry)) (now (out .entry)) .answer) × (now (out .exit) ≡ oneW (now (ws .entry)) start end p kind (now (fresh .entry)) (now (out .entry)) .out) ⌝ }
+{
+    if p.number != 0 {
+        return refuse(p.number);
+    }
+    let length = sized(ws.len(), p);
+    let n = fitting(length, out.len());
+    if n != 0 {
+        return refuse(n);
+    }
+    write_one(ws, start, end, p, fresh, out);
+    accept(kind, 0, 0, (length % 65536) as u16)
+}
+
+fn write_two(
+    ws: &[u16],
+    start: usize,
+    end: usize,
+    p: Plan,
+    fresh: &[u16],
+    start2: usize,
+    end2: usize,
+    p2: Plan,
+    fresh2: &[u16],
+    issued: u16,
+    out: &mut [u16],
+) -> usize
+    ensures { λ r. ⌜ (r ≡ 0) × (now (out .exit) ≡ writeTwoW (now (ws .entry)) start end p (now (fresh .entry)) start2 end2 p2 (now (fresh2 .entry)) issued (now (out .entry))) ⌝ }
+{
+    let t = engine(ws, 0, start, end, p, fresh, out, 0);
+    let u = engine(ws, end, start2, end2, p2, fresh2, out, t);
+    copy(ws, end2, ws.len(), out, u);
+    put(out, 1, issued);
+    0
+}
+
+// Two engines' processes under a plan each, in the order of the words, and the serials issued.
+pub fn two(
+    ws: &[u16],
+    start: usize,
+    end: usize,
+    p: Plan,
+    fresh: &[u16],
+    start2: usize,
+    end2: usize,
+    p2: Plan,
+    fresh2: &[u16],
+    issued: u16,
+    accepted: Answer,
+    out: &mut [u16],
+) -> Answer
+    ensures { λ r. ⌜ (r ≡ twoW (now (ws .entry)) start end p (now (fresh .entry)) start2 end2 p2 (now (fresh2 .entry)) issued accepted (now (out .entry)) .answer) × (now (out .exit) ≡ twoW (now (ws .entry)) start end p (now (fresh .entry)) start2 end2 p2 (now (fresh2 .entry)) issued accepted (now (out .entry)) .out) ⌝ }
+{
+    let length = sized(sized(ws.len(), p), p2);
+    let n = fitting(length, out.len());
+    if n != 0 {
+        return refuse(n);
+    }
+    write_two(
+        ws,
+        start,
+        end,
+        p,
+        fresh,
+        start2,
+        end2,
+        p2,
+        fresh2,
+        issued,
+        out,
+    );
+    accept(
+        accepted.kind,
+        accepted.serial,
+        accepted.fault,
+        (length % 65536) as u16,
+    )
+}

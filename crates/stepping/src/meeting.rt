@@ -1,0 +1,123 @@
+// Between two engines: whether sender and receiver fit, and what each turns into.
+use moving::evaluate::variable;
+use reading::reader::wide;
+use rules::pair::answer;
+use rules::pair::ask;
+use rules::pair::awaits;
+use rules::pair::fail;
+use rules::pair::fits;
+use rules::pair::hear;
+use rules::pair::serve;
+use rules::pair::Offer;
+use rules::turn::to_nil;
+use rules::turn::word;
+use rules::turn::Turn;
+ghost use mathlib.Core.Path.{_≡_};
+ghost use Prim.Native.Nat.{_<_};
+ghost use lib.ListN.{length};
+ghost use Rattle.stepping.specs.Meeting.{addressedW, repliesW, takerOf, fitW, sendW, receiveW, serialW};
+
+// Whether a notify or solicit is sent to the engine that receives.
+fn addressed(part: &[u16], values: &[u16], receiver: usize) -> bool
+    requires { ⌜ length (now values) ≡ 64 ⌝ }
+    ensures { λ r. ⌜ r ≡ addressedW (now (part .entry)) (now (values .entry)) receiver ⌝ }
+{
+    let z = variable(values, wide(word(part, 1)) / 2048);
+    (z as usize) == receiver
+}
+
+// Whether an executor's reply or a notice's fault, which names `client`, has its waiter in `other`.
+fn replies(part: &[u16], other: &[u16], client: usize, branch: usize, sender: usize, receiver: usize) -> bool
+    ensures { λ r. ⌜ r ≡ repliesW (now (part .entry)) (now (other .entry)) client branch sender receiver ⌝ }
+{
+    if branch != 0 {
+        return false;
+    }
+    awaits(other, wide(word(part, 0)), word(part, 2), client, sender, receiver)
+}
+
+// The kind that hears a notify, and a solicit.
+fn taker(kind: usize) -> usize
+    ensures { λ r. ⌜ r ≡ takerOf kind ⌝ }
+{
+    if kind == 9 { 7 } else { 8 }
+}
+
+// Whether the process in `part` of the kind given may send to the one in `other`.
+pub fn fit(
+    part: &[u16],
+    values: &[u16],
+    other: &[u16],
+    o: Offer,
+    kind: usize,
+    branch: usize,
+    sender: usize,
+    receiver: usize,
+) -> bool
+    requires { ⌜ length (now values) ≡ 64 ⌝ }
+    ensures { λ r. ⌜ r ≡ fitW (now (part .entry)) (now (values .entry)) (now (other .entry)) o kind branch sender receiver ⌝ }
+{
+    let w = wide(word(part, 1));
+    if kind == 16 {
+        return replies(part, other, w / 8192, branch, sender, receiver);
+    }
+    if kind == 18 {
+        return replies(part, other, w / 128 % 8, branch, sender, receiver);
+    }
+    if addressed(part, values, receiver) {
+        return fits(other, o, taker(kind), wide(word(part, 0)));
+    }
+    false
+}
+
+// The serial that the step answers; `next` is the one that a solicit would take.
+pub fn serial_of(part: &[u16], kind: usize, next: u16) -> u16
+    ensures { λ r. ⌜ r ≡ serialW (now (part .entry)) kind next ⌝ }
+{
+    if kind == 9 {
+        return 0;
+    }
+    if kind == 10 {
+        return next;
+    }
+    word(part, 2)
+}
+
+// What the sender turns into.
+pub fn send(part: &[u16], kind: usize, server: u16, serial: u16, bound: usize, fresh: &mut [u16]) -> Turn
+    requires { ⌜ server < 8 ⌝ }
+    ensures { λ r. ⌜ (r ≡ sendW bound (now (part .entry)) kind server serial (now (fresh .entry)) .turn) × (now (fresh .exit) ≡ sendW bound (now (part .entry)) kind server serial (now (fresh .entry)) .fresh) ⌝ }
+{
+    if kind == 10 {
+        return ask(part, server, serial, bound, fresh);
+    }
+    to_nil(32, 0)
+}
+
+// What the receiver turns into, given the sender's words and values.
+pub fn receive(
+    part: &[u16],
+    values: &[u16],
+    other: &[u16],
+    o: Offer,
+    kind: usize,
+    client: u16,
+    serial: u16,
+    bound: usize,
+    fresh: &mut [u16],
+) -> Turn
+    requires { ⌜ (length (now values) ≡ 64) × (client < 8) ⌝ }
+    ensures { λ r. ⌜ (r ≡ receiveW bound (now (part .entry)) (now (values .entry)) (now (other .entry)) o kind client serial (now (fresh .entry)) .turn) × (now (fresh .exit) ≡ receiveW bound (now (part .entry)) (now (values .entry)) (now (other .entry)) o kind client serial (now (fresh .entry)) .fresh) ⌝ }
+{
+    let v = variable(values, wide(word(part, 0)) % 32);
+    if kind == 9 {
+        return hear(other, o, v);
+    }
+    if kind == 10 {
+        return serve(other, o, client, serial, v, fresh);
+    }
+    if kind == 16 {
+        return answer(other, v, bound, fresh);
+    }
+    fail(other, word(part, 1), bound, fresh)
+}
