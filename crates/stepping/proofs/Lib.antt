@@ -1,3 +1,4 @@
+pub mod Carrying
 pub mod Overs
 pub mod Writes
 pub mod Writings

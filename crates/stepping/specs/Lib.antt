@@ -1,3 +1,4 @@
 pub mod Answering
+pub mod Exchanging
 pub mod Meeting
 pub mod Writing

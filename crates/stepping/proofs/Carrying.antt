@@ -1,0 +1,26 @@
+-- A step between two engines carried out: from what each call leaves.
+-- Assumes nothing.
+use Prim.Native.Nat.{ℕ, _%_}
+use mathlib.Core.Path.{_≡_, refl, sym, ap, _∙_}
+use mathlib.Core.List.{List}
+use lib.ListN.{getD}
+use Rattle.finding.specs.declared.find.Spot.{Spot}
+use Rattle.rules.specs.declared.pair.Offer.{Offer}
+use Rattle.rules.specs.declared.plan.Plan.{Plan}
+use Rattle.rules.specs.Turning.{at}
+use Rattle.stepping.specs.declared.answer.Answer.{Answer}
+use Rattle.stepping.specs.Answering.{Answered, accepting}
+use Rattle.stepping.specs.Meeting.{serialW}
+use Rattle.stepping.specs.Exchanging.{blank, senderW, receiverW, orderedW, nextOf, issuedOf, faultOf, carryW}
+
+pub carry-made :
+    (ws part vs other : List ℕ) (o : Offer) (starts : List ℕ) (e i : ℕ) (a b : Spot) (kind bound : ℕ) (out : List ℕ)
+    (e' i' w next serial : ℕ) (p : Plan) (f : List ℕ) (q : Plan) (f2 : List ℕ) (fault : ℕ) (accepted : Answer) (issued : ℕ) →
+    e' ≡ e → i' ≡ i → w ≡ at ws 1 → next ≡ nextOf w → serial ≡ serialW part kind next →
+    p ≡ senderW bound part a (getD starts e' 0) kind i serial blank .plan → f ≡ senderW bound part a (getD starts e' 0) kind i serial blank .fresh →
+    q ≡ receiverW bound part vs other o b (getD starts i' 0) kind e serial blank .plan → f2 ≡ receiverW bound part vs other o b (getD starts i' 0) kind e serial blank .fresh →
+    fault ≡ faultOf kind → accepted ≡ accepting (kind % 32) serial fault 0 → issued ≡ issuedOf kind w next →
+    orderedW ws starts e' i' p f q f2 issued accepted out ≡ carryW ws part vs other o starts e i a b kind bound out
+unfolding carryW
+carry-made ws part vs other o starts e i a b kind bound out e' i' w next serial p f q f2 fault accepted issued e1 e2 e3 e4 e5 e6 e7 e8 e9 e10 e11 e12 =
+    rw (e12, e11, e10, e9, e8, e7, e6, e5, e4, e3, e2, e1)

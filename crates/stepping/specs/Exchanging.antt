@@ -1,0 +1,55 @@
+-- A step between two different engines, as the code goes.
+use Prim.Native.Nat.{ℕ, _+_, _-_, _%_}
+use mathlib.Core.Bool.{Bool, true, false, cond}
+use mathlib.Core.List.{List}
+use lib.Dec.{ltb, eqb}
+use lib.ListN.{length, getD, replicate, take, drop}
+use Rattle.finding.specs.declared.find.Spot.{Spot}
+use Rattle.rules.specs.declared.pair.Offer.{Offer}
+use Rattle.rules.specs.declared.plan.Plan.{Plan}
+use Rattle.rules.specs.Turning.{at}
+use Rattle.rules.specs.Offering.{offerW}
+use Rattle.rules.specs.Planning.{Planned, plainW}
+use Rattle.stepping.specs.declared.answer.Answer.{Answer}
+use Rattle.stepping.specs.Answering.{Answered, answered, refusing, accepting, twoW}
+use Rattle.stepping.specs.Meeting.{fitW, serialW, sendW, receiveW}
+
+unfoldable pub senderW : ℕ → List ℕ → Spot → ℕ → ℕ → ℕ → ℕ → List ℕ → Planned
+senderW bound ws s start kind server serial fresh =
+    let t = sendW bound ws kind server serial fresh in
+    plainW s start (t .turn) (t .fresh)
+
+unfoldable pub receiverW : ℕ → List ℕ → List ℕ → List ℕ → Offer → Spot → ℕ → ℕ → ℕ → ℕ → List ℕ → Planned
+receiverW bound ws vs other o s start kind client serial fresh =
+    let t = receiveW bound ws vs other o kind client serial fresh in
+    plainW s start (t .turn) (t .fresh)
+
+abbrev startAt : List ℕ → ℕ → ℕ
+startAt starts e = getD starts e 0
+
+unfoldable pub orderedW : List ℕ → List ℕ → ℕ → ℕ → Plan → List ℕ → Plan → List ℕ → ℕ → Answer → List ℕ → Answered
+orderedW ws starts e i p fresh q fresh2 issued accepted out =
+    cond (ltb e i)
+    (twoW ws (startAt starts e) (startAt starts (e + 1) - 64) p fresh (startAt starts i) (startAt starts (i + 1) - 64) q fresh2 issued accepted out)
+    (twoW ws (startAt starts i) (startAt starts (i + 1) - 64) q fresh2 (startAt starts e) (startAt starts (e + 1) - 64) p fresh issued accepted out)
+
+unfoldable pub nextOf : ℕ → ℕ
+nextOf issued = cond (eqb issued 65535) issued (issued + 1)
+
+unfoldable pub issuedOf : ℕ → ℕ → ℕ → ℕ
+issuedOf kind issued next = cond (eqb kind 10) next issued
+
+unfoldable pub faultOf : ℕ → ℕ
+faultOf kind = cond (eqb kind 18) 1 0
+
+-- scratch
+abbrev pub blank : List ℕ
+blank = replicate 16384 0
+
+unfoldable pub carryW : List ℕ → List ℕ → List ℕ → List ℕ → Offer → List ℕ → ℕ → ℕ → Spot → Spot → ℕ → ℕ → List ℕ → Answered
+carryW ws part vs other o starts e i a b kind bound out =
+    let next = nextOf (at ws 1) in
+    let serial = serialW part kind next in
+    let p = senderW bound part a (startAt starts e) kind i serial blank in
+    let q = receiverW bound part vs other o b (startAt starts i) kind e serial blank in
+    orderedW ws starts e i (p .plan) (p .fresh) (q .plan) (q .fresh) (issuedOf kind (at ws 1) next) (accepting (kind % 32) serial (faultOf kind) 0) out

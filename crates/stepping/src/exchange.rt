@@ -1,0 +1,142 @@
+// A step between two different engines, the sender's and the receiver's.
+use crate::answer::accept;
+use crate::answer::two;
+use crate::answer::Answer;
+use crate::meeting::receive;
+use crate::meeting::send;
+use crate::meeting::serial_of;
+use finding::find::Spot;
+use reading::reader::wide;
+use rules::pair::Offer;
+use rules::plan::plain;
+use rules::plan::Plan;
+use rules::turn::word;
+ghost use mathlib.Core.Path.{_≡_};
+ghost use Prim.Native.Nat.{_+_, _-_, _≤_, _<_};
+ghost use lib.ListN.{length, getD};
+ghost use Rattle.stepping.specs.Exchanging.{senderW, receiverW, orderedW, nextOf, issuedOf, faultOf, carryW};
+
+fn sender(part: &[u16], s: Spot, start: usize, kind: usize, server: u16, serial: u16, bound: usize, fresh: &mut [u16]) -> Plan
+    requires { ⌜ server < 8 ⌝ }
+    ensures { λ r. ⌜ (r ≡ senderW bound (now (part .entry)) s start kind server serial (now (fresh .entry)) .plan) × (now (fresh .exit) ≡ senderW bound (now (part .entry)) s start kind server serial (now (fresh .entry)) .fresh) ⌝ }
+{
+    let t = send(part, kind, server, serial, bound, fresh);
+    plain(s, start, t, fresh)
+}
+
+fn receiver(
+    part: &[u16],
+    values: &[u16],
+    other: &[u16],
+    o: Offer,
+    s: Spot,
+    start: usize,
+    kind: usize,
+    client: u16,
+    serial: u16,
+    bound: usize,
+    fresh: &mut [u16],
+) -> Plan
+    requires { ⌜ (length (now values) ≡ 64) × (client < 8) ⌝ }
+    ensures { λ r. ⌜ (r ≡ receiverW bound (now (part .entry)) (now (values .entry)) (now (other .entry)) o s start kind client serial (now (fresh .entry)) .plan) × (now (fresh .exit) ≡ receiverW bound (now (part .entry)) (now (values .entry)) (now (other .entry)) o s start kind client serial (now (fresh .entry)) .fresh) ⌝ }
+{
+    let t = receive(part, values, other, o, kind, client, serial, bound, fresh);
+    plain(s, start, t, fresh)
+}
+
+// The two plans in the order of the engines.
+fn ordered(
+    ws: &[u16],
+    starts: [usize; 9],
+    e: usize,
+    i: usize,
+    p: Plan,
+    fresh: &[u16],
+    q: Plan,
+    fresh2: &[u16],
+    issued: u16,
+    accepted: Answer,
+    out: &mut [u16],
+) -> Answer
+    requires { ⌜ (e < 8) × (i < 8) ⌝ }
+    ensures { λ r. ⌜ (r ≡ orderedW (now (ws .entry)) starts e i p (now (fresh .entry)) q (now (fresh2 .entry)) issued accepted (now (out .entry)) .answer) × (now (out .exit) ≡ orderedW (now (ws .entry)) starts e i p (now (fresh .entry)) q (now (fresh2 .entry)) issued accepted (now (out .entry)) .out) ⌝ }
+{
+    let a = starts[e];
+    let b = end_before(starts[e + 1]);
+    let c = starts[i];
+    let d = end_before(starts[i + 1]);
+    if e < i {
+        return two(ws, a, b, p, fresh, c, d, q, fresh2, issued, accepted, out);
+    }
+    two(ws, c, d, q, fresh2, a, b, p, fresh, issued, accepted, out)
+}
+
+// Where a process ends, if the next one begins at `start` behind its engine's values.
+pub fn end_before(start: usize) -> usize
+    ensures { λ r. ⌜ r ≡ start - 64 ⌝ }
+{
+    if start < 64 { 0 } else { start - 64 }
+}
+
+// The serial that a solicit takes.
+fn next_of(issued: u16) -> u16
+    ensures { λ r. ⌜ r ≡ nextOf issued ⌝ }
+{
+    if issued == 65535 { issued } else { issued + 1 }
+}
+
+fn issued_of(kind: usize, issued: u16, next: u16) -> u16
+    ensures { λ r. ⌜ r ≡ issuedOf kind issued next ⌝ }
+{
+    if kind == 10 { next } else { issued }
+}
+
+fn fault_of(kind: usize) -> u8
+    ensures { λ r. ⌜ r ≡ faultOf kind ⌝ }
+{
+    if kind == 18 { 1 } else { 0 }
+}
+
+// The two fit.
+fn carry(
+    ws: &[u16],
+    part: &[u16],
+    values: &[u16],
+    other: &[u16],
+    o: Offer,
+    starts: [usize; 9],
+    engine: u16,
+    second: u16,
+    a: Spot,
+    b: Spot,
+    kind: usize,
+    bound: usize,
+    out: &mut [u16],
+) -> Answer
+    requires { ⌜ (length (now values) ≡ 64) × (engine < 8) × (second < 8) ⌝ }
+    ensures { λ r. ⌜ (r ≡ carryW (now (ws .entry)) (now (part .entry)) (now (values .entry)) (now (other .entry)) o starts engine second a b kind bound (now (out .entry)) .answer) × (now (out .exit) ≡ carryW (now (ws .entry)) (now (part .entry)) (now (values .entry)) (now (other .entry)) o starts engine second a b kind bound (now (out .entry)) .out) ⌝ }
+{
+    let e = wide(engine);
+    let i = wide(second);
+    let issued = word(ws, 1);
+    let next = next_of(issued);
+    let serial = serial_of(part, kind, next);
+    let mut fresh = [0u16; 16384];
+    let mut fresh2 = [0u16; 16384];
+    let p = sender(part, a, starts[e], kind, second, serial, bound, &mut fresh);
+    let q = receiver(part, values, other, o, b, starts[i], kind, engine, serial, bound, &mut fresh2);
+    let accepted = accept((kind % 32) as u8, serial, fault_of(kind), 0);
+    ordered(
+        ws,
+        starts,
+        e,
+        i,
+        p,
+        &fresh,
+        q,
+        &fresh2,
+        issued_of(kind, issued, next),
+        accepted,
+        out,
+    )
+}
