@@ -1,1 +1,3 @@
+pub mod Compensating
+pub mod Installing
 pub mod Levels

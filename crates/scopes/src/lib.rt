@@ -1,2 +1,4 @@
 // The rules that look at scopes: endings, inst, comp and throw, as plans.
+pub mod compensating;
+pub mod installing;
 pub mod level;

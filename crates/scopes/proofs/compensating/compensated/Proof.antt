@@ -1,0 +1,105 @@
+-- `compensated` of `scopes::compensating` meets its contract: the code is its mirror in specs/.
+-- Assumes nothing.
+use Rattle.scopes.specs.Compensating.{compensatedW}
+use Rattle.moving.proofs.Tests.{tests}
+use borrow.Author.Needs.{needs}
+use Rattle.scopes.proofs.compensating.compensated.Statement.{statement}
+use Rattle.scopes.proofs.compensating.compensated.Tie as tie
+
+become-nil-requires : tie.Need-become-nil-requires
+become-nil-requires c κs = search needs
+
+same-length : tie.Need-same-length
+same-length c = search needs
+
+returns : tie.Need-returns
+unfolding compensatedW
+returns c =
+    let f0 = c .before .before .before .before .if1 .taken in
+    (simp (tests, ← (c .before .before .become-nil .ensures .0), ← (c .before .before .become-nil .ensures .1), f0), simp (tests, ← (c .before .before .become-nil .ensures .0), ← (c .before .before .become-nil .ensures .1), f0))
+
+word-requires : tie.Need-word-requires
+word-requires c κs = search needs
+
+wide-requires : tie.Need-wide-requires
+wide-requires c κs = search needs
+
+add-key : tie.Need-add-key
+add-key c = search needs
+
+further-requires : tie.Need-further-requires
+further-requires c κs = search needs
+
+take-requires : tie.Need-take-requires
+take-requires c κs = search needs
+
+become-nil-requires-2 : tie.Need-become-nil-requires-2
+become-nil-requires-2 c κs = search needs
+
+same-length-2 : tie.Need-same-length-2
+same-length-2 c = search needs
+
+returns-2 : tie.Need-returns-2
+unfolding compensatedW
+returns-2 c =
+    let f0 = c .before .before .before .before .if2 .taken in
+    let f1 = c .before .before .before .before .before .before .before .before .before .before .before .before .before .if1 .left in
+    (simp (tests, ← (c .before .before .become-nil2 .ensures .0), ← (c .before .before .become-nil2 .ensures .1), f0, ← (c .before .before .before .before .before .before .before .before .take .ensures .0), ← (c .before .before .before .before .before .before .before .before .take .ensures .1), ← (c .before .before .before .before .before .before .before .before .before .before .further .ensures), ← (c .before .before .before .before .before .before .before .before .before .before .before .wide .ensures .0), ← (c .before .before .before .before .before .before .before .before .before .before .before .before .word .ensures), f1), simp (tests, ← (c .before .before .become-nil2 .ensures .0), ← (c .before .before .become-nil2 .ensures .1), f0, ← (c .before .before .before .before .before .before .before .before .take .ensures .0), ← (c .before .before .before .before .before .before .before .before .take .ensures .1), ← (c .before .before .before .before .before .before .before .before .before .before .further .ensures), ← (c .before .before .before .before .before .before .before .before .before .before .before .wide .ensures .0), ← (c .before .before .before .before .before .before .before .before .before .before .before .before .word .ensures), f1))
+
+levels-at-requires : tie.Need-levels-at-requires
+levels-at-requires c κs = search needs
+
+process-requires : tie.Need-process-requires
+process-requires c κs = search needs
+
+refuse-requires : tie.Need-refuse-requires
+refuse-requires c κs = search needs
+
+same-length-3 : tie.Need-same-length-3
+same-length-3 c = search needs
+
+returns-3 : tie.Need-returns-3
+unfolding compensatedW
+returns-3 c =
+    let f0 = c .before .if3 .taken in
+    let f1 = c .before .before .before .before .if2 .left in
+    let f2 = c .before .before .before .before .before .before .before .before .before .before .before .before .before .if1 .left in
+    (simp (tests, ← (c .refuse .ensures), f0, ← (c .before .before .process .ensures), ← (c .before .before .before .levels-at .ensures), f1, ← (c .before .before .before .before .before .before .before .before .take .ensures .0), ← (c .before .before .before .before .before .before .before .before .take .ensures .1), ← (c .before .before .before .before .before .before .before .before .before .before .further .ensures), ← (c .before .before .before .before .before .before .before .before .before .before .before .wide .ensures .0), ← (c .before .before .before .before .before .before .before .before .before .before .before .before .word .ensures), f2), simp (tests, ← (c .refuse .ensures), f0, ← (c .before .before .process .ensures), ← (c .before .before .before .levels-at .ensures), f1, ← (c .before .before .before .before .before .before .before .before .take .ensures .0), ← (c .before .before .before .before .before .before .before .before .take .ensures .1), ← (c .before .before .before .before .before .before .before .before .before .before .further .ensures), ← (c .before .before .before .before .before .before .before .before .before .before .before .wide .ensures .0), ← (c .before .before .before .before .before .before .before .before .before .before .before .before .word .ensures), f2))
+
+moved-requires : tie.Need-moved-requires
+moved-requires c κs = search needs
+
+same-length-4 : tie.Need-same-length-4
+same-length-4 c = search needs
+
+returns-4 : tie.Need-returns-4
+unfolding compensatedW
+returns-4 c =
+    let f0 = c .before .before .before .before .if3 .left in
+    let f1 = c .before .before .before .before .before .before .before .if2 .left in
+    let f2 = c .before .before .before .before .before .before .before .before .before .before .before .before .before .before .before .before .if1 .left in
+    (simp (tests, ← (c .before .before .moved .ensures .0), ← (c .before .before .moved .ensures .1), f0, ← (c .before .before .before .before .before .process .ensures), ← (c .before .before .before .before .before .before .levels-at .ensures), f1, ← (c .before .before .before .before .before .before .before .before .before .before .before .take .ensures .0), ← (c .before .before .before .before .before .before .before .before .before .before .before .take .ensures .1), ← (c .before .before .before .before .before .before .before .before .before .before .before .before .before .further .ensures), ← (c .before .before .before .before .before .before .before .before .before .before .before .before .before .before .wide .ensures .0), ← (c .before .before .before .before .before .before .before .before .before .before .before .before .before .before .before .word .ensures), f2), simp (tests, ← (c .before .before .moved .ensures .0), ← (c .before .before .moved .ensures .1), f0, ← (c .before .before .before .before .before .process .ensures), ← (c .before .before .before .before .before .before .levels-at .ensures), f1, ← (c .before .before .before .before .before .before .before .before .before .before .before .take .ensures .0), ← (c .before .before .before .before .before .before .before .before .before .before .before .take .ensures .1), ← (c .before .before .before .before .before .before .before .before .before .before .before .before .before .further .ensures), ← (c .before .before .before .before .before .before .before .before .before .before .before .before .before .before .wide .ensures .0), ← (c .before .before .before .before .before .before .before .before .before .before .before .before .before .before .before .word .ensures), f2))
+
+pub compensated-spec : {M : Type 1} → statement M
+compensated-spec =
+    tie.close
+    (tie.spec
+    become-nil-requires
+    same-length
+    returns
+    word-requires
+    wide-requires
+    add-key
+    further-requires
+    take-requires
+    become-nil-requires-2
+    same-length-2
+    returns-2
+    levels-at-requires
+    process-requires
+    refuse-requires
+    same-length-3
+    returns-3
+    moved-requires
+    same-length-4
+    returns-4)

@@ -1,0 +1,24 @@
+-- `updated` of `scopes::installing` meets its contract: the code is its mirror in specs/.
+-- Assumes nothing.
+use Rattle.scopes.specs.Installing.{updatedW}
+use Rattle.moving.proofs.Tests.{tests}
+use borrow.Author.Needs.{needs}
+use Rattle.scopes.proofs.installing.updated.Statement.{statement}
+use Rattle.scopes.proofs.installing.updated.Tie as tie
+
+list-requires : tie.Need-list-requires
+list-requires c κs = search needs
+
+become-nil-requires : tie.Need-become-nil-requires
+become-nil-requires c κs = search needs
+
+same-length : tie.Need-same-length
+same-length c = search needs
+
+returns : tie.Need-returns
+unfolding updatedW
+returns c =
+    (simp (tests, ← (c .before .before .become-nil .ensures .0), ← (c .before .before .become-nil .ensures .1), ← (c .before .before .before .before .list .ensures)), simp (tests, ← (c .before .before .become-nil .ensures .0), ← (c .before .before .become-nil .ensures .1), ← (c .before .before .before .before .list .ensures)))
+
+pub updated-spec : {M : Type 1} → statement M
+updated-spec = tie.close (tie.spec list-requires become-nil-requires same-length returns)

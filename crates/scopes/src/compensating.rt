@@ -1,0 +1,73 @@
+// comp: the handler under a name takes its place, and the nearest scope loses it.
+use finding::find::Spot;
+use handling::take::Taken;
+use handling::take::take;
+use moving::write::copy;
+use moving::write::further;
+use reading::reader::list;
+use reading::reader::process;
+use reading::reader::wide;
+use rules::plan::Plan;
+use rules::plan::become_nil;
+use rules::plan::refuse;
+use rules::turn::word;
+ghost use mathlib.Core.Path.{_≡_};
+ghost use Rattle.scopes.specs.Compensating.{levelsAt, movedW, compensatedW};
+
+// How many levels a process may have that stands at a level.
+fn levels_at(level: usize) -> usize
+    ensures { λ r. ⌜ r ≡ levelsAt level ⌝ }
+{
+    if level < 65 { 65 - level } else { 0 }
+}
+
+// What was taken out of the list stands in the place of the process; the list without it is in the first fresh words.
+fn moved(ws: &[u16], s: Spot, t: Taken, bound: usize, fresh: &mut [u16]) -> Plan
+    ensures { λ r. ⌜ (r ≡ movedW bound (now (ws .entry)) s t (now (fresh .entry)) .plan) × (now (fresh .exit) ≡ movedW bound (now (ws .entry)) s t (now (fresh .entry)) .fresh) ⌝ }
+{
+    let l = further(s.scope, 2);
+    let m = list(ws, l, 64, 0, 128, bound);
+    let f = t.to;
+    let from = t.from;
+    let upto = t.upto;
+    let g = copy(ws, from, upto, fresh, f);
+    let a = s.at;
+    let b = further(a, 1);
+    Plan {
+        number: 0,
+        l,
+        m,
+        f,
+        a,
+        b,
+        g,
+        c: b,
+        d: b,
+        x: 32,
+        v: 0,
+    }
+}
+
+// The comp at `s`, in the engine's process that begins at `start`.
+pub fn compensated(
+    ws: &[u16],
+    start: usize,
+    s: Spot,
+    bound: usize,
+    fresh: &mut [u16],
+) -> Plan
+    ensures { λ r. ⌜ (r ≡ compensatedW bound (now (ws .entry)) start s (now (fresh .entry)) .plan) × (now (fresh .exit) ≡ compensatedW bound (now (ws .entry)) start s (now (fresh .entry)) .fresh) ⌝ }
+{
+    if s.scope == 0 {
+        return become_nil(s, start, start, 0, 32, 0, fresh);
+    }
+    let key = 64 + wide(word(ws, s.at)) / 32 % 64;
+    let t = take(ws, further(s.scope, 2), key, 64, bound, fresh);
+    if t.upto == 0 {
+        return become_nil(s, start, start, 0, 32, 0, fresh);
+    }
+    if process(ws, t.from, levels_at(s.level), 0, bound) == 0 {
+        return refuse(8);
+    }
+    moved(ws, s, t, bound, fresh)
+}

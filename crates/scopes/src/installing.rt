@@ -1,0 +1,52 @@
+// inst: the nearest scope's list is updated by its own.
+use crate::level::level;
+use finding::find::Spot;
+use handling::update::update;
+use moving::write::further;
+use reading::reader::list;
+use rules::plan::Plan;
+use rules::plan::become_nil;
+use rules::plan::refuse;
+ghost use mathlib.Core.Path.{_≡_};
+ghost use Rattle.scopes.specs.Installing.{tooDeepW, updatedW, installedW};
+
+// Whether entries of so many levels are too deep, in a scope at a level.
+fn too_deep(level: usize, levels: usize) -> bool
+    ensures { λ r. ⌜ r ≡ tooDeepW level levels ⌝ }
+{
+    if 64 < levels {
+        return true;
+    }
+    64 < further(level, levels)
+}
+
+// The list at `l` becomes the first `f` fresh words, the process nil.
+fn updated(ws: &[u16], s: Spot, l: usize, f: usize, bound: usize, fresh: &mut [u16]) -> Plan
+    ensures { λ r. ⌜ (r ≡ updatedW bound (now (ws .entry)) s l f (now (fresh .entry)) .plan) × (now (fresh .exit) ≡ updatedW bound (now (ws .entry)) s l f (now (fresh .entry)) .fresh) ⌝ }
+{
+    let m = list(ws, l, 64, 0, 128, bound);
+    become_nil(s, l, m, f, 32, 0, fresh)
+}
+
+// The inst at `s`, in the engine's process that begins at `start`.
+pub fn installed(
+    ws: &[u16],
+    start: usize,
+    s: Spot,
+    bound: usize,
+    fresh: &mut [u16],
+) -> Plan
+    ensures { λ r. ⌜ (r ≡ installedW bound (now (ws .entry)) start s (now (fresh .entry)) .plan) × (now (fresh .exit) ≡ installedW bound (now (ws .entry)) start s (now (fresh .entry)) .fresh) ⌝ }
+{
+    if s.scope == 0 {
+        return become_nil(s, start, start, 0, 32, 0, fresh);
+    }
+    let scope = s.scope;
+    let l = further(scope, 2);
+    let u = update(ws, l, further(s.at, 1), 64, bound, fresh);
+    if too_deep(level(ws, start, scope, bound), u.levels) {
+        return refuse(8);
+    }
+    let f = u.to;
+    updated(ws, s, l, f, bound, fresh)
+}
