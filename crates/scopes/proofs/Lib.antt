@@ -1,0 +1,3 @@
+pub mod Compensates
+pub mod NearestLists
+pub mod ScopeLists

@@ -1,0 +1,307 @@
+-- The law of comp: the handler under its name runs in its place, and the nearest scope has lost it.
+-- Assumes nothing.
+use Prim.Native.Nat.{ℕ, zero, suc, _+_, _-_, _*_, _≤_, _<_, max}
+use native.Mathlib.Omega.{arith}
+use mathlib.Core.Path.{_≡_, refl, sym, ap, _∙_}
+use mathlib.Core.Bool.{Bool, true, false, not, cond}
+use mathlib.Core.Option.{some}
+use mathlib.Core.List.{List, [], _∷_, _++_, append-nil}
+use borrow.Author.Tests.{eq-eqb, ne-eqb, leb-true, leb-false, ltb-false}
+use lib.Dec.{T, eqb, leb, ltb}
+use lib.ListN.{length, getD, take, drop, length-append, length-drop}
+use lib.Seq.{drop-at, take-add}
+use Rattle.sock.specs.Words.{nameOf, scopeKey}
+use Rattle.sock.specs.Term.{Node, node, absent, Entries, noParts, isNil, nilNode}
+use Rattle.sock.specs.Layout.{count, exprsWords, words, entriesWords, depth, entriesDepth}
+use Rattle.sock.specs.Reading.{code, anywhere, holds}
+use Rattle.sock.specs.Running.{Run, nil, act, runWords, size, runDepth, enable}
+use Rattle.sock.specs.Handlers.{handler, without}
+use Rattle.sock.specs.Frames.{Frame, Located, isDone, plug, nearest, onNearest}
+use Rattle.sock.proofs.Fits.{Fits, SoundFrames}
+use Rattle.sock.proofs.Handlers.{handler-fits}
+use Rattle.sock.proofs.Frames.{nearest-fits, nearest-sound}
+use Rattle.sock.proofs.Running.{enable-asNode, enable-done}
+use Rattle.sock.proofs.Measures.{words-act}
+use Rattle.reading.specs.Walk.{listEnd, processEnd}
+use Rattle.reading.proofs.Combining.{Words}
+use Rattle.reading.proofs.Ended.{code-end}
+use Rattle.finding.specs.declared.find.Spot.{Spot}
+use Rattle.finding.proofs.Framing.{scoped, region, nearest-self}
+use Rattle.finding.proofs.Spots.{Spotted}
+use Rattle.finding.proofs.Edits.{part, edited, swap-edited, process-at, list-at, region-changed, scope-none}
+use Rattle.moving.specs.Writing.{onward, pasted, pastedEnd}
+use Rattle.moving.proofs.Laid.{Near, onward-near, Laid, laid-under, laid-copy, copy-end}
+use Rattle.handling.specs.Taking.{Took, takeW}
+use Rattle.handling.proofs.Takes.{Takes, takes, Stands, without-absent, handler-absent}
+use Rattle.rules.specs.declared.plan.Plan.{Plan}
+use Rattle.rules.specs.Planning.{Planned, planned, refusedPlan, nilW}
+use Rattle.rules.proofs.Turns.{first-at, enable-words}
+use Rattle.rules.proofs.Deep.{code-fits}
+use Rattle.rules.proofs.Depths.{spread, plug-depth, plug-too-deep}
+use Rattle.rules.proofs.Plans.{Ordered, Plans, plans-of, done-nil}
+use Rattle.rules.proofs.Outcomes.{Ruled, tooDeep, ruled}
+use Rattle.scopes.specs.Compensating.{levelsAt, movedW, compensatedW}
+use Rattle.scopes.proofs.NearestLists.{nearest-empty, nearest-kept, nearest-length, nearest-spread, nearest-within, without-keeps, without-shallow, without-short, handler-lives}
+use Rattle.scopes.proofs.ScopeLists.{whole-inside, frames-deep, level-low, nil-ruled, process-inside, list-deep, region-length, list-first, list-before, list-inside, to-list, list-ends}
+
+levels-at : (level : ℕ) → levelsAt level ≡ 65 - level
+unfolding levelsAt
+levels-at level = by (ltb level 65) refl
+  where
+    by : (b : Bool) → ltb level 65 ≡ b → cond b (65 - level) 0 ≡ 65 - level
+    by true q = refl
+    by false q = let z : 65 ≤ level = ltb-false level 65 q in omega arith
+
+node-some : (x : Node) → 0 < length (words x)
+unfolding words
+node-some (node a b c d e) = omega arith
+
+-- words laid behind others
+pub laid-part : {out : List ℕ} {to upto : ℕ} {new last : List ℕ} → to ≤ length out → Laid out to new last → upto ≡ to + length new → part to upto last ≡ new
+laid-part {out} {to} {upto} {new} {last} h x e =
+    let n : upto - to ≡ length new = omega arith in
+    let front : take to last ≡ take to out = laid-under h x in
+    let whole : take to last ++ take (length new) (drop to last) ≡ take to last ++ new =
+    sym (take-add to (length new) last) ∙ (x .begins ∙ ap (λ l. l ++ new) (sym front)) in
+    ap (λ k. take k (drop to last)) n
+    ∙ (sym (drop-at (take to last) (take (length new) (drop to last)) (length (take to last)) refl)
+    ∙ (ap (drop (length (take to last))) whole ∙ drop-at (take to last) new (length (take to last)) refl))
+
+module _ (f target : ℕ) (r : Run) (start : ℕ) (l : Located) (s : Spot) (ws : List ℕ) (words-at : drop start ws ≡ runWords r ++ drop (start + size r) ws)
+    (spotted : Spotted f target r start 1 l s) (near : Near (length ws)) {n issued : ℕ} (frames : SoundFrames n issued (l .frames)) (deep : runDepth r ≤ 64)
+    (pos : 0 < start) (ok : Words ws) (few : n ≤ 8) (small : issued < 65536) (short : length ws ≤ 8192)
+    (fresh : List ℕ) (room : 16384 ≤ length fresh) (big : Near (length fresh))
+    (h : ℕ) (is : l .process ≡ act (node h [] [] absent noParts)) where
+  abbrev bound : ℕ
+  bound = n * 65536 + issued
+
+  abbrev k : ℕ
+  k = scopeKey (nameOf h)
+
+  abbrev es : Entries
+  es = nearest (l .frames)
+
+  abbrev m : Node
+  m = handler k es
+
+  abbrev changed : List Frame
+  changed = onNearest (without k) (l .frames)
+
+  fitting : Fits (code false) anywhere m
+  fitting = handler-fits true k (nearest-fits frames)
+
+  one-word : runWords (l .process) ≡ h ∷ []
+  unfolding words exprsWords
+  one-word = ap runWords is ∙ words-act (node h [] [] absent noParts)
+
+  head-at : getD ws (s .at) 0 ≡ h
+  head-at =
+      let a = process-at f target r start 1 l s ws (drop (start + size r) ws) words-at spotted in
+      ap (λ i. getD ws i 0) (spotted .at) ∙ first-at ws target h (a .0) (a .1 ∙ ap (λ w. w ++ a .0) one-word)
+
+  one-inside : target + 1 ≤ start + size r
+  unfolding size
+  one-inside = omega (arith, process-inside f target r start l s ws words-at spotted near frames deep, ap length one-word)
+
+  -- no handler, no change
+  gone : m ≡ nilNode → changed ≡ l .frames → plug (l .frames) nil ≡ plug changed (enable m)
+  gone e c = sym (ap (λ fs. plug fs (enable m)) c ∙ ap (plug (l .frames)) (done-nil (enable m) (enable-done fitting ∙ ap isNil e)))
+
+  abbrev Result : Planned → Type 0
+  Result u = Ruled ws start (start + size r) (u .plan) (u .fresh) (some (plug changed (enable m))) × (u .plan .x ≡ 32)
+
+  stays-nil : (made : List ℕ) → length made ≡ length fresh → m ≡ nilNode → changed ≡ l .frames → Result (nilW s start start 0 32 0 made)
+  stays-nil made same e c =
+      rw (← (gone e c)) (nil-ruled f target r start l s ws words-at spotted near frames deep made (omega arith) (rw same big))
+
+  bare : T (not (scoped (l .frames))) → Result (compensatedW bound ws start s fresh)
+  unfolding compensatedW handler
+  bare t =
+      let z = scope-none f target r start 1 l s ws (drop (start + size r) ws) words-at spotted t in
+      rw (eq-eqb (s .scope) 0 z)
+      (stays-nil fresh refl (ap (handler k) (nearest-empty (l .frames) t)) (nearest-self (without k) (l .frames) t))
+
+  -- with a scope around it
+  module _ (t : T (scoped (l .frames))) where
+    abbrev took : Took
+    took = takeW 64 bound ws (s .scope + 2) k fresh
+
+    taking : Takes ws k es fresh took
+    taking =
+        let a = list-at f target r start 1 l s ws (drop (start + size r) ws) words-at spotted t in
+        takes ws near bound 64 (λ d i x rest g b e. code-end ws ok n issued few small g d i b rest e) k (nearest-fits frames)
+        (list-deep f target r start l s ws words-at spotted near frames deep t) (s .scope + 2) (a .0) (a .1) fresh
+
+    list-short : s .scope + 3 + length (entriesWords es) ≤ 8192
+    list-short =
+        omega (
+          arith,
+          list-inside f target r start l s ws words-at spotted near frames deep t,
+          region-length f target r start l s ws words-at spotted near frames deep t,
+        )
+
+    changed-sound : SoundFrames n issued changed
+    changed-sound = nearest-sound (without-keeps (nameOf h)) frames
+
+    changed-deep : spread changed ≤ 64
+    changed-deep =
+        omega (
+          arith,
+          nearest-spread (without k) (l .frames),
+          nearest-within (l .frames) t,
+          without-shallow k es,
+          frames-deep f target r start l s ws words-at spotted near frames deep .0,
+        )
+
+    enabled-deep : runDepth (enable m) ≡ depth m
+    unfolding runDepth
+    enabled-deep = ap depth (enable-asNode fitting)
+
+    -- a handler is there
+    module _ (there : holds k es ≡ true) where
+      abbrev from : ℕ
+      from = took .answer .from
+
+      abbrev upto : ℕ
+      upto = took .answer .upto
+
+      abbrev to : ℕ
+      to = took .answer .to
+
+      stands : Stands ws from upto m
+      stands = taking .present there
+
+      lives : isDone (enable m) ≡ false
+      lives = enable-done fitting ∙ handler-lives (nameOf h) (nearest-fits frames) there
+
+      some-words : 0 < length (words m)
+      some-words = node-some m
+
+      handler-inside : from + length (words m) ≤ length ws
+      handler-inside =
+          let e : drop from ws ≡ words m ++ stands .0 = stands .1 .0 in
+          let a : length ws - from ≡ length (words m ++ stands .0) = sym (length-drop from ws) ∙ ap length e in
+          omega (arith, length-append (words m) (stands .0), some-words)
+
+      room-enough : to + length (words m) ≤ length fresh
+      room-enough = omega (arith, taking .reaches, without-short k es, list-short, handler-inside)
+
+      pasting : Laid (took .out) to (words m) (pasted ws from upto (took .out) to)
+      pasting =
+          laid-copy ws (words m) (stands .0) from upto (took .out) to (stands .1 .0) (omega (arith, handler-inside)) (stands .1 .1)
+          (omega (arith, room-enough, taking .keeps))
+
+      pasted-to : pastedEnd ws from upto to ≡ to + length (words m)
+      pasted-to = copy-end ws (words m) (stands .0) from upto to (length fresh) (stands .1 .0) (omega (arith, handler-inside)) (stands .1 .1) big room-enough
+
+      list-made : take to (pasted ws from upto (took .out) to) ≡ region changed
+      list-made =
+          laid-under (omega (arith, room-enough, taking .keeps)) pasting
+          ∙ (ap (λ i. take i (took .out)) (taking .reaches)
+          ∙ (taking .laid (omega (arith, taking .reaches, room-enough))
+          ∙ sym (region-changed (without k) (l .frames) t)))
+
+      handler-made : part to (to + length (words m)) (pasted ws from upto (took .out) to) ≡ words m
+      handler-made = laid-part (omega (arith, room-enough, taking .keeps)) pasting refl
+
+      moves : Plans ws start (start + size r) (movedW bound ws s (took .answer) (took .out) .plan) (movedW bound ws s (took .answer) (took .out) .fresh)
+          (plug changed (enable m))
+      unfolding movedW
+      moves =
+          let inside = whole-inside f target r start l s ws words-at spotted near frames deep in
+          let before = list-before f target r start l s ws words-at spotted near frames deep t in
+          rw (
+            to-list f target r start l s ws words-at spotted near frames deep t,
+            list-ends f target r start l s ws words-at spotted near frames deep t ok bound,
+            spotted .at,
+            onward-near target 1 (length ws) near (omega (arith, inside, one-inside)),
+            pasted-to,
+          )
+          (plans-of ws start (start + size r) _ (pasted ws from upto (took .out) to)
+          (record {
+            l-in = omega (arith, list-first f target r start l s ws words-at spotted near frames deep t);
+            m-in = omega arith;
+            a-in = before;
+            b-in = omega arith;
+            c-in = omega arith;
+            d-in = omega arith;
+            end-in = one-inside;
+            fresh-in = omega arith;
+          })
+          inside (plug changed (enable m)) (omega (arith, room-enough, pasting .keeps, taking .keeps))
+          (ap (λ new. edited ws (s .scope + 2) (s .scope + 2 + length (region (l .frames))) new target (target + 1)
+          (part to (to + length (words m)) (pasted ws from upto (took .out) to)) (target + 1) (target + 1)) list-made
+          ∙ (ap (λ new. edited ws (s .scope + 2) (s .scope + 2 + length (region (l .frames))) (region changed) target (target + 1) new (target + 1) (target + 1))
+          handler-made
+          ∙ swap-edited f target r start 1 l s ws (drop (start + size r) ws) words-at spotted (enable m) (h ∷ []) [] [] (words m)
+          (target + 1) (target + 1) (target + 1) lives one-word (enable-words fitting ∙ sym (append-nil (words m)))
+          (omega arith) (omega arith) (omega arith) (without k) t)))
+
+      -- if there are levels left for it
+      placed : (b : Bool) → leb (depth m) (levelsAt (s .level)) ≡ b →
+          Result (cond (eqb (cond b (from + length (words m)) 0) 0) (planned (refusedPlan 8) (took .out)) (movedW bound ws s (took .answer) (took .out)))
+      unfolding movedW
+      placed false e =
+          let low = level-low f target r start l s ws words-at spotted near frames deep in
+          (tooDeep refl
+          (plug-too-deep changed-sound (enable m) 64 lives
+          (omega (
+            arith,
+            enabled-deep,
+            leb-false (depth m) (levelsAt (s .level)) e,
+            levels-at (s .level),
+            spotted .level,
+            nearest-length (without k) (l .frames),
+            low,
+          ))),
+          refl)
+      placed true e =
+          let low = level-low f target r start l s ws words-at spotted near frames deep in
+          let d = plug-depth changed-sound (enable m) lives in
+          rw (ne-eqb (from + length (words m)) 0 (λ z. omega (arith, some-words)))
+          (ruled refl moves
+          (omega (
+            arith,
+            d,
+            changed-deep,
+            enabled-deep,
+            leb-true (depth m) (levelsAt (s .level)) e,
+            levels-at (s .level),
+            spotted .level,
+            nearest-length (without k) (l .frames),
+            low,
+          )),
+          refl)
+
+    under : (b : Bool) → holds k es ≡ b → Result (compensatedW bound ws start s fresh)
+    unfolding compensatedW
+    under b e =
+        let first = list-first f target r start l s ws words-at spotted near frames deep t in
+        rw (ne-eqb (s .scope) 0 (λ z. omega arith), to-list f target r start l s ws words-at spotted near frames deep t, head-at) (by b e)
+      where
+        by : (b : Bool) → holds k es ≡ b →
+            Result (cond (eqb (took .answer .upto) 0) (nilW s start start 0 32 0 (took .out))
+            (cond (eqb (processEnd (levelsAt (s .level)) ws bound 0 (took .answer .from)) 0) (planned (refusedPlan 8) (took .out))
+            (movedW bound ws s (took .answer) (took .out))))
+        by true e =
+            let x : Stands ws (took .answer .from) (took .answer .upto) m = stands e in
+            rw (
+              ne-eqb (took .answer .upto) 0 (λ z. omega (arith, x .1 .1, some-words e)),
+              code-fits ws ok n issued few small fitting (levelsAt (s .level)) (took .answer .from) (x .0) (x .1 .0),
+            )
+            (placed e (leb (depth m) (levelsAt (s .level))) refl)
+        by false e =
+            rw (eq-eqb (took .answer .upto) 0 (taking .absent e .0))
+            (stays-nil (took .out) (taking .keeps) (taking .absent e .1) (nearest-kept (without k) (l .frames) (without-absent k es e)))
+
+  -- the rule
+  pub compensates :
+      (let u = compensatedW (n * 65536 + issued) ws start s fresh in
+      Ruled ws start (start + size r) (u .plan) (u .fresh)
+      (some (plug (onNearest (without (scopeKey (nameOf h))) (l .frames)) (enable (handler (scopeKey (nameOf h)) (nearest (l .frames))))))
+      × (u .plan .x ≡ 32))
+  compensates = by (scoped (l .frames)) refl
+    where
+      by : (b : Bool) → scoped (l .frames) ≡ b → Result (compensatedW bound ws start s fresh)
+      by true e = under (rw e tt) (holds k es) refl
+      by false e = bare (rw e tt)
