@@ -1,6 +1,6 @@
 -- The law of comp: the handler under its name runs in its place, and the nearest scope has lost it.
 -- Assumes nothing.
-use Prim.Native.Nat.{ℕ, zero, suc, _+_, _-_, _*_, _≤_, _<_, max}
+use Prim.Native.Nat.{ℕ, _+_, _-_, _*_, _≤_, _<_}
 use native.Mathlib.Omega.{arith}
 use mathlib.Core.Path.{_≡_, refl, sym, ap, _∙_}
 use mathlib.Core.Bool.{Bool, true, false, not, cond}
@@ -9,10 +9,9 @@ use mathlib.Core.List.{List, [], _∷_, _++_, append-nil}
 use borrow.Author.Tests.{eq-eqb, ne-eqb, leb-true, leb-false, ltb-false}
 use lib.Dec.{T, eqb, leb, ltb}
 use lib.ListN.{length, getD, take, drop, length-append, length-drop}
-use lib.Seq.{drop-at, take-add}
 use Rattle.sock.specs.Words.{nameOf, scopeKey}
 use Rattle.sock.specs.Term.{Node, node, absent, Entries, noParts, isNil, nilNode}
-use Rattle.sock.specs.Layout.{count, exprsWords, words, entriesWords, depth, entriesDepth}
+use Rattle.sock.specs.Layout.{exprsWords, words, entriesWords, depth}
 use Rattle.sock.specs.Reading.{code, anywhere, holds}
 use Rattle.sock.specs.Running.{Run, nil, act, runWords, size, runDepth, enable}
 use Rattle.sock.specs.Handlers.{handler, without}
@@ -22,25 +21,25 @@ use Rattle.sock.proofs.Handlers.{handler-fits}
 use Rattle.sock.proofs.Frames.{nearest-fits, nearest-sound}
 use Rattle.sock.proofs.Running.{enable-asNode, enable-done}
 use Rattle.sock.proofs.Measures.{words-act}
-use Rattle.reading.specs.Walk.{listEnd, processEnd}
+use Rattle.reading.specs.Walk.{processEnd}
 use Rattle.reading.proofs.Combining.{Words}
 use Rattle.reading.proofs.Ended.{code-end}
 use Rattle.finding.specs.declared.find.Spot.{Spot}
 use Rattle.finding.proofs.Framing.{scoped, region, nearest-self}
 use Rattle.finding.proofs.Spots.{Spotted}
 use Rattle.finding.proofs.Edits.{part, edited, swap-edited, process-at, list-at, region-changed, scope-none}
-use Rattle.moving.specs.Writing.{onward, pasted, pastedEnd}
+use Rattle.moving.specs.Writing.{pasted, pastedEnd}
 use Rattle.moving.proofs.Laid.{Near, onward-near, Laid, laid-under, laid-copy, copy-end}
 use Rattle.handling.specs.Taking.{Took, takeW}
-use Rattle.handling.proofs.Takes.{Takes, takes, Stands, without-absent, handler-absent}
-use Rattle.rules.specs.declared.plan.Plan.{Plan}
+use Rattle.handling.proofs.Takes.{Takes, takes, Stands, without-absent}
 use Rattle.rules.specs.Planning.{Planned, planned, refusedPlan, nilW}
 use Rattle.rules.proofs.Turns.{first-at, enable-words}
 use Rattle.rules.proofs.Deep.{code-fits}
 use Rattle.rules.proofs.Depths.{spread, plug-depth, plug-too-deep}
-use Rattle.rules.proofs.Plans.{Ordered, Plans, plans-of, done-nil}
+use Rattle.rules.proofs.Plans.{Plans, plans-of, done-nil}
 use Rattle.rules.proofs.Outcomes.{Ruled, tooDeep, ruled}
 use Rattle.scopes.specs.Compensating.{levelsAt, movedW, compensatedW}
+use Rattle.scopes.proofs.NilLists.{laid-part}
 use Rattle.scopes.proofs.NearestLists.{nearest-empty, nearest-kept, nearest-length, nearest-spread, nearest-within, without-keeps, without-shallow, without-short, handler-lives}
 use Rattle.scopes.proofs.ScopeLists.{whole-inside, frames-deep, level-low, nil-ruled, process-inside, list-deep, region-length, list-first, list-before, list-inside, to-list, list-ends}
 
@@ -55,17 +54,6 @@ levels-at level = by (ltb level 65) refl
 node-some : (x : Node) → 0 < length (words x)
 unfolding words
 node-some (node a b c d e) = omega arith
-
--- words laid behind others
-pub laid-part : {out : List ℕ} {to upto : ℕ} {new last : List ℕ} → to ≤ length out → Laid out to new last → upto ≡ to + length new → part to upto last ≡ new
-laid-part {out} {to} {upto} {new} {last} h x e =
-    let n : upto - to ≡ length new = omega arith in
-    let front : take to last ≡ take to out = laid-under h x in
-    let whole : take to last ++ take (length new) (drop to last) ≡ take to last ++ new =
-    sym (take-add to (length new) last) ∙ (x .begins ∙ ap (λ l. l ++ new) (sym front)) in
-    ap (λ k. take k (drop to last)) n
-    ∙ (sym (drop-at (take to last) (take (length new) (drop to last)) (length (take to last)) refl)
-    ∙ (ap (drop (length (take to last))) whole ∙ drop-at (take to last) new (length (take to last)) refl))
 
 module _ (f target : ℕ) (r : Run) (start : ℕ) (l : Located) (s : Spot) (ws : List ℕ) (words-at : drop start ws ≡ runWords r ++ drop (start + size r) ws)
     (spotted : Spotted f target r start 1 l s) (near : Near (length ws)) {n issued : ℕ} (frames : SoundFrames n issued (l .frames)) (deep : runDepth r ≤ 64)
@@ -242,36 +230,38 @@ module _ (f target : ℕ) (r : Run) (start : ℕ) (l : Located) (s : Spot) (ws :
           Result (cond (eqb (cond b (from + length (words m)) 0) 0) (planned (refusedPlan 8) (took .out)) (movedW bound ws s (took .answer) (took .out)))
       unfolding movedW
       placed false e =
-          let low = level-low f target r start l s ws words-at spotted near frames deep in
-          (tooDeep refl
-          (plug-too-deep changed-sound (enable m) 64 lives
-          (omega (
-            arith,
-            enabled-deep,
-            leb-false (depth m) (levelsAt (s .level)) e,
-            levels-at (s .level),
-            spotted .level,
-            nearest-length (without k) (l .frames),
-            low,
-          ))),
-          refl)
+          let low = level-low f target r start l s ws words-at spotted near frames deep in (
+            tooDeep refl
+                (plug-too-deep changed-sound (enable m) 64 lives
+                (omega (
+                  arith,
+                  enabled-deep,
+                  leb-false (depth m) (levelsAt (s .level)) e,
+                  levels-at (s .level),
+                  spotted .level,
+                  nearest-length (without k) (l .frames),
+                  low,
+                ))),
+            refl,
+          )
       placed true e =
           let low = level-low f target r start l s ws words-at spotted near frames deep in
           let d = plug-depth changed-sound (enable m) lives in
-          rw (ne-eqb (from + length (words m)) 0 (λ z. omega (arith, some-words)))
-          (ruled refl moves
-          (omega (
-            arith,
-            d,
-            changed-deep,
-            enabled-deep,
-            leb-true (depth m) (levelsAt (s .level)) e,
-            levels-at (s .level),
-            spotted .level,
-            nearest-length (without k) (l .frames),
-            low,
-          )),
-          refl)
+          rw (ne-eqb (from + length (words m)) 0 (λ z. omega (arith, some-words))) (
+            ruled refl moves
+                (omega (
+                  arith,
+                  d,
+                  changed-deep,
+                  enabled-deep,
+                  leb-true (depth m) (levelsAt (s .level)) e,
+                  levels-at (s .level),
+                  spotted .level,
+                  nearest-length (without k) (l .frames),
+                  low,
+                )),
+            refl,
+          )
 
     under : (b : Bool) → holds k es ≡ b → Result (compensatedW bound ws start s fresh)
     unfolding compensatedW

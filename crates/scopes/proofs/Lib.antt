@@ -1,3 +1,5 @@
 pub mod Compensates
+pub mod Installs
 pub mod NearestLists
+pub mod NilLists
 pub mod ScopeLists

@@ -1,18 +1,17 @@
 -- The nearest scope's list of a process that was found: where its words stand and end, and how deep it is.
 -- Assumes nothing.
-use Prim.Native.Nat.{ℕ, zero, suc, _+_, _-_, _*_, _≤_, _<_, max}
+use Prim.Native.Nat.{ℕ, suc, _+_, _-_, _≤_, _<_, max}
 use native.Mathlib.Omega.{arith}
-use mathlib.Core.Path.{_≡_, refl, sym, ap, _∙_}
-use mathlib.Core.Bool.{Bool, true, false}
+use mathlib.Core.Path.{_≡_, sym, ap, _∙_}
+use mathlib.Core.Bool.{true}
 use mathlib.Core.Option.{some}
-use mathlib.Core.List.{List, _∷_, _++_}
+use mathlib.Core.List.{List, _++_}
 use lib.Dec.{T}
 use lib.ListN.{length, drop, length-append, length-drop}
-use Rattle.sock.specs.Term.{Entries}
-use Rattle.sock.specs.Layout.{count, entriesWords, entriesDepth}
+use Rattle.sock.specs.Layout.{entriesWords, entriesDepth}
 use Rattle.sock.specs.Running.{Run, nil, runWords, size, runDepth}
-use Rattle.sock.specs.Frames.{Frame, Located, plug, nearest}
-use Rattle.sock.proofs.Fits.{FitsEntries, SoundFrames}
+use Rattle.sock.specs.Frames.{Located, plug, nearest}
+use Rattle.sock.proofs.Fits.{SoundFrames}
 use Rattle.sock.proofs.Frames.{nearest-fits}
 use Rattle.sock.proofs.Located.{wrap, size-positive}
 use Rattle.sock.proofs.Measures.{depth-nil}
@@ -31,7 +30,7 @@ use Rattle.rules.specs.Planning.{nilW, plainW}
 use Rattle.rules.proofs.Turns.{becomes-nil}
 use Rattle.rules.proofs.Depths.{spread, wrap-depth, depth-some}
 use Rattle.rules.proofs.Outcomes.{Ruled, becomes-ruled}
-use Rattle.scopes.proofs.NearestLists.{outside, nearest-within}
+use Rattle.scopes.proofs.NearestLists.{nearest-within}
 
 module _ (f target : ℕ) (r : Run) (start : ℕ) (l : Located) (s : Spot) (ws : List ℕ) (words : drop start ws ≡ runWords r ++ drop (start + size r) ws)
     (spotted : Spotted f target r start 1 l s) (near : Near (length ws)) {n issued : ℕ} (frames : SoundFrames n issued (l .frames)) (deep : runDepth r ≤ 64) where

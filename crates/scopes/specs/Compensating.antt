@@ -9,7 +9,6 @@ use Rattle.moving.specs.Writing.{onward, pasted, pastedEnd}
 use Rattle.finding.specs.declared.find.Spot.{Spot}
 use Rattle.handling.specs.declared.take.Taken.{Taken}
 use Rattle.handling.specs.Taking.{takeW}
-use Rattle.rules.specs.declared.plan.Plan.{Plan}
 use Rattle.rules.specs.Planning.{Planned, planned, refusedPlan, nilW}
 
 unfoldable pub levelsAt : ℕ → ℕ

@@ -49,13 +49,7 @@ fn moved(ws: &[u16], s: Spot, t: Taken, bound: usize, fresh: &mut [u16]) -> Plan
 }
 
 // The comp at `s`, in the engine's process that begins at `start`.
-pub fn compensated(
-    ws: &[u16],
-    start: usize,
-    s: Spot,
-    bound: usize,
-    fresh: &mut [u16],
-) -> Plan
+pub fn compensated(ws: &[u16], start: usize, s: Spot, bound: usize, fresh: &mut [u16]) -> Plan
     ensures { λ r. ⌜ (r ≡ compensatedW bound (now (ws .entry)) start s (now (fresh .entry)) .plan) × (now (fresh .exit) ≡ compensatedW bound (now (ws .entry)) start s (now (fresh .entry)) .fresh) ⌝ }
 {
     if s.scope == 0 {

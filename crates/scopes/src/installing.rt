@@ -29,13 +29,7 @@ fn updated(ws: &[u16], s: Spot, l: usize, f: usize, bound: usize, fresh: &mut [u
 }
 
 // The inst at `s`, in the engine's process that begins at `start`.
-pub fn installed(
-    ws: &[u16],
-    start: usize,
-    s: Spot,
-    bound: usize,
-    fresh: &mut [u16],
-) -> Plan
+pub fn installed(ws: &[u16], start: usize, s: Spot, bound: usize, fresh: &mut [u16]) -> Plan
     ensures { λ r. ⌜ (r ≡ installedW bound (now (ws .entry)) start s (now (fresh .entry)) .plan) × (now (fresh .exit) ≡ installedW bound (now (ws .entry)) start s (now (fresh .entry)) .fresh) ⌝ }
 {
     if s.scope == 0 {

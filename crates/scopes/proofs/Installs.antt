@@ -1,0 +1,237 @@
+-- The law of inst: the nearest scope's list is updated by its own, which may make it too deep.
+-- Assumes nothing.
+use Prim.Native.Nat.{ℕ, zero, suc, _+_, _-_, _*_, _≤_, _<_}
+use native.Mathlib.Omega.{arith}
+use native.Mathlib.Nat.{le-trans, mul-le-mul-left, mul-le-mul-right}
+use mathlib.Core.Path.{_≡_, refl, sym, ap, _∙_}
+use mathlib.Core.Bool.{Bool, true, false, not, cond}
+use mathlib.Core.Option.{Option, none, some}
+use mathlib.Core.List.{List, [], _∷_, _++_, append-nil}
+use borrow.Author.Tests.{eq-eqb, ne-eqb, lt-ltb, ltb-true, ltb-false}
+use lib.Dec.{T, ltb}
+use lib.ListN.{length, take, drop}
+use Rattle.sock.specs.Term.{node, list, Entries, noParts}
+use Rattle.sock.specs.Layout.{count, exprsWords, words, entriesWords, exprsDepth, depth, entriesDepth}
+use Rattle.sock.specs.Running.{Run, nil, seq, par, scope, executor, act, runWords, size, runDepth}
+use Rattle.sock.specs.Handlers.{update}
+use Rattle.sock.specs.Frames.{Frame, seqFrame, leftFrame, rightFrame, scopeFrame, executorFrame, Located, plug, nearest, onNearest}
+use Rattle.sock.proofs.Fits.{FitsEntries, Sound, SoundFrames}
+use Rattle.sock.proofs.Frames.{nearest-fits, nearest-sound}
+use Rattle.sock.proofs.Located.{wrap, size-positive}
+use Rattle.sock.proofs.Measures.{words-act, size-nil, depth-nil, depth-act}
+use Rattle.sock.proofs.Positions.{at-head}
+use Rattle.sock.proofs.Shrinking.{NoLarger, plug-shrinks}
+use Rattle.reading.proofs.Combining.{Words}
+use Rattle.reading.proofs.Ended.{code-end}
+use Rattle.finding.specs.declared.find.Spot.{Spot}
+use Rattle.finding.proofs.Framing.{scoped, region, nearest-self}
+use Rattle.finding.proofs.Within.{within}
+use Rattle.finding.proofs.Stops.{stopped, anyScope, Standing, nowhere, somewhere}
+use Rattle.finding.proofs.Spots.{Spotted}
+use Rattle.finding.proofs.Edits.{process-at, list-at, region-changed, scope-none}
+use Rattle.finding.proofs.Readers.{reader}
+use Rattle.finding.proofs.Search.{found}
+use Rattle.moving.specs.Writing.{onward}
+use Rattle.moving.proofs.Laid.{Near, near-of, onward-near}
+use Rattle.handling.specs.Updating.{Update, updateW}
+use Rattle.handling.proofs.Replaces.{replaces}
+use Rattle.handling.proofs.Grows.{replaced-small}
+use Rattle.handling.proofs.Sizes.{update-small}
+use Rattle.handling.proofs.Updates.{Updates, updates}
+use Rattle.rules.specs.Planning.{Planned, planned, refusedPlan, nilW}
+use Rattle.rules.proofs.Depths.{wrap-depth, depth-some}
+use Rattle.rules.proofs.Outcomes.{Ruled, tooDeep, ruled}
+use Rattle.scopes.specs.Levels.{levelOf, levelW}
+use Rattle.scopes.specs.Installing.{tooDeepW, updatedW, installedW}
+use Rattle.scopes.proofs.NearestLists.{outside, nearest-length, nearest-spread, nearest-within, nearest-deep, outside-stopped, update-keeps}
+use Rattle.scopes.proofs.ScopeLists.{whole-inside, frames-deep, nil-ruled, process-inside, list-deep, region-length, list-first, list-inside, to-list, list-ends}
+use Rattle.scopes.proofs.NilLists.{list-plans}
+
+-- ---- the level of the nearest scope
+
+stopped-some : (fs : List Frame) (a : Run) → T (scoped fs) → stopped anyScope fs a ≡ none → ⊥
+unfolding stopped scoped
+stopped-some [] a t e = absurd t
+stopped-some (seqFrame q ∷ fs) a t e = stopped-some fs (seq a q) t e
+stopped-some (leftFrame b ∷ fs) a t e = stopped-some fs (par a b) t e
+stopped-some (rightFrame b ∷ fs) a t e = stopped-some fs (par b a) t e
+stopped-some (scopeFrame name mark zombie h ∷ fs) a t e = let z : _≡_ {A = ℕ} 1 0 = ap of e in omega arith
+  where
+    of : Option Located → ℕ
+    of none = 0
+    of (some l) = 1
+stopped-some (executorFrame o y client serial ∷ fs) a t e = stopped-some fs (executor o y client serial a) t e
+
+standing-located :
+    {r : Run} {i k d : ℕ} {x : Option Located} → Standing r i x k → ((l : Located) → x ≡ some l → length (l .frames) ≡ d) → (x ≡ none → ⊥) →
+    (l : Located) × ((within r i k ≡ some l) × (length (l .frames) ≡ d))
+standing-located nowhere p q = absurd (q refl)
+standing-located (somewhere {l = l} h e) p q = (l, (e, p l refl))
+
+too-deep : (level levels : ℕ) → level ≤ 64 → tooDeepW level levels ≡ ltb 64 (level + levels)
+unfolding tooDeepW
+too-deep level levels h = by (ltb 64 levels) refl
+  where
+    by : (b : Bool) → ltb 64 levels ≡ b → cond b true (ltb 64 (onward level levels)) ≡ ltb 64 (level + levels)
+    by true e = let z : 64 < levels = ltb-true 64 levels e in sym (lt-ltb 64 (level + levels) (omega arith))
+    by false e =
+        let z : levels ≤ 64 = ltb-false 64 levels e in
+        ap (ltb 64) (onward-near level levels 128 (near-of 128 (omega arith)) (omega arith))
+
+module _ (f target : ℕ) (r : Run) (start : ℕ) (l : Located) (s : Spot) (ws : List ℕ) (words-at : drop start ws ≡ runWords r ++ drop (start + size r) ws)
+    (spotted : Spotted f target r start 1 l s) (near : Near (length ws)) {n issued : ℕ} (frames : SoundFrames n issued (l .frames)) (deep : runDepth r ≤ 64)
+    (pos : 0 < start) (ok : Words ws) (few : n ≤ 8) (small : issued < 65536) where
+  pub scope-level : Sound n issued r → T (scoped (l .frames)) → levelW (n * 65536 + issued) ws start (s .scope) ≡ suc (outside (l .frames))
+  unfolding levelW levelOf
+  scope-level sound t =
+      let x =
+      standing-located (spotted .nearest) (λ m e. outside-stopped (l .frames) (l .process) m t e) (stopped-some (l .frames) (l .process) t) in
+      let y =
+      found n issued (n * 65536 + issued) ws (reader ws ok n issued few small) (s .scope) sound 64 start 1 (drop (start + size r) ws) pos deep words-at
+      (x .0) (x .1 .0) in
+      ap levelOf (y .1 .0) ∙ (y .1 .1 .level ∙ omega (arith, x .1 .1))
+
+-- ---- the rule
+
+module _ (f target : ℕ) (r : Run) (start : ℕ) (l : Located) (s : Spot) (ws : List ℕ) (words-at : drop start ws ≡ runWords r ++ drop (start + size r) ws)
+    (spotted : Spotted f target r start 1 l s) (near : Near (length ws)) {n issued : ℕ} (frames : SoundFrames n issued (l .frames)) (deep : runDepth r ≤ 64)
+    (pos : 0 < start) (ok : Words ws) (few : n ≤ 8) (small : issued < 65536) (short : length ws ≤ 8192)
+    (fresh : List ℕ) (room : 16384 ≤ length fresh) (big : Near (length fresh)) (sound : Sound n issued r)
+    (h : ℕ) (new : Entries) (is : l .process ≡ act (node h [] [] (list new) noParts)) (fit : FitsEntries false zero new) where
+  abbrev bound : ℕ
+  bound = n * 65536 + issued
+
+  abbrev es : Entries
+  es = nearest (l .frames)
+
+  abbrev after : Entries
+  after = update es new
+
+  abbrev change : Entries → Entries
+  change x = update x new
+
+  abbrev changed : List Frame
+  changed = onNearest change (l .frames)
+
+  its-words : runWords (l .process) ≡ h ∷ count new ∷ entriesWords new
+  unfolding words exprsWords
+  its-words = ap runWords is ∙ (words-act (node h [] [] (list new) noParts) ∙ ap (λ x. h ∷ count new ∷ x) (append-nil (entriesWords new)))
+
+  its-depth : runDepth (l .process) ≡ suc (entriesDepth new)
+  unfolding depth exprsDepth
+  its-depth = ap runDepth is ∙ (depth-act (node h [] [] (list new) noParts) ∙ omega arith)
+
+  abbrev Result : Planned → Type 0
+  Result u = Ruled ws start (start + size r) (u .plan) (u .fresh) (some (plug changed nil)) × (u .plan .x ≡ 32)
+
+  bare : T (not (scoped (l .frames))) → Result (installedW bound ws start s fresh)
+  unfolding installedW
+  bare t =
+      let z = scope-none f target r start 1 l s ws (drop (start + size r) ws) words-at spotted t in
+      rw (eq-eqb (s .scope) 0 z, nearest-self change (l .frames) t)
+      (nil-ruled f target r start l s ws words-at spotted near frames deep fresh (omega arith) big)
+
+  -- with a scope around it
+  module _ (t : T (scoped (l .frames))) where
+    abbrev made : Update
+    made = updateW 64 bound ws (s .scope + 2) (target + 1) fresh
+
+    own-inside : target + 2 + length (entriesWords new) ≤ length ws
+    unfolding size
+    own-inside =
+        omega (
+          arith,
+          process-inside f target r start l s ws words-at spotted near frames deep,
+          ap length its-words,
+          whole-inside f target r start l s ws words-at spotted near frames deep,
+        )
+
+    list-short : 3 + length (entriesWords es) ≤ 8192
+    list-short =
+        omega (
+          arith,
+          list-inside f target r start l s ws words-at spotted near frames deep t,
+          region-length f target r start l s ws words-at spotted near frames deep t,
+        )
+
+    not-huge : length (entriesWords after) ≤ 8192 + 8192 * 8192
+    not-huge =
+        let a = update-small replaced-small (nearest-fits frames) fit in
+        let b : length (entriesWords new) * (2 + length (entriesWords es)) ≤ 8192 * 8192 =
+        le-trans (mul-le-mul-left (length (entriesWords new)) (let z : 2 + length (entriesWords es) ≤ 8192 = omega (arith, list-short) in z))
+        (mul-le-mul-right 8192 (let z : length (entriesWords new) ≤ 8192 = omega (arith, own-inside) in z)) in
+        omega (arith, list-short)
+
+    updating : Updates 64 es new fresh made
+    updating =
+        let a = list-at f target r start 1 l s ws (drop (start + size r) ws) words-at spotted t in
+        let b = process-at f target r start 1 l s ws (drop (start + size r) ws) words-at spotted in
+        let c = at-head ws target h (count new ∷ (entriesWords new ++ b .0)) (b .1 ∙ ap (λ w. w ++ b .0) its-words) in
+        updates ws near bound 64 (λ d i x rest g q e. code-end ws ok n issued few small g d i q rest e) (λ old o m c p. replaces ws near)
+        (nearest-fits frames) fit (list-deep f target r start l s ws words-at spotted near frames deep t)
+        (omega (arith, its-depth, frames-deep f target r start l s ws words-at spotted near frames deep .1))
+        (s .scope + 2) (a .0) (a .1) (target + 1) (b .0) (c .next) fresh
+        (near-of (1 + length (entriesWords after) + 2 * 64 + 2) (omega (arith, not-huge)))
+
+    to-own : onward (s .at) 1 ≡ target + 1
+    to-own = ap (λ i. onward i 1) (spotted .at) ∙ onward-near target 1 (length ws) near (omega (arith, own-inside))
+
+    level-is : levelW bound ws start (s .scope) ≡ suc (outside (l .frames))
+    level-is = scope-level f target r start l s ws words-at spotted near frames deep pos ok few small sound t
+
+    level-low : suc (outside (l .frames) + entriesDepth es) ≤ 64
+    level-low = omega (arith, nearest-within (l .frames) t, frames-deep f target r start l s ws words-at spotted near frames deep .0)
+
+    changed-fits : suc (outside (l .frames)) + made .answer .levels ≤ 64 → runDepth (plug changed nil) ≤ 64
+    changed-fits low =
+        let a : NoLarger nil (l .process) =
+        record { shorter = omega (arith, size-nil, size-positive (l .process)); shallower = omega (arith, depth-nil, depth-some (l .process)) } in
+        let b : runDepth (plug changed nil) ≤ runDepth (wrap changed (l .process)) = plug-shrinks (nearest-sound (update-keeps fit) frames) a .shallower in
+        let c = wrap-depth changed (l .process) in
+        let d = frames-deep f target r start l s ws words-at spotted near frames deep in
+        omega (arith, d .0, d .1, level-low, nearest-length change (l .frames), nearest-spread change (l .frames), updating .covers)
+
+    changed-deep : 64 < suc (outside (l .frames)) + made .answer .levels → 64 < runDepth (plug changed nil)
+    changed-deep high = omega (arith, nearest-deep frames change t nil, updating .shallow)
+
+    list-laid : made .answer .to ≤ 8192 → take (made .answer .to) (made .out) ≡ region changed
+    list-laid low =
+        ap (λ i. take i (made .out)) (updating .reaches)
+        ∙ (updating .laid (omega (arith, updating .reaches)) ∙ sym (region-changed change (l .frames) t))
+
+    -- if there are levels left for it
+    placed :
+        (b : Bool) → ltb 64 (suc (outside (l .frames)) + made .answer .levels) ≡ b →
+        Result (cond b (planned (refusedPlan 8) (made .out)) (updatedW bound ws s (s .scope + 2) (made .answer .to) (made .out)))
+    unfolding updatedW nilW
+    placed true e = (tooDeep refl (changed-deep (ltb-true 64 (suc (outside (l .frames)) + made .answer .levels) e)), refl)
+    placed false e =
+        rw (list-ends f target r start l s ws words-at spotted near frames deep t ok bound) (
+          ruled refl
+              (list-plans f target r start l s ws words-at spotted near frames deep t change (made .answer .to) (made .out) (updating .reaches)
+              (near-of (made .answer .to + 1) (omega (arith, updating .reaches, not-huge))) (omega (arith, updating .keeps)) list-laid 32 0)
+              (changed-fits (ltb-false 64 (suc (outside (l .frames)) + made .answer .levels) e)),
+          refl,
+        )
+
+    under : Result (installedW bound ws start s fresh)
+    unfolding installedW
+    under =
+        let first = list-first f target r start l s ws words-at spotted near frames deep t in
+        rw (
+          ne-eqb (s .scope) 0 (λ z. omega arith),
+          to-list f target r start l s ws words-at spotted near frames deep t,
+          to-own,
+          level-is,
+          too-deep (suc (outside (l .frames))) (made .answer .levels) (omega (arith, level-low)),
+        )
+        (placed (ltb 64 (suc (outside (l .frames)) + made .answer .levels)) refl)
+
+  pub installs :
+      (let u = installedW (n * 65536 + issued) ws start s fresh in
+      Ruled ws start (start + size r) (u .plan) (u .fresh) (some (plug (onNearest (λ x. update x new) (l .frames)) nil)) × (u .plan .x ≡ 32))
+  installs = by (scoped (l .frames)) refl
+    where
+      by : (b : Bool) → scoped (l .frames) ≡ b → Result (installedW bound ws start s fresh)
+      by true e = under (rw e tt)
+      by false e = bare (rw e tt)
