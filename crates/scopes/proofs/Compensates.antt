@@ -55,8 +55,10 @@ node-some : (x : Node) → 0 < length (words x)
 unfolding words
 node-some (node a b c d e) = omega arith
 
-module _ (f target : ℕ) (r : Run) (start : ℕ) (l : Located) (s : Spot) (ws : List ℕ) (words-at : drop start ws ≡ runWords r ++ drop (start + size r) ws)
-    (spotted : Spotted f target r start 1 l s) (near : Near (length ws)) {n issued : ℕ} (frames : SoundFrames n issued (l .frames)) (deep : runDepth r ≤ 64)
+module _ (f target : ℕ) (r : Run) (start : ℕ) (l : Located) (s : Spot) (ws : List ℕ)
+    (words-at : drop start ws ≡ runWords r ++ drop (start + size r) ws)
+    (spotted : Spotted f target r start 1 l s) (near : Near (length ws)) {n issued : ℕ} (frames : SoundFrames n issued (l .frames))
+    (deep : runDepth r ≤ 64)
     (pos : 0 < start) (ok : Words ws) (few : n ≤ 8) (small : issued < 65536) (short : length ws ≤ 8192)
     (fresh : List ℕ) (room : 16384 ≤ length fresh) (big : Near (length fresh))
     (h : ℕ) (is : l .process ≡ act (node h [] [] absent noParts)) where
@@ -180,7 +182,8 @@ module _ (f target : ℕ) (r : Run) (start : ℕ) (l : Located) (s : Spot) (ws :
           (omega (arith, room-enough, taking .keeps))
 
       pasted-to : pastedEnd ws from upto to ≡ to + length (words m)
-      pasted-to = copy-end ws (words m) (stands .0) from upto to (length fresh) (stands .1 .0) (omega (arith, handler-inside)) (stands .1 .1) big room-enough
+      pasted-to = copy-end ws (words m) (stands .0) from upto to (length fresh) (stands .1 .0) (omega (arith, handler-inside))
+          (stands .1 .1) big room-enough
 
       list-made : take to (pasted ws from upto (took .out) to) ≡ region changed
       list-made =
@@ -192,7 +195,8 @@ module _ (f target : ℕ) (r : Run) (start : ℕ) (l : Located) (s : Spot) (ws :
       handler-made : part to (to + length (words m)) (pasted ws from upto (took .out) to) ≡ words m
       handler-made = laid-part (omega (arith, room-enough, taking .keeps)) pasting refl
 
-      moves : Plans ws start (start + size r) (movedW bound ws s (took .answer) (took .out) .plan) (movedW bound ws s (took .answer) (took .out) .fresh)
+      moves : Plans ws start (start + size r) (movedW bound ws s (took .answer) (took .out) .plan)
+          (movedW bound ws s (took .answer) (took .out) .fresh)
           (plug changed (enable m))
       unfolding movedW
       moves =
@@ -219,7 +223,8 @@ module _ (f target : ℕ) (r : Run) (start : ℕ) (l : Located) (s : Spot) (ws :
           inside (plug changed (enable m)) (omega (arith, room-enough, pasting .keeps, taking .keeps))
           (ap (λ new. edited ws (s .scope + 2) (s .scope + 2 + length (region (l .frames))) new target (target + 1)
           (part to (to + length (words m)) (pasted ws from upto (took .out) to)) (target + 1) (target + 1)) list-made
-          ∙ (ap (λ new. edited ws (s .scope + 2) (s .scope + 2 + length (region (l .frames))) (region changed) target (target + 1) new (target + 1) (target + 1))
+          ∙ (ap (λ new. edited ws (s .scope + 2) (s .scope + 2 + length (region (l .frames)))
+          (region changed) target (target + 1) new (target + 1) (target + 1))
           handler-made
           ∙ swap-edited f target r start 1 l s ws (drop (start + size r) ws) words-at spotted (enable m) (h ∷ []) [] [] (words m)
           (target + 1) (target + 1) (target + 1) lives one-word (enable-words fitting ∙ sym (append-nil (words m)))
@@ -227,7 +232,8 @@ module _ (f target : ℕ) (r : Run) (start : ℕ) (l : Located) (s : Spot) (ws :
 
       -- if there are levels left for it
       placed : (b : Bool) → leb (depth m) (levelsAt (s .level)) ≡ b →
-          Result (cond (eqb (cond b (from + length (words m)) 0) 0) (planned (refusedPlan 8) (took .out)) (movedW bound ws s (took .answer) (took .out)))
+          Result (cond (eqb (cond b (from + length (words m)) 0) 0) (planned (refusedPlan 8) (took .out))
+          (movedW bound ws s (took .answer) (took .out)))
       unfolding movedW
       placed false e =
           let low = level-low f target r start l s ws words-at spotted near frames deep in (

@@ -63,7 +63,8 @@ stopped-some (scopeFrame name mark zombie h ∷ fs) a t e = let z : _≡_ {A = �
 stopped-some (executorFrame o y client serial ∷ fs) a t e = stopped-some fs (executor o y client serial a) t e
 
 standing-located :
-    {r : Run} {i k d : ℕ} {x : Option Located} → Standing r i x k → ((l : Located) → x ≡ some l → length (l .frames) ≡ d) → (x ≡ none → ⊥) →
+    {r : Run} {i k d : ℕ} {x : Option Located} → Standing r i x k → ((l : Located) → x ≡ some l → length (l .frames) ≡ d) →
+    (x ≡ none → ⊥) →
     (l : Located) × ((within r i k ≡ some l) × (length (l .frames) ≡ d))
 standing-located nowhere p q = absurd (q refl)
 standing-located (somewhere {l = l} h e) p q = (l, (e, p l refl))
@@ -78,23 +79,30 @@ too-deep level levels h = by (ltb 64 levels) refl
         let z : levels ≤ 64 = ltb-false 64 levels e in
         ap (ltb 64) (onward-near level levels 128 (near-of 128 (omega arith)) (omega arith))
 
-module _ (f target : ℕ) (r : Run) (start : ℕ) (l : Located) (s : Spot) (ws : List ℕ) (words-at : drop start ws ≡ runWords r ++ drop (start + size r) ws)
-    (spotted : Spotted f target r start 1 l s) (near : Near (length ws)) {n issued : ℕ} (frames : SoundFrames n issued (l .frames)) (deep : runDepth r ≤ 64)
+module _ (f target : ℕ) (r : Run) (start : ℕ) (l : Located) (s : Spot) (ws : List ℕ)
+    (words-at : drop start ws ≡ runWords r ++ drop (start + size r) ws)
+    (spotted : Spotted f target r start 1 l s) (near : Near (length ws)) {n issued : ℕ} (frames : SoundFrames n issued (l .frames))
+    (deep : runDepth r ≤ 64)
     (pos : 0 < start) (ok : Words ws) (few : n ≤ 8) (small : issued < 65536) where
-  pub scope-level : Sound n issued r → T (scoped (l .frames)) → levelW (n * 65536 + issued) ws start (s .scope) ≡ suc (outside (l .frames))
+  pub scope-level : Sound n issued r → T (scoped (l .frames)) →
+      levelW (n * 65536 + issued) ws start (s .scope) ≡ suc (outside (l .frames))
   unfolding levelW levelOf
   scope-level sound t =
       let x =
-      standing-located (spotted .nearest) (λ m e. outside-stopped (l .frames) (l .process) m t e) (stopped-some (l .frames) (l .process) t) in
+      standing-located (spotted .nearest) (λ m e. outside-stopped (l .frames) (l .process) m t e)
+      (stopped-some (l .frames) (l .process) t) in
       let y =
-      found n issued (n * 65536 + issued) ws (reader ws ok n issued few small) (s .scope) sound 64 start 1 (drop (start + size r) ws) pos deep words-at
+      found n issued (n * 65536 + issued) ws (reader ws ok n issued few small)
+      (s .scope) sound 64 start 1 (drop (start + size r) ws) pos deep words-at
       (x .0) (x .1 .0) in
       ap levelOf (y .1 .0) ∙ (y .1 .1 .level ∙ omega (arith, x .1 .1))
 
 -- ---- the rule
 
-module _ (f target : ℕ) (r : Run) (start : ℕ) (l : Located) (s : Spot) (ws : List ℕ) (words-at : drop start ws ≡ runWords r ++ drop (start + size r) ws)
-    (spotted : Spotted f target r start 1 l s) (near : Near (length ws)) {n issued : ℕ} (frames : SoundFrames n issued (l .frames)) (deep : runDepth r ≤ 64)
+module _ (f target : ℕ) (r : Run) (start : ℕ) (l : Located) (s : Spot) (ws : List ℕ)
+    (words-at : drop start ws ≡ runWords r ++ drop (start + size r) ws)
+    (spotted : Spotted f target r start 1 l s) (near : Near (length ws)) {n issued : ℕ} (frames : SoundFrames n issued (l .frames))
+    (deep : runDepth r ≤ 64)
     (pos : 0 < start) (ok : Words ws) (few : n ≤ 8) (small : issued < 65536) (short : length ws ≤ 8192)
     (fresh : List ℕ) (room : 16384 ≤ length fresh) (big : Near (length fresh)) (sound : Sound n issued r)
     (h : ℕ) (new : Entries) (is : l .process ≡ act (node h [] [] (list new) noParts)) (fit : FitsEntries false zero new) where
@@ -158,7 +166,8 @@ module _ (f target : ℕ) (r : Run) (start : ℕ) (l : Located) (s : Spot) (ws :
     not-huge =
         let a = update-small replaced-small (nearest-fits frames) fit in
         let b : length (entriesWords new) * (2 + length (entriesWords es)) ≤ 8192 * 8192 =
-        le-trans (mul-le-mul-left (length (entriesWords new)) (let z : 2 + length (entriesWords es) ≤ 8192 = omega (arith, list-short) in z))
+        le-trans (mul-le-mul-left (length (entriesWords new))
+        (let z : 2 + length (entriesWords es) ≤ 8192 = omega (arith, list-short) in z))
         (mul-le-mul-right 8192 (let z : length (entriesWords new) ≤ 8192 = omega (arith, own-inside) in z)) in
         omega (arith, list-short)
 
@@ -185,8 +194,13 @@ module _ (f target : ℕ) (r : Run) (start : ℕ) (l : Located) (s : Spot) (ws :
     changed-fits : suc (outside (l .frames)) + made .answer .levels ≤ 64 → runDepth (plug changed nil) ≤ 64
     changed-fits low =
         let a : NoLarger nil (l .process) =
-        record { shorter = omega (arith, size-nil, size-positive (l .process)); shallower = omega (arith, depth-nil, depth-some (l .process)) } in
-        let b : runDepth (plug changed nil) ≤ runDepth (wrap changed (l .process)) = plug-shrinks (nearest-sound (update-keeps fit) frames) a .shallower in
+        record {
+          shorter = omega (arith, size-nil, size-positive (l .process));
+          shallower =
+              omega (arith, depth-nil, depth-some (l .process));
+        } in
+        let b : runDepth (plug changed nil) ≤ runDepth (wrap changed (l .process)) =
+        plug-shrinks (nearest-sound (update-keeps fit) frames) a .shallower in
         let c = wrap-depth changed (l .process) in
         let d = frames-deep f target r start l s ws words-at spotted near frames deep in
         omega (arith, d .0, d .1, level-low, nearest-length change (l .frames), nearest-spread change (l .frames), updating .covers)
@@ -208,8 +222,10 @@ module _ (f target : ℕ) (r : Run) (start : ℕ) (l : Located) (s : Spot) (ws :
     placed false e =
         rw (list-ends f target r start l s ws words-at spotted near frames deep t ok bound) (
           ruled refl
-              (list-plans f target r start l s ws words-at spotted near frames deep t change (made .answer .to) (made .out) (updating .reaches)
-              (near-of (made .answer .to + 1) (omega (arith, updating .reaches, not-huge))) (omega (arith, updating .keeps)) list-laid 32 0)
+              (list-plans f target r start l s ws words-at spotted near frames deep t change (made .answer .to) (made .out)
+              (updating .reaches)
+              (near-of (made .answer .to + 1) (omega (arith, updating .reaches, not-huge)))
+              (omega (arith, updating .keeps)) list-laid 32 0)
               (changed-fits (ltb-false 64 (suc (outside (l .frames)) + made .answer .levels) e)),
           refl,
         )
@@ -229,7 +245,8 @@ module _ (f target : ℕ) (r : Run) (start : ℕ) (l : Located) (s : Spot) (ws :
 
   pub installs :
       (let u = installedW (n * 65536 + issued) ws start s fresh in
-      Ruled ws start (start + size r) (u .plan) (u .fresh) (some (plug (onNearest (λ x. update x new) (l .frames)) nil)) × (u .plan .x ≡ 32))
+      Ruled ws start (start + size r) (u .plan) (u .fresh) (some (plug (onNearest (λ x. update x new) (l .frames)) nil))
+      × (u .plan .x ≡ 32))
   installs = by (scoped (l .frames)) refl
     where
       by : (b : Bool) → scoped (l .frames) ≡ b → Result (installedW bound ws start s fresh)

@@ -68,7 +68,8 @@ nearest-length g (executorFrame o y client serial ∷ fs) = ap suc (nearest-leng
 wider : (a b c d n m : ℕ) → a ≤ max b c → n ≡ m → max a (suc (n + d)) ≤ max (max b (suc (m + d))) c
 wider a b c d n m h e = omega arith
 
-pub nearest-spread : (g : Entries → Entries) (fs : List Frame) → spread (onNearest g fs) ≤ max (spread fs) (suc (outside fs + entriesDepth (g (nearest fs))))
+pub nearest-spread : (g : Entries → Entries) (fs : List Frame) →
+    spread (onNearest g fs) ≤ max (spread fs) (suc (outside fs + entriesDepth (g (nearest fs))))
 unfolding spread onNearest nearest outside
 nearest-spread g [] = omega arith
 nearest-spread g (seqFrame q ∷ fs) =
@@ -117,7 +118,8 @@ some-frames {l} e = ap of e
     of none = 0
     of (some m) = length (m .frames)
 
-pub outside-stopped : (fs : List Frame) (a : Run) (l : Located) → T (scoped fs) → stopped anyScope fs a ≡ some l → length (l .frames) ≡ outside fs
+pub outside-stopped : (fs : List Frame) (a : Run) (l : Located) → T (scoped fs) → stopped anyScope fs a ≡ some l →
+    length (l .frames) ≡ outside fs
 unfolding stopped scoped outside
 outside-stopped [] a l t e = absurd t
 outside-stopped (seqFrame q ∷ fs) a l t e = outside-stopped fs (seq a q) l t e
@@ -160,7 +162,8 @@ one-lives :
 one-lives true y p m f g e = f refl
 one-lives false y p m f g e = g e
 
-pub handler-lives : (q : ℕ) {least : ℕ} {h : Entries} → FitsEntries true least h → holds (scopeKey q) h ≡ true → isNil (handler (scopeKey q) h) ≡ false
+pub handler-lives : (q : ℕ) {least : ℕ} {h : Entries} → FitsEntries true least h → holds (scopeKey q) h ≡ true →
+    isNil (handler (scopeKey q) h) ≡ false
 unfolding holds handler entryFits
 handler-lives q emptyFits e = absurd (subst T (sym e) tt)
 handler-lives q (entryFitsOn {k = j} {p = p} {es = es} a b c d v) e =

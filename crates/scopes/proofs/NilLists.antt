@@ -25,7 +25,8 @@ use Rattle.rules.proofs.Plans.{Ordered, Plans, edited-words}
 use Rattle.scopes.proofs.ScopeLists.{whole-inside}
 
 -- words laid behind others
-pub laid-part : {out : List ℕ} {to upto : ℕ} {new last : List ℕ} → to ≤ length out → Laid out to new last → upto ≡ to + length new → part to upto last ≡ new
+pub laid-part : {out : List ℕ} {to upto : ℕ} {new last : List ℕ} → to ≤ length out → Laid out to new last → upto ≡ to + length new →
+    part to upto last ≡ new
 laid-part {out} {to} {upto} {new} {last} h x e =
     let n : upto - to ≡ length new = omega arith in
     let front : take to last ≡ take to out = laid-under h x in
@@ -49,8 +50,10 @@ hollow-laid true f out h =
     (laid-under (omega arith) l, laid-part (omega arith) l refl)
 hollow-laid false f out h = let z : f + 0 - f ≡ 0 = omega arith in (refl, ap (λ k. take k (drop f out)) z)
 
-module _ (f target : ℕ) (r : Run) (start : ℕ) (l : Located) (s : Spot) (ws : List ℕ) (words : drop start ws ≡ runWords r ++ drop (start + size r) ws)
-    (spotted : Spotted f target r start 1 l s) (near : Near (length ws)) {n issued : ℕ} (frames : SoundFrames n issued (l .frames)) (deep : runDepth r ≤ 64)
+module _ (f target : ℕ) (r : Run) (start : ℕ) (l : Located) (s : Spot) (ws : List ℕ)
+    (words : drop start ws ≡ runWords r ++ drop (start + size r) ws)
+    (spotted : Spotted f target r start 1 l s) (near : Near (length ws)) {n issued : ℕ} (frames : SoundFrames n issued (l .frames))
+    (deep : runDepth r ≤ 64)
     (t : T (scoped (l .frames))) (g : Entries → Entries) (to : ℕ) (out : List ℕ)
     (reaches : to ≡ 1 + length (entriesWords (g (nearest (l .frames))))) (low : Near (to + 1)) (room : 8192 < length out)
     (laid : to ≤ 8192 → take to out ≡ region (onNearest g (l .frames))) (x v : ℕ) where
@@ -101,7 +104,8 @@ module _ (f target : ℕ) (r : Run) (start : ℕ) (l : Located) (s : Spot) (ws :
       let y3 = length-append (c .between) (hole (s .hollow) ++ (c .middle ++ c .after)) in
       let y4 = length-append (hole (s .hollow)) (c .middle ++ c .after) in
       let y5 = length-append (c .middle) (c .after) in
-      sums _ _ (s .scope + 2) (length (region (l .frames))) (s .a) (s .b) (s .c) (s .d) start _ to (length (hole (s .hollow))) (length (c .before))
+      sums _ _ (s .scope + 2) (length (region (l .frames))) (s .a) (s .b) (s .c) (s .d) start _ to (length (hole (s .hollow)))
+      (length (c .before))
       (length (c .between)) (length (c .gone)) (length (c .middle)) (length (c .dropped)) (length (c .after))
       (made ∙ rw (y1, y2, new, y3, y4, y5)) (whole ∙ rw (x1, x2, x3, x4, x5, x6)) (c .upto) (c .again) (c .till) h
     where
@@ -123,7 +127,8 @@ module _ (f target : ℕ) (r : Run) (start : ℕ) (l : Located) (s : Spot) (ws :
             let w = hollow-laid (s .hollow) to out (omega arith) in
             edited-words ws start (start + size r) p (hollowW (s .hollow) to out .fresh) order
             (whole-inside f target r start l s ws words spotted near frames deep) q
-            (ap (λ new. edited ws (s .scope + 2) m new (s .a) (s .b) (part to (hollowW (s .hollow) to out .to) (hollowW (s .hollow) to out .fresh)) (s .c) (s .d))
+            (ap (λ new. edited ws (s .scope + 2) m new (s .a) (s .b)
+            (part to (hollowW (s .hollow) to out .to) (hollowW (s .hollow) to out .fresh)) (s .c) (s .d))
             (w .0 ∙ laid (omega arith))
             ∙ (ap (λ new. edited ws (s .scope + 2) m (region (onNearest g (l .frames))) (s .a) (s .b) new (s .c) (s .d))
             (ap (λ k. part to k (hollowW (s .hollow) to out .fresh)) e ∙ w .1)

@@ -32,17 +32,26 @@ use Rattle.rules.proofs.Depths.{spread, wrap-depth, depth-some}
 use Rattle.rules.proofs.Outcomes.{Ruled, becomes-ruled}
 use Rattle.scopes.proofs.NearestLists.{nearest-within}
 
-module _ (f target : ℕ) (r : Run) (start : ℕ) (l : Located) (s : Spot) (ws : List ℕ) (words : drop start ws ≡ runWords r ++ drop (start + size r) ws)
-    (spotted : Spotted f target r start 1 l s) (near : Near (length ws)) {n issued : ℕ} (frames : SoundFrames n issued (l .frames)) (deep : runDepth r ≤ 64) where
+module _ (f target : ℕ) (r : Run) (start : ℕ) (l : Located) (s : Spot) (ws : List ℕ)
+    (words : drop start ws ≡ runWords r ++ drop (start + size r) ws)
+    (spotted : Spotted f target r start 1 l s) (near : Near (length ws)) {n issued : ℕ} (frames : SoundFrames n issued (l .frames))
+    (deep : runDepth r ≤ 64) where
   pub whole-inside : start + size r ≤ length ws
   unfolding size
   whole-inside =
-      omega (arith, size-positive r, sym (length-drop start ws) ∙ ap length words, length-append (runWords r) (drop (start + length (runWords r)) ws))
+      omega (
+        arith,
+        size-positive r,
+        sym (length-drop start ws) ∙ ap length words,
+        length-append (runWords r)
+            (drop (start + length (runWords r)) ws),
+      )
 
   pub frames-deep : (spread (l .frames) ≤ 64) × (length (l .frames) + runDepth (l .process) ≤ 64)
   frames-deep =
       let w : wrap (l .frames) (l .process) ≡ r = spotted .wraps in
-      let d : max (spread (l .frames)) (length (l .frames) + runDepth (l .process)) ≡ runDepth r = sym (wrap-depth (l .frames) (l .process)) ∙ ap runDepth w in
+      let d : max (spread (l .frames)) (length (l .frames) + runDepth (l .process)) ≡ runDepth r =
+      sym (wrap-depth (l .frames) (l .process)) ∙ ap runDepth w in
       (omega arith, omega arith)
 
   pub level-low : s .level ≤ 64
