@@ -1,17 +1,20 @@
 -- A step between two engines carried out: from what each call leaves.
 -- Assumes nothing.
-use Prim.Native.Nat.{ℕ, _%_}
+use Prim.Native.Nat.{ℕ, _-_, _%_, _≤_}
 use mathlib.Core.Path.{_≡_, refl, sym, ap, _∙_}
+use mathlib.Core.Bool.{Bool, true, false}
 use mathlib.Core.List.{List}
-use lib.ListN.{getD}
+use borrow.Author.Tests.{ne-eqb, le-ltb}
+use lib.ListN.{length, getD}
 use Rattle.finding.specs.declared.find.Spot.{Spot}
 use Rattle.rules.specs.declared.pair.Offer.{Offer}
 use Rattle.rules.specs.declared.plan.Plan.{Plan}
 use Rattle.rules.specs.Turning.{at}
+use Rattle.rules.specs.Offering.{offerW}
 use Rattle.stepping.specs.declared.answer.Answer.{Answer}
 use Rattle.stepping.specs.Answering.{Answered, accepting}
-use Rattle.stepping.specs.Meeting.{serialW}
-use Rattle.stepping.specs.Exchanging.{blank, senderW, receiverW, orderedW, nextOf, issuedOf, faultOf, carryW}
+use Rattle.stepping.specs.Meeting.{fitW, serialW}
+use Rattle.stepping.specs.Exchanging.{blank, senderW, receiverW, orderedW, nextOf, issuedOf, faultOf, carryW, spentW, meetW, lent, betweenW}
 
 pub carry-made :
     (ws part vs other : List ℕ) (o : Offer) (starts : List ℕ) (e i : ℕ) (a b : Spot) (kind bound : ℕ) (out : List ℕ)
@@ -24,3 +27,29 @@ pub carry-made :
 unfolding carryW
 carry-made ws part vs other o starts e i a b kind bound out e' i' w next serial p f q f2 fault accepted issued e1 e2 e3 e4 e5 e6 e7 e8 e9 e10 e11 e12 =
     rw (e12, e11, e10, e9, e8, e7, e6, e5, e4, e3, e2, e1)
+
+pub meet-made :
+    (ws part vs other starts : List ℕ) (e i : ℕ) (a b : Spot) (kind branch bound : ℕ) (out : List ℕ) (o : Offer) (e' i' : ℕ) (fitting full : Bool) →
+    o ≡ offerW bound other branch → e' ≡ e → i' ≡ i → fitting ≡ fitW part vs other o kind branch e' i' → fitting ≡ true → full ≡ spentW ws kind → full ≡ false →
+    carryW ws part vs other o starts e i a b kind bound out ≡ meetW ws part vs other starts e i a b kind branch bound out
+unfolding meetW
+meet-made ws part vs other starts e i a b kind branch bound out o e' i' fitting full e1 e2 e3 e4 e5 e6 e7 =
+    let x : fitW part vs other (offerW bound other branch) kind branch e i ≡ true = rw (← e1, ← e2, ← e3) (sym e4 ∙ e5) in
+    let y : spentW ws kind ≡ false = sym e6 ∙ e7 in
+    rw (x, y, e1)
+
+pub between-made :
+    (ws starts : List ℕ) (e i : ℕ) (a b : Spot) (kind branch bound : ℕ) (out : List ℕ) (e' : ℕ) →
+    e' ≡ e → (e ≡ i → ⊥) → 64 ≤ getD starts e' 0 → getD starts e' 0 ≤ length ws → a .at ≤ length ws → b .at ≤ length ws →
+    meetW ws (lent (a .at) (length ws) ws) (lent (getD starts e' 0 - 64) (getD starts e' 0) ws) (lent (b .at) (length ws) ws) starts e i a b kind branch bound out
+    ≡ betweenW ws starts e i a b kind branch bound out
+unfolding betweenW
+between-made ws starts e i a b kind branch bound out e' e1 e2 e3 e4 e5 e6 =
+    rw (
+      e1,
+      ne-eqb e i e2,
+      le-ltb (getD starts e 0) 64 (rw e1 at e3),
+      le-ltb (length ws) (getD starts e 0) (rw e1 at e4),
+      le-ltb (length ws) (a .at) e5,
+      le-ltb (length ws) (b .at) e6,
+    )

@@ -53,3 +53,27 @@ carryW ws part vs other o starts e i a b kind bound out =
     let p = senderW bound part a (startAt starts e) kind i serial blank in
     let q = receiverW bound part vs other o b (startAt starts i) kind e serial blank in
     orderedW ws starts e i (p .plan) (p .fresh) (q .plan) (q .fresh) (issuedOf kind (at ws 1) next) (accepting (kind % 32) serial (faultOf kind) 0) out
+
+unfoldable pub spentW : List ℕ → ℕ → Bool
+spentW ws kind = cond (eqb kind 10) (eqb (at ws 1) 65535) false
+
+unfoldable pub meetW : List ℕ → List ℕ → List ℕ → List ℕ → List ℕ → ℕ → ℕ → Spot → Spot → ℕ → ℕ → ℕ → List ℕ → Answered
+meetW ws part vs other starts e i a b kind branch bound out =
+    let o = offerW bound other branch in
+    cond (fitW part vs other o kind branch e i)
+    (cond (spentW ws kind) (answered (refusing 7) out) (carryW ws part vs other o starts e i a b kind bound out))
+    (answered (refusing 5) out)
+
+-- the words from..upto lent
+abbrev pub lent : ℕ → ℕ → List ℕ → List ℕ
+lent from upto ws = take (upto - from) (drop from ws)
+
+unfoldable pub betweenW : List ℕ → List ℕ → ℕ → ℕ → Spot → Spot → ℕ → ℕ → ℕ → List ℕ → Answered
+betweenW ws starts e i a b kind branch bound out =
+    let start = startAt starts e in
+    cond (eqb e i) (answered (refusing 5) out)
+    (cond (ltb start 64) (answered (refusing 5) out)
+    (cond (ltb (length ws) start) (answered (refusing 5) out)
+    (cond (ltb (length ws) (a .at)) (answered (refusing 5) out)
+    (cond (ltb (length ws) (b .at)) (answered (refusing 5) out)
+    (meetW ws (lent (a .at) (length ws) ws) (lent (start - 64) start ws) (lent (b .at) (length ws) ws) starts e i a b kind branch bound out)))))

@@ -78,7 +78,15 @@ fn fitting(length: usize, room: usize) -> u8
 }
 
 // One engine's process start..end under a plan.
-pub fn one(ws: &[u16], start: usize, end: usize, p: Plan, kind: u8, fresh: &[u16], out: &mut [u16]) -> Answer
+pub fn one(
+    ws: &[u16],
+    start: usize,
+    end: usize,
+    p: Plan,
+    kind: u8,
+    fresh: &[u16],
+    out: &mut [u16],
+) -> Answer
     ensures { λ r. ⌜ (r ≡ oneW (now (ws .entry)) start end p kind (now (fresh .entry)) (now (out .entry)) .answer) × (now (out .exit) ≡ oneW (now (ws .entry)) start end p kind (now (fresh .entry)) (now (out .entry)) .out) ⌝ }
 {
     if p.number != 0 {

@@ -1,22 +1,34 @@
 // A step between two different engines, the sender's and the receiver's.
-use crate::answer::accept;
-use crate::answer::two;
 use crate::answer::Answer;
+use crate::answer::accept;
+use crate::answer::refuse;
+use crate::answer::two;
+use crate::meeting::fit;
 use crate::meeting::receive;
 use crate::meeting::send;
 use crate::meeting::serial_of;
 use finding::find::Spot;
 use reading::reader::wide;
 use rules::pair::Offer;
-use rules::plan::plain;
+use rules::pair::offered;
 use rules::plan::Plan;
+use rules::plan::plain;
 use rules::turn::word;
 ghost use mathlib.Core.Path.{_≡_};
 ghost use Prim.Native.Nat.{_+_, _-_, _≤_, _<_};
 ghost use lib.ListN.{length, getD};
-ghost use Rattle.stepping.specs.Exchanging.{senderW, receiverW, orderedW, nextOf, issuedOf, faultOf, carryW};
+ghost use Rattle.stepping.specs.Exchanging.{senderW, receiverW, orderedW, nextOf, issuedOf, faultOf, carryW, spentW, meetW, betweenW};
 
-fn sender(part: &[u16], s: Spot, start: usize, kind: usize, server: u16, serial: u16, bound: usize, fresh: &mut [u16]) -> Plan
+fn sender(
+    part: &[u16],
+    s: Spot,
+    start: usize,
+    kind: usize,
+    server: u16,
+    serial: u16,
+    bound: usize,
+    fresh: &mut [u16],
+) -> Plan
     requires { ⌜ server < 8 ⌝ }
     ensures { λ r. ⌜ (r ≡ senderW bound (now (part .entry)) s start kind server serial (now (fresh .entry)) .plan) × (now (fresh .exit) ≡ senderW bound (now (part .entry)) s start kind server serial (now (fresh .entry)) .fresh) ⌝ }
 {
@@ -124,7 +136,19 @@ fn carry(
     let mut fresh = [0u16; 16384];
     let mut fresh2 = [0u16; 16384];
     let p = sender(part, a, starts[e], kind, second, serial, bound, &mut fresh);
-    let q = receiver(part, values, other, o, b, starts[i], kind, engine, serial, bound, &mut fresh2);
+    let q = receiver(
+        part,
+        values,
+        other,
+        o,
+        b,
+        starts[i],
+        kind,
+        engine,
+        serial,
+        bound,
+        &mut fresh2,
+    );
     let accepted = accept((kind % 32) as u8, serial, fault_of(kind), 0);
     ordered(
         ws,
@@ -137,6 +161,121 @@ fn carry(
         &fresh2,
         issued_of(kind, issued, next),
         accepted,
+        out,
+    )
+}
+
+// Whether a solicit finds no serial left.
+fn spent(ws: &[u16], kind: usize) -> bool
+    ensures { λ r. ⌜ r ≡ spentW (now (ws .entry)) kind ⌝ }
+{
+    if kind == 10 {
+        return word(ws, 1) == 65535;
+    }
+    false
+}
+
+// The words from each process's position on are handed to the rule, with the sender's values.
+fn meet(
+    ws: &[u16],
+    part: &[u16],
+    values: &[u16],
+    other: &[u16],
+    starts: [usize; 9],
+    engine: u16,
+    second: u16,
+    a: Spot,
+    b: Spot,
+    kind: usize,
+    branch: usize,
+    bound: usize,
+    out: &mut [u16],
+) -> Answer
+    requires { ⌜ (length (now values) ≡ 64) × (engine < 8) × (second < 8) ⌝ }
+    ensures { λ r. ⌜ (r ≡ meetW (now (ws .entry)) (now (part .entry)) (now (values .entry)) (now (other .entry)) starts engine second a b kind branch bound (now (out .entry)) .answer) × (now (out .exit) ≡ meetW (now (ws .entry)) (now (part .entry)) (now (values .entry)) (now (other .entry)) starts engine second a b kind branch bound (now (out .entry)) .out) ⌝ }
+{
+    let o = offered(other, branch, bound);
+    if fit(
+        part,
+        values,
+        other,
+        o,
+        kind,
+        branch,
+        wide(engine),
+        wide(second),
+    ) {
+        if spent(ws, kind) {
+            return refuse(7);
+        }
+        return carry(
+            ws,
+            part,
+            values,
+            other,
+            o,
+            starts,
+            engine,
+            second,
+            a,
+            b,
+            kind,
+            bound,
+            out,
+        );
+    }
+    refuse(5)
+}
+
+// The sender a stands in `engine`, the receiver b in `second`. That the places are inside is known of all that was found.
+pub fn between(
+    ws: &[u16],
+    starts: [usize; 9],
+    engine: u16,
+    second: u16,
+    a: Spot,
+    b: Spot,
+    kind: usize,
+    branch: usize,
+    bound: usize,
+    out: &mut [u16],
+) -> Answer
+    requires { ⌜ (engine < 8) × (second < 8) ⌝ }
+    ensures { λ r. ⌜ (r ≡ betweenW (now (ws .entry)) starts engine second a b kind branch bound (now (out .entry)) .answer) × (now (out .exit) ≡ betweenW (now (ws .entry)) starts engine second a b kind branch bound (now (out .entry)) .out) ⌝ }
+{
+    let e = wide(engine);
+    let start = starts[e];
+    let at = a.at;
+    let to = b.at;
+    if engine == second {
+        return refuse(5);
+    }
+    if start < 64 {
+        return refuse(5);
+    }
+    if ws.len() < start {
+        return refuse(5);
+    }
+    if ws.len() < at {
+        return refuse(5);
+    }
+    if ws.len() < to {
+        return refuse(5);
+    }
+    let from = start - 64;
+    meet(
+        ws,
+        &ws[at..],
+        &ws[from..start],
+        &ws[to..],
+        starts,
+        engine,
+        second,
+        a,
+        b,
+        kind,
+        branch,
+        bound,
         out,
     )
 }

@@ -1,6 +1,7 @@
 // Between two engines: whether sender and receiver fit, and what each turns into.
 use moving::evaluate::variable;
 use reading::reader::wide;
+use rules::pair::Offer;
 use rules::pair::answer;
 use rules::pair::ask;
 use rules::pair::awaits;
@@ -8,10 +9,9 @@ use rules::pair::fail;
 use rules::pair::fits;
 use rules::pair::hear;
 use rules::pair::serve;
-use rules::pair::Offer;
+use rules::turn::Turn;
 use rules::turn::to_nil;
 use rules::turn::word;
-use rules::turn::Turn;
 ghost use mathlib.Core.Path.{_≡_};
 ghost use Prim.Native.Nat.{_<_};
 ghost use lib.ListN.{length};
@@ -27,13 +27,27 @@ fn addressed(part: &[u16], values: &[u16], receiver: usize) -> bool
 }
 
 // Whether an executor's reply or a notice's fault, which names `client`, has its waiter in `other`.
-fn replies(part: &[u16], other: &[u16], client: usize, branch: usize, sender: usize, receiver: usize) -> bool
+fn replies(
+    part: &[u16],
+    other: &[u16],
+    client: usize,
+    branch: usize,
+    sender: usize,
+    receiver: usize,
+) -> bool
     ensures { λ r. ⌜ r ≡ repliesW (now (part .entry)) (now (other .entry)) client branch sender receiver ⌝ }
 {
     if branch != 0 {
         return false;
     }
-    awaits(other, wide(word(part, 0)), word(part, 2), client, sender, receiver)
+    awaits(
+        other,
+        wide(word(part, 0)),
+        word(part, 2),
+        client,
+        sender,
+        receiver,
+    )
 }
 
 // The kind that hears a notify, and a solicit.
@@ -84,7 +98,14 @@ pub fn serial_of(part: &[u16], kind: usize, next: u16) -> u16
 }
 
 // What the sender turns into.
-pub fn send(part: &[u16], kind: usize, server: u16, serial: u16, bound: usize, fresh: &mut [u16]) -> Turn
+pub fn send(
+    part: &[u16],
+    kind: usize,
+    server: u16,
+    serial: u16,
+    bound: usize,
+    fresh: &mut [u16],
+) -> Turn
     requires { ⌜ server < 8 ⌝ }
     ensures { λ r. ⌜ (r ≡ sendW bound (now (part .entry)) kind server serial (now (fresh .entry)) .turn) × (now (fresh .exit) ≡ sendW bound (now (part .entry)) kind server serial (now (fresh .entry)) .fresh) ⌝ }
 {

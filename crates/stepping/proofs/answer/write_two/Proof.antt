@@ -23,11 +23,12 @@ same-length c = search needs
 
 returns : tie.Need-returns
 returns c =
-    let a = c .before .before .before .before .before .before .before .before .before .before .before .before .before .before .before .before .before .before .before .before .args in
-    (refl,
-    c .before .before .put .ensures .1
-    ∙ two-made (a .ws .now) (a .start) (a .end) (a .p) (a .fresh .now) (a .start2) (a .end2) (a .p2) (a .fresh2 .now) (a .issued) (a .out .now) _ _ _ _ _
-    (c .before .before .before .before .before .before .before .before .before .before .before .before .before .before .engine .ensures .0) (c .before .before .before .before .before .before .before .before .before .before .before .before .before .before .engine .ensures .1) (c .before .before .before .before .before .before .before .before .before .before .engine2 .ensures .0) (c .before .before .before .before .before .before .before .before .before .before .engine2 .ensures .1) (c .before .before .before .before .before .before .copy .ensures .1))
+    let a = c .before .before .before .before .before .before .before .before .before .before .before .before .before .before .before .before .before .before .before .before .args in (
+      refl,
+      c .before .before .put .ensures .1
+          ∙ two-made (a .ws .now) (a .start) (a .end) (a .p) (a .fresh .now) (a .start2) (a .end2) (a .p2) (a .fresh2 .now) (a .issued) (a .out .now) _ _ _ _ _
+          (c .before .before .before .before .before .before .before .before .before .before .before .before .before .before .engine .ensures .0) (c .before .before .before .before .before .before .before .before .before .before .before .before .before .before .engine .ensures .1) (c .before .before .before .before .before .before .before .before .before .before .engine2 .ensures .0) (c .before .before .before .before .before .before .before .before .before .before .engine2 .ensures .1) (c .before .before .before .before .before .before .copy .ensures .1),
+    )
 
 pub write-two-spec : {M : Type 1} → statement M
 write-two-spec =
