@@ -1,4 +1,5 @@
 pub mod Carrying
 pub mod Overs
+pub mod Results
 pub mod Writes
 pub mod Writings

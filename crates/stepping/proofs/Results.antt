@@ -1,0 +1,79 @@
+-- The result of a step that changes one engine: how long it is, and that it is what is written.
+-- Assumes nothing.
+use Prim.Native.Nat.{ℕ, zero, suc, _+_, _-_, _*_, _%_, _≤_, _<_}
+use native.Mathlib.Omega.{arith}
+use mathlib.Core.Path.{_≡_, refl, sym, ap, ap₂, _∙_}
+use mathlib.Core.Bool.{Bool, true, false, cond}
+use mathlib.Core.List.{List, [], _∷_, _++_, append-nil, append-assoc}
+use borrow.Author.Tests.{le-ltb, lt-ltb}
+use lib.Dec.{leb, ltb, eqb}
+use lib.ListN.{length, getD, take, drop, set, length-append, length-drop, length-set}
+use lib.Seq.{take-at, drop-at, take-all, length-take-le, take-set-le, drop-set-lt, getD-set-same}
+use Rattle.sock.specs.Running.{Run, runWords, size}
+use Rattle.sock.specs.Configuration.{Engine, Config, valuesWords, engineWords, enginesWords, encode}
+use Rattle.sock.specs.Calls.{engineAt, withEngine, over}
+use Rattle.sock.proofs.Fits.{FitsConfig, FitsEngine}
+use Rattle.sock.proofs.Located.{values-length, engines-split, engine-fits, startOf, wordsBefore, wordsAfter, encode-split, before-length}
+use Rattle.moving.specs.Writing.{onward}
+use Rattle.moving.proofs.Laid.{Near, near-of, near-below, onward-near}
+use Rattle.finding.proofs.Edits.{part}
+use Rattle.rules.specs.declared.plan.Plan.{Plan}
+use Rattle.rules.proofs.Plans.{Ordered, Plans, part-first, part-length}
+use Rattle.stepping.specs.Writing.{Written, copyW, engineW}
+use Rattle.stepping.specs.Answering.{sizedW, writeOneW}
+use Rattle.stepping.proofs.Overs.{Over, Wrote, wrote-copy}
+use Rattle.stepping.proofs.Writes.{valued, engine-wrote}
+
+-- ---- lengths
+
+sums :
+    (len start end after g x y z q : ℕ) → len ≡ end + after → start ≤ end → q + (x + (y + z)) ≡ (end - start) + g → x + (y + z) ≤ end - start →
+    len + g - x - y - z ≡ start + q + after
+sums len start end after g x y z q a b c d =
+    let w : ℕ = end - start in
+    let e : end ≡ start + w = omega arith in
+    sums′ len start w after g x y z q (a ∙ ap (λ k. k + after) e) c
+  where
+    sums′ : (len start w after g x y z q : ℕ) → len ≡ start + w + after → q + (x + (y + z)) ≡ w + g → len + g - x - y - z ≡ start + q + after
+    sums′ len start w after g x y z q a c =
+        let f : len + g ≡ start + q + after + (x + (y + z)) = omega arith in
+        let h : len + g - x ≡ start + q + after + (y + z) = omega arith in
+        let i : len + g - x - y ≡ start + q + after + z = omega arith in
+        omega arith
+
+-- what goes is within
+gone : (start end : ℕ) (p : Plan) → Ordered start end p → (p .m - p .l) + ((p .b - p .a) + (p .d - p .c)) ≤ end - start
+gone start end p o = within start (p .l) (p .m) (p .a) (p .b) (p .c) (p .d) end _ _ _ refl refl refl (o .l-in) (o .m-in) (o .a-in) (o .b-in) (o .c-in) (o .d-in) (o .end-in)
+  where
+    within : (s l m a b c d e x y z : ℕ) → x ≡ m - l → y ≡ b - a → z ≡ d - c → s ≤ l → l ≤ m → m ≤ a → a ≤ b → b ≤ c → c ≤ d → d ≤ e → x + (y + z) ≤ e - s
+    within s l m a b c d e x y z p q r h1 h2 h3 h4 h5 h6 h7 =
+        let u : m ≡ l + x = omega arith in
+        let v : b ≡ a + y = omega arith in
+        let w : d ≡ c + z = omega arith in
+        sum s l m a b c d e x y z u v w h1 h3 h5 h7
+      where
+        sum : (s l m a b c d e x y z : ℕ) → m ≡ l + x → b ≡ a + y → d ≡ c + z → s ≤ l → m ≤ a → b ≤ c → d ≤ e → x + (y + z) ≤ e - s
+        sum s l m a b c d e x y z u v w h1 h3 h5 h7 = omega arith
+
+pub plan-sized :
+    (ws : List ℕ) (start end : ℕ) (p : Plan) (fresh : List ℕ) (q : Run) (plans : Plans ws start end p fresh q) (words after : ℕ) →
+    start ≤ end → words ≡ end + after → Near (words + p .g) → sizedW words p ≡ start + size q + after
+unfolding sizedW
+plan-sized ws start end p fresh q plans words after b a near =
+    ap (λ k. k - (p .m - p .l) - (p .b - p .a) - (p .d - p .c)) (onward-near words (p .g) (words + p .g) near (omega arith))
+    ∙ sums words start end after (p .g) (p .m - p .l) (p .b - p .a) (p .d - p .c) (size q) a b (plans .sized) (gone start end p (plans .order))
+
+-- there are at most as many fresh words as the process then has
+pub fresh-few : (ws : List ℕ) (start end : ℕ) (p : Plan) (fresh : List ℕ) (q : Run) → Plans ws start end p fresh q → p .g ≤ size q
+fresh-few ws start end p fresh q plans = few (size q) (p .g) ((p .m - p .l) + ((p .b - p .a) + (p .d - p .c))) (end - start) (plans .sized) (gone start end p (plans .order))
+  where
+    few : (q g x w : ℕ) → q + x ≡ w + g → x ≤ w → g ≤ q
+    few q g x w a b = omega arith
+
+-- ---- the words of a configuration with one engine changed
+
+module _ (es : List Engine) (e : ℕ) (x : Engine) (h : e < length es) where
+  pub engines-set : enginesWords (set es e x) ≡ enginesWords (take e es) ++ (engineWords x ++ enginesWords (drop (suc e) es))
+  engines-set =
+      engines-split (set es e x) e x (rw (length-set es e x) h)
+      ∙ rw (take-set-le e es e x (omega arith), getD-set-same es e x x h, drop-set-lt (suc e) es e x (omega arith))
