@@ -5,10 +5,12 @@ pub mod Counting
 pub mod Ended
 pub mod Ending
 pub mod Expressions
+pub mod Fitting
 pub mod Following
 pub mod Fresh
 pub mod Freshness
 pub mod Known
+pub mod Later
 pub mod Lent
 pub mod Lists
 pub mod Masks
@@ -18,6 +20,7 @@ pub mod Processes
 pub mod Resting
 pub mod Scopes
 pub mod Serials
+pub mod Shapes
 pub mod Standing
 pub mod Surveyed
 pub mod Surveys

@@ -58,9 +58,45 @@ placesOf slot =
     ∷ [])
     slot 0
 
+-- context 12 stands for an expression
 unfoldable pub bitOf : ℕ → ℕ
-bitOf c = getD (1 ∷ 2 ∷ 4 ∷ 8 ∷ 16 ∷ 32 ∷ 64 ∷ 128 ∷ 256 ∷ 512 ∷ 1024 ∷ 2048 ∷ []) c 0
+bitOf c = getD (1 ∷ 2 ∷ 4 ∷ 8 ∷ 16 ∷ 32 ∷ 64 ∷ 128 ∷ 256 ∷ 512 ∷ 1024 ∷ 2048 ∷ []) c 4096
 
 unfoldable pub maskOf : ℕ → ℕ → ℕ
 maskOf c k =
     cond (eqb (bitAnd (placesOf (k * 2 + c / 8) / 2048) (bitOf c)) 0) 131071 (placesOf (k * 2 + c / 8) % 2048)
+
+-- what a node with fixed parts is made of, by kind, and from 19 on by the first three bits of an expression: its width; times 4, how many
+-- parts; times 16, how the first part's context comes from the node's, times 4,096 that of the others (the bits kept, and times 16 what is
+-- added); times 2^20 the bits of the head that it does not use; times 2^33 those of the word in the middle that have to be 0; times 2^49, 1
+-- if the last word has to be 0; times 2^50 the contexts where it may stand, as bits
+unfoldable pub shapeOf : ℕ → ℕ
+shapeOf slot =
+    getD
+    (2766336073258762241
+    ∷ 922112023770172421
+    ∷ 922112025850560969
+    ∷ 922112025850659273
+    ∷ 922112025850563597
+    ∷ 922112025850563593
+    ∷ 1
+    ∷ 2151594721976254465
+    ∷ 2151612305572364358
+    ∷ 922129607300218882
+    ∷ 922675514823409667
+    ∷ 211669173928984647
+    ∷ 922674967214030850
+    ∷ 922112023736614913
+    ∷ 922112023736614913
+    ∷ 54043197674881025
+    ∷ 1
+    ∷ 1
+    ∷ 1
+    ∷ 4611686027016273923
+    ∷ 4611686018694774785
+    ∷ 4611686027017063433
+    ∷ 4611686027017063433
+    ∷ 4611686027017063433
+    ∷ 4611686027017063433
+    ∷ [])
+    slot 1

@@ -6,7 +6,7 @@ use mathlib.Core.List.{List, [], _∷_}
 use lib.Bits.{bitAnd}
 use lib.Dec.{leb, ltb, eqb}
 use lib.ListN.{length, getD}
-use Rattle.reading.specs.Tables.{headMask}
+use Rattle.reading.specs.Tables.{headMask, bitOf, shapeOf}
 
 -- on to what follows, unless this failed
 unfoldable pub on : ℕ → (ℕ → ℕ) → ℕ
@@ -166,3 +166,30 @@ processEnd zero ws bound c i = 0
 processEnd (suc d) ws bound c i =
     when (ltb i (length ws))
     (when (eqb (bitAnd (at ws i + 65536) (headMask c (at ws i / 2048))) 0) (nodeEnd (exprEnd d ws) (processEnd d ws bound) ws c bound (at ws i) i))
+
+-- ---- the same, node by node, with what is left to read kept for later; context 12 stands for an expression
+
+unfoldable pub slotOf : ℕ → ℕ → ℕ
+slotOf c h = cond (eqb c 12) (19 + h / 8192) (h / 2048)
+
+-- whether a node whose shape is t stands at i in a context, with no other words than its parts' and those the shape tells
+unfoldable pub fitsAt : List ℕ → ℕ → ℕ → ℕ → Bool
+fitsAt ws i c t =
+    leb (t % 4) (length ws - i)
+    && eqb
+    (bitAnd (at ws i + 65536) (t / 1048576 % 8192) + bitAnd (at ws (i + t % 4 / 2)) (t / 8589934592 % 65536)
+    + bitAnd (at ws (i + t % 4 - 1)) (t / 562949953421312 % 2 * 65535))
+    0
+    && not (eqb (bitAnd (t / 1125899906842624) (bitOf c)) 0)
+
+-- a part's context
+unfoldable pub partOf : ℕ → ℕ → ℕ
+partOf c how = bitAnd c (how % 16) + how / 16 % 16
+
+unfoldable pub itemEnd : List ℕ → ℕ → ℕ → ℕ → ℕ → ℕ
+itemEnd ws bound d c i = cond (eqb c 12) (exprEnd d ws i) (processEnd d ws bound c i)
+
+-- the last n of those kept, each as 16 times its depth plus its context, from 1 on
+unfoldable pub laterEnd : List ℕ → ℕ → List ℕ → ℕ → ℕ → ℕ
+laterEnd ws bound later zero i = i
+laterEnd ws bound later (suc n) i = on (itemEnd ws bound (at later (suc n) / 16) (at later (suc n) % 16) i) (laterEnd ws bound later n)

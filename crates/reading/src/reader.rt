@@ -1,15 +1,18 @@
 // The reader: where the process, list or expression that begins at a position ends, or 0 if it does not fit. One pass over the words;
 // depth falls with every level. A context (`specs/Tables`) is 4 times the stratum (0 code, 1 code that may hold cH, 2 running) plus the
 // place (0 anywhere, 1 not nil, 2 a branch's guard, 3 a root). `bound` is n times 65,536 plus issued.
+use crate::tables::bit;
 use crate::tables::head_mask;
+use crate::tables::shape;
 ghost use mathlib.Core.Path.{_≡_};
-ghost use Prim.Native.Nat.{_+_, _<_};
-ghost use mathlib.Core.Bool.{_||_};
-ghost use lib.Dec.{eqb};
+ghost use Prim.Native.Nat.{_+_, _%_, _<_};
+ghost use mathlib.Core.Bool.{_&&_, _||_};
+ghost use lib.Dec.{leb, eqb};
 ghost use lib.ListN.{length};
 ghost use Rattle.reading.specs.Walk.{exprEnd, constantEnd, operationEnd, contextOf, restOf, processEnd, twoEnd, branchEnd, repeatEnd};
 ghost use Rattle.reading.specs.Walk.{choiceEnd, fixedAfter, requestEnd, notifyEnd, solicitEnd, listEnd, keyAt, entryContext};
 ghost use Rattle.reading.specs.Walk.{scopeEnd, restingEnd, markedEnd, endAfter, executorEnd, waiterEnd, noticeEnd};
+ghost use Rattle.reading.specs.Walk.{slotOf, fitsAt, partOf, itemEnd};
 
 pub fn wide(w: u16) -> usize
     ensures { λ r. ⌜ (r ≡ w) × (r < 65536) ⌝ }
@@ -78,8 +81,120 @@ fn rest_context(context: usize) -> usize
     if context < 8 { context / 4 * 4 } else { 0 }
 }
 
-// A process in a context.
+// Where a node's shape stands: its kind, or 19 and the first three bits of an expression.
+fn slot(context: usize, h: usize) -> usize
+    ensures { λ r. ⌜ r ≡ slotOf context h ⌝ }
+{
+    if context == 12 {
+        19 + h / 8192
+    } else {
+        h / 2048
+    }
+}
+
+// Whether a node whose shape is `t` stands here, with no other words than its parts' and those the shape tells.
+fn fits(ws: &[u16], at: usize, context: usize, t: usize) -> bool
+    requires { ⌜ (at < length (now ws)) × (0 < t % 4) ⌝ }
+    ensures { λ r. ⌜ r ≡ fitsAt (now (ws .entry)) at context t ⌝ }
+{
+    if ws.len() - at < t % 4 {
+        return false;
+    }
+    let head = (wide(ws[at]) + 65536) & (t / 1048576 % 8192);
+    let middle = wide(ws[at + t % 4 / 2]) & (t / 8589934592 % 65536);
+    let last = wide(ws[at + t % 4 - 1]) & (t / 562949953421312 % 2 * 65535);
+    if head + middle + last != 0 {
+        return false;
+    }
+    t / 1125899906842624 & bit(context) != 0
+}
+
+// The same, if there is room to keep the node's parts for later.
+fn ready(ws: &[u16], at: usize, depth: usize, context: usize, n: usize, t: usize) -> bool
+    requires { ⌜ (at < length (now ws)) × (0 < t % 4) ⌝ }
+    ensures { λ r. ⌜ r ≡ (leb depth 4095 && leb n 13 && fitsAt (now (ws .entry)) at context t) ⌝ }
+{
+    if 4095 < depth {
+        return false;
+    }
+    if 13 < n {
+        return false;
+    }
+    fits(ws, at, context, t)
+}
+
+// The context of a node's part.
+fn part(context: usize, how: usize) -> usize
+    requires { ⌜ context < 13 ⌝ }
+    ensures { λ r. ⌜ r ≡ partOf context how ⌝ }
+{
+    (context & (how % 16)) + how / 16 % 16
+}
+
+// A process in a context, node by node: the parts of a node that its shape tells are kept for later, the first is read next. Any other
+// node is read whole.
 pub fn process(ws: &[u16], at: usize, depth: usize, context: usize, bound: usize) -> usize
+    requires { ⌜ context < 12 ⌝ }
+    ensures { λ r. ⌜ r ≡ processEnd depth (now (ws .entry)) bound context at ⌝ }
+{
+    let mut later = [0usize; 16];
+    let mut n = 0;
+    let mut a = at;
+    let mut d = depth;
+    let mut c = context;
+    while a < ws.len() {
+        if d == 0 {
+            return 0;
+        }
+        let t = shape(slot(c, wide(ws[a])));
+        if ready(ws, a, d, c, n, t) {
+            let p = t / 4 % 4;
+            a = a + t % 4;
+            if p == 0 {
+                if n == 0 {
+                    return a;
+                }
+                d = later[n] / 16;
+                c = later[n] % 16;
+                n = n - 1;
+            } else {
+                d = d - 1;
+                let last = d * 16 + part(c, t / 4096);
+                later[n + 1] = last;
+                later[n + 2] = last;
+                c = part(c, t / 16);
+                n = n + p - 1;
+            }
+        } else {
+            a = whole(ws, a, d, c, bound);
+            if a == 0 {
+                return 0;
+            }
+            if n == 0 {
+                return a;
+            }
+            d = later[n] / 16;
+            c = later[n] % 16;
+            n = n - 1;
+        }
+    }
+    0
+}
+
+// A process or an expression.
+fn whole(ws: &[u16], at: usize, depth: usize, context: usize, bound: usize) -> usize
+    requires { ⌜ context < 13 ⌝ }
+    ensures { λ r. ⌜ r ≡ itemEnd (now (ws .entry)) bound depth context at ⌝ }
+{
+    if context == 12 {
+        expression(ws, at, depth)
+    } else {
+        node(ws, at, depth, context, bound)
+    }
+}
+
+// A process in a context, by its kind.
+fn node(ws: &[u16], at: usize, depth: usize, context: usize, bound: usize) -> usize
     requires { ⌜ context < 12 ⌝ }
     ensures { λ r. ⌜ r ≡ processEnd depth (now (ws .entry)) bound context at ⌝ }
 {

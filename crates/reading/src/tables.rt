@@ -1,7 +1,7 @@
 // What the reader looks up: which heads may stand where. Matches and not constant arrays, which every call would lay out anew.
 ghost use mathlib.Core.Path.{_≡_};
 ghost use Prim.Native.Nat.{_<_};
-ghost use Rattle.reading.specs.Tables.{placesOf, bitOf, headMask};
+ghost use Rattle.reading.specs.Tables.{placesOf, bitOf, headMask, shapeOf};
 
 // By kind, first where it is code and then where it runs: the contexts where it may stand, as bits, times 2,048, and the bits of a head
 // that it does not use.
@@ -51,7 +51,8 @@ fn places(slot: usize) -> usize
     }
 }
 
-fn bit(context: usize) -> usize
+// The bit of a context; 12 stands for an expression.
+pub fn bit(context: usize) -> usize
     ensures { λ r. ⌜ r ≡ bitOf context ⌝ }
 {
     match context {
@@ -67,7 +68,7 @@ fn bit(context: usize) -> usize
         9 => 512,
         10 => 1024,
         11 => 2048,
-        _ => 0,
+        _ => 4096,
     }
 }
 
@@ -81,4 +82,39 @@ pub fn head_mask(context: usize, kind: usize) -> usize
         return 131071;
     }
     p % 2048
+}
+
+// What a node with fixed parts is made of, by kind, and from 19 on by the first three bits of an expression (`specs/Tables`). A node whose
+// parts are counted has no bit among its contexts.
+pub fn shape(slot: usize) -> usize
+    ensures { λ r. ⌜ r ≡ shapeOf slot ⌝ }
+{
+    match slot {
+        0 => 2766336073258762241,
+        1 => 922112023770172421,
+        2 => 922112025850560969,
+        3 => 922112025850659273,
+        4 => 922112025850563597,
+        5 => 922112025850563593,
+        6 => 1,
+        7 => 2151594721976254465,
+        8 => 2151612305572364358,
+        9 => 922129607300218882,
+        10 => 922675514823409667,
+        11 => 211669173928984647,
+        12 => 922674967214030850,
+        13 => 922112023736614913,
+        14 => 922112023736614913,
+        15 => 54043197674881025,
+        16 => 1,
+        17 => 1,
+        18 => 1,
+        19 => 4611686027016273923,
+        20 => 4611686018694774785,
+        21 => 4611686027017063433,
+        22 => 4611686027017063433,
+        23 => 4611686027017063433,
+        24 => 4611686027017063433,
+        _ => 1,
+    }
 }

@@ -1,0 +1,25 @@
+-- `slot` of `reading::reader` meets its contract: the code is its mirror in specs/.
+-- Assumes nothing.
+use Rattle.reading.specs.Walk.{slotOf}
+use Rattle.reading.proofs.Tests.{tests}
+use borrow.Author.Needs.{needs}
+use Rattle.reading.proofs.reader.slot.Statement.{statement}
+use Rattle.reading.proofs.reader.slot.Tie as tie
+
+add-result : tie.Need-add-result
+add-result c = search needs
+
+returns : tie.Need-returns
+unfolding slotOf
+returns c =
+    let f0 = c .if1 .taken in
+    simp (tests, f0)
+
+returns-2 : tie.Need-returns-2
+unfolding slotOf
+returns-2 c =
+    let f0 = c .if1 .left in
+    simp (tests, f0)
+
+pub slot-spec : {M : Type 1} → statement M
+slot-spec = tie.close (tie.spec add-result returns returns-2)
