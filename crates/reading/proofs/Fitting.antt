@@ -8,14 +8,13 @@ use mathlib.Core.List.{List}
 use lib.Bits.{bitAnd, and-zero-r}
 use lib.Dec.{T, leb, ltb, eqb}
 use lib.ListN.{length, getD}
-use borrow.Author.Tests.{le-leb, leb-true, eq-eqb, eqb-true, ne-eqb, eqb-false, ltb-true, lt-ltb, le-ltb}
+use borrow.Author.Tests.{le-leb, leb-true, eq-eqb, eqb-true, ne-eqb, eqb-false, ltb-true, le-ltb}
 use Rattle.sock.specs.Kind.{rows, rowOf}
 use Rattle.sock.specs.Reading.{allowed, placed}
 use Rattle.sock.proofs.Logic.{and-left, and-right, test-true, true-test, cond-case}
 use Rattle.sock.proofs.Table.{table, table-at}
 use Rattle.reading.specs.Tables.{spareOf, headMask, bitOf, shapeOf}
 use Rattle.reading.specs.Walk.{at, contextOf, restOf, slotOf, fitsAt, partOf}
-use Rattle.reading.proofs.Combining.{Words}
 
 -- ---- the test
 
@@ -39,7 +38,9 @@ third-left : (a b c : Bool) → a ≡ true → b ≡ true → c ≡ (a && b && c
 third-left a b c d e = ap₂ (λ x y. x && y && c) (sym d) (sym e)
 
 module _ (ws : List ℕ) (i c t h m l : ℕ) (eh : h ≡ at ws i) (em : m ≡ at ws (i + t % 4 / 2)) (el : l ≡ at ws (i + t % 4 - 1)) where
-  sums : headBits h t + middleBits m t + lastBits l t ≡ headBits (at ws i) t + middleBits (at ws (i + t % 4 / 2)) t + lastBits (at ws (i + t % 4 - 1)) t
+  sums :
+      headBits h t + middleBits m t + lastBits l t
+      ≡ headBits (at ws i) t + middleBits (at ws (i + t % 4 / 2)) t + lastBits (at ws (i + t % 4 - 1)) t
   sums = ap₂ (λ x y. x + y) (ap₂ (λ x y. x + y) (ap (λ x. headBits x t) eh) (ap (λ x. middleBits x t) em)) (ap (λ x. lastBits x t) el)
 
   pub fits-not : (headBits h t + middleBits m t + lastBits l t ≡ 0 → ⊥) → false ≡ fitsAt ws i c t
@@ -135,7 +136,8 @@ pub shape-kind : (c k : ℕ) → c < 12 → k < 32 → (standing (shapeOf k) c �
 unfolding kinds one
 shape-kind c k hc hk n =
     cond-one (ltb k 16 && (not (eqb k 11) || ltb c 8))
-    (sym (ap (λ b. cond b 1 (cond (ltb k 16 && (not (eqb k 11) || ltb c 8)) 1 0)) (ne-eqb _ 0 n)) ∙ at-pair kinds one 12 c k hc hk same-kinds)
+    (sym (ap (λ b. cond b 1 (cond (ltb k 16 && (not (eqb k 11) || ltb c 8)) 1 0)) (ne-eqb _ 0 n))
+    ∙ at-pair kinds one 12 c k hc hk same-kinds)
 
 -- a part's context is one, and a width is not 0
 smallAt : ℕ → ℕ → Bool

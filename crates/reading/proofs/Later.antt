@@ -2,9 +2,7 @@
 -- Assumes nothing.
 use Prim.Native.Nat.{ℕ, zero, suc, _+_, _*_, _-_, _/_, _%_, _<_, _≤_}
 use native.Mathlib.Omega.{arith}
-use native.Mathlib.Numerals.{add-one}
-use mathlib.Core.Logic.{_≢_}
-use mathlib.Core.Path.{_≡_, refl, sym, ap, ap₂, subst, _∙_}
+use mathlib.Core.Path.{_≡_, refl, sym, ap, ap₂, _∙_}
 use mathlib.Core.Bool.{Bool, true, false, _&&_, cond}
 use mathlib.Core.List.{List, [], _∷_}
 use lib.Dec.{leb, eqb}
@@ -21,7 +19,6 @@ use Rattle.reading.proofs.Expressions.{expr-ends}
 use Rattle.reading.proofs.Fitting.{all-three, slot-small}
 use Rattle.reading.proofs.Processes.{process-ends}
 use Rattle.reading.proofs.Shapes.{partsEnd, nextEnd, item-parts}
-use Rattle.reading.proofs.Walks.{process-step, expr-step}
 
 -- ---- where an item ends
 
@@ -99,7 +96,8 @@ module _ (ws : List ℕ) (bound : ℕ) where
 
 -- a node's parts are read one after the other, and then what was kept
 module _
-    (ws : List ℕ) (bound : ℕ) (later : List ℕ) (n d f l j x : ℕ) (len : length later ≡ 16) (room : n ≤ 13) (ex : x ≡ d * 16 + l) (hl : l < 13) where
+    (ws : List ℕ) (bound : ℕ) (later : List ℕ) (n d f l j x : ℕ)
+    (len : length later ≡ 16) (room : n ≤ 13) (ex : x ≡ d * 16 + l) (hl : l < 13) where
   abbrev after : List ℕ
   after = set (set later (n + 1) x) (n + 2) x
 
@@ -180,9 +178,12 @@ nothing-later : (ws : List ℕ) (bound : ℕ) (later : List ℕ) (j : ℕ) → l
 unfolding laterEnd
 nothing-later ws bound later j = refl
 
-pub begins : (ws : List ℕ) (bound depth c i : ℕ) → c < 12 → Going ws bound (processEnd depth ws bound c i) depth (replicate 16 0) 0 i depth c
+pub begins :
+    (ws : List ℕ) (bound depth c i : ℕ) → c < 12 →
+    Going ws bound (processEnd depth ws bound c i) depth (replicate 16 0) 0 i depth c
 begins ws bound depth c i h =
-    (item-process ws bound depth c i h ∙ on-id _ _ (nothing-later ws bound (replicate 16 0)), omega arith, omega arith, omega arith, refl, nothing)
+    let whole = item-process ws bound depth c i h ∙ on-id _ _ (nothing-later ws bound (replicate 16 0)) in
+    (whole, omega arith, omega arith, omega arith, refl, nothing)
   where
     nothing : (j : ℕ) → (at (replicate 16 0) j / 16 ≤ depth) × (at (replicate 16 0) j % 16 < 13)
     nothing j = let z = zeros 16 j in (omega arith, omega arith)
@@ -273,11 +274,14 @@ module _
         let len : length later ≡ 16 = going .4 in
         let deepest : d ≤ depth = going .2 in
         let b = s .1 in
-        let holds : (x / 16 ≤ depth) × (x % 16 < 13) = (omega arith, omega arith) in (
+        let holds : (x / 16 ≤ depth) × (x % 16 < 13) = (omega arith, omega arith) in
+        let first : ℕ = partOf c (t / 16) in
+        let more : List ℕ = set (set later (n + 1) x) (n + 2) x in
+        let m : ℕ = n + t / 4 % 4 - 1 in (
           going .0
               ∙ ap (λ y. on y (laterEnd ws bound later n)) parts
-              ∙ push-parts ws bound later n (d - 1) (partOf c (t / 16)) (partOf c (t / 4096)) (a + t % 4) x len room q b (t / 4 % 4) some (omega arith)
-              ∙ ap (λ y. on (itemEnd ws bound (d - 1) y (a + t % 4)) (laterEnd ws bound (set (set later (n + 1) x) (n + 2) x) (n + t / 4 % 4 - 1))) (sym ef),
+              ∙ push-parts ws bound later n (d - 1) first (partOf c (t / 4096)) (a + t % 4) x len room q b (t / 4 % 4) some (omega arith)
+              ∙ ap (λ y. on (itemEnd ws bound (d - 1) y (a + t % 4)) (laterEnd ws bound more m)) (sym ef),
           omega arith,
           omega arith,
           rw ef (s .0),

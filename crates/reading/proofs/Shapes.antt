@@ -1,24 +1,24 @@
 -- A node whose shape fits: the walk goes on with its parts, one after the other.
 -- Assumes nothing.
-use Prim.Native.Nat.{ℕ, zero, suc, _+_, _*_, _-_, _/_, _%_, _<_, _≤_}
+use Prim.Native.Nat.{ℕ, zero, suc, _+_, _-_, _/_, _%_, _<_, _≤_}
 use native.Mathlib.Omega.{arith}
 use mathlib.Core.Path.{_≡_, refl, sym, ap, ap₂, _∙_}
 use mathlib.Core.Bool.{Bool, true, false, not, _&&_, _||_, cond}
 use mathlib.Core.List.{List}
 use lib.Bits.{bitAnd, and-mask}
-use lib.Dec.{T, leb, ltb, eqb, ltb→lt}
+use lib.Dec.{leb, ltb, eqb, ltb→lt}
 use lib.ListN.{length}
 use borrow.Author.Tests.{lt-ltb, le-leb, eq-eqb, ne-eqb, eqb-true, eqb-false}
 use lib.Arith.{lt-of-le-ne}
 use Rattle.sock.proofs.Fields.{From, end, _then_, fact-at}
-use Rattle.sock.proofs.Logic.{and-left, and-right}
-use Rattle.reading.specs.Tables.{headMask, shapeOf}
-use Rattle.reading.specs.Walk.{on, when, at, exprEnd, exprAt, constantEnd, operationEnd, twoEnd, branchEnd, repeatEnd, choiceEnd, fixedAfter}
-use Rattle.reading.specs.Walk.{requestEnd, notifyEnd, entriesEnd, listEnd, solicitEnd, restingEnd, scopeEnd, nodeEnd, processEnd, contextOf, restOf}
-use Rattle.reading.specs.Walk.{slotOf, fitsAt, partOf, itemEnd}
+use Rattle.sock.proofs.Logic.{and-left}
+use Rattle.reading.specs.Tables.{shapeOf}
+use Rattle.reading.specs.Walk.{on, when, at, exprEnd, exprAt, constantEnd, operationEnd, twoEnd, branchEnd, repeatEnd, fixedAfter}
+use Rattle.reading.specs.Walk.{requestEnd, notifyEnd, entriesEnd, listEnd, solicitEnd, restingEnd, scopeEnd, nodeEnd, processEnd}
+use Rattle.reading.specs.Walk.{contextOf, restOf, slotOf, fitsAt, partOf, itemEnd}
 use Rattle.reading.proofs.Combining.{Words}
-use Rattle.reading.proofs.Fitting.{Fit, fits-known, slot-process, shape-mask, shape-kind, part-kept, part-rest, part-expression, rest-below}
-use Rattle.reading.proofs.Tests.{tests}
+use Rattle.reading.proofs.Fitting.{Fit, fits-known, slot-process, shape-mask, shape-kind}
+use Rattle.reading.proofs.Fitting.{part-kept, part-rest, part-expression, rest-below}
 use Rattle.reading.proofs.Walks.{process-node, expr-step, entries-end}
 
 -- parts one after the other: the first, then the others, all in one context
@@ -124,7 +124,8 @@ module _ (ws : List ℕ) (ok : Words ws) (bound d c i : ℕ) (hc : c < 12) where
   unfolding nodeEnd shapeOf requestEnd fixedAfter when partOf
   request-step e f =
       rw e
-      (ap₂ (λ a b. cond (a && b) (processEnd d ws bound (restOf c) (i + 2)) 0) (le-leb 2 _ (f .wide)) (middle-2048 (at ws (i + 1)) (f .middle))
+      (ap₂ (λ a b. cond (a && b) (processEnd d ws bound (restOf c) (i + 2)) 0) (le-leb 2 _ (f .wide))
+      (middle-2048 (at ws (i + 1)) (f .middle))
       ∙ rest (i + 2))
 
   notify-step : Step 9
@@ -177,8 +178,8 @@ module _ (ws : List ℕ) (ok : Words ws) (bound d c i : ℕ) (hc : c < 12) where
 
   by-kind : From Step 16 0
   by-kind =
-      leaf-0 then assign-step then seq-step then par-step then if-step then while-step then choice-step then leaf-7 then request-step then notify-step
-      then solicit-step then scope-step then inst-step then leaf-13 then leaf-14 then leaf-15 then end
+      leaf-0 then assign-step then seq-step then par-step then if-step then while-step then choice-step then leaf-7 then request-step
+      then notify-step then solicit-step then scope-step then inst-step then leaf-13 then leaf-14 then leaf-15 then end
 
   process-parts :
       (at ws i / 2048 < 32) → Fit ws i c (shapeOf (at ws i / 2048)) →
@@ -263,24 +264,29 @@ module _ (ws : List ℕ) (ok : Words ws) (bound d i : ℕ) (deep : d ≡ 0 → �
       ∙ expression-parts ws bound (d - 1) i (omega arith) (rw e at f)
       ∙ ap (λ x. nextEnd ws bound (d - 1) 12 x i) (sym e)
 
-  of-process : (c t : ℕ) → c < 12 → t ≡ shapeOf (at ws i / 2048) → Fit ws i c t → processEnd d ws bound c i ≡ nextEnd ws bound (d - 1) c t i
+  of-process :
+      (c t : ℕ) → c < 12 → t ≡ shapeOf (at ws i / 2048) → Fit ws i c t →
+      processEnd d ws bound c i ≡ nextEnd ws bound (d - 1) c t i
   of-process c t hc e f =
       let b = ok i in
       let k = at ws i / 2048 in
       let g : Fit ws i c (shapeOf k) = rw e at f in
-      process-node d ws bound c i (at ws i) (shapeOf k / 1048576 % 8192) deep inside refl (shape-mask c k hc (omega arith) (g .stands)) (g .head)
+      process-node d ws bound c i (at ws i) (shapeOf k / 1048576 % 8192) deep inside refl
+      (shape-mask c k hc (omega arith) (g .stands)) (g .head)
       ∙ process-parts ws ok bound (d - 1) c i hc (omega arith) g
       ∙ ap (λ x. nextEnd ws bound (d - 1) c x i) (sym e)
 
   pub item-parts :
-      (c t : ℕ) → c < 13 → t ≡ shapeOf (slotOf c (at ws i)) → fitsAt ws i c t ≡ true → itemEnd ws bound d c i ≡ nextEnd ws bound (d - 1) c t i
+      (c t : ℕ) → c < 13 → t ≡ shapeOf (slotOf c (at ws i)) → fitsAt ws i c t ≡ true →
+      itemEnd ws bound d c i ≡ nextEnd ws bound (d - 1) c t i
   unfolding itemEnd slotOf
   item-parts c t hc e f = by (eqb c 12) refl
     where
       by : (x : Bool) → eqb c 12 ≡ x → cond (eqb c 12) (exprEnd d ws i) (processEnd d ws bound c i) ≡ nextEnd ws bound (d - 1) c t i
       by true q =
           let z : c ≡ 12 = eqb-true c 12 q in
-          rw q (rw z (of-expression t (e ∙ ap (λ x. shapeOf (cond x (19 + at ws i / 8192) (at ws i / 2048))) q) (rw z at (fits-known ws i c t f))))
+          let k = ap (λ x. shapeOf (cond x (19 + at ws i / 8192) (at ws i / 2048))) q in
+          rw q (rw z (of-expression t (e ∙ k) (rw z at (fits-known ws i c t f))))
       by false q =
           let n = eqb-false c 12 q in
           rw q (of-process c t (lt-of-le-ne (omega arith) n) (e ∙ ap shapeOf (slot-process c (at ws i) n)) (fits-known ws i c t f))
