@@ -77,3 +77,73 @@ module _ (es : List Engine) (e : ℕ) (x : Engine) (h : e < length es) where
   engines-set =
       engines-split (set es e x) e x (rw (length-set es e x) h)
       ∙ rw (take-set-le e es e x (omega arith), getD-set-same es e x x h, drop-set-lt (suc e) es e x (omega arith))
+
+module _ (c : Config) (fits : FitsConfig c) (e : ℕ) (h : e < length (c .engines)) (ws : List ℕ) (same : encode c ≡ ws) where
+  abbrev start : ℕ
+  start = startOf c e
+
+  abbrev process : Run
+  process = engineAt c e .process
+
+  abbrev values : List ℕ
+  values = engineAt c e .values
+
+  abbrev end : ℕ
+  end = start + size process
+
+  many : length values ≡ 32
+  many = engine-fits _ (fits .engines) e h .counted
+
+  front : length (wordsBefore c e) ≡ start
+  front = before-length c e h fits
+
+  pub one-split : ws ≡ wordsBefore c e ++ (runWords process ++ wordsAfter c e)
+  one-split = sym same ∙ encode-split c e h
+
+  pub one-stands : drop start ws ≡ runWords process ++ wordsAfter c e
+  one-stands = ap (drop start) one-split ∙ drop-at (wordsBefore c e) (runWords process ++ wordsAfter c e) start front
+
+  pub one-behind : drop end ws ≡ wordsAfter c e
+  unfolding size
+  one-behind =
+      ap (drop end) (one-split ∙ sym (append-assoc (wordsBefore c e) (runWords process) (wordsAfter c e)))
+      ∙ drop-at (wordsBefore c e ++ runWords process) (wordsAfter c e) end (length-append (wordsBefore c e) (runWords process) ∙ ap (λ k. k + length (runWords process)) front)
+
+  pub one-front : take start ws ≡ wordsBefore c e
+  one-front = ap (take start) one-split ∙ take-at (wordsBefore c e) (runWords process ++ wordsAfter c e) start front
+
+  pub one-length : length ws ≡ end + length (wordsAfter c e)
+  unfolding size
+  one-length =
+      ap length one-split
+      ∙ (length-append (wordsBefore c e) (runWords process ++ wordsAfter c e)
+      ∙ (let a = length-append (runWords process) (wordsAfter c e) in let b = front in let z : length (wordsBefore c e) + length (runWords process ++ wordsAfter c e) ≡ end + length (wordsAfter c e) = omega arith in z))
+
+  -- the values stand before it
+  pub one-values : part (start - 64) start ws ≡ valuesWords values
+  one-values =
+      let pre : List ℕ = length (c .engines) ∷ c .issued ∷ enginesWords (take e (c .engines)) in
+      let n : length (valuesWords values) ≡ 64 = omega (arith, values-length values, many) in
+      let k : start - 64 ≡ length pre = omega arith in
+      let m : start - (start - 64) ≡ 64 = omega arith in
+      let d : drop (start - 64) ws ≡ valuesWords values ++ (runWords process ++ wordsAfter c e) =
+      ap (drop (start - 64)) (one-split ∙ append-assoc pre (valuesWords values) (runWords process ++ wordsAfter c e))
+      ∙ drop-at pre (valuesWords values ++ (runWords process ++ wordsAfter c e)) (start - 64) (sym k) in
+      ap₂ (λ (i : ℕ) (l : List ℕ). take i l) m d ∙ take-at (valuesWords values) (runWords process ++ wordsAfter c e) 64 n
+
+  -- the engine changed
+  module _ (p : Plan) (fresh : List ℕ) (q : Run) (plans : Plans ws start end p fresh q) where
+    abbrev next : Config
+    next = record { issued = c .issued; engines = withEngine e (valued values (p .x) (p .v)) q (c .engines) }
+
+    abbrev pre : List ℕ
+    pre = length (c .engines) ∷ c .issued ∷ enginesWords (take e (c .engines))
+
+    pub next-words : encode next ≡ ((pre ++ valuesWords (valued values (p .x) (p .v))) ++ runWords q) ++ wordsAfter c e
+    unfolding encode engineWords
+    next-words =
+        ap₂ (λ (n : ℕ) (l : List ℕ). n ∷ c .issued ∷ l) (length-set (c .engines) e _) (engines-set (c .engines) e _ h)
+        ∙ regrouped pre (valuesWords (valued values (p .x) (p .v))) (runWords q) (wordsAfter c e)
+      where
+        regrouped : (a b x d : List ℕ) → a ++ ((b ++ x) ++ d) ≡ ((a ++ b) ++ x) ++ d
+        regrouped a b x d = simp append-assoc
