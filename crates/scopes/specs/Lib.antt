@@ -1,3 +1,4 @@
 pub mod Compensating
 pub mod Installing
 pub mod Levels
+pub mod Throwing

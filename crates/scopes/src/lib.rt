@@ -2,3 +2,4 @@
 pub mod compensating;
 pub mod installing;
 pub mod level;
+pub mod throwing;

@@ -1,0 +1,67 @@
+-- What a throw makes of an engine's words, as the code goes.
+use Prim.Native.Nat.{ℕ, _+_, _*_, _/_, _%_}
+use mathlib.Core.Bool.{Bool, true, false, cond}
+use mathlib.Core.List.{List}
+use lib.Dec.{eqb}
+use lib.ListN.{getD, set}
+use Rattle.reading.specs.Walk.{processEnd, listEnd}
+use Rattle.finding.specs.declared.find.Spot.{Spot}
+use Rattle.moving.specs.Writing.{onward, pasted, pastedEnd}
+use Rattle.moving.specs.Killing.{Killed, killW}
+use Rattle.moving.specs.declared.kill.Moved.{Moved}
+use Rattle.rules.specs.declared.plan.Plan.{Plan}
+use Rattle.rules.specs.Planning.{Planned, planned, refusedPlan}
+
+unfoldable pub faultW : List ℕ → ℕ → ℕ
+faultW ws i = getD ws i 0 / 32 % 64
+
+-- what was killed, from `a` on, becomes the fresh words
+unfoldable pub clearedW : ℕ → ℕ → Moved → Plan
+clearedW start a k =
+    cond (eqb (k .end) 0) (refusedPlan 6)
+    (record { number = 0; l = start; m = start; f = 0; a = a; b = k .end; g = k .to; c = k .end; d = k .end; x = 32; v = 0 })
+
+unfoldable pub clearedBy : ℕ → ℕ → Killed → Planned
+clearedBy start a k = planned (clearedW start a (k .moved)) (k .out)
+
+unfoldable pub uncaughtW : ℕ → List ℕ → ℕ → ℕ → ℕ → List ℕ → Planned
+uncaughtW bound ws start fault i fresh = clearedBy start start (killW 64 ws fault i bound start fresh 0)
+
+-- a scope's head with mark 1, and the word behind it
+abbrev pub faultedHead : ℕ → ℕ
+faultedHead h = h / 32 * 32 + 8 + h / 4 % 2 * 4
+
+abbrev pub faultedWord : ℕ → ℕ
+faultedWord fault = fault % 64 * 1024
+
+-- whether the list of the scope at c has the fault
+unfoldable pub listedW : ℕ → List ℕ → ℕ → ℕ → Bool
+listedW bound ws c fault = cond (eqb (listEnd (processEnd 64 ws bound) ws 0 fault (onward c 2)) 0) false true
+
+-- the first two words of the scope at c
+unfoldable pub markedW : ℕ → List ℕ → ℕ → ℕ → List ℕ → List ℕ
+markedW bound ws c fault fresh =
+    cond (listedW bound ws c fault)
+    (set (set fresh 0 (faultedHead (getD ws c 0))) 1 (faultedWord fault))
+    (set (set fresh 0 (getD ws c 0)) 1 (getD ws (onward c 1) 0))
+
+-- where the body of the scope at c begins
+unfoldable pub bodyW : ℕ → List ℕ → ℕ → ℕ
+bodyW bound ws c = listEnd (processEnd 64 ws bound) ws 0 128 (onward c 2)
+
+-- all of it but the body
+unfoldable pub openedTo : List ℕ → ℕ → ℕ → ℕ
+openedTo ws c body = pastedEnd ws (onward c 2) body 2
+
+unfoldable pub openedW : ℕ → List ℕ → ℕ → ℕ → ℕ → List ℕ → List ℕ
+openedW bound ws c body fault fresh = pasted ws (onward c 2) body (markedW bound ws c fault fresh) 2
+
+unfoldable pub caughtW : ℕ → List ℕ → ℕ → ℕ → ℕ → ℕ → List ℕ → Planned
+caughtW bound ws start c fault i fresh =
+    let body = bodyW bound ws c in
+    clearedBy start c (killW 64 ws fault i bound body (openedW bound ws c body fault fresh) (openedTo ws c body))
+
+unfoldable pub thrownW : ℕ → List ℕ → ℕ → Spot → List ℕ → Planned
+thrownW bound ws start s fresh =
+    cond (eqb (s .catcher) 0) (uncaughtW bound ws start (faultW ws (s .at)) (s .at) fresh)
+    (caughtW bound ws start (s .catcher) (faultW ws (s .at)) (s .at) fresh)
