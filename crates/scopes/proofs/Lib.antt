@@ -1,3 +1,4 @@
+pub mod ClimbingDepths
 pub mod Compensates
 pub mod Installs
 pub mod NearestLists
