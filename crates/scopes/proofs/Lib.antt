@@ -1,4 +1,6 @@
+pub mod Climbing
 pub mod ClimbingDepths
+pub mod ClimbingPlaces
 pub mod Compensates
 pub mod Installs
 pub mod NearestLists
