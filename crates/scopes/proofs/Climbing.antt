@@ -30,16 +30,16 @@ pub record Stopped (f : ℕ) (fs : List Frame) (a : Run) (l : Located) : Type 0 
   pub stops : T (catches f zombie list)
 
 pub data Sought (f : ℕ) (fs : List Frame) (a : Run) : Option Located → Type 0 where
-  nowhere : T (free f fs) → Sought f fs a none
-  somewhere : {l : Located} → Stopped f fs a l → Sought f fs a (some l)
+  unstopped : T (free f fs) → Sought f fs a none
+  stoppedBy : {l : Located} → Stopped f fs a l → Sought f fs a (some l)
 
 -- one more frame inside
 module _ (f : ℕ) (o : Frame) (fs : List Frame) (a b : Run) (wraps : (gs : List Frame) → wrap gs b ≡ wrap (o ∷ gs) a)
     (frees : (gs : List Frame) → T (free f gs) → T (free f (o ∷ gs))) where
   inside : {x : Option Located} → Sought f fs b x → Sought f (o ∷ fs) a x
-  inside (nowhere t) = nowhere (frees fs t)
-  inside (somewhere s) =
-      somewhere
+  inside (unstopped t) = unstopped (frees fs t)
+  inside (stoppedBy s) =
+      stoppedBy
       (record {
         inner = o ∷ s .inner;
         name = s .name;
@@ -58,7 +58,7 @@ neither false b e = (tt, rw e tt)
 
 pub sought : (f : ℕ) (fs : List Frame) (a : Run) → Sought f fs a (stopped (catches f) fs a)
 unfolding stopped free wrap
-sought f [] a = nowhere tt
+sought f [] a = unstopped tt
 sought f (seqFrame q ∷ fs) a = inside f (seqFrame q) fs a (seq a q) (λ gs. refl) (λ gs t. t) (sought f fs (seq a q))
 sought f (leftFrame b ∷ fs) a = inside f (leftFrame b) fs a (par a b) (λ gs. refl) (λ gs t. t) (sought f fs (par a b))
 sought f (rightFrame b ∷ fs) a = inside f (rightFrame b) fs a (par b a) (λ gs. refl) (λ gs t. t) (sought f fs (par b a))
@@ -70,7 +70,7 @@ sought f (scopeFrame name mark zombie h ∷ fs) a = by (catches f zombie h) refl
         (b : Bool) → catches f zombie h ≡ b → Sought f fs (scope name mark zombie h a) (stopped (catches f) fs (scope name mark zombie h a)) →
         Sought f (scopeFrame name mark zombie h ∷ fs) a (cond b (some (record { frames = fs; process = scope name mark zombie h a })) (stopped (catches f) fs (scope name mark zombie h a)))
     by true e s =
-        somewhere
+        stoppedBy
         (record {
           inner = [];
           name = name;
@@ -95,7 +95,7 @@ unfolding also
 also-also none g k = refl
 also-also (some r) g k = refl
 
-also-same : (a : Option Run) {k l : Run → Option Run} → ((r : Run) → k r ≡ l r) → also a k ≡ also a l
+pub also-same : (a : Option Run) {k l : Run → Option Run} → ((r : Run) → k r ≡ l r) → also a k ≡ also a l
 unfolding also
 also-same none e = refl
 also-same (some a) e = e a

@@ -3,14 +3,15 @@
 use Prim.Native.Nat.{ℕ, zero, suc, _+_, _-_, _≤_, _<_}
 use native.Mathlib.Omega.{arith}
 use mathlib.Core.Path.{_≡_, refl, sym, ap, _∙_}
-use mathlib.Core.Bool.{cond}
+use mathlib.Core.Bool.{Bool, cond}
 use mathlib.Core.Option.{Option, none, some}
 use mathlib.Core.List.{List, [], _∷_, _++_}
 use lib.Dec.{ltb, ltb→lt, nltb→le}
 use lib.ListN.{length}
 use borrow.Author.Tests.{lt-ltb, le-ltb}
+use Rattle.sock.specs.Term.{Entries}
 use Rattle.sock.specs.Layout.{entriesWords}
-use Rattle.sock.specs.Running.{Run, nil, seq, par, scope, executor, waiter, notice, act, runWords, size}
+use Rattle.sock.specs.Running.{Mark, Run, nil, seq, par, scope, executor, waiter, notice, act, runWords, size}
 use Rattle.sock.specs.Frames.{Frame, seqFrame, leftFrame, rightFrame, scopeFrame, executorFrame, Located, hereOr, past, locate}
 use Rattle.sock.proofs.Logic.{cond-case, All, allNone, allSome, all-some, all-map}
 use Rattle.sock.proofs.Frames.{all-here}
@@ -33,6 +34,12 @@ pub offset-append : (xs ys : List Frame) → offset (xs ++ ys) ≡ offset ys + o
 unfolding offset
 offset-append [] ys = omega arith
 offset-append (o ∷ xs) ys = omega (arith, offset-append xs ys)
+
+pub offset-scope :
+    (name : ℕ) (mark : Mark) (zombie : Bool) (h : Entries) (fs : List Frame) →
+    offset (scopeFrame name mark zombie h ∷ fs) ≡ offset fs + (3 + length (entriesWords h))
+unfolding offset
+offset-scope name mark zombie h fs = refl
 
 -- ---- the position, by the frames
 

@@ -6,3 +6,4 @@ pub mod Installs
 pub mod NearestLists
 pub mod NilLists
 pub mod ScopeLists
+pub mod Throws
