@@ -63,12 +63,15 @@ sought f (seqFrame q ∷ fs) a = inside f (seqFrame q) fs a (seq a q) (λ gs. re
 sought f (leftFrame b ∷ fs) a = inside f (leftFrame b) fs a (par a b) (λ gs. refl) (λ gs t. t) (sought f fs (par a b))
 sought f (rightFrame b ∷ fs) a = inside f (rightFrame b) fs a (par b a) (λ gs. refl) (λ gs t. t) (sought f fs (par b a))
 sought f (executorFrame o y client serial ∷ fs) a =
-    inside f (executorFrame o y client serial) fs a (executor o y client serial a) (λ gs. refl) (λ gs t. t) (sought f fs (executor o y client serial a))
+    inside f (executorFrame o y client serial) fs a (executor o y client serial a) (λ gs. refl) (λ gs t. t)
+    (sought f fs (executor o y client serial a))
 sought f (scopeFrame name mark zombie h ∷ fs) a = by (catches f zombie h) refl (sought f fs (scope name mark zombie h a))
   where
     by :
-        (b : Bool) → catches f zombie h ≡ b → Sought f fs (scope name mark zombie h a) (stopped (catches f) fs (scope name mark zombie h a)) →
-        Sought f (scopeFrame name mark zombie h ∷ fs) a (cond b (some (record { frames = fs; process = scope name mark zombie h a })) (stopped (catches f) fs (scope name mark zombie h a)))
+        (b : Bool) → catches f zombie h ≡ b →
+        Sought f fs (scope name mark zombie h a) (stopped (catches f) fs (scope name mark zombie h a)) →
+        Sought f (scopeFrame name mark zombie h ∷ fs) a
+        (cond b (some (record { frames = fs; process = scope name mark zombie h a })) (stopped (catches f) fs (scope name mark zombie h a)))
     by true e s =
         stoppedBy
         (record {
@@ -105,13 +108,16 @@ unfolding climb free also
 climb-through f [] ys p t = refl
 climb-through f (seqFrame q ∷ xs) ys p t = climb-through f xs ys p t
 climb-through f (leftFrame b ∷ xs) ys p t =
-    also-same (kill f b) (λ b'. climb-through f xs ys (parOf p b') t) ∙ sym (also-also (kill f b) (λ b'. climb f xs (parOf p b')) (climb f ys))
+    also-same (kill f b) (λ b'. climb-through f xs ys (parOf p b') t)
+    ∙ sym (also-also (kill f b) (λ b'. climb f xs (parOf p b')) (climb f ys))
 climb-through f (rightFrame b ∷ xs) ys p t =
-    also-same (kill f b) (λ b'. climb-through f xs ys (parOf b' p) t) ∙ sym (also-also (kill f b) (λ b'. climb f xs (parOf b' p)) (climb f ys))
+    also-same (kill f b) (λ b'. climb-through f xs ys (parOf b' p) t)
+    ∙ sym (also-also (kill f b) (λ b'. climb f xs (parOf b' p)) (climb f ys))
 climb-through f (executorFrame o y client serial ∷ xs) ys p t = climb-through f xs ys (parOf p (notice o f client serial)) t
 climb-through f (scopeFrame name mark zombie h ∷ xs) ys p t =
-    let live : zombie ≡ false = test-false zombie (and-left (not zombie) (not (holds f h)) (and-left (not zombie && not (holds f h)) (free f xs) t)) in
-    let lacks : holds f h ≡ false = test-false (holds f h) (and-right (not zombie) (not (holds f h)) (and-left (not zombie && not (holds f h)) (free f xs) t)) in
+    let both : T (not zombie && not (holds f h)) = and-left (not zombie && not (holds f h)) (free f xs) t in
+    let live : zombie ≡ false = test-false zombie (and-left (not zombie) (not (holds f h)) both) in
+    let lacks : holds f h ≡ false = test-false (holds f h) (and-right (not zombie) (not (holds f h)) both) in
     rw (lacks, live) (climb-through f xs ys (scope name unmarked true h p) (and-right (not zombie && not (holds f h)) (free f xs) t))
 
 -- the mark that it leaves
@@ -126,17 +132,9 @@ climb-stops f name mark zombie h fs p t = by (holds f h) zombie t
   where
     by :
         (b z : Bool) → T (z || b) →
-        cond b (some (plug fs (scope name (faulted f) z h p))) (cond z (some (plug fs (scope name mark z h p))) (climb f fs (scope name unmarked true h p)))
+        cond b (some (plug fs (scope name (faulted f) z h p)))
+        (cond z (some (plug fs (scope name mark z h p))) (climb f fs (scope name unmarked true h p)))
         ≡ some (plug fs (scope name (cond b (faulted f) mark) z h p))
     by true z t = refl
     by false true t = refl
     by false false t = absurd t
-
-pub climb-stopped :
-    (f : ℕ) (fs : List Frame) (a : Run) (l : Located) (s : Stopped f fs a l) (p : Run) →
-    climb f fs p
-    ≡ also (climb f (s .inner) p) λ p'. some (plug (l .frames) (scope (s .name) (markFor f (s .mark) (s .list)) (s .zombie) (s .list) p'))
-climb-stopped f fs a l s p =
-    ap (λ gs. climb f gs p) (s .frames)
-    ∙ (climb-through f (s .inner) (scopeFrame (s .name) (s .mark) (s .zombie) (s .list) ∷ l .frames) p (s .passes)
-    ∙ also-same (climb f (s .inner) p) (λ p'. climb-stops f (s .name) (s .mark) (s .zombie) (s .list) (l .frames) p' (s .stops)))

@@ -2,10 +2,9 @@
 -- Assumes nothing.
 use Prim.Native.Nat.{ℕ, suc, _≤_, max}
 use native.Mathlib.Omega.{arith}
-use mathlib.Core.Path.{_≡_, refl}
-use mathlib.Core.Bool.{Bool, true, false, not, cond}
-use mathlib.Core.Option.{some}
-use mathlib.Core.List.{List, [], _∷_}
+use mathlib.Core.Path.{refl}
+use mathlib.Core.Bool.{true, false, not}
+use mathlib.Core.List.{List}
 use lib.Dec.{eqb}
 use Rattle.sock.specs.Kind
 use Rattle.sock.specs.Words.{faultKey}
@@ -34,21 +33,29 @@ unfolding kill
 kill-shallow f nil = allSome {a = nil} (omega arith)
 kill-shallow f (seq a q) = all-map (λ p h. omega (arith, depth-seq a q)) (kill-shallow f a)
 kill-shallow f (par a b) =
-    all-also (kill-shallow f a) λ a' x. all-also (kill-shallow f b) λ b' y. allSome {a = parOf a' b'} (par-deep a' b' _ (omega (arith, depth-par a b)))
+    all-also (kill-shallow f a) λ a' x. all-also (kill-shallow f b) λ b' y.
+    allSome {a = parOf a' b'} (par-deep a' b' _ (omega (arith, depth-par a b)))
 kill-shallow f (scope name mark true h a) = all-also (kill-shallow f a) λ a' x. allSome {a = scope name mark true h a} (omega arith)
 kill-shallow f (scope name mark false h a) =
     all-guarded (not (isDone a)) λ t.
-    all-also (kill-shallow f a) λ a' x. allSome {a = scope name ownName true h a'} (omega (arith, depth-scope name mark false h a, depth-scope name ownName true h a'))
+    all-also (kill-shallow f a) λ a' x.
+    allSome {a = scope name ownName true h a'}
+    (omega (arith, depth-scope name mark false h a, depth-scope name ownName true h a'))
 kill-shallow f (executor o y client serial a) =
     all-also (kill-shallow f a) λ a' x.
-    allSome {a = parOf a' (notice o f client serial)} (par-deep a' (notice o f client serial) _ (omega (arith, depth-executor o y client serial a, depth-notice o f client serial, depth-some a)))
-kill-shallow f (waiter o x dead server serial l) = allSome {a = waiter o x true server serial l} (omega (arith, depth-waiter o x dead server serial l, depth-waiter o x true server serial l))
+    allSome {a = parOf a' (notice o f client serial)}
+    (par-deep a' (notice o f client serial) _
+    (omega (arith, depth-executor o y client serial a, depth-notice o f client serial, depth-some a)))
+kill-shallow f (waiter o x dead server serial l) =
+    allSome {a = waiter o x true server serial l}
+    (omega (arith, depth-waiter o x dead server serial l, depth-waiter o x true server serial l))
 kill-shallow f (notice o g client serial) = allSome {a = notice o g client serial} (omega arith)
 kill-shallow f (act m) = all-guarded (not (eqb (kind m) Kind.inst)) λ t. allSome {a = nil} (omega (arith, depth-nil, depth-some (act m)))
 
 -- p in the place of a
 pub climb-shallow :
-    {n issued : ℕ} (f : ℕ) {fs : List Frame} → SoundFrames n issued fs → (p a : Run) → runDepth p ≤ runDepth a → All (NoDeeper (wrap fs a)) (climb f fs p)
+    {n issued : ℕ} (f : ℕ) {fs : List Frame} → SoundFrames n issued fs → (p a : Run) → runDepth p ≤ runDepth a →
+    All (NoDeeper (wrap fs a)) (climb f fs p)
 unfolding climb wrap isDone
 climb-shallow f noFrames p a h = allSome h
 climb-shallow f (oneFrame (seqFrameSound {q = q} x) fs) p a h = climb-shallow f fs p (seq a q) (omega (arith, depth-seq a q))
@@ -58,7 +65,8 @@ climb-shallow f (oneFrame (rightFrameSound {b = b} x t) fs) p a h =
     all-also (kill-shallow f b) λ b' y. climb-shallow f fs (parOf b' p) (par b a) (par-deep b' p _ (omega (arith, depth-par b a)))
 climb-shallow f (oneFrame (executorFrameSound {o} {y} {client} {serial} u v w) fs) p a h =
     climb-shallow f fs (parOf p (notice o f client serial)) (executor o y client serial a)
-    (par-deep p (notice o f client serial) _ (omega (arith, depth-executor o y client serial a, depth-notice o f client serial, depth-some a)))
+    (par-deep p (notice o f client serial) _
+    (omega (arith, depth-executor o y client serial a, depth-notice o f client serial, depth-some a)))
 climb-shallow f (oneFrame {fs = fs} (scopeFrameSound {name} {mark} {zombie} {h = l} x y z) g) p a h =
     let in-frames : (m : Mark) → runDepth (plug fs (scope name m zombie l p)) ≤ runDepth (wrap fs (scope name mark zombie l a)) =
     λ m.
@@ -69,7 +77,9 @@ climb-shallow f (oneFrame {fs = fs} (scopeFrameSound {name} {mark} {zombie} {h =
       depth-scope name m zombie l p,
       depth-scope name mark zombie l a,
     ) in
-    cond-case (λ o. All (NoDeeper (wrap fs (scope name mark zombie l a))) o) (holds (faultKey f) l) (λ t. allSome {a = plug fs (scope name (faulted f) zombie l p)} (in-frames (faulted f))) λ t.
-    cond-case (λ o. All (NoDeeper (wrap fs (scope name mark zombie l a))) o) zombie (λ u. allSome {a = plug fs (scope name mark zombie l p)} (in-frames mark)) λ u.
+    cond-case (λ o. All (NoDeeper (wrap fs (scope name mark zombie l a))) o) (holds (faultKey f) l)
+    (λ t. allSome {a = plug fs (scope name (faulted f) zombie l p)} (in-frames (faulted f))) λ t.
+    cond-case (λ o. All (NoDeeper (wrap fs (scope name mark zombie l a))) o) zombie
+    (λ u. allSome {a = plug fs (scope name mark zombie l p)} (in-frames mark)) λ u.
     climb-shallow f g (scope name unmarked true l p) (scope name mark zombie l a)
     (omega (arith, depth-scope name unmarked true l p, depth-scope name mark zombie l a))

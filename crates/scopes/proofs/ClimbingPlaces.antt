@@ -1,22 +1,21 @@
 -- Where a process stands by the frames around it: what is located at a position, and what is located there from a part of the frames.
 -- Assumes nothing.
-use Prim.Native.Nat.{ℕ, zero, suc, _+_, _-_, _≤_, _<_}
+use Prim.Native.Nat.{ℕ, zero, suc, _+_, _-_, _<_}
 use native.Mathlib.Omega.{arith}
-use mathlib.Core.Path.{_≡_, refl, sym, ap, _∙_}
+use mathlib.Core.Path.{_≡_, refl, ap, _∙_}
 use mathlib.Core.Bool.{Bool, cond}
 use mathlib.Core.Option.{Option, none, some}
 use mathlib.Core.List.{List, [], _∷_, _++_}
-use lib.Dec.{ltb, ltb→lt, nltb→le}
+use lib.Dec.{ltb, nltb→le}
 use lib.ListN.{length}
 use borrow.Author.Tests.{lt-ltb, le-ltb}
 use Rattle.sock.specs.Term.{Entries}
 use Rattle.sock.specs.Layout.{entriesWords}
-use Rattle.sock.specs.Running.{Mark, Run, nil, seq, par, scope, executor, waiter, notice, act, runWords, size}
+use Rattle.sock.specs.Running.{Mark, Run, nil, seq, par, scope, executor, waiter, notice, act, size}
 use Rattle.sock.specs.Frames.{Frame, seqFrame, leftFrame, rightFrame, scopeFrame, executorFrame, Located, hereOr, past, locate}
 use Rattle.sock.proofs.Logic.{cond-case, All, allNone, allSome, all-some, all-map}
-use Rattle.sock.proofs.Frames.{all-here}
 use Rattle.sock.proofs.Measures.{size-seq, size-par, size-scope, size-executor}
-use Rattle.sock.proofs.Located.{wrap, Stands, stands-before, located, size-positive}
+use Rattle.sock.proofs.Located.{wrap, stands-before, located, size-positive}
 
 -- the words of a frame before what it stands around, and of all
 abbrev own : Frame → ℕ
@@ -60,7 +59,9 @@ here-offset zero r fs a = allSome (let z : 0 + offset fs ≡ offset fs = omega a
 here-offset (suc p) r fs a = a
 
 -- in what a frame stands around
-in-frame : (p i : ℕ) (fs : List Frame) (f : Frame) {o : Option Located} → i + own f ≡ p → All (Offset (i + offset (f ∷ fs))) o → All (Offset (p + offset fs)) o
+in-frame :
+    (p i : ℕ) (fs : List Frame) (f : Frame) {o : Option Located} → i + own f ≡ p → All (Offset (i + offset (f ∷ fs))) o →
+    All (Offset (p + offset fs)) o
 unfolding offset
 in-frame p i fs f e a = let z : i + (offset fs + own f) ≡ p + offset fs = omega arith in rw z at a
 
@@ -82,7 +83,8 @@ located-offset (scope name mark zombie h a) p fs =
     in-frame p i fs (scopeFrame name mark zombie h) (omega arith) (located-offset a i (scopeFrame name mark zombie h ∷ fs)))
 located-offset (executor o y client serial a) p fs =
     here-offset p (executor o y client serial a) fs
-    (past-from 3 p λ i e. in-frame p i fs (executorFrame o y client serial) (omega arith) (located-offset a i (executorFrame o y client serial ∷ fs)))
+    (past-from 3 p λ i e. in-frame p i fs (executorFrame o y client serial) (omega arith)
+    (located-offset a i (executorFrame o y client serial ∷ fs)))
 located-offset (waiter o x dead server serial l) p fs = here-offset p (waiter o x dead server serial l) fs allNone
 located-offset (notice o f client serial) p fs = here-offset p (notice o f client serial) fs allNone
 located-offset (act m) p fs = here-offset p (act m) fs allNone
@@ -105,18 +107,25 @@ module _ (r : Run) (fs : List Frame) where
   here-deeper : (p : ℕ) (o : Option Located) → locate r p fs ≡ hereOr p (record { frames = fs; process = r }) o →
       (0 < p → All (Deeper (λ i. locate r i fs) p) o) → All (Deeper (λ i. locate r i fs) p) (locate r p fs)
   unfolding hereOr
-  here-deeper zero o e g = rw e (allSome {a = record { frames = fs; process = r }} (λ q h. let z : 0 + q ≡ q = omega arith in ap (λ i. locate r i fs) z))
+  here-deeper zero o e g =
+      rw e (allSome {a = record { frames = fs; process = r }} (λ q h. let z : 0 + q ≡ q = omega arith in ap (λ i. locate r i fs) z))
   here-deeper (suc p) o e g = rw e (g (omega arith))
 
   part-deeper :
-      (n : ℕ) (find : ℕ → Option Located) → 0 < n → ((p : ℕ) → locate r p fs ≡ hereOr p (record { frames = fs; process = r }) (past n p find)) →
+      (n : ℕ) (find : ℕ → Option Located) → 0 < n →
+      ((p : ℕ) → locate r p fs ≡ hereOr p (record { frames = fs; process = r }) (past n p find)) →
       ((i : ℕ) → All (Deeper find i) (find i)) → (p : ℕ) → All (Deeper (λ i. locate r i fs) p) (locate r p fs)
   part-deeper n find pos e g p =
       here-deeper p (past n p find) (e p) λ h.
       past-from n p λ i s.
-      all-map (λ l k q b. e (p + q) ∙ (later (p + q) _ (past n (p + q) find) (omega arith) ∙ (past-on n (p + q) (i + q) find (omega arith) ∙ k q b))) (g i)
+      all-map (λ l k q b.
+      e (p + q)
+      ∙ (later (p + q) _ (past n (p + q) find) (omega arith)
+      ∙ (past-on n (p + q) (i + q) find (omega arith)
+      ∙ k q b))) (g i)
 
-  leaf-deeper : (p : ℕ) → locate r p fs ≡ hereOr p (record { frames = fs; process = r }) none → All (Deeper (λ i. locate r i fs) p) (locate r p fs)
+  leaf-deeper :
+      (p : ℕ) → locate r p fs ≡ hereOr p (record { frames = fs; process = r }) none → All (Deeper (λ i. locate r i fs) p) (locate r p fs)
   leaf-deeper p e = here-deeper p none e (λ h. allNone)
 
 all-pair : {A : Type 0} {P Q : A → Type 0} {o : Option A} → All P o → All Q o → All (λ a. P a × Q a) o
@@ -130,12 +139,14 @@ module _ (a b : Run) (fs : List Frame) where
 
   sides-deeper :
       (i : ℕ) → All (Deeper (λ j. locate a j (leftFrame b ∷ fs)) i) (locate a i (leftFrame b ∷ fs)) →
-      All (Deeper (λ j. locate b j (rightFrame a ∷ fs)) (i - size a)) (locate b (i - size a) (rightFrame a ∷ fs)) → All (Deeper sides i) (sides i)
+      All (Deeper (λ j. locate b j (rightFrame a ∷ fs)) (i - size a)) (locate b (i - size a) (rightFrame a ∷ fs)) →
+      All (Deeper sides i) (sides i)
   unfolding sides size
   sides-deeper i x y =
       cond-case (λ o. All (Deeper sides i) o) (ltb i (size a))
       (λ t.
-      all-map (λ l g q h. rw (lt-ltb (i + q) (size a) (omega (arith, stands-before (g .1)))) (g .0 q h)) (all-pair x (located a i (leftFrame b ∷ fs))))
+      all-map (λ l g q h. rw (lt-ltb (i + q) (size a) (omega (arith, stands-before (g .1)))) (g .0 q h))
+      (all-pair x (located a i (leftFrame b ∷ fs))))
       λ t.
       all-map (λ l g q h.
       let k = nltb→le i (size a) t in
@@ -146,12 +157,14 @@ module _ (a b : Run) (fs : List Frame) where
 pub deeper : (r : Run) (fs : List Frame) (p : ℕ) → All (Deeper (λ i. locate r i fs) p) (locate r p fs)
 unfolding locate sides
 deeper nil fs p = leaf-deeper nil fs p refl
-deeper (seq a q) fs p = part-deeper (seq a q) fs 1 (λ i. locate a i (seqFrame q ∷ fs)) (omega arith) (λ i. refl) (λ i. deeper a (seqFrame q ∷ fs) i) p
+deeper (seq a q) fs p =
+    part-deeper (seq a q) fs 1 (λ i. locate a i (seqFrame q ∷ fs)) (omega arith) (λ i. refl) (λ i. deeper a (seqFrame q ∷ fs) i) p
 deeper (par a b) fs p =
     part-deeper (par a b) fs 1 (sides a b fs) (omega arith) (λ i. refl)
     (λ i. sides-deeper a b fs i (deeper a (leftFrame b ∷ fs) i) (deeper b (rightFrame a ∷ fs) (i - size a))) p
 deeper (scope name mark zombie h a) fs p =
-    part-deeper (scope name mark zombie h a) fs (3 + length (entriesWords h)) (λ i. locate a i (scopeFrame name mark zombie h ∷ fs)) (omega arith) (λ i. refl)
+    part-deeper (scope name mark zombie h a) fs (3 + length (entriesWords h)) (λ i. locate a i (scopeFrame name mark zombie h ∷ fs))
+    (omega arith) (λ i. refl)
     (λ i. deeper a (scopeFrame name mark zombie h ∷ fs) i) p
 deeper (executor o y client serial a) fs p =
     part-deeper (executor o y client serial a) fs 3 (λ i. locate a i (executorFrame o y client serial ∷ fs)) (omega arith) (λ i. refl)
@@ -182,7 +195,8 @@ locate-own n l find a fs h e = later n l (past n n find) h ∙ (past-on n n 0 fi
 locate-right :
     (n : ℕ) (l : Located) (find : ℕ → Option Located) (b a : Run) (fs : List Frame) → n ≡ 1 + size b → find (size b) ≡ locate a 0 fs →
     hereOr n l (past 1 n find) ≡ some (record { frames = fs; process = a })
-locate-right n l find b a fs h e = later n l (past 1 n find) (omega arith) ∙ (past-on 1 n (size b) find (omega arith) ∙ (e ∙ locate-first a fs))
+locate-right n l find b a fs h e =
+    later n l (past 1 n find) (omega arith) ∙ (past-on 1 n (size b) find (omega arith) ∙ (e ∙ locate-first a fs))
 
 module _ (fs : List Frame) (o : Frame) (a b : Run) (wraps : wrap (o ∷ fs) a ≡ wrap fs b) (inside : own o < size b)
     (there : locate b (own o) fs ≡ some (record { frames = o ∷ fs; process = a })) where
@@ -199,21 +213,26 @@ locate-offset (seqFrame q ∷ fs) a =
     (locate-own 1 _ (λ i. locate a i (seqFrame q ∷ fs)) a (seqFrame q ∷ fs) (omega arith) refl) (locate-offset fs (seq a q))
 locate-offset (leftFrame b ∷ fs) a =
     one-in fs (leftFrame b) a (par a b) refl (omega (arith, size-par a b, size-positive a))
-    (locate-own 1 _ (λ i. cond (ltb i (size a)) (locate a i (leftFrame b ∷ fs)) (locate b (i - size a) (rightFrame a ∷ fs))) a (leftFrame b ∷ fs) (omega arith)
+    (locate-own 1 _ (λ i. cond (ltb i (size a)) (locate a i (leftFrame b ∷ fs)) (locate b (i - size a) (rightFrame a ∷ fs))) a
+    (leftFrame b ∷ fs) (omega arith)
     (rw (lt-ltb 0 (size a) (size-positive a)) refl))
     (locate-offset fs (par a b))
 locate-offset (rightFrame b ∷ fs) a =
     let none : size b - size b ≡ 0 = omega arith in
     one-in fs (rightFrame b) a (par b a) refl (omega (arith, size-par b a, size-positive a))
-    (locate-right (1 + size b) _ (λ i. cond (ltb i (size b)) (locate b i (leftFrame a ∷ fs)) (locate a (i - size b) (rightFrame b ∷ fs))) b a (rightFrame b ∷ fs) refl
+    (locate-right (1 + size b) _ (λ i. cond (ltb i (size b)) (locate b i (leftFrame a ∷ fs))
+    (locate a (i - size b) (rightFrame b ∷ fs))) b a (rightFrame b ∷ fs) refl
     (rw (le-ltb (size b) (size b) (omega arith), none) refl))
     (locate-offset fs (par b a))
 locate-offset (scopeFrame name mark zombie h ∷ fs) a =
-    one-in fs (scopeFrame name mark zombie h) a (scope name mark zombie h a) refl (omega (arith, size-scope name mark zombie h a, size-positive a))
-    (locate-own (3 + length (entriesWords h)) _ (λ i. locate a i (scopeFrame name mark zombie h ∷ fs)) a (scopeFrame name mark zombie h ∷ fs) (omega arith) refl)
+    one-in fs (scopeFrame name mark zombie h) a (scope name mark zombie h a) refl
+    (omega (arith, size-scope name mark zombie h a, size-positive a))
+    (locate-own (3 + length (entriesWords h)) _ (λ i. locate a i (scopeFrame name mark zombie h ∷ fs)) a
+    (scopeFrame name mark zombie h ∷ fs) (omega arith) refl)
     (locate-offset fs (scope name mark zombie h a))
 locate-offset (executorFrame o y client serial ∷ fs) a =
-    one-in fs (executorFrame o y client serial) a (executor o y client serial a) refl (omega (arith, size-executor o y client serial a, size-positive a))
+    one-in fs (executorFrame o y client serial) a (executor o y client serial a) refl
+    (omega (arith, size-executor o y client serial a, size-positive a))
     (locate-own 3 _ (λ i. locate a i (executorFrame o y client serial ∷ fs)) a (executorFrame o y client serial ∷ fs) (omega arith) refl)
     (locate-offset fs (executor o y client serial a))
 

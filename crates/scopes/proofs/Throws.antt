@@ -1,6 +1,6 @@
 -- The law of throw: what the plan makes of an engine's process is the climb of the fault.
 -- Assumes nothing.
-use Prim.Native.Nat.{ℕ, zero, suc, _+_, _-_, _*_, _/_, _%_, _≤_, _<_}
+use Prim.Native.Nat.{ℕ, zero, _+_, _-_, _*_, _≤_, _<_}
 use native.Mathlib.Omega.{arith}
 use mathlib.Core.Path.{_≡_, refl, sym, ap, _∙_}
 use mathlib.Core.Bool.{Bool, true, false, cond}
@@ -8,7 +8,7 @@ use mathlib.Core.Option.{Option, none, some}
 use mathlib.Core.List.{List, [], _∷_, _++_, append-nil, append-assoc}
 use borrow.Author.Tests.{ne-eqb, leb-true}
 use lib.Dec.{T, eqb, leb}
-use lib.ListN.{length, getD, take, drop, set, length-append, length-drop, length-set}
+use lib.ListN.{length, getD, take, drop, set, length-append, length-set}
 use Rattle.sock.specs.Words.{nameOf}
 use Rattle.sock.specs.Term.{Node, Entries, headWord, kind}
 use Rattle.sock.specs.Layout.{count, entriesWords, entriesDepth}
@@ -17,7 +17,7 @@ use Rattle.sock.specs.Running.{Mark, faulted, markedFault, scopeHead, Run, nil,
 use Rattle.sock.specs.Frames.{Frame, scopeFrame, Located, locate, isDone, plug}
 use Rattle.sock.specs.Rules.{also, climb}
 use Rattle.sock.proofs.Logic.{All, all-map, all-some}
-use Rattle.sock.proofs.Fits.{FitsEntries, Sound, scopeSound, SoundFrames, noFrames}
+use Rattle.sock.proofs.Fits.{FitsEntries, Sound, scopeSound, noFrames}
 use Rattle.sock.proofs.Fields.{mark-below, bit-below, name-below}
 use Rattle.sock.proofs.Frames.{locate-sound}
 use Rattle.sock.proofs.Located.{wrap, located-wraps, located-before, size-positive}
@@ -27,20 +27,20 @@ use Rattle.reading.proofs.Ended.{list-end, wanted-end}
 use Rattle.finding.specs.declared.find.Spot.{Spot}
 use Rattle.finding.specs.Find.{faultAt}
 use Rattle.finding.proofs.Within.{within, within-locate}
-use Rattle.finding.proofs.Edits.{part, edited, swap-plain, process-at}
+use Rattle.finding.proofs.Edits.{edited, swap-plain, process-at}
 use Rattle.finding.proofs.Stops.{catches, Standing, nowhere, somewhere}
 use Rattle.finding.proofs.Spots.{Spotted}
 use Rattle.finding.proofs.Search.{found}
 use Rattle.finding.proofs.Readers.{reader}
 use Rattle.moving.specs.Writing.{onward}
-use Rattle.moving.specs.Killing.{Killed, killW}
+use Rattle.moving.specs.Killing.{Killed}
 use Rattle.moving.proofs.Laid.{Near, near-of, onward-near, Laid, laid-put, laid-then, laid-copy, copy-end}
 use Rattle.moving.proofs.Places.{stands-within, word-at, drop-behind, drop-after}
 use Rattle.moving.proofs.Around.{Throws, free}
 use Rattle.moving.proofs.Gives.{Gives, stops, gives}
 use Rattle.moving.proofs.Killed.{kill-climb}
 use Rattle.rules.proofs.Turns.{head-on}
-use Rattle.rules.proofs.Plans.{Plans, Ordered, part-first, plans-of}
+use Rattle.rules.proofs.Plans.{part-first, plans-of}
 use Rattle.rules.proofs.Depths.{wrap-depth, depth-some}
 use Rattle.rules.proofs.Outcomes.{Ruled, unkillable, ruled}
 use Rattle.scopes.specs.Throwing.{faultW, faultedHead, faultedWord, clearedW, clearedBy, uncaughtW, listedW, markedW, bodyW, openedTo, openedW, caughtW, thrownW}
@@ -60,7 +60,8 @@ within-from r i k l e = by (leb i k) refl e
 
 -- ---- what was killed becomes the fresh words
 
-cleared-stuck : (start a : ℕ) (k : Killed) → k .moved .end ≡ 0 → (clearedBy start a k .plan .number ≡ 6) × (clearedBy start a k .plan .x ≡ 32)
+cleared-stuck :
+    (start a : ℕ) (k : Killed) → k .moved .end ≡ 0 → (clearedBy start a k .plan .number ≡ 6) × (clearedBy start a k .plan .x ≡ 32)
 unfolding clearedBy clearedW
 cleared-stuck start a k e = rw e (refl, refl)
 
@@ -72,21 +73,23 @@ module _ (ws : List ℕ) (start end : ℕ) (inside : end ≤ length ws) (q : Run
       (let u = clearedBy start a k in Ruled ws start end (u .plan) (u .fresh) (some q) × (u .plan .x ≡ 32))
   unfolding clearedBy clearedW
   cleared-ruled w =
-      rw (ends, reaches, ne-eqb e 0 (λ z. omega arith))
-      (ruled refl
-      (plans-of ws start end _ (k .out)
-      (record {
-        l-in = omega arith;
-        m-in = omega arith;
-        a-in = from;
-        b-in = upto;
-        c-in = omega arith;
-        d-in = omega arith;
-        end-in = in-end;
-        fresh-in = omega arith;
-      })
-      inside q room (ap (λ x. edited ws start start [] a e x e e) (part-first to (k .out)) ∙ w))
-      deep, refl)
+      rw (ends, reaches, ne-eqb e 0 (λ z. omega arith)) (
+        ruled refl
+            (plans-of ws start end _ (k .out)
+            (record {
+              l-in = omega arith;
+              m-in = omega arith;
+              a-in = from;
+              b-in = upto;
+              c-in = omega arith;
+              d-in = omega arith;
+              end-in = in-end;
+              fresh-in = omega arith;
+            })
+            inside q room (ap (λ x. edited ws start start [] a e x e e) (part-first to (k .out)) ∙ w))
+            deep,
+        refl,
+      )
 
 -- all of it
 whole-edited : (ws fr : List ℕ) (start e : ℕ) → edited ws start start [] start e fr e e ≡ take start ws ++ (fr ++ drop e ws)
@@ -96,9 +99,10 @@ whole-edited ws fr start e =
     let y : e - e ≡ 0 = omega arith in
     rw (x, y)
 
-module _ (ws : List ℕ) (ok : Words ws) (n issued : ℕ) (few : n ≤ 8) (small : issued < 65536) {r : Run} (sound : Sound n issued r) (start : ℕ)
-    (words : drop start ws ≡ runWords r ++ drop (start + size r) ws) (pos : 0 < start) (deep : runDepth r ≤ 64) (short : length ws ≤ 8192)
-    (fresh : List ℕ) (large : 16384 ≤ length fresh) (near : Near (length fresh)) (f : ℕ) (low : f < 64) where
+module _ (ws : List ℕ) (ok : Words ws) (n issued : ℕ) (few : n ≤ 8) (small : issued < 65536) {r : Run} (sound : Sound n issued r)
+    (start : ℕ) (words : drop start ws ≡ runWords r ++ drop (start + size r) ws) (pos : 0 < start)
+    (deep : runDepth r ≤ 64) (short : length ws ≤ 8192) (fresh : List ℕ) (large : 16384 ≤ length fresh) (near : Near (length fresh))
+    (f : ℕ) (low : f < 64) where
   inside : start + size r ≤ length ws
   unfolding size
   inside = stands-within ws (runWords r) _ start words (size-positive r)
@@ -114,7 +118,8 @@ module _ (ws : List ℕ) (ok : Words ws) (n issued : ℕ) (few : n ≤ 8) (small
 
   -- ---- no scope stops the fault
 
-  module _ (target : ℕ) (l : Located) (place : within r start target ≡ some l) (throws : Throws (l .process)) (passes : T (free f (l .frames))) where
+  module _ (target : ℕ) (l : Located) (place : within r start target ≡ some l) (throws : Throws (l .process))
+      (passes : T (free f (l .frames))) where
     uncaught-by :
         {k : Killed} {o : Option Run} → Gives r fresh 0 (start + size r) k o → All (λ q. runDepth q ≤ 64) o →
         (let u = clearedBy start start k in Ruled ws start (start + size r) (u .plan) (u .fresh) o × (u .plan .x ≡ 32))
@@ -122,9 +127,11 @@ module _ (ws : List ℕ) (ok : Words ws) (n issued : ℕ) (few : n ≤ 8) (small
     uncaught-by {k = k} (stops e) a = let c = cleared-stuck start start k e in (unkillable (c .0), c .1)
     uncaught-by {k = k} (gives {s = q} g) a =
         let begins : take (0 + length (runWords q)) (k .out) ≡ runWords q = g .laid .begins in
-        cleared-ruled ws start (start + size r) inside q (all-some a refl) start (start + size r) (0 + size q) k (g .ends) (g .reaches) (omega arith) (omega arith)
+        cleared-ruled ws start (start + size r) inside q (all-some a refl) start (start + size r) (0 + size q) k (g .ends) (g .reaches)
+        (omega arith) (omega arith)
         (omega arith) (omega arith) (omega (arith, g .small, g .laid .keeps, inside))
-        (whole-edited ws (take (0 + size q) (k .out)) start (start + size r) ∙ ap (λ x. take start ws ++ (x ++ drop (start + size r) ws)) begins)
+        (whole-edited ws (take (0 + size q) (k .out)) start (start + size r)
+        ∙ ap (λ x. take start ws ++ (x ++ drop (start + size r) ws)) begins)
 
     pub uncaught-ruled :
         (let u = uncaughtW (n * 65536 + issued) ws start f target fresh in
@@ -134,7 +141,8 @@ module _ (ws : List ℕ) (ok : Words ws) (n issued : ℕ) (few : n ≤ 8) (small
         let h : start ≤ target = within-from r start target l place in
         let e : locate r (target - start) [] ≡ some l = sym (within-locate r start target h) ∙ place in
         let z : start + (target - start) ≡ target = omega arith in
-        let g = kill-climb ws ok n issued few small f low sound 64 start deep (drop (start + size r) ws) words fresh 0 (omega (arith, inside)) near
+        let g = kill-climb ws ok n issued few small f low sound 64 start deep (drop (start + size r) ws) words fresh 0
+        (omega (arith, inside)) near
         (target - start) l e throws passes in
         uncaught-by (rw z at g) (climb-deep (target - start) l e)
 
@@ -175,17 +183,21 @@ module _ (ws : List ℕ) (ok : Words ws) (n issued : ℕ) (few : n ≤ 8) (small
     -- the scope in the words
     spot : (s : Spot) × Spotted (faultAt ws c) c r start 1 (record { frames = outer; process = whole }) s
     spot =
-        let g = found n issued bound ws (reader ws ok n issued few small) c sound 64 start 1 (drop (start + size r) ws) pos deep words _ stopping in
+        let g = found n issued bound ws (reader ws ok n issued few small) c sound 64 start 1
+        (drop (start + size r) ws) pos deep words _ stopping in
         (g .0, g .1 .1)
 
     stands : (more : List ℕ) × (drop c ws ≡ runWords whole ++ more)
-    stands = process-at (faultAt ws c) c r start 1 (record { frames = outer; process = whole }) (spot .0) ws (drop (start + size r) ws) words (spot .1)
+    stands =
+        process-at (faultAt ws c) c r start 1 (record { frames = outer; process = whole }) (spot .0) ws (drop (start + size r) ws) words
+        (spot .1)
 
     abbrev own : Mark → List ℕ
     own mk = scopeHead name mk zombie ∷ (markedFault mk * 1024) ∷ count h ∷ entriesWords h
 
     own-stands : drop c ws ≡ own mark ++ (runWords a ++ stands .0)
-    own-stands = stands .1 ∙ (ap (λ l. l ++ stands .0) (words-scope name mark zombie h a) ∙ append-assoc (own mark) (runWords a) (stands .0))
+    own-stands =
+        stands .1 ∙ (ap (λ l. l ++ stands .0) (words-scope name mark zombie h a) ∙ append-assoc (own mark) (runWords a) (stands .0))
 
     list-stands : drop (c + 2) ws ≡ (count h ∷ entriesWords h) ++ (runWords a ++ stands .0)
     list-stands = drop-after ws (_ ∷ _ ∷ []) (count h ∷ entriesWords h) (runWords a ++ stands .0) c own-stands
@@ -203,7 +215,8 @@ module _ (ws : List ℕ) (ok : Words ws) (n issued : ℕ) (few : n ≤ 8) (small
 
     head : getD ws c 0 ≡ scopeHead name mark zombie
     head =
-        ap (λ i. getD ws i 0) (let q : c ≡ c + 0 = omega arith in q) ∙ word-at ws (own mark) (runWords a ++ stands .0) c own-stands 0 (omega arith)
+        ap (λ i. getD ws i 0) (let q : c ≡ c + 0 = omega arith in q) ∙ word-at ws (own mark) (runWords a ++ stands .0) c own-stands 0
+        (omega arith)
 
     second : getD ws (c + 1) 0 ≡ markedFault mark * 1024
     second = word-at ws (own mark) (runWords a ++ stands .0) c own-stands 1 (omega arith)
@@ -212,7 +225,8 @@ module _ (ws : List ℕ) (ok : Words ws) (n issued : ℕ) (few : n ≤ 8) (small
     parts : (name < 64) × FitsEntries true zero h × Sound n issued a
     parts = by (all-some (locate-sound sound (c - start) noFrames) located-here .process)
       where
-        by : Sound n issued (scope name mark zombie h (wrap inner m)) → (name < 64) × FitsEntries true zero h × Sound n issued (wrap inner m)
+        by :
+            Sound n issued (scope name mark zombie h (wrap inner m)) → (name < 64) × FitsEntries true zero h × Sound n issued (wrap inner m)
         by (scopeSound b t l g) = (b, l, g)
 
     parts-deep : (entriesDepth h ≤ 64) × (runDepth a ≤ 64)
@@ -244,7 +258,11 @@ module _ (ws : List ℕ) (ok : Words ws) (n issued : ℕ) (few : n ≤ 8) (small
     listed-at : listedW bound ws c f ≡ holds f h
     unfolding listedW
     listed-at =
-        rw (two-on, wanted-end ws ok bound true f (omega arith) (parts .1) 64 (c + 2) (parts-deep .0) (runWords a ++ stands .0) list-stands) (by (holds f h))
+        rw (
+          two-on,
+          wanted-end ws ok bound true f (omega arith) (parts .1) 64 (c + 2) (parts-deep .0)
+              (runWords a ++ stands .0) list-stands,
+        ) (by (holds f h))
       where
         by : (b : Bool) → cond (eqb (cond b (c + 2 + 1 + length (entriesWords h)) 0) 0) false true ≡ b
         by true = rw (ne-eqb (c + 2 + 1 + length (entriesWords h)) 0 (λ z. omega arith))
@@ -262,7 +280,8 @@ module _ (ws : List ℕ) (ok : Words ws) (n issued : ℕ) (few : n ≤ 8) (small
       where
         by :
             (b : Bool) →
-            cond b (set (set fresh 0 (faultedHead (scopeHead name mark zombie))) 1 (faultedWord f)) (set (set fresh 0 (scopeHead name mark zombie)) 1 (markedFault mark * 1024))
+            cond b (set (set fresh 0 (faultedHead (scopeHead name mark zombie))) 1 (faultedWord f))
+            (set (set fresh 0 (scopeHead name mark zombie)) 1 (markedFault mark * 1024))
             ≡ set (set fresh 0 (scopeHead name (cond b (faulted f) mark) zombie)) 1 (markedFault (cond b (faulted f) mark) * 1024)
         by true = rw (marked-head, marked-word)
         by false = refl
@@ -274,7 +293,8 @@ module _ (ws : List ℕ) (ok : Words ws) (n issued : ℕ) (few : n ≤ 8) (small
     marked-laid =
         rw marked-at
         (laid-then (laid-put fresh 0 (scopeHead name marked zombie) (omega arith))
-        (laid-put (set fresh 0 (scopeHead name marked zombie)) 1 (markedFault marked * 1024) (omega (arith, length-set fresh 0 (scopeHead name marked zombie)))))
+        (laid-put (set fresh 0 (scopeHead name marked zombie)) 1 (markedFault marked * 1024)
+        (omega (arith, length-set fresh 0 (scopeHead name marked zombie)))))
 
     opened-laid : Laid fresh 0 (own marked) (openedW bound ws c body f fresh)
     unfolding openedW
@@ -297,9 +317,11 @@ module _ (ws : List ℕ) (ok : Words ws) (n issued : ℕ) (few : n ≤ 8) (small
     caughtBy p = plug outer (scope name marked zombie h p)
 
     caught-by :
-        {mid : List ℕ} {k : Killed} {o : Option Run} → Laid fresh 0 (own marked) mid → Gives a mid (length (own marked)) (body + size a) k o →
+        {mid : List ℕ} {k : Killed} {o : Option Run} → Laid fresh 0 (own marked) mid →
+        Gives a mid (length (own marked)) (body + size a) k o →
         All (λ q. runDepth q ≤ 64) (also o λ p. some (caughtBy p)) →
-        (let u = clearedBy start c k in Ruled ws start (start + size r) (u .plan) (u .fresh) (also o λ p. some (caughtBy p)) × (u .plan .x ≡ 32))
+        (let u = clearedBy start c k in Ruled ws start (start + size r) (u .plan) (u .fresh) (also o λ p. some (caughtBy p))
+        × (u .plan .x ≡ 32))
     unfolding also size isDone
     caught-by {k = k} laid (stops e) d = let z = cleared-stuck start c k e in (unkillable (z .0), z .1)
     caught-by {k = k} laid (gives {s = p} g) d =
@@ -309,12 +331,16 @@ module _ (ws : List ℕ) (ok : Words ws) (n issued : ℕ) (few : n ≤ 8) (small
         let end : body + size a ≡ c + size whole = omega arith in
         let there : 0 + length (own marked) ≡ length (own marked) = omega arith in
         let all : Laid fresh 0 (own marked ++ runWords p) (k .out) = laid-then laid (rw there (g .laid)) in
-        let long : length (own marked) + size p ≡ 0 + length (own marked ++ runWords p) = omega (arith, length-append (own marked) (runWords p)) in
+        let long : length (own marked) + size p ≡ 0 + length (own marked ++ runWords p) =
+        omega (arith, length-append (own marked) (runWords p)) in
         let begins : take (length (own marked) + size p) (k .out) ≡ runWords q = ap (λ i. take i (k .out)) long ∙ (all .begins ∙ sym w) in
-        cleared-ruled ws start (start + size r) inside (plug outer q) (all-some d refl) c (body + size a) (length (own marked) + size p) k (g .ends) (g .reaches)
-        (omega arith) later (omega arith) (omega (arith, later, located-before r (c - start) [] _ located-here)) (omega (arith, g .small, all .keeps, small-parts))
+        cleared-ruled ws start (start + size r) inside (plug outer q) (all-some d refl) c (body + size a) (length (own marked) + size p) k
+        (g .ends) (g .reaches)
+        (omega arith) later (omega arith) (omega (arith, later, located-before r (c - start) [] _ located-here))
+        (omega (arith, g .small, all .keeps, small-parts))
         (ap (λ x. edited ws start start [] c (body + size a) x (body + size a) (body + size a)) begins
-        ∙ swap-plain (faultAt ws c) c r start 1 (record { frames = outer; process = whole }) (spot .0) ws (drop (start + size r) ws) words (spot .1)
+        ∙ swap-plain (faultAt ws c) c r start 1 (record { frames = outer; process = whole }) (spot .0) ws (drop (start + size r) ws) words
+        (spot .1)
         q (runWords whole) [] [] (runWords q) (body + size a) (body + size a) (body + size a) refl
         (sym (append-nil (runWords whole))) (sym (append-nil (runWords q))) end (omega arith) (omega arith))
 
@@ -325,10 +351,12 @@ module _ (ws : List ℕ) (ok : Words ws) (n issued : ℕ) (few : n ≤ 8) (small
 
     pub caught-ruled :
         (let u = caughtW bound ws start c f target fresh in
-        Ruled ws start (start + size r) (u .plan) (u .fresh) (climb f (inner ++ scopeFrame name mark zombie h ∷ outer) nil) × (u .plan .x ≡ 32))
+        Ruled ws start (start + size r) (u .plan) (u .fresh) (climb f (inner ++ scopeFrame name mark zombie h ∷ outer) nil)
+        × (u .plan .x ≡ 32))
     unfolding caughtW
     caught-ruled =
-        let g = kill-climb ws ok n issued few small f low (parts .2) 64 body (parts-deep .1) (stands .0) body-stands (openedW bound ws c body f fresh)
+        let g = kill-climb ws ok n issued few small f low (parts .2) 64 body (parts-deep .1) (stands .0) body-stands
+        (openedW bound ws c body f fresh)
         (length (own marked)) (omega (arith, opened-laid .keeps, small-parts)) (rw (opened-laid .keeps) near) (offset inner)
         (record { frames = inner; process = m }) (locate-offset inner m) throws passes in
         let b : start ≤ target = within-from r start target _ place in
@@ -337,10 +365,12 @@ module _ (ws : List ℕ) (ok : Words ws) (n issued : ℕ) (few : n ≤ 8) (small
 
   -- ---- the whole
 
-  module _ (target : ℕ) (l : Located) (s : Spot) (place : within r start target ≡ some l) (spotted : Spotted f target r start 1 l s) (throws : Throws (l .process)) where
+  module _ (target : ℕ) (l : Located) (s : Spot) (place : within r start target ≡ some l) (spotted : Spotted f target r start 1 l s)
+      (throws : Throws (l .process)) where
     thrown-by :
         {o : Option Located} {k : ℕ} → Standing r start o k → Sought f (l .frames) (l .process) o →
-        (let u = cond (eqb k 0) (uncaughtW (n * 65536 + issued) ws start f target fresh) (caughtW (n * 65536 + issued) ws start k f target fresh) in
+        (let u = cond (eqb k 0) (uncaughtW (n * 65536 + issued) ws start f target fresh)
+        (caughtW (n * 65536 + issued) ws start k f target fresh) in
         Ruled ws start (start + size r) (u .plan) (u .fresh) (climb f (l .frames) nil) × (u .plan .x ≡ 32))
     thrown-by nowhere (unstopped t) = uncaught-ruled target l place throws t
     thrown-by (somewhere {k = k} h e) (stoppedBy {l = g} w) =
@@ -358,10 +388,11 @@ module _ (ws : List ℕ) (ok : Words ws) (n issued : ℕ) (few : n ≤ 8) (small
     climb-ruled e = rw (spotted .at, e) (thrown-by (spotted .catcher) (sought f (l .frames) (l .process)))
 
 -- a throw that was found
-module _ (ws : List ℕ) (ok : Words ws) (n issued : ℕ) (few : n ≤ 8) (small : issued < 65536) {r : Run} (sound : Sound n issued r) (start : ℕ)
-    (words : drop start ws ≡ runWords r ++ drop (start + size r) ws) (pos : 0 < start) (deep : runDepth r ≤ 64) (short : length ws ≤ 8192)
-    (fresh : List ℕ) (large : 16384 ≤ length fresh) (near : Near (length fresh))
-    (target : ℕ) (l : Located) (s : Spot) (place : within r start target ≡ some l) (spotted : Spotted (faultAt ws target) target r start 1 l s) where
+module _ (ws : List ℕ) (ok : Words ws) (n issued : ℕ) (few : n ≤ 8) (small : issued < 65536) {r : Run} (sound : Sound n issued r)
+    (start : ℕ) (words : drop start ws ≡ runWords r ++ drop (start + size r) ws) (pos : 0 < start)
+    (deep : runDepth r ≤ 64) (short : length ws ≤ 8192) (fresh : List ℕ) (large : 16384 ≤ length fresh) (near : Near (length fresh))
+    (target : ℕ) (l : Located) (s : Spot) (place : within r start target ≡ some l)
+    (spotted : Spotted (faultAt ws target) target r start 1 l s) where
   pub thrown-ruled :
       (m : Node) → l .process ≡ act m → kind m ≡ 13 →
       (let u = thrownW (n * 65536 + issued) ws start s fresh in
@@ -371,5 +402,6 @@ module _ (ws : List ℕ) (ok : Words ws) (n issued : ℕ) (few : n ≤ 8) (small
       let p = process-at (faultAt ws target) target r start 1 l s ws (drop (start + size r) ws) words spotted in
       let w : getD ws target 0 ≡ headWord m = head-on ws target m (p .0) (p .1 ∙ ap (λ x. x ++ p .0) (ap runWords e ∙ words-act m)) in
       let v : faultAt ws target ≡ nameOf (headWord m) = ap nameOf w in
-      climb-ruled ws ok n issued few small sound start words pos deep short fresh large near (nameOf (headWord m)) (name-below (headWord m)) target l s place
+      climb-ruled ws ok n issued few small sound start words pos deep short fresh large near (nameOf (headWord m))
+      (name-below (headWord m)) target l s place
       (rw v at spotted) (rw e k) v

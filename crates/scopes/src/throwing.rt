@@ -102,14 +102,7 @@ fn body_at(ws: &[u16], c: usize, bound: usize) -> usize
 }
 
 // All of it but the body.
-fn opened(
-    ws: &[u16],
-    c: usize,
-    body: usize,
-    fault: u16,
-    bound: usize,
-    fresh: &mut [u16],
-) -> usize
+fn opened(ws: &[u16], c: usize, body: usize, fault: u16, bound: usize, fresh: &mut [u16]) -> usize
     ensures { λ r. ⌜ (r ≡ openedTo (now (ws .entry)) c body) × (now (fresh .exit) ≡ openedW bound (now (ws .entry)) c body fault (now (fresh .entry))) ⌝ }
 {
     marked(ws, c, fault, bound, fresh);
