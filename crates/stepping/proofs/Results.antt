@@ -147,3 +147,44 @@ module _ (c : Config) (fits : FitsConfig c) (e : ℕ) (h : e < length (c .engine
       where
         regrouped : (a b x d : List ℕ) → a ++ ((b ++ x) ++ d) ≡ ((a ++ b) ++ x) ++ d
         regrouped a b x d = simp append-assoc
+
+    before-end : start ≤ end
+    before-end = omega arith
+
+    next-length : length (encode next) ≡ start + size q + length (wordsAfter c e)
+    unfolding size
+    next-length =
+        let v : List ℕ = valuesWords (valued values (p .x) (p .v)) in
+        let a = length-append ((pre ++ v) ++ runWords q) (wordsAfter c e) in
+        let b = length-append (pre ++ v) (runWords q) in
+        let d = length-append pre v in
+        let n : length v ≡ 64 = omega (arith, values-length (valued values (p .x) (p .v)), valued-length (leb 32 (p .x))) in
+        ap length next-words ∙ (let z : length (((pre ++ v) ++ runWords q) ++ wordsAfter c e) ≡ start + length (runWords q) + length (wordsAfter c e) = omega arith in z)
+      where
+        valued-length : (b : Bool) → length (cond b values (set values (p .x) (p .v))) ≡ 32
+        valued-length true = many
+        valued-length false = length-set values (p .x) (p .v) ∙ many
+
+    -- how long the result is
+    pub next-sized : Near (length ws + p .g) → sizedW (length ws) p ≡ length (encode next)
+    next-sized near = plan-sized ws start end p fresh q plans (length ws) (length (wordsAfter c e)) before-end one-length near ∙ sym next-length
+
+    -- and what is written
+    pub next-written :
+        8192 ≤ length fresh → (out : List ℕ) → Near (length out) → length (encode next) ≤ 8192 → length (encode next) ≤ length out →
+        writeOneW ws start end p fresh out .out ≡ over (encode next) out
+    unfolding writeOneW size
+    next-written wide out near few room =
+        let g : p .g ≤ 8192 = omega (arith, fresh-few ws start end p fresh q plans, next-length) in
+        let first : part 0 start ws ≡ pre ++ valuesWords values = part-first start ws ∙ one-front in
+        let l = length-append pre (valuesWords values) in
+        let m : length (valuesWords values) ≡ 64 = omega (arith, values-length values, many) in
+        let w : Wrote out 0 ((pre ++ valuesWords (valued values (p .x) (p .v))) ++ runWords q) (engineW ws 0 start end p fresh out 0) =
+        engine-wrote ws 0 start end p fresh q plans (omega (arith, one-length)) (omega arith) g wide pre values many first out 0 (omega (arith, next-length)) near in
+        let tail : part end (length ws) ws ≡ wordsAfter c e = take-all (length ws - end) (drop end ws) (omega (arith, length-drop end ws)) ∙ one-behind in
+        let whole : ((pre ++ valuesWords (valued values (p .x) (p .v))) ++ runWords q) ++ part end (length ws) ws ≡ encode next =
+        ap (λ l. ((pre ++ valuesWords (valued values (p .x) (p .v))) ++ runWords q) ++ l) tail ∙ sym next-words in
+        let fit : 0 + length (((pre ++ valuesWords (valued values (p .x) (p .v))) ++ runWords q) ++ part end (length ws) ws) ≤ length out = omega (arith, ap length whole) in
+        let all = wrote-copy ws end (length ws) (omega (arith, one-length)) (omega arith) fit near w in
+        all .over .all
+        ∙ ap₂ (λ (x : List ℕ) (n : ℕ). x ++ drop n out) whole (ap (λ l. 0 + length l) whole ∙ (let z : 0 + length (encode next) ≡ length (encode next) = omega arith in z))
