@@ -5,8 +5,8 @@ use native.Mathlib.Omega.{arith}
 use mathlib.Core.Path.{_≡_, refl, sym, ap, ap₂, _∙_}
 use mathlib.Core.Bool.{Bool, true, false, cond}
 use mathlib.Core.List.{List, [], _∷_, _++_, append-nil, append-assoc}
-use borrow.Author.Tests.{le-ltb, lt-ltb}
-use lib.Dec.{leb, ltb, eqb}
+use borrow.Author.Tests.{le-ltb, lt-ltb, leb-true, leb-false}
+use lib.Dec.{leb, ltb, eqb, lit<}
 use lib.ListN.{length, getD, take, drop, set, length-append, length-drop, length-set}
 use lib.Seq.{take-at, drop-at, take-all, length-take-le, take-set-le, drop-set-lt, getD-set-same}
 use Rattle.sock.specs.Running.{Run, runWords, size}
@@ -20,26 +20,21 @@ use Rattle.finding.proofs.Edits.{part}
 use Rattle.rules.specs.declared.plan.Plan.{Plan}
 use Rattle.rules.proofs.Plans.{Ordered, Plans, part-first, part-length}
 use Rattle.stepping.specs.Writing.{Written, copyW, engineW}
-use Rattle.stepping.specs.Answering.{sizedW, writeOneW}
+use Rattle.stepping.specs.Answering.{sizedW, writeOneW, lengthOf}
 use Rattle.stepping.proofs.Overs.{Over, Wrote, wrote-copy}
 use Rattle.stepping.proofs.Writes.{valued, engine-wrote}
 
 -- ---- lengths
 
-sums :
-    (len start end after g x y z q : ℕ) → len ≡ end + after → start ≤ end → q + (x + (y + z)) ≡ (end - start) + g → x + (y + z) ≤ end - start →
-    len + g - x - y - z ≡ start + q + after
-sums len start end after g x y z q a b c d =
-    let w : ℕ = end - start in
-    let e : end ≡ start + w = omega arith in
-    sums′ len start w after g x y z q (a ∙ ap (λ k. k + after) e) c
-  where
-    sums′ : (len start w after g x y z q : ℕ) → len ≡ start + w + after → q + (x + (y + z)) ≡ w + g → len + g - x - y - z ≡ start + q + after
-    sums′ len start w after g x y z q a c =
-        let f : len + g ≡ start + q + after + (x + (y + z)) = omega arith in
-        let h : len + g - x ≡ start + q + after + (y + z) = omega arith in
-        let i : len + g - x - y ≡ start + q + after + z = omega arith in
-        omega arith
+sums : (len w g x y z q : ℕ) → w ≤ len → q + (x + (y + z)) ≡ w + g → x + (y + z) ≤ w → len + g - x - y - z + w ≡ len + q
+sums len w g x y z q a c d =
+    let r : ℕ = len - w in
+    let e : len ≡ r + w = omega arith in
+    let f : len + g ≡ r + q + (x + (y + z)) = omega arith in
+    let h : len + g - x ≡ r + q + (y + z) = omega arith in
+    let i : len + g - x - y ≡ r + q + z = omega arith in
+    let j : len + g - x - y - z ≡ r + q = omega arith in
+    omega arith
 
 -- what goes is within
 gone : (start end : ℕ) (p : Plan) → Ordered start end p → (p .m - p .l) + ((p .b - p .a) + (p .d - p .c)) ≤ end - start
@@ -55,13 +50,19 @@ gone start end p o = within start (p .l) (p .m) (p .a) (p .b) (p .c) (p .d) end 
         sum : (s l m a b c d e x y z : ℕ) → m ≡ l + x → b ≡ a + y → d ≡ c + z → s ≤ l → m ≤ a → b ≤ c → d ≤ e → x + (y + z) ≤ e - s
         sum s l m a b c d e x y z u v w h1 h3 h5 h7 = omega arith
 
+-- the words that a plan leaves, if its fresh words are not too many
 pub plan-sized :
-    (ws : List ℕ) (start end : ℕ) (p : Plan) (fresh : List ℕ) (q : Run) (plans : Plans ws start end p fresh q) (words after : ℕ) →
-    start ≤ end → words ≡ end + after → Near (words + p .g) → sizedW words p ≡ start + size q + after
+    (ws : List ℕ) (start end : ℕ) (p : Plan) (fresh : List ℕ) (q : Run) → Plans ws start end p fresh q → (words : ℕ) →
+    end - start ≤ words → words ≤ 1000000 → p .g ≤ 8192 → sizedW words p + (end - start) ≡ words + size q
 unfolding sizedW
-plan-sized ws start end p fresh q plans words after b a near =
-    ap (λ k. k - (p .m - p .l) - (p .b - p .a) - (p .d - p .c)) (onward-near words (p .g) (words + p .g) near (omega arith))
-    ∙ sums words start end after (p .g) (p .m - p .l) (p .b - p .a) (p .d - p .c) (size q) a b (plans .sized) (gone start end p (plans .order))
+plan-sized ws start end p fresh q plans words b a few =
+    let near : Near (words + p .g) = near-below (words + p .g) 1008192 (near-of 1008192 (lit< tt)) (omega arith) in
+    rw (le-ltb 8192 (p .g) few, onward-near words (p .g) (words + p .g) near (omega arith))
+    (sums words (end - start) (p .g) (p .m - p .l) (p .b - p .a) (p .d - p .c) (size q) b (plans .sized) (gone start end p (plans .order)))
+
+pub plan-long : (words : ℕ) (p : Plan) → 8192 < p .g → sizedW words p ≡ 8193
+unfolding sizedW
+plan-long words p h = rw (lt-ltb 8192 (p .g) h)
 
 -- there are at most as many fresh words as the process then has
 pub fresh-few : (ws : List ℕ) (start end : ℕ) (p : Plan) (fresh : List ℕ) (q : Run) → Plans ws start end p fresh q → p .g ≤ size q
@@ -166,8 +167,23 @@ module _ (c : Config) (fits : FitsConfig c) (e : ℕ) (h : e < length (c .engine
         valued-length false = length-set values (p .x) (p .v) ∙ many
 
     -- how long the result is
-    pub next-sized : Near (length ws + p .g) → sizedW (length ws) p ≡ length (encode next)
-    next-sized near = plan-sized ws start end p fresh q plans (length ws) (length (wordsAfter c e)) before-end one-length near ∙ sym next-length
+    pub next-sized : length ws ≤ 8192 → p .g ≤ 8192 → sizedW (length ws) p ≡ length (encode next)
+    next-sized short few =
+        let a = plan-sized ws start end p fresh q plans (length ws) (omega (arith, one-length)) (omega arith) few in
+        omega (arith, a, next-length, one-length)
+
+    pub next-few : p .g ≤ length (encode next)
+    next-few = omega (arith, fresh-few ws start end p fresh q plans, next-length)
+
+    pub next-fits : length ws ≤ 8192 → (room : ℕ) → lengthOf (sizedW (length ws) p) room ≡ lengthOf (length (encode next)) room
+    unfolding lengthOf
+    next-fits short room = by (leb (p .g) 8192) refl
+      where
+        by : (b : Bool) → leb (p .g) 8192 ≡ b → lengthOf (sizedW (length ws) p) room ≡ lengthOf (length (encode next)) room
+        by true e = ap (λ k. lengthOf k room) (next-sized short (leb-true (p .g) 8192 e))
+        by false e =
+            let h : 8192 < p .g = leb-false (p .g) 8192 e in
+            rw (plan-long (length ws) p h, lt-ltb 8192 (length (encode next)) (omega (arith, next-few)))
 
     -- and what is written
     pub next-written :

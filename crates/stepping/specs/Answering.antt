@@ -24,7 +24,7 @@ abbrev pub accepting : ℕ → ℕ → ℕ → ℕ → Answer
 accepting kind serial fault length = record { number = 0; kind = kind; serial = serial; fault = fault; length = length }
 
 unfoldable pub sizedW : ℕ → Plan → ℕ
-sizedW words p = onward words (p .g) - (p .m - p .l) - (p .b - p .a) - (p .d - p .c)
+sizedW words p = cond (ltb 8192 (p .g)) 8193 (onward words (p .g) - (p .m - p .l) - (p .b - p .a) - (p .d - p .c))
 
 unfoldable pub writeOneW : List ℕ → ℕ → ℕ → Plan → List ℕ → List ℕ → Written
 writeOneW ws start end p fresh out = copyW ws end (length ws) (engineW ws 0 start end p fresh out 0)

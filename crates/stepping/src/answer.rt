@@ -47,10 +47,13 @@ fn less(a: usize, b: usize) -> usize
     if a < b { 0 } else { a - b }
 }
 
-// How many words there are once a plan is carried out on so many.
+// How many words there are once a plan is carried out on so many; 8,193 where its fresh words alone are too many.
 fn sized(words: usize, p: Plan) -> usize
     ensures { λ r. ⌜ r ≡ sizedW words p ⌝ }
 {
+    if 8192 < p.g {
+        return 8193;
+    }
     let a = further(words, p.g);
     let b = less(a, less(p.m, p.l));
     let c = less(b, less(p.b, p.a));

@@ -6,6 +6,12 @@ use borrow.Author.Needs.{needs}
 use Rattle.stepping.proofs.answer.sized.Statement.{statement}
 use Rattle.stepping.proofs.answer.sized.Tie as tie
 
+returns : tie.Need-returns
+unfolding sizedW
+returns c =
+    let f0 = c .if1 .taken in
+    simp (tests, f0)
+
 further-requires : tie.Need-further-requires
 further-requires c κs = search needs
 
@@ -27,15 +33,17 @@ less-requires-5 c κs = search needs
 less-requires-6 : tie.Need-less-requires-6
 less-requires-6 c κs = search needs
 
-returns : tie.Need-returns
+returns-2 : tie.Need-returns-2
 unfolding sizedW
-returns c =
-    simp (tests, ← (c .less6 .ensures), ← (c .before .less5 .ensures), ← (c .before .before .less4 .ensures), ← (c .before .before .before .less3 .ensures), ← (c .before .before .before .before .less2 .ensures), ← (c .before .before .before .before .before .less .ensures), ← (c .before .before .before .before .before .before .further .ensures))
+returns-2 c =
+    let f0 = c .before .before .before .before .before .before .before .if1 .left in
+    simp (tests, ← (c .less6 .ensures), ← (c .before .less5 .ensures), ← (c .before .before .less4 .ensures), ← (c .before .before .before .less3 .ensures), ← (c .before .before .before .before .less2 .ensures), ← (c .before .before .before .before .before .less .ensures), ← (c .before .before .before .before .before .before .further .ensures), f0)
 
 pub sized-spec : {M : Type 1} → statement M
 sized-spec =
     tie.close
     (tie.spec
+    returns
     further-requires
     less-requires
     less-requires-2
@@ -43,4 +51,4 @@ sized-spec =
     less-requires-4
     less-requires-5
     less-requires-6
-    returns)
+    returns-2)
