@@ -1,5 +1,6 @@
 pub mod Carrying
 pub mod Overs
 pub mod Results
+pub mod TwoResults
 pub mod Writes
 pub mod Writings
