@@ -2,6 +2,7 @@ pub mod Climbing
 pub mod ClimbingDepths
 pub mod ClimbingPlaces
 pub mod Compensates
+pub mod Endings
 pub mod Installs
 pub mod NearestLists
 pub mod NilLists

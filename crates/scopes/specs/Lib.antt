@@ -1,4 +1,5 @@
 pub mod Compensating
+pub mod Ending
 pub mod Installing
 pub mod Levels
 pub mod Throwing

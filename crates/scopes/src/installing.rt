@@ -21,7 +21,7 @@ fn too_deep(level: usize, levels: usize) -> bool
 }
 
 // The list at `l` becomes the first `f` fresh words, the process nil.
-fn updated(ws: &[u16], s: Spot, l: usize, f: usize, bound: usize, fresh: &mut [u16]) -> Plan
+pub fn updated(ws: &[u16], s: Spot, l: usize, f: usize, bound: usize, fresh: &mut [u16]) -> Plan
     ensures { λ r. ⌜ (r ≡ updatedW bound (now (ws .entry)) s l f (now (fresh .entry)) .plan) × (now (fresh .exit) ≡ updatedW bound (now (ws .entry)) s l f (now (fresh .entry)) .fresh) ⌝ }
 {
     let m = list(ws, l, 64, 0, 128, bound);

@@ -1,5 +1,6 @@
 // The rules that look at scopes: endings, inst, comp and throw, as plans.
 pub mod compensating;
+pub mod ending;
 pub mod installing;
 pub mod level;
 pub mod throwing;

@@ -1,0 +1,35 @@
+-- `put_taken` of `scopes::ending` meets its contract: the code is its mirror in specs/.
+-- Assumes nothing.
+use Rattle.scopes.specs.Ending.{takenTo, takenW}
+use Rattle.moving.proofs.Tests.{tests}
+use borrow.Author.Needs.{needs}
+use Rattle.scopes.proofs.ending.put_taken.Statement.{statement}
+use Rattle.scopes.proofs.ending.put_taken.Tie as tie
+
+put-requires : tie.Need-put-requires
+put-requires c κs = search needs
+
+same-length : tie.Need-same-length
+same-length c = search needs
+
+returns : tie.Need-returns
+unfolding takenTo takenW
+returns c =
+    let f0 = c .before .before .before .before .if1 .taken in
+    (simp (tests, ← (c .before .before .put .ensures .0), ← (c .before .before .put .ensures .1), f0), simp (tests, ← (c .before .before .put .ensures .0), ← (c .before .before .put .ensures .1), f0))
+
+copy-requires : tie.Need-copy-requires
+copy-requires c κs = search needs
+
+same-length-2 : tie.Need-same-length-2
+same-length-2 c = search needs
+
+returns-2 : tie.Need-returns-2
+unfolding takenTo takenW
+returns-2 c =
+    let f0 = c .before .before .before .before .if1 .left in
+    (simp (tests, ← (c .before .before .copy .ensures .0), ← (c .before .before .copy .ensures .1), f0), simp (tests, ← (c .before .before .copy .ensures .0), ← (c .before .before .copy .ensures .1), f0))
+
+pub put-taken-spec : {M : Type 1} → statement M
+put-taken-spec =
+    tie.close (tie.spec put-requires same-length returns copy-requires same-length-2 returns-2)

@@ -1,0 +1,65 @@
+-- `resumed` of `scopes::ending` meets its contract: the code is its mirror in specs/.
+-- Assumes nothing.
+use mathlib.Core.Path.{ap, sym}
+use Rattle.rules.specs.Planning.{Planned}
+use Rattle.scopes.proofs.Endings.{resumed-made}
+use borrow.Author.Needs.{needs}
+use Rattle.scopes.proofs.ending.resumed.Statement.{statement}
+use Rattle.scopes.proofs.ending.resumed.Tie as tie
+
+word-requires : tie.Need-word-requires
+word-requires c κs = search needs
+
+cleared-requires : tie.Need-cleared-requires
+cleared-requires c κs = search needs
+
+put-requires : tie.Need-put-requires
+put-requires c κs = search needs
+
+put-requires-2 : tie.Need-put-requires-2
+put-requires-2 c κs = search needs
+
+further-requires : tie.Need-further-requires
+further-requires c κs = search needs
+
+take-behind-requires : tie.Need-take-behind-requires
+take-behind-requires c κs = search needs
+
+further-requires-2 : tie.Need-further-requires-2
+further-requires-2 c κs = search needs
+
+put-taken-requires : tie.Need-put-taken-requires
+put-taken-requires c κs = search needs
+
+list-requires : tie.Need-list-requires
+list-requires c κs = search needs
+
+further-requires-3 : tie.Need-further-requires-3
+further-requires-3 c κs = search needs
+
+same-length : tie.Need-same-length
+same-length c = search needs
+
+returns : tie.Need-returns
+returns c =
+    let e = resumed-made _ _ _ _ _ _ _ _ _ _ _ _ _ _ _ _ _ _ (c .before .before .before .before .before .before .before .before .before .before .before .before .before .before .before .before .before .before .before .before .before .word .ensures) (c .before .before .before .before .before .before .before .before .before .before .before .before .before .before .before .before .before .before .before .before .cleared .ensures) (c .before .before .before .before .before .before .before .before .before .before .before .before .before .before .before .before .before .before .put .ensures .1) (c .before .before .before .before .before .before .before .before .before .before .before .before .before .before .put2 .ensures .1)
+    (c .before .before .before .before .before .before .before .before .before .before .before .further .ensures) (c .before .before .before .before .before .before .before .before .before .take-behind .ensures .0) (c .before .before .before .before .before .before .before .before .before .take-behind .ensures .1) (c .before .before .before .before .before .before .further2 .ensures)
+    (c .before .before .before .before .put-taken .ensures .0) (c .before .before .before .before .put-taken .ensures .1) (c .before .list .ensures) (c .further3 .ensures) in
+    (sym (ap (λ (u : Planned). u .plan) e), sym (ap (λ (u : Planned). u .fresh) e))
+
+pub resumed-spec : {M : Type 1} → statement M
+resumed-spec =
+    tie.close
+    (tie.spec
+    word-requires
+    cleared-requires
+    put-requires
+    put-requires-2
+    further-requires
+    take-behind-requires
+    further-requires-2
+    put-taken-requires
+    list-requires
+    further-requires-3
+    same-length
+    returns)

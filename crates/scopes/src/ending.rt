@@ -1,0 +1,129 @@
+// A scope whose body is nil: with a mark it runs the handler under its key, else it ends.
+use crate::installing::updated;
+use finding::find::Spot;
+use handling::replace::less_one;
+use handling::take::Taken;
+use handling::take::take;
+use handling::update::update_by;
+use moving::write::copy;
+use moving::write::further;
+use moving::write::put;
+use reading::reader::list;
+use reading::reader::wide;
+use rules::plan::Plan;
+use rules::plan::become_nil;
+use rules::turn::word;
+ghost use mathlib.Core.Path.{_≡_};
+ghost use Rattle.scopes.specs.Ending.{clearedW, keyAtW, takeBehindW, takenTo, takenW, resumedW, promotedTo, promotedW, endingW, endedW};
+
+// A scope's head with its mark cleared.
+fn cleared(head: u16) -> u16
+    ensures { λ r. ⌜ r ≡ clearedW head ⌝ }
+{
+    head / 32 * 32 + head / 4 % 2 * 4
+}
+
+// The key of the handler it runs or hands on: the fault with mark 1, else its own name.
+fn key_at(ws: &[u16], at: usize) -> usize
+    ensures { λ r. ⌜ r ≡ keyAtW (now (ws .entry)) at ⌝ }
+{
+    let h = wide(word(ws, at));
+    if h / 8 % 4 == 1 {
+        return wide(word(ws, further(at, 1))) / 1024;
+    }
+    64 + h / 32 % 64
+}
+
+// The list without the entry of a key, behind two words.
+fn take_behind(ws: &[u16], list: usize, key: usize, bound: usize, fresh: &mut [u16]) -> Taken
+    ensures { λ r. ⌜ (r ≡ takeBehindW bound (now (ws .entry)) list key (now (fresh .entry)) .answer) × (now (fresh .exit) ≡ takeBehindW bound (now (ws .entry)) list key (now (fresh .entry)) .out) ⌝ }
+{
+    if fresh.len() < 2 {
+        return Taken {
+            to: 0,
+            from: 0,
+            upto: 0,
+        };
+    }
+    take(ws, list, key, 64, bound, &mut fresh[2..])
+}
+
+// What was taken out, or nil where nothing was; the place behind it.
+fn put_taken(ws: &[u16], t: Taken, fresh: &mut [u16], to: usize) -> usize
+    ensures { λ r. ⌜ (r ≡ takenTo (now (ws .entry)) t to) × (now (fresh .exit) ≡ takenW (now (ws .entry)) t (now (fresh .entry)) to) ⌝ }
+{
+    let upto = t.upto;
+    if upto == 0 {
+        return put(fresh, to, 0);
+    }
+    let from = t.from;
+    copy(ws, from, upto, fresh, to)
+}
+
+// The scope at `at` with no mark, without the handler under the key, and that as its body.
+fn resumed(ws: &[u16], start: usize, at: usize, key: usize, bound: usize, fresh: &mut [u16]) -> Plan
+    ensures { λ r. ⌜ (r ≡ resumedW bound (now (ws .entry)) start at key (now (fresh .entry)) .plan) × (now (fresh .exit) ≡ resumedW bound (now (ws .entry)) start at key (now (fresh .entry)) .fresh) ⌝ }
+{
+    let h = cleared(word(ws, at));
+    put(fresh, 0, h);
+    put(fresh, 1, 0);
+    let l = further(at, 2);
+    let t = take_behind(ws, l, key, bound, fresh);
+    let to = further(2, t.to);
+    let g = put_taken(ws, t, fresh, to);
+    let end = further(list(ws, l, 64, 0, 128, bound), 1);
+    Plan {
+        number: 0,
+        l: start,
+        m: start,
+        f: 0,
+        a: at,
+        b: end,
+        g,
+        c: end,
+        d: end,
+        x: 32,
+        v: 0,
+    }
+}
+
+// The list at `l` updated by what was taken out under the key, from 0 on; the place behind it.
+fn promoted(ws: &[u16], l: usize, t: Taken, key: usize, bound: usize, fresh: &mut [u16]) -> usize
+    ensures { λ r. ⌜ (r ≡ promotedTo bound (now (ws .entry)) l t key (now (fresh .entry))) × (now (fresh .exit) ≡ promotedW bound (now (ws .entry)) l t key (now (fresh .entry))) ⌝ }
+{
+    if t.upto == 0 {
+        let u = take(ws, l, key, 64, bound, fresh);
+        return u.to;
+    }
+    let u = update_by(ws, l, less_one(t.from), 1, 64, bound, fresh);
+    u.to
+}
+
+// The scope becomes nil, and the nearest is updated by its name and the handler under it.
+fn ending(ws: &[u16], s: Spot, key: usize, bound: usize, fresh: &mut [u16]) -> Plan
+    ensures { λ r. ⌜ (r ≡ endingW bound (now (ws .entry)) s key (now (fresh .entry)) .plan) × (now (fresh .exit) ≡ endingW bound (now (ws .entry)) s key (now (fresh .entry)) .fresh) ⌝ }
+{
+    let t = take(ws, further(s.at, 2), key, 64, bound, fresh);
+    let l = further(s.scope, 2);
+    let f = promoted(ws, l, t, key, bound, fresh);
+    updated(ws, s, l, f, bound, fresh)
+}
+
+// The scope with nil body at `s`, in the engine's process that begins at `start`.
+pub fn ended(ws: &[u16], start: usize, s: Spot, bound: usize, fresh: &mut [u16]) -> Plan
+    ensures { λ r. ⌜ (r ≡ endedW bound (now (ws .entry)) start s (now (fresh .entry)) .plan) × (now (fresh .exit) ≡ endedW bound (now (ws .entry)) start s (now (fresh .entry)) .fresh) ⌝ }
+{
+    let at = s.at;
+    let h = wide(word(ws, at));
+    let key = key_at(ws, at);
+    if 0 < h / 8 % 4 {
+        return resumed(ws, start, at, key, bound, fresh);
+    }
+    if h / 4 % 2 == 1 {
+        return become_nil(s, start, start, 0, 32, 0, fresh);
+    }
+    if s.scope == 0 {
+        return become_nil(s, start, start, 0, 32, 0, fresh);
+    }
+    ending(ws, s, key, bound, fresh)
+}
