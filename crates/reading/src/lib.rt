@@ -2,5 +2,5 @@
 pub mod calls;
 pub mod ends;
 pub mod reader;
-mod survey;
+pub mod survey;
 mod tables;

@@ -1,6 +1,7 @@
 pub mod Carrying
 pub mod Overs
 pub mod Results
+pub mod Stepping
 pub mod TwoResults
 pub mod Writes
 pub mod Writings

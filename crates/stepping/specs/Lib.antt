@@ -1,4 +1,6 @@
+pub mod Alone
 pub mod Answering
 pub mod Exchanging
 pub mod Meeting
+pub mod Stepping
 pub mod Writing

@@ -1,0 +1,57 @@
+-- The search for who moves and who receives: from what each call leaves.
+-- Assumes nothing.
+use Prim.Native.Nat.{ℕ, _+_, _*_, _≤_, _<_}
+use native.Mathlib.Omega.{arith}
+use mathlib.Core.Path.{_≡_, refl, sym, ap, _∙_}
+use mathlib.Core.List.{List}
+use borrow.Author.Tests.{ne-eqb, le-ltb, le-leb, lt-leb}
+use lib.ListN.{getD}
+use Rattle.reading.specs.declared.survey.Starts.{Starts}
+use Rattle.reading.specs.Survey.{surveyed}
+use Rattle.moving.specs.Writing.{onward}
+use Rattle.finding.specs.declared.find.Spot.{Spot}
+use Rattle.finding.specs.declared.find.Found.{Found}
+use Rattle.finding.specs.declared.find.Found.the-variants.{Hit, Past}
+use Rattle.finding.specs.Find.{findW}
+use Rattle.rules.specs.Turning.{at}
+use Rattle.stepping.specs.Answering.{Answered, answered, refusing}
+use Rattle.stepping.specs.Exchanging.{betweenW}
+use Rattle.stepping.specs.Stepping.{partnerW, receivingW, movingW, foundW, stepW}
+
+module _
+    (ws starts : List ℕ) (n e : ℕ) (a : Spot) (kind i place branch bound : ℕ) (out : List ℕ) (i' place' branch' t : ℕ) (f : Found) (e1 : i' ≡ i) (e2 : place' ≡ place)
+    (e3 : branch' ≡ branch) (e4 : i' < n) (e5 : t ≡ onward (getD starts i' 0) place') (e6 : f ≡ findW 64 ws bound t 1 (getD starts i' 0)) where
+  sought : partnerW ws starts e i a kind branch bound out f ≡ receivingW ws starts n e a kind i place branch bound out
+  unfolding receivingW
+  sought = rw (lt-leb n i (rw e1 at e4), e6, e5, e2, e1)
+
+  pub receiving-past : (p : ℕ) → f ≡ Past p → answered (refusing 4) out ≡ receivingW ws starts n e a kind i place branch bound out
+  unfolding partnerW
+  receiving-past p g = ap (partnerW ws starts e i a kind branch bound out) (sym g) ∙ sought
+
+  pub receiving-hit : (b : Spot) → f ≡ Hit b → betweenW ws starts e i a b kind branch' bound out ≡ receivingW ws starts n e a kind i place branch bound out
+  unfolding partnerW
+  receiving-hit b g = rw e3 (ap (partnerW ws starts e i a kind branch bound out) (sym g) ∙ sought)
+
+module _ (ws : List ℕ) (e position i place branch : ℕ) (out : List ℕ) (s : Starts) (known : s ≡ surveyed 64 8192 11 ws) (some : s .engines ≡ 0 → ⊥) (few : s .engines ≤ 8)
+    (e' : ℕ) (e1 : e' ≡ e) where
+  pub step-beyond : s .engines ≤ e' → answered (refusing 2) out ≡ stepW ws e position i place branch out
+  unfolding stepW
+  step-beyond h = rw (← known, ne-eqb (s .engines) 0 some, le-ltb 8 (s .engines) few, le-leb (s .engines) e (rw e1 at h))
+
+  module _ (h : e' < s .engines) (w w' position' t : ℕ) (f : Found) (e2 : w ≡ at ws 1) (e3 : w' ≡ w) (e4 : position' ≡ position) (e5 : t ≡ onward (getD (s .starts) e' 0) position')
+      (e6 : f ≡ findW 64 ws (s .engines * 65536 + w') t 1 (getD (s .starts) e' 0)) where
+    looked : foundW ws (s .starts) (s .engines) e i place branch (s .engines * 65536 + w') out f ≡ stepW ws e position i place branch out
+    unfolding stepW
+    looked =
+        let x : e < s .engines = rw e1 at h in
+        rw (← known, ne-eqb (s .engines) 0 some, le-ltb 8 (s .engines) few, lt-leb (s .engines) e x, e6, e5, e4, e3, e2, e1)
+
+    pub step-past : (p : ℕ) → f ≡ Past p → answered (refusing 2) out ≡ stepW ws e position i place branch out
+    unfolding foundW
+    step-past p g = ap (foundW ws (s .starts) (s .engines) e i place branch (s .engines * 65536 + w') out) (sym g) ∙ looked
+
+    pub step-hit :
+        (a : Spot) → f ≡ Hit a → movingW ws (s .starts) (s .engines) e a i place branch (s .engines * 65536 + w') out ≡ stepW ws e position i place branch out
+    unfolding foundW
+    step-hit a g = ap (foundW ws (s .starts) (s .engines) e i place branch (s .engines * 65536 + w') out) (sym g) ∙ looked

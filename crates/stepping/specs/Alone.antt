@@ -1,0 +1,43 @@
+-- A step of one engine alone, as the code goes.
+use Prim.Native.Nat.{ℕ, _+_, _-_, _%_}
+use mathlib.Core.Bool.{Bool, true, false, cond}
+use mathlib.Core.List.{List}
+use lib.Dec.{ltb, eqb}
+use lib.ListN.{length}
+use Rattle.finding.specs.declared.find.Spot.{Spot}
+use Rattle.rules.specs.Turning.{Turned, turned, refused, assignW, branchW, repeatW}
+use Rattle.rules.specs.Planning.{Planned, planned, plainW}
+use Rattle.scopes.specs.Compensating.{compensatedW}
+use Rattle.scopes.specs.Ending.{endedW}
+use Rattle.scopes.specs.Installing.{installedW}
+use Rattle.scopes.specs.Throwing.{thrownW}
+use Rattle.stepping.specs.Answering.{Answered, oneW}
+use Rattle.stepping.specs.Exchanging.{blank, lent}
+
+unfoldable pub turnW : List ℕ → List ℕ → ℕ → ℕ → ℕ → List ℕ → Turned
+turnW part vs level kind bound fresh =
+    cond (eqb kind 1) (turned (assignW part vs) fresh)
+    (cond (eqb kind 4) (turned (branchW bound part vs) fresh) (repeatW level bound part vs fresh))
+
+unfoldable pub valuedW : List ℕ → ℕ → Spot → ℕ → ℕ → List ℕ → Turned
+valuedW ws start s kind bound fresh =
+    cond (ltb start 64) (turned (refused 1) fresh)
+    (cond (ltb (length ws) start) (turned (refused 1) fresh)
+    (cond (ltb (length ws) (s .at)) (turned (refused 1) fresh)
+    (turnW (lent (s .at) (length ws) ws) (lent (start - 64) start ws) (s .level) kind bound fresh)))
+
+unfoldable pub scopedW : List ℕ → ℕ → Spot → ℕ → ℕ → List ℕ → Planned
+scopedW ws start s kind bound fresh =
+    cond (eqb kind 11) (endedW bound ws start s fresh)
+    (cond (eqb kind 12) (installedW bound ws start s fresh)
+    (cond (eqb kind 13) (thrownW bound ws start s fresh) (compensatedW bound ws start s fresh)))
+
+unfoldable pub ruleW : List ℕ → ℕ → Spot → ℕ → ℕ → List ℕ → Planned
+ruleW ws start s kind bound fresh =
+    let t = valuedW ws start s kind bound fresh in
+    cond (ltb 6 kind) (scopedW ws start s kind bound fresh) (plainW s start (t .turn) (t .fresh))
+
+unfoldable pub aloneW : List ℕ → ℕ → ℕ → Spot → ℕ → ℕ → List ℕ → Answered
+aloneW ws start next s kind bound out =
+    let p = ruleW ws start s kind bound blank in
+    oneW ws start (next - 64) (p .plan) (kind % 32) (p .fresh) out

@@ -1,0 +1,111 @@
+// A step of one engine alone.
+use crate::answer::Answer;
+use crate::answer::one;
+use crate::exchange::end_before;
+use finding::find::Spot;
+use rules::alone::assign;
+use rules::alone::branch;
+use rules::alone::repeat;
+use rules::plan::Plan;
+use rules::plan::plain;
+use rules::turn::Turn;
+use rules::turn::refusal;
+use scopes::compensating::compensated;
+use scopes::ending::ended;
+use scopes::installing::installed;
+use scopes::throwing::thrown;
+ghost use mathlib.Core.Path.{_≡_};
+ghost use Prim.Native.Nat.{_<_};
+ghost use lib.ListN.{length};
+ghost use Rattle.stepping.specs.Alone.{turnW, valuedW, scopedW, ruleW, aloneW};
+
+// Assign, if or while, handed the words from its position on and the engine's values.
+fn turn(
+    part: &[u16],
+    values: &[u16],
+    level: usize,
+    kind: usize,
+    bound: usize,
+    fresh: &mut [u16],
+) -> Turn
+    requires { ⌜ length (now values) ≡ 64 ⌝ }
+    ensures { λ r. ⌜ (r ≡ turnW (now (part .entry)) (now (values .entry)) level kind bound (now (fresh .entry)) .turn) × (now (fresh .exit) ≡ turnW (now (part .entry)) (now (values .entry)) level kind bound (now (fresh .entry)) .fresh) ⌝ }
+{
+    if kind == 1 {
+        return assign(part, values);
+    }
+    if kind == 4 {
+        return branch(part, values, bound);
+    }
+    repeat(part, values, level, bound, fresh)
+}
+
+// That the places are inside is known of all that was found.
+fn valued(ws: &[u16], start: usize, s: Spot, kind: usize, bound: usize, fresh: &mut [u16]) -> Turn
+    ensures { λ r. ⌜ (r ≡ valuedW (now (ws .entry)) start s kind bound (now (fresh .entry)) .turn) × (now (fresh .exit) ≡ valuedW (now (ws .entry)) start s kind bound (now (fresh .entry)) .fresh) ⌝ }
+{
+    let at = s.at;
+    if start < 64 {
+        return refusal(1);
+    }
+    if ws.len() < start {
+        return refusal(1);
+    }
+    if ws.len() < at {
+        return refusal(1);
+    }
+    let from = start - 64;
+    turn(&ws[at..], &ws[from..start], s.level, kind, bound, fresh)
+}
+
+// The rules that look at scopes.
+fn scoped(ws: &[u16], start: usize, s: Spot, kind: usize, bound: usize, fresh: &mut [u16]) -> Plan
+    ensures { λ r. ⌜ (r ≡ scopedW (now (ws .entry)) start s kind bound (now (fresh .entry)) .plan) × (now (fresh .exit) ≡ scopedW (now (ws .entry)) start s kind bound (now (fresh .entry)) .fresh) ⌝ }
+{
+    if kind == 11 {
+        return ended(ws, start, s, bound, fresh);
+    }
+    if kind == 12 {
+        return installed(ws, start, s, bound, fresh);
+    }
+    if kind == 13 {
+        return thrown(ws, start, s, bound, fresh);
+    }
+    compensated(ws, start, s, bound, fresh)
+}
+
+// The rule of the kind given.
+fn rule(ws: &[u16], start: usize, s: Spot, kind: usize, bound: usize, fresh: &mut [u16]) -> Plan
+    ensures { λ r. ⌜ (r ≡ ruleW (now (ws .entry)) start s kind bound (now (fresh .entry)) .plan) × (now (fresh .exit) ≡ ruleW (now (ws .entry)) start s kind bound (now (fresh .entry)) .fresh) ⌝ }
+{
+    if 6 < kind {
+        return scoped(ws, start, s, kind, bound, fresh);
+    }
+    let t = valued(ws, start, s, kind, bound, fresh);
+    plain(s, start, t, fresh)
+}
+
+// The engine's process begins at `start`, the next one's at `next`.
+pub fn alone(
+    ws: &[u16],
+    start: usize,
+    next: usize,
+    s: Spot,
+    kind: usize,
+    bound: usize,
+    out: &mut [u16],
+) -> Answer
+    ensures { λ r. ⌜ (r ≡ aloneW (now (ws .entry)) start next s kind bound (now (out .entry)) .answer) × (now (out .exit) ≡ aloneW (now (ws .entry)) start next s kind bound (now (out .entry)) .out) ⌝ }
+{
+    let mut fresh = [0u16; 16384];
+    let p = rule(ws, start, s, kind, bound, &mut fresh);
+    one(
+        ws,
+        start,
+        end_before(next),
+        p,
+        (kind % 32) as u8,
+        &fresh,
+        out,
+    )
+}

@@ -1,0 +1,199 @@
+// From words and numbers to the answer: who moves, alone or with whom. The refusals come in the order of their numbers.
+use crate::alone::alone;
+use crate::answer::Answer;
+use crate::answer::refuse;
+use crate::exchange::between;
+use finding::find::Found;
+use finding::find::Spot;
+use finding::find::find;
+use moving::write::further;
+use reading::reader::list;
+use reading::reader::wide;
+use reading::survey::survey;
+use rules::turn::word;
+ghost use mathlib.Core.Path.{_≡_};
+ghost use Prim.Native.Nat.{_≤_, _<_};
+ghost use Rattle.stepping.specs.Stepping.{bodyNil, byKind, movesW, receivingW, noneElse, movingW, stepW};
+
+// Whether the body of the scope at a position is nil.
+fn body_nil(ws: &[u16], at: usize, bound: usize) -> bool
+    ensures { λ r. ⌜ r ≡ bodyNil bound (now (ws .entry)) at ⌝ }
+{
+    let body = list(ws, further(at, 2), 64, 0, 128, bound);
+    word(ws, body) == 0
+}
+
+// What a process of the kind given does, unless that goes by its body: 0 nothing, 1 it moves alone, 2 it sends.
+fn by_kind(kind: usize) -> usize
+    ensures { λ r. ⌜ r ≡ byKind kind ⌝ }
+{
+    if kind == 1 {
+        return 1;
+    }
+    if kind == 4 {
+        return 1;
+    }
+    if kind == 5 {
+        return 1;
+    }
+    if kind == 9 {
+        return 2;
+    }
+    if kind == 10 {
+        return 2;
+    }
+    if kind == 18 {
+        return 2;
+    }
+    if kind < 12 {
+        return 0;
+    }
+    if kind < 15 { 1 } else { 0 }
+}
+
+// What the process at a position does: a scope ends, and an executor replies, once its body is nil.
+fn moves(ws: &[u16], at: usize, kind: usize, bound: usize) -> usize
+    ensures { λ r. ⌜ r ≡ movesW bound (now (ws .entry)) at kind ⌝ }
+{
+    if kind == 11 {
+        if body_nil(ws, at, bound) {
+            return 1;
+        }
+        return 0;
+    }
+    if kind == 16 {
+        if word(ws, further(at, 3)) == 0 {
+            return 2;
+        }
+        return 0;
+    }
+    by_kind(kind)
+}
+
+// The process found sends; the receiver is sought in the second engine.
+fn receiving(
+    ws: &[u16],
+    starts: [usize; 9],
+    n: usize,
+    engine: u16,
+    a: Spot,
+    kind: usize,
+    second: u16,
+    place: u16,
+    branch: u16,
+    bound: usize,
+    out: &mut [u16],
+) -> Answer
+    requires { ⌜ (n ≤ 8) × (engine < 8) ⌝ }
+    ensures { λ r. ⌜ (r ≡ receivingW (now (ws .entry)) starts n engine a kind second place branch bound (now (out .entry)) .answer) × (now (out .exit) ≡ receivingW (now (ws .entry)) starts n engine a kind second place branch bound (now (out .entry)) .out) ⌝ }
+{
+    let i = wide(second);
+    if n <= i {
+        return refuse(4);
+    }
+    let start = starts[i];
+    match find(ws, start, further(start, wide(place)), 64, 1, bound) {
+        Found::Past(e) => refuse(4),
+        Found::Hit(b) => between(
+            ws,
+            starts,
+            engine,
+            second,
+            a,
+            b,
+            kind,
+            wide(branch),
+            bound,
+            out,
+        ),
+    }
+}
+
+// Whether a second engine, place and branch are all 0.
+fn none_else(second: u16, place: u16, branch: u16) -> bool
+    ensures { λ r. ⌜ r ≡ noneElse second place branch ⌝ }
+{
+    if second != 0 {
+        return false;
+    }
+    if place != 0 {
+        return false;
+    }
+    branch == 0
+}
+
+// The process a was found in `engine`.
+fn moving(
+    ws: &[u16],
+    starts: [usize; 9],
+    n: usize,
+    engine: u16,
+    a: Spot,
+    second: u16,
+    place: u16,
+    branch: u16,
+    bound: usize,
+    out: &mut [u16],
+) -> Answer
+    requires { ⌜ (n ≤ 8) × (engine < 8) ⌝ }
+    ensures { λ r. ⌜ (r ≡ movingW (now (ws .entry)) starts n engine a second place branch bound (now (out .entry)) .answer) × (now (out .exit) ≡ movingW (now (ws .entry)) starts n engine a second place branch bound (now (out .entry)) .out) ⌝ }
+{
+    let kind = wide(word(ws, a.at)) / 2048;
+    let m = moves(ws, a.at, kind, bound);
+    if m == 0 {
+        return refuse(3);
+    }
+    if m == 2 {
+        return receiving(
+            ws,
+            starts,
+            n,
+            engine,
+            a,
+            kind,
+            second,
+            place,
+            branch,
+            bound,
+            out,
+        );
+    }
+    if none_else(second, place, branch) {
+        let e = wide(engine);
+        return alone(ws, starts[e], starts[e + 1], a, kind, bound, out);
+    }
+    refuse(3)
+}
+
+// The numbers: an engine, a position in its process, and a second engine, a position there and a branch.
+fn stepped(
+    ws: &[u16],
+    engine: u16,
+    position: u16,
+    second: u16,
+    place: u16,
+    branch: u16,
+    out: &mut [u16],
+) -> Answer
+    ensures { λ r. ⌜ (r ≡ stepW (now (ws .entry)) engine position second place branch (now (out .entry)) .answer) × (now (out .exit) ≡ stepW (now (ws .entry)) engine position second place branch (now (out .entry)) .out) ⌝ }
+{
+    let s = survey(ws, 64, 8192, 11);
+    let n = s.engines;
+    let e = wide(engine);
+    if n == 0 {
+        return refuse(1);
+    }
+    if 8 < n {
+        return refuse(1);
+    }
+    if n <= e {
+        return refuse(2);
+    }
+    let starts = s.starts;
+    let start = starts[e];
+    let bound = n * 65536 + wide(word(ws, 1));
+    match find(ws, start, further(start, wide(position)), 64, 1, bound) {
+        Found::Past(p) => refuse(2),
+        Found::Hit(a) => moving(ws, starts, n, engine, a, second, place, branch, bound, out),
+    }
+}
