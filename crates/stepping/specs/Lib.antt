@@ -1,5 +1,6 @@
 pub mod Alone
 pub mod Answering
+pub mod Answers
 pub mod Exchanging
 pub mod Meeting
 pub mod Stepping
