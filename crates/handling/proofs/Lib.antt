@@ -11,6 +11,7 @@ pub mod Replaced
 pub mod Replacements
 pub mod Replaces
 pub mod Sizes
+pub mod Stays
 pub mod Steps
 pub mod Takes
 pub mod Turns

@@ -6,8 +6,9 @@ use mathlib.Core.Path.{_≡_, refl, subst, sym, ap, _∙_}
 use mathlib.Core.Bool.{Bool, true, false, _||_, cond}
 use mathlib.Core.List.{List, _∷_, _++_}
 use lib.Dec.{T, eqb}
-use lib.ListN.{length, take, drop, length-append, length-set, length-drop}
+use lib.ListN.{length, getD, take, drop, length-append, length-set, length-drop}
 use borrow.Author.Tests.{eq-eqb, ne-eqb, eqb-true, eqb-false}
+use Rattle.sock.specs.Words.{keyWord}
 use Rattle.sock.specs.Term.{Node, node, Entries, noEntries, entry, nilNode}
 use Rattle.sock.specs.Layout.{count, words, entriesWords, depth, entriesDepth}
 use Rattle.sock.specs.Reading.{code, anywhere, holds}
@@ -24,6 +25,10 @@ use Rattle.handling.proofs.Merged.{without-none}
 -- the words of a process stand from..upto
 abbrev pub Stands : List ℕ → ℕ → ℕ → Node → Type 0
 Stands ws from upto m = (rest : List ℕ) × ((drop from ws ≡ words m ++ rest) × (upto ≡ from + length (words m)))
+
+-- and the key's word in front of them
+abbrev pub Keyed : List ℕ → ℕ → ℕ → Type 0
+Keyed ws from k = (0 < from) × (getD ws (from - 1) 0 ≡ keyWord k)
 
 -- ---- keys that are not there, and the count
 
@@ -65,12 +70,13 @@ count-present k (entry j p es) e = one-goes (eqb k j) (holds k es) j p es (witho
 -- ---- one entry
 
 -- the entries of `g` have been written, and the process m found, if it is there
-pub record Passes (ws : List ℕ) (there : Bool) (m : Node) (g : Entries) (s : Passing) (out : List ℕ) (p : Passed) : Type 0 where
+pub record Passes (ws : List ℕ) (k : ℕ) (there : Bool) (m : Node) (g : Entries) (s : Passing) (out : List ℕ) (p : Passed) : Type 0 where
   pub reaches : p .state .to ≡ s .to + length (entriesWords g)
   pub keeps : length (p .out) ≡ length out
   pub laid : s .to + length (entriesWords g) ≤ length out → Laid out (s .to) (entriesWords g) (p .out)
   pub absent : there ≡ false → (p .state .from ≡ s .from) × (p .state .upto ≡ s .upto)
   pub present : there ≡ true → Stands ws (p .state .from) (p .state .upto) m
+  pub keyed : there ≡ true → Keyed ws (p .state .from) k
 
 module _ (ws : List ℕ) (near : Near (length ws)) (bound d key : ℕ) (coded : Coded ws bound) where
   module _ {j : ℕ} {q : Node} {behind : List ℕ} (s : Passing) (out : List ℕ) (f : FirstEntry ws (s .at) j q behind)
@@ -103,7 +109,7 @@ module _ (ws : List ℕ) (near : Near (length ws)) (bound d key : ℕ) (coded : 
   passes-from n s s′ out out′ e = ap (λ (p : Passed). passesW d bound ws key n (p .state) (p .out)) e
 
   abbrev Goes : Entries → Passing → List ℕ → Passed → Type 0
-  Goes h s out p = Passes ws (holds key h) (handler key h) (without key h) s out p
+  Goes h s out p = Passes ws key (holds key h) (handler key h) (without key h) s out p
 
   -- what comes behind, from anywhere on
   abbrev Behind : Entries → List ℕ → Type 0
@@ -128,6 +134,8 @@ module _ (ws : List ℕ) (near : Near (length ws)) (bound d key : ℕ) (coded : 
           let w : without key es ≡ es = without-none key v (omega arith) in
           let begins = ap (λ (i : ℕ). drop i ws) (a .0) ∙ f .process in
           let ends = a .1 ∙ ap (λ (i : ℕ). i + length (words q)) (sym (a .0)) in
+          let back : s .at + 1 - 1 ≡ s .at = omega arith in
+          let first : getD ws (s .at + 1 - 1) 0 ≡ keyWord key = rw back (f .key ∙ ap keyWord e) in
           subst (λ p. Goes (entry j q es) s out p) (sym (passes-from (count es) s _ out _ (pass-here s out f g b e)))
           (rw (eq-eqb key j (sym e))
           (record {
@@ -136,6 +144,7 @@ module _ (ws : List ℕ) (near : Near (length ws)) (bound d key : ℕ) (coded : 
             laid = rw w at (r .laid);
             absent = λ x. absurd (subst T x tt);
             present = λ x. (entriesWords es ++ rest, (begins, ends));
+            keyed = λ x. (omega (arith, a .0), ap (λ (i : ℕ). getD ws (i - 1) 0) (a .0) ∙ first);
           }))
 
       passes-other : (j ≡ key → ⊥) → Goes (entry j q es) s out (passesW d bound ws key (suc (count es)) s out)
@@ -158,6 +167,7 @@ module _ (ws : List ℕ) (near : Near (length ws)) (bound d key : ℕ) (coded : 
             laid = λ x. laid-then (entry-laid ws near f out (s .to) (omega arith)) (r .laid (omega arith));
             absent = r .absent;
             present = r .present;
+            keyed = r .keyed;
           }))
 
       passes-entry : FitsEntries true (suc j) es → Goes (entry j q es) s out (passesW d bound ws key (suc (count es)) s out)
@@ -177,6 +187,7 @@ module _ (ws : List ℕ) (near : Near (length ws)) (bound d key : ℕ) (coded : 
         laid = λ x. laid-none out (s .to);
         absent = λ x. (refl, refl);
         present = λ x. absurd (subst T (sym x) tt);
+        keyed = λ x. absurd (subst T (sym x) tt);
       }
   passes (entryFitsOn {k = j} {p = q} {es = es} x y z u v) b rest s out e room =
       passes-entry es rest s out (first-entry ws near (s .at) j q es rest e) u (omega arith) room (passes v (omega arith) rest) v
@@ -191,6 +202,7 @@ pub record Takes (ws : List ℕ) (k : ℕ) (h : Entries) (out : List ℕ) (t : T
       take (1 + length (entriesWords (without k h))) (t .out) ≡ count (without k h) ∷ entriesWords (without k h)
   pub absent : holds k h ≡ false → (t .answer .upto ≡ 0) × (handler k h ≡ nilNode)
   pub present : holds k h ≡ true → Stands ws (t .answer .from) (t .answer .upto) (handler k h)
+  pub keyed : holds k h ≡ true → Keyed ws (t .answer .from) k
 
 words-some : (m : Node) → 0 < length (words m)
 unfolding words
@@ -198,7 +210,7 @@ words-some (node h f es b ps) = omega arith
 
 -- the count, and the words in front of which it is put
 module _ (ws : List ℕ) (k : ℕ) (h : Entries) (at : ℕ) (out : List ℕ) (p : Passed)
-    (r : Passes ws (holds k h) (handler k h) (without k h) (passing at 1 0 0) out p) where
+    (r : Passes ws k (holds k h) (handler k h) (without k h) (passing at 1 0 0) out p) where
   counted : (t : Bool) → holds k h ≡ t → lessIf (count h) (p .state .upto) ≡ count (without k h)
   unfolding lessIf
   counted true x =
@@ -221,6 +233,7 @@ module _ (ws : List ℕ) (k : ℕ) (h : Entries) (at : ℕ) (out : List ℕ) (p 
             ∙ ap (λ (c : ℕ). c ∷ entriesWords (without k h)) (counted (holds k h) refl);
         absent = λ x. (r .absent x .1, handler-absent k h x);
         present = r .present;
+        keyed = r .keyed;
       }
 
 module _ (ws : List ℕ) (near : Near (length ws)) (bound d : ℕ) (coded : Coded ws bound) where

@@ -32,6 +32,7 @@ use Rattle.moving.specs.Writing.{pasted, pastedEnd}
 use Rattle.moving.proofs.Laid.{Near, onward-near, Laid, laid-under, laid-copy, copy-end}
 use Rattle.handling.specs.Taking.{Took, takeW}
 use Rattle.handling.proofs.Takes.{Takes, takes, Stands, without-absent}
+use Rattle.handling.proofs.Stays.{without-shallow, without-short}
 use Rattle.rules.specs.Planning.{Planned, planned, refusedPlan, nilW}
 use Rattle.rules.proofs.Turns.{first-at, enable-words}
 use Rattle.rules.proofs.Deep.{code-fits}
@@ -40,7 +41,7 @@ use Rattle.rules.proofs.Plans.{Plans, plans-of, done-nil}
 use Rattle.rules.proofs.Outcomes.{Ruled, tooDeep, ruled}
 use Rattle.scopes.specs.Compensating.{levelsAt, movedW, compensatedW}
 use Rattle.scopes.proofs.NilLists.{laid-part}
-use Rattle.scopes.proofs.NearestLists.{nearest-empty, nearest-kept, nearest-length, nearest-spread, nearest-within, without-keeps, without-shallow, without-short, handler-lives}
+use Rattle.scopes.proofs.NearestLists.{nearest-empty, nearest-kept, nearest-length, nearest-spread, nearest-within, without-keeps, handler-lives}
 use Rattle.scopes.proofs.ScopeLists.{whole-inside, frames-deep, level-low, nil-ruled, process-inside, list-deep, region-length, list-first, list-before, list-inside, to-list, list-ends}
 
 levels-at : (level : ℕ) → levelsAt level ≡ 65 - level

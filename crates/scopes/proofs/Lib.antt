@@ -3,8 +3,12 @@ pub mod ClimbingDepths
 pub mod ClimbingPlaces
 pub mod Compensates
 pub mod Endings
+pub mod Ends
 pub mod Installs
 pub mod NearestLists
 pub mod NilLists
+pub mod Promotes
+pub mod Resumes
 pub mod ScopeLists
+pub mod ScopeWords
 pub mod Throws

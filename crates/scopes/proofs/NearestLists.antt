@@ -5,18 +5,17 @@ use native.Mathlib.Omega.{arith}
 use mathlib.Core.Path.{_≡_, refl, sym, ap, subst}
 use mathlib.Core.Bool.{Bool, true, false, not, _&&_, _||_, cond}
 use mathlib.Core.Option.{Option, none, some}
-use mathlib.Core.List.{List, [], _∷_, _++_}
+use mathlib.Core.List.{List, [], _∷_}
 use borrow.Author.Tests.{le-leb, eqb-true}
 use lib.Dec.{T, eqb, leb}
-use lib.ListN.{length, length-append}
+use lib.ListN.{length}
 use Rattle.sock.specs.Words.{scopeKey}
-use Rattle.sock.specs.Term.{Node, Entries, noEntries, entry, isNil}
-use Rattle.sock.specs.Layout.{words, entriesWords, depth, entriesDepth}
+use Rattle.sock.specs.Term.{Node, Entries, noEntries, isNil}
+use Rattle.sock.specs.Layout.{entriesDepth}
 use Rattle.sock.specs.Reading.{holds, entryFits}
 use Rattle.sock.specs.Running.{Run, seq, par, scope, executor, runDepth}
 use Rattle.sock.specs.Handlers.{handler, without, update}
 use Rattle.sock.specs.Frames.{Frame, seqFrame, leftFrame, rightFrame, scopeFrame, executorFrame, Located, isDone, seqOf, parOf, plug, nearest, onNearest}
-use Rattle.sock.proofs.Logic.{cond-case}
 use Rattle.sock.proofs.Fits.{FitsEntries, emptyFits, entryFitsOn, seqFrameSound, leftFrameSound, rightFrameSound, scopeFrameSound, executorFrameSound, SoundFrames, noFrames, oneFrame}
 use Rattle.sock.proofs.Handlers.{without-fits, holds-without, update-fits, holds-update}
 use Rattle.sock.proofs.Frames.{Keeps}
@@ -136,21 +135,6 @@ without-keeps q =
 
 pub update-keeps : {least : ℕ} {l : Entries} → FitsEntries false least l → Keeps (λ h. update h l)
 update-keeps {l = l} g = record { fits = λ h k. update-fits h k g; faults = λ f h b t. holds-update f h l b t }
-
-pub without-shallow : (k : ℕ) (h : Entries) → entriesDepth (without k h) ≤ entriesDepth h
-unfolding without depth
-without-shallow k noEntries = omega arith
-without-shallow k (entry j p es) =
-    cond-case (λ (x : Entries). entriesDepth x ≤ max (depth p) (entriesDepth es)) (eqb k j) (λ t. omega arith)
-    (λ t. let r = without-shallow k es in omega arith)
-
-pub without-short : (k : ℕ) (h : Entries) → length (entriesWords (without k h)) ≤ length (entriesWords h)
-unfolding without words
-without-short k noEntries = omega arith
-without-short k (entry j p es) =
-    let a = length-append (words p) (entriesWords es) in
-    cond-case (λ (x : Entries). length (entriesWords x) ≤ suc (length (words p ++ entriesWords es))) (eqb k j) (λ t. omega arith)
-    (λ t. let r = without-short k es in let b = length-append (words p) (entriesWords (without k es)) in omega arith)
 
 -- no nil under a scope's key
 not-nil : (k : ℕ) (b : Bool) → 64 ≤ k → T (not (leb 64 k && b)) → b ≡ false

@@ -86,6 +86,9 @@ module _ (f target : ℕ) (r : Run) (start : ℕ) (l : Located) (s : Spot) (ws :
         ),
       )
 
+  pub process-begins : start ≤ target
+  process-begins = standing .0
+
   pub process-inside : target + size (l .process) ≤ start + size r
   process-inside = standing .1
 
