@@ -16,9 +16,10 @@ use Rattle.scopes.specs.Ending.{clearedW, keyAtW, takeBehindW, takenTo, 
 
 module _ (bound : ℕ) (ws : List ℕ) where
   pub resumed-made :
-      (start at key : ℕ) (fresh : List ℕ) (w h : ℕ) (o1 o2 : List ℕ) (l : ℕ) (t : Taken) (o3 : List ℕ) (to g : ℕ) (o4 : List ℕ) (m end : ℕ) →
-      w ≡ getD ws at 0 → h ≡ clearedW w → o1 ≡ set fresh 0 h → o2 ≡ set o1 1 0 → l ≡ onward at 2 → t ≡ takeBehindW bound ws l key o2 .answer →
-      o3 ≡ takeBehindW bound ws l key o2 .out → to ≡ onward 2 (t .to) → g ≡ takenTo ws t to → o4 ≡ takenW ws t o3 to →
+      (start at key : ℕ) (fresh : List ℕ) (w h : ℕ) (o1 o2 : List ℕ) (l : ℕ) (t : Taken) (o3 : List ℕ) (to g : ℕ) (o4 : List ℕ)
+      (m end : ℕ) →
+      w ≡ getD ws at 0 → h ≡ clearedW w → o1 ≡ set fresh 0 h → o2 ≡ set o1 1 0 → l ≡ onward at 2 →
+      t ≡ takeBehindW bound ws l key o2 .answer → o3 ≡ takeBehindW bound ws l key o2 .out → to ≡ onward 2 (t .to) → g ≡ takenTo ws t to → o4 ≡ takenW ws t o3 to →
       m ≡ listEnd (processEnd 64 ws bound) ws 0 128 l → end ≡ onward m 1 →
       resumedW bound ws start at key fresh
       ≡ planned (record { number = 0; l = start; m = start; f = 0; a = at; b = end; g = g; c = end; d = end; x = 32; v = 0 }) o4
@@ -35,7 +36,8 @@ module _ (bound : ℕ) (ws : List ℕ) where
   ending-made s key fresh i l f t o1 o2 ei et e1 el ef e2 = rw (ef, e2, et, e1, ei, el)
 
   -- by its head and what is around it
-  module _ (start : ℕ) (s : Spot) (fresh : List ℕ) (w h key : ℕ) (ew : w ≡ getD ws (s .at) 0) (eh : h ≡ w) (ek : key ≡ keyAtW ws (s .at)) where
+  module _ (start : ℕ) (s : Spot) (fresh : List ℕ) (w h key : ℕ) (ew : w ≡ getD ws (s .at) 0) (eh : h ≡ w)
+      (ek : key ≡ keyAtW ws (s .at)) where
     pub ended-marked : 0 < h / 8 % 4 → resumedW bound ws start (s .at) key fresh ≡ endedW bound ws start s fresh
     unfolding endedW
     ended-marked a = rw (← ew, ← eh, ← ek, lt-ltb 0 (h / 8 % 4) a)

@@ -67,7 +67,8 @@ module _ (ws : List ℕ) (k : ℕ) (h : Entries) (lent : List ℕ) (t : Took) (t
       by true e =
           let s : Stands ws (t .answer .from) (t .answer .upto) (handler k h) = taking .present e in
           let d : drop (t .answer .from) ws ≡ words (handler k h) ++ s .0 = s .1 .0 in
-          let n : length ws - t .answer .from ≡ length (words (handler k h) ++ s .0) = sym (length-drop (t .answer .from) ws) ∙ ap length d in
+          let n : length ws - t .answer .from ≡ length (words (handler k h) ++ s .0) =
+          sym (length-drop (t .answer .from) ws) ∙ ap length d in
           let some = node-some (handler k h) in
           let low : t .answer .from ≤ length ws = omega (arith, length-append (words (handler k h)) (s .0)) in
           rw (ne-eqb (t .answer .upto) 0 (λ z. omega (arith, s .1 .1))) (
@@ -122,8 +123,8 @@ module _ (f target : ℕ) (r : Run) (start : ℕ) (l : Located) (s : Spot) (ws :
   taking =
       let a = own-list f target r start l s ws words-at spotted near frames deep name mark zombie h is in
       let d = its-place f target r start l s ws words-at spotted near frames deep name mark zombie h is in
-      takes ws near bound 64 (λ d i x rest g b e. code-end ws ok n issued few small g d i b rest e) k fit (omega arith) (target + 2) (a .0) (a .1)
-      (drop 2 marked)
+      takes ws near bound 64 (λ d i x rest g b e. code-end ws ok n issued few small g d i b rest e) k fit (omega arith)
+      (target + 2) (a .0) (a .1) (drop 2 marked)
 
   abbrev made : List ℕ
   made = take 2 marked ++ t .out
