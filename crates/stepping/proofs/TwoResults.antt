@@ -68,3 +68,131 @@ module _ (es : List Engine) (e i : ℕ) (low : e < i) (high : i < length es) whe
     where
       regrouped : (a b c d : List ℕ) → (a ++ (b ++ c)) ++ d ≡ a ++ (b ++ (c ++ d))
       regrouped a b c d = simp append-assoc
+
+-- ---- the result
+
+module _ (c : Config) (fits : FitsConfig c) (e i : ℕ) (low : e < i) (high : i < length (c .engines)) (ws : List ℕ) (same : encode c ≡ ws) where
+  abbrev es : List Engine
+  es = c .engines
+
+  abbrev s1 : ℕ
+  s1 = startOf c e
+
+  abbrev r1 : Run
+  r1 = engineAt c e .process
+
+  abbrev v1 : List ℕ
+  v1 = engineAt c e .values
+
+  abbrev e1 : ℕ
+  e1 = s1 + size r1
+
+  abbrev s2 : ℕ
+  s2 = startOf c i
+
+  abbrev r2 : Run
+  r2 = engineAt c i .process
+
+  abbrev v2 : List ℕ
+  v2 = engineAt c i .values
+
+  abbrev e2 : ℕ
+  e2 = s2 + size r2
+
+  abbrev mid : List ℕ
+  mid = amid es e i low high
+
+  inside : e < length es
+  inside = omega arith
+
+  many1 : length v1 ≡ 32
+  many1 = engine-fits _ (fits .engines) e inside .counted
+
+  many2 : length v2 ≡ 32
+  many2 = engine-fits _ (fits .engines) i high .counted
+
+  -- the words before the second process are those of the first and what lies between
+  before-second : wordsBefore c i ≡ (wordsBefore c e ++ runWords r1) ++ (mid ++ valuesWords v2)
+  unfolding engineWords
+  before-second =
+      ap (λ l. length es ∷ c .issued ∷ (l ++ valuesWords v2)) (front-split es e i low high _)
+      ∙ ap (λ l. length es ∷ c .issued ∷ l) (regrouped (enginesWords (take e es)) (valuesWords v1) (runWords r1) mid (valuesWords v2))
+    where
+      regrouped : (a b x d f : List ℕ) → (a ++ ((b ++ x) ++ d)) ++ f ≡ ((a ++ b) ++ x) ++ (d ++ f)
+      regrouped a b x d f = simp append-assoc
+
+  first-length : length (wordsBefore c e ++ runWords r1) ≡ e1
+  unfolding size
+  first-length = length-append (wordsBefore c e) (runWords r1) ∙ ap (λ k. k + length (runWords r1)) (before-length c e inside fits)
+
+  second-start : s2 ≡ e1 + length (mid ++ valuesWords v2)
+  second-start =
+      sym (before-length c i high fits)
+      ∙ (ap length before-second ∙ (length-append (wordsBefore c e ++ runWords r1) (mid ++ valuesWords v2) ∙ ap (λ k. k + length (mid ++ valuesWords v2)) first-length))
+
+  between-stands : part e1 s2 ws ≡ mid ++ valuesWords v2
+  between-stands =
+      let k : s2 - e1 ≡ length (mid ++ valuesWords v2) = omega (arith, second-start) in
+      let split : ws ≡ (wordsBefore c e ++ runWords r1) ++ ((mid ++ valuesWords v2) ++ (runWords r2 ++ wordsAfter c i)) =
+      one-split c fits i high ws same
+      ∙ (ap (λ l. l ++ (runWords r2 ++ wordsAfter c i)) before-second ∙ append-assoc (wordsBefore c e ++ runWords r1) (mid ++ valuesWords v2) (runWords r2 ++ wordsAfter c i)) in
+      ap₂ (λ (m : ℕ) (l : List ℕ). take m (drop e1 l)) k split
+      ∙ (ap (take (length (mid ++ valuesWords v2))) (drop-at (wordsBefore c e ++ runWords r1) ((mid ++ valuesWords v2) ++ (runWords r2 ++ wordsAfter c i)) e1 first-length)
+      ∙ take-at (mid ++ valuesWords v2) (runWords r2 ++ wordsAfter c i) (length (mid ++ valuesWords v2)) refl)
+
+  module _ (p1 : Plan) (f1 : List ℕ) (q1 : Run) (plans1 : Plans ws s1 e1 p1 f1 q1) (p2 : Plan) (f2 : List ℕ) (q2 : Run) (plans2 : Plans ws s2 e2 p2 f2 q2) (issued : ℕ) where
+    abbrev w1 : List ℕ
+    w1 = valued v1 (p1 .x) (p1 .v)
+
+    abbrev w2 : List ℕ
+    w2 = valued v2 (p2 .x) (p2 .v)
+
+    abbrev pub next : Config
+    next = record { issued = issued; engines = withEngine i w2 q2 (withEngine e w1 q1 es) }
+
+    -- the words behind the first two
+    abbrev body : List ℕ
+    body = (((enginesWords (take e es) ++ valuesWords w1) ++ runWords q1) ++ ((mid ++ valuesWords w2) ++ runWords q2)) ++ wordsAfter c i
+
+    next-words : encode next ≡ length es ∷ issued ∷ body
+    unfolding encode engineWords
+    next-words =
+        ap₂ (λ (n : ℕ) (l : List ℕ). n ∷ issued ∷ l) (length-set (set es e _) i _ ∙ length-set es e _) (two-set es e i low high _ _)
+        ∙ ap (λ l. length es ∷ issued ∷ l) (regrouped (enginesWords (take e es)) (valuesWords w1) (runWords q1) mid (valuesWords w2) (runWords q2) (wordsAfter c i))
+      where
+        regrouped : (a b x d f g h : List ℕ) → a ++ ((b ++ x) ++ (d ++ ((f ++ g) ++ h))) ≡ (((a ++ b) ++ x) ++ ((d ++ f) ++ g)) ++ h
+        regrouped a b x d f g h = simp append-assoc
+
+    value-words : (vs : List ℕ) (x v : ℕ) → length vs ≡ 32 → length (valuesWords (valued vs x v)) ≡ 64
+    value-words vs x v m = omega (arith, values-length (valued vs x v), valued-length vs x v)
+
+    same-words : (vs : List ℕ) → length vs ≡ 32 → length (valuesWords vs) ≡ 64
+    same-words vs m = omega (arith, values-length vs)
+
+    next-length : length (encode next) + (size r1 + size r2) ≡ length ws + (size q1 + size q2)
+    unfolding size
+    next-length =
+        let a = ap length next-words in
+        let b = length-append (((enginesWords (take e es) ++ valuesWords w1) ++ runWords q1) ++ ((mid ++ valuesWords w2) ++ runWords q2)) (wordsAfter c i) in
+        let d = length-append ((enginesWords (take e es) ++ valuesWords w1) ++ runWords q1) ((mid ++ valuesWords w2) ++ runWords q2) in
+        let f = length-append (enginesWords (take e es) ++ valuesWords w1) (runWords q1) in
+        let g = length-append (enginesWords (take e es)) (valuesWords w1) in
+        let j = length-append (mid ++ valuesWords w2) (runWords q2) in
+        let k = length-append mid (valuesWords w2) in
+        let l = length-append mid (valuesWords v2) in
+        let m1 = value-words v1 (p1 .x) (p1 .v) many1 in
+        let m2 = value-words v2 (p2 .x) (p2 .v) many2 in
+        let m3 = same-words v2 many2 in
+        omega (arith, second-start, one-length c fits i high ws same)
+
+    pub two-sized : length ws ≤ 8192 → p1 .g ≤ 8192 → p2 .g ≤ 8192 → sizedW (sizedW (length ws) p1) p2 ≡ length (encode next)
+    two-sized short few1 few2 =
+        let fit1 : size r1 ≤ length ws = omega (arith, one-length c fits e inside ws same) in
+        let d1 : e1 - s1 ≡ size r1 = omega arith in
+        let d2 : e2 - s2 ≡ size r2 = omega arith in
+        let q1-small : size q1 ≤ size r1 + p1 .g = omega (arith, plans1 .sized) in
+        let one : sizedW (length ws) p1 + (e1 - s1) ≡ length ws + size q1 = plan-sized ws s1 e1 p1 f1 q1 plans1 (length ws) (omega arith) (omega arith) few1 in
+        let both : size r1 + size r2 ≤ length ws = omega (arith, second-start, one-length c fits i high ws same) in
+        let two : sizedW (sizedW (length ws) p1) p2 + (e2 - s2) ≡ sizedW (length ws) p1 + size q2 =
+        plan-sized ws s2 e2 p2 f2 q2 plans2 (sizedW (length ws) p1) (omega arith) (omega arith) few2 in
+        omega (arith, next-length)
