@@ -196,3 +196,49 @@ module _ (c : Config) (fits : FitsConfig c) (e i : ℕ) (low : e < i) (high : i 
         let two : sizedW (sizedW (length ws) p1) p2 + (e2 - s2) ≡ sizedW (length ws) p1 + size q2 =
         plan-sized ws s2 e2 p2 f2 q2 plans2 (sizedW (length ws) p1) (omega arith) (omega arith) few2 in
         omega (arith, next-length)
+
+    abbrev front : List ℕ
+    front = ((length es ∷ c .issued ∷ enginesWords (take e es)) ++ valuesWords w1) ++ runWords q1
+
+    abbrev behind : List ℕ
+    behind = (mid ++ valuesWords w2) ++ runWords q2
+
+    -- and what is written
+    pub two-written :
+        8192 ≤ length f1 → 8192 ≤ length f2 → (out : List ℕ) → Near (length out) → length (encode next) ≤ 8192 → length (encode next) ≤ length out →
+        writeTwoW ws s1 e1 p1 f1 s2 e2 p2 f2 issued out ≡ over (encode next) out
+    unfolding writeTwoW size
+    two-written wide1 wide2 out near few room =
+        let g1 : p1 .g ≤ 8192 = omega (arith, fresh-few ws s1 e1 p1 f1 q1 plans1, next-length, one-length c fits i high ws same, second-start) in
+        let g2 : p2 .g ≤ 8192 = omega (arith, fresh-few ws s2 e2 p2 f2 q2 plans2, next-length, one-length c fits i high ws same, second-start) in
+        let all : ((front ++ behind) ++ wordsAfter c i) ≡ length es ∷ c .issued ∷ body = refl in
+        let long : length ((front ++ behind) ++ wordsAfter c i) ≡ length (encode next) = sym (ap length next-words) in
+        let a1 = length-append (front ++ behind) (wordsAfter c i) in
+        let a2 = length-append front behind in
+        let a3 = length-append (mid ++ valuesWords w2) (runWords q2) in
+        let a4 = length-append mid (valuesWords w2) in
+        let a5 = length-append mid (valuesWords v2) in
+        let a6 = length-append ((length es ∷ c .issued ∷ enginesWords (take e es)) ++ valuesWords w1) (runWords q1) in
+        let a7 = length-append (length es ∷ c .issued ∷ enginesWords (take e es)) (valuesWords w1) in
+        let a8 = length-append (length es ∷ c .issued ∷ enginesWords (take e es)) (valuesWords v1) in
+        let m1 = value-words v1 (p1 .x) (p1 .v) many1 in
+        let m2 = value-words v2 (p2 .x) (p2 .v) many2 in
+        let m3 = same-words v2 many2 in
+        let m4 = same-words v1 many1 in
+        let within1 : e1 ≤ length ws = omega (arith, one-length c fits e inside ws same) in
+        let within2 : e2 ≤ length ws = omega (arith, one-length c fits i high ws same) in
+        let first : Wrote out 0 front (engineW ws 0 s1 e1 p1 f1 out 0) =
+        engine-wrote ws 0 s1 e1 p1 f1 q1 plans1 within1 (omega arith) g1 wide1 (length es ∷ c .issued ∷ enginesWords (take e es)) v1 many1
+        (part-first s1 ws ∙ one-front c fits e inside ws same) out 0 (omega arith) near in
+        let kept : length (engineW ws 0 s1 e1 p1 f1 out 0 .out) ≡ length out = over-length (first .over) (omega arith) in
+        let second : Wrote (engineW ws 0 s1 e1 p1 f1 out 0 .out) (engineW ws 0 s1 e1 p1 f1 out 0 .to) behind
+        (engineW ws e1 s2 e2 p2 f2 (engineW ws 0 s1 e1 p1 f1 out 0 .out) (engineW ws 0 s1 e1 p1 f1 out 0 .to)) =
+        engine-wrote ws e1 s2 e2 p2 f2 q2 plans2 within2 (omega (arith, second-start)) g2 wide2 mid v2 many2 between-stands
+        (engineW ws 0 s1 e1 p1 f1 out 0 .out) (engineW ws 0 s1 e1 p1 f1 out 0 .to) (omega (arith, kept, first .reaches)) (rw kept near) in
+        let both = wrote-then (omega arith) first second in
+        let tail : part e2 (length ws) ws ≡ wordsAfter c i = take-all (length ws - e2) (drop e2 ws) (omega (arith, length-drop e2 ws)) ∙ one-behind c fits i high ws same in
+        let fit : 0 + length ((front ++ behind) ++ part e2 (length ws) ws) ≤ length out = rw tail (omega arith) in
+        let last = wrote-copy ws e2 (length ws) within2 (omega arith) fit near both in
+        let out′ = last .over .all ∙ ap₂ (λ (x : List ℕ) (n : ℕ). ((front ++ behind) ++ x) ++ drop n out) tail
+        (ap (λ x. 0 + length ((front ++ behind) ++ x)) tail ∙ (let z : 0 + length ((front ++ behind) ++ wordsAfter c i) ≡ length (encode next) = omega arith in z)) in
+        ap (λ l. set l 1 issued) out′ ∙ ap (λ l. l ++ drop (length (encode next)) out) (sym next-words)
