@@ -81,10 +81,11 @@ wrote-none out to =
 
 pub wrote-copy :
     {out : List ℕ} {to : ℕ} {new : List ℕ} {w : Written} (src : List ℕ) (from upto : ℕ) →
-    from ≤ upto → upto ≤ length src → to + length (new ++ part from upto src) ≤ length out → Near (length out) →
+    from ≤ upto → upto ≤ length src → to + length (new ++ part from upto src) ≤ length out →
+    (most : ℕ) → Near most → to + length (new ++ part from upto src) ≤ most →
     Wrote out to new w → Wrote out to (new ++ part from upto src) (copyW src from upto w)
 unfolding copyW pasted pastedEnd
-wrote-copy {out} {to} {new} {w} src from upto a b room near v =
+wrote-copy {out} {to} {new} {w} src from upto a b room most near under v =
     let n : length (part from upto src) ≡ upto - from = part-length from upto src a b in
     let l : length (new ++ part from upto src) ≡ length new + length (part from upto src) = length-append new (part from upto src) in
     let k : length (w .out) ≡ length out = over-length (v .over) (omega arith) in
@@ -92,7 +93,7 @@ wrote-copy {out} {to} {new} {w} src from upto a b room near v =
     let z : to + length new + (upto - from) ≡ to + length new + length (part from upto src) = omega arith in
     rw (le-ltb (length src) upto (omega arith), le-ltb upto from (omega arith), le-ltb (length (w .out)) (w .to) (omega arith), le-ltb (length (w .out) - w .to) (upto - from) (omega arith), r)
     (record {
-      reaches = onward-near (to + length new) (upto - from) (length out) near (omega arith) ∙ (let y : to + length new + (upto - from) ≡ to + length (new ++ part from upto src) = omega arith in y);
+      reaches = onward-near (to + length new) (upto - from) most near (omega arith) ∙ (let y : to + length new + (upto - from) ≡ to + length (new ++ part from upto src) = omega arith in y);
       over =
           over-then (v .over) (omega arith) (omega arith)
           (record { all = ap (λ m. (take (to + length new) (w .out) ++ part from upto src) ++ drop m (w .out)) z });

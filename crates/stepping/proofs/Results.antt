@@ -187,20 +187,21 @@ module _ (c : Config) (fits : FitsConfig c) (e : ℕ) (h : e < length (c .engine
 
     -- and what is written
     pub next-written :
-        8192 ≤ length fresh → (out : List ℕ) → Near (length out) → length (encode next) ≤ 8192 → length (encode next) ≤ length out →
+        8192 ≤ length fresh → (out : List ℕ) → length (encode next) ≤ 8192 → length (encode next) ≤ length out →
         writeOneW ws start end p fresh out .out ≡ over (encode next) out
     unfolding writeOneW size
-    next-written wide out near few room =
+    next-written wide out few room =
+        let near : Near 8192 = near-of 8192 (lit< tt) in
         let g : p .g ≤ 8192 = omega (arith, fresh-few ws start end p fresh q plans, next-length) in
         let first : part 0 start ws ≡ pre ++ valuesWords values = part-first start ws ∙ one-front in
         let l = length-append pre (valuesWords values) in
         let m : length (valuesWords values) ≡ 64 = omega (arith, values-length values, many) in
         let w : Wrote out 0 ((pre ++ valuesWords (valued values (p .x) (p .v))) ++ runWords q) (engineW ws 0 start end p fresh out 0) =
-        engine-wrote ws 0 start end p fresh q plans (omega (arith, one-length)) (omega arith) g wide pre values many first out 0 (omega (arith, next-length)) near in
+        engine-wrote ws 0 start end p fresh q plans (omega (arith, one-length)) (omega arith) g wide pre values many first out 0 (omega (arith, next-length)) 8192 near (omega (arith, next-length)) in
         let tail : part end (length ws) ws ≡ wordsAfter c e = take-all (length ws - end) (drop end ws) (omega (arith, length-drop end ws)) ∙ one-behind in
         let whole : ((pre ++ valuesWords (valued values (p .x) (p .v))) ++ runWords q) ++ part end (length ws) ws ≡ encode next =
         ap (λ l. ((pre ++ valuesWords (valued values (p .x) (p .v))) ++ runWords q) ++ l) tail ∙ sym next-words in
         let fit : 0 + length (((pre ++ valuesWords (valued values (p .x) (p .v))) ++ runWords q) ++ part end (length ws) ws) ≤ length out = omega (arith, ap length whole) in
-        let all = wrote-copy ws end (length ws) (omega (arith, one-length)) (omega arith) fit near w in
+        let all = wrote-copy ws end (length ws) (omega (arith, one-length)) (omega arith) fit 8192 near (omega (arith, ap length whole)) w in
         all .over .all
         ∙ ap₂ (λ (x : List ℕ) (n : ℕ). x ++ drop n out) whole (ap (λ l. 0 + length l) whole ∙ (let z : 0 + length (encode next) ≡ length (encode next) = omega arith in z))

@@ -5,7 +5,7 @@ use native.Mathlib.Omega.{arith}
 use mathlib.Core.Path.{_≡_, refl, sym, ap, ap₂, _∙_}
 use mathlib.Core.Bool.{Bool, true, false, cond}
 use mathlib.Core.List.{List, [], _∷_, _++_, append-nil, append-assoc}
-use lib.Dec.{leb, ltb, eqb}
+use lib.Dec.{leb, ltb, eqb, lit<}
 use lib.ListN.{length, getD, take, drop, set, length-append, length-drop, length-set}
 use lib.Seq.{take-at, drop-at, take-all, take-take, length-take-le, take-set-lt, drop-set-lt, getD-take}
 use Rattle.sock.specs.Running.{Run, runWords, size}
@@ -13,7 +13,7 @@ use Rattle.sock.specs.Configuration.{Engine, Config, valuesWords, engineWords, 
 use Rattle.sock.specs.Calls.{engineAt, withEngine, over}
 use Rattle.sock.proofs.Fits.{FitsConfig, FitsEngine}
 use Rattle.sock.proofs.Located.{values-length, engines-split, engine-fits, startOf, wordsBefore, wordsAfter, encode-split, before-length}
-use Rattle.moving.proofs.Laid.{Near}
+use Rattle.moving.proofs.Laid.{Near, near-of}
 use Rattle.finding.proofs.Edits.{part}
 use Rattle.rules.specs.declared.plan.Plan.{Plan}
 use Rattle.rules.proofs.Plans.{Plans, part-first}
@@ -205,10 +205,11 @@ module _ (c : Config) (fits : FitsConfig c) (e i : ℕ) (low : e < i) (high : i 
 
     -- and what is written
     pub two-written :
-        8192 ≤ length f1 → 8192 ≤ length f2 → (out : List ℕ) → Near (length out) → length (encode next) ≤ 8192 → length (encode next) ≤ length out →
+        8192 ≤ length f1 → 8192 ≤ length f2 → (out : List ℕ) → length (encode next) ≤ 8192 → length (encode next) ≤ length out →
         writeTwoW ws s1 e1 p1 f1 s2 e2 p2 f2 issued out ≡ over (encode next) out
     unfolding writeTwoW size
-    two-written wide1 wide2 out near few room =
+    two-written wide1 wide2 out few room =
+        let near : Near 8192 = near-of 8192 (lit< tt) in
         let g1 : p1 .g ≤ 8192 = omega (arith, fresh-few ws s1 e1 p1 f1 q1 plans1, next-length, one-length c fits i high ws same, second-start) in
         let g2 : p2 .g ≤ 8192 = omega (arith, fresh-few ws s2 e2 p2 f2 q2 plans2, next-length, one-length c fits i high ws same, second-start) in
         let all : ((front ++ behind) ++ wordsAfter c i) ≡ length es ∷ c .issued ∷ body = refl in
@@ -229,16 +230,16 @@ module _ (c : Config) (fits : FitsConfig c) (e i : ℕ) (low : e < i) (high : i 
         let within2 : e2 ≤ length ws = omega (arith, one-length c fits i high ws same) in
         let first : Wrote out 0 front (engineW ws 0 s1 e1 p1 f1 out 0) =
         engine-wrote ws 0 s1 e1 p1 f1 q1 plans1 within1 (omega arith) g1 wide1 (length es ∷ c .issued ∷ enginesWords (take e es)) v1 many1
-        (part-first s1 ws ∙ one-front c fits e inside ws same) out 0 (omega arith) near in
+        (part-first s1 ws ∙ one-front c fits e inside ws same) out 0 (omega arith) 8192 near (omega arith) in
         let kept : length (engineW ws 0 s1 e1 p1 f1 out 0 .out) ≡ length out = over-length (first .over) (omega arith) in
         let second : Wrote (engineW ws 0 s1 e1 p1 f1 out 0 .out) (engineW ws 0 s1 e1 p1 f1 out 0 .to) behind
         (engineW ws e1 s2 e2 p2 f2 (engineW ws 0 s1 e1 p1 f1 out 0 .out) (engineW ws 0 s1 e1 p1 f1 out 0 .to)) =
         engine-wrote ws e1 s2 e2 p2 f2 q2 plans2 within2 (omega (arith, second-start)) g2 wide2 mid v2 many2 between-stands
-        (engineW ws 0 s1 e1 p1 f1 out 0 .out) (engineW ws 0 s1 e1 p1 f1 out 0 .to) (omega (arith, kept, first .reaches)) (rw kept near) in
+        (engineW ws 0 s1 e1 p1 f1 out 0 .out) (engineW ws 0 s1 e1 p1 f1 out 0 .to) (omega (arith, kept, first .reaches)) 8192 near (omega (arith, first .reaches)) in
         let both = wrote-then (omega arith) first second in
         let tail : part e2 (length ws) ws ≡ wordsAfter c i = take-all (length ws - e2) (drop e2 ws) (omega (arith, length-drop e2 ws)) ∙ one-behind c fits i high ws same in
         let fit : 0 + length ((front ++ behind) ++ part e2 (length ws) ws) ≤ length out = rw tail (omega arith) in
-        let last = wrote-copy ws e2 (length ws) within2 (omega arith) fit near both in
+        let last = wrote-copy ws e2 (length ws) within2 (omega arith) fit 8192 near (rw tail (omega arith)) both in
         let out′ = last .over .all ∙ ap₂ (λ (x : List ℕ) (n : ℕ). ((front ++ behind) ++ x) ++ drop n out) tail
         (ap (λ x. 0 + length ((front ++ behind) ++ x)) tail ∙ (let z : 0 + length ((front ++ behind) ++ wordsAfter c i) ≡ length (encode next) = omega arith in z)) in
         ap (λ l. set l 1 issued) out′ ∙ ap (λ l. l ++ drop (length (encode next)) out) (sym next-words)

@@ -31,7 +31,7 @@ zero-room a b whole n e h = let k = front-room a b whole n e h in omega arith
 -- ---- a process under a plan
 
 module _ (ws : List ℕ) (start end : ℕ) (p : Plan) (fresh : List ℕ) (q : Run) (plans : Plans ws start end p fresh q) (inside : end ≤ length ws)
-    (few : p .g ≤ 8192) (wide : 8192 ≤ length fresh) (out : List ℕ) (room : size q ≤ length out) (near : Near (length out)) where
+    (few : p .g ≤ 8192) (wide : 8192 ≤ length fresh) (out : List ℕ) (room : size q ≤ length out) (most : ℕ) (near : Near most) (under : size q ≤ most) where
   abbrev x1 : List ℕ
   x1 = part start (p .l) ws
 
@@ -62,6 +62,10 @@ module _ (ws : List ℕ) (start end : ℕ) (p : Plan) (fresh : List ℕ) (q : Ru
   unfolding size
   fits = room
 
+  low : length (runWords q) ≤ most
+  unfolding size
+  low = under
+
   o : Ordered start end p
   o = plans .order
 
@@ -74,21 +78,27 @@ module _ (ws : List ℕ) (start end : ℕ) (p : Plan) (fresh : List ℕ) (q : Ru
       let r3 = front-room ((x1 ++ x2) ++ x3) x4 _ (length out) refl r4 in
       let r2 = front-room (x1 ++ x2) x3 _ (length out) refl r3 in
       let r1 = front-room x1 x2 _ (length out) refl r2 in
+      let u6 : length (((((x1 ++ x2) ++ x3) ++ x4) ++ x5) ++ x6) ≤ most = rw all-words low in
+      let u5 = front-room ((((x1 ++ x2) ++ x3) ++ x4) ++ x5) x6 _ most refl u6 in
+      let u4 = front-room (((x1 ++ x2) ++ x3) ++ x4) x5 _ most refl u5 in
+      let u3 = front-room ((x1 ++ x2) ++ x3) x4 _ most refl u4 in
+      let u2 = front-room (x1 ++ x2) x3 _ most refl u3 in
+      let u1 = front-room x1 x2 _ most refl u2 in
       let l1 : p .l ≤ length ws = omega (arith, o .m-in, o .a-in, o .b-in, o .c-in, o .d-in, o .end-in) in
       let l3 : p .a ≤ length ws = omega (arith, o .b-in, o .c-in, o .d-in, o .end-in) in
       let l5 : p .c ≤ length ws = omega (arith, o .d-in, o .end-in) in
-      let w1 = wrote-copy ws start (p .l) (o .l-in) l1 (omega arith) near (wrote-none out 0) in
-      let w2 = wrote-copy fresh 0 (p .f) (omega arith) (omega (arith, o .fresh-in)) (omega arith) near w1 in
-      let w3 = wrote-copy ws (p .m) (p .a) (o .a-in) l3 (omega arith) near w2 in
-      let w4 = wrote-copy fresh (p .f) (p .g) (o .fresh-in) (omega arith) (omega arith) near w3 in
-      let w5 = wrote-copy ws (p .b) (p .c) (o .c-in) l5 (omega arith) near w4 in
-      let w6 = wrote-copy ws (p .d) end (o .end-in) inside (omega arith) near w5 in
+      let w1 = wrote-copy ws start (p .l) (o .l-in) l1 (omega arith) most near (omega arith) (wrote-none out 0) in
+      let w2 = wrote-copy fresh 0 (p .f) (omega arith) (omega (arith, o .fresh-in)) (omega arith) most near (omega arith) w1 in
+      let w3 = wrote-copy ws (p .m) (p .a) (o .a-in) l3 (omega arith) most near (omega arith) w2 in
+      let w4 = wrote-copy fresh (p .f) (p .g) (o .fresh-in) (omega arith) (omega arith) most near (omega arith) w3 in
+      let w5 = wrote-copy ws (p .b) (p .c) (o .c-in) l5 (omega arith) most near (omega arith) w4 in
+      let w6 = wrote-copy ws (p .d) end (o .end-in) inside (omega arith) most near (omega arith) w5 in
       rw all-words at w6
 
 -- ---- lent a part of the output
 
 module _ (ws : List ℕ) (start end : ℕ) (p : Plan) (fresh : List ℕ) (q : Run) (plans : Plans ws start end p fresh q) (inside : end ≤ length ws)
-    (few : p .g ≤ 8192) (wide : 8192 ≤ length fresh) (out : List ℕ) (t : ℕ) (room : t + size q ≤ length out) (near : Near (length out)) where
+    (few : p .g ≤ 8192) (wide : 8192 ≤ length fresh) (out : List ℕ) (t : ℕ) (room : t + size q ≤ length out) (most : ℕ) (near : Near most) (under : t + size q ≤ most) where
   rest-length : length (drop t out) ≡ length out - t
   rest-length = length-drop t out
 
@@ -102,10 +112,10 @@ module _ (ws : List ℕ) (start end : ℕ) (p : Plan) (fresh : List ℕ) (q : Ru
   unfolding lentW size
   lent-wrote =
       let w : Wrote (drop t out) 0 (runWords q) (processW ws start end p fresh (drop t out)) =
-      process-wrote ws start end p fresh q plans inside few wide (drop t out) (omega (arith, rest-length)) (near-below (length (drop t out)) (length out) near (omega (arith, rest-length))) in
+      process-wrote ws start end p fresh q plans inside few wide (drop t out) (omega (arith, rest-length)) most near (omega arith) in
       let n : length (runWords q) ≡ size q = refl in
       let to : onward t (processW ws start end p fresh (drop t out) .to) ≡ t + length (runWords q) =
-      ap (onward t) (w .reaches ∙ (let z : 0 + length (runWords q) ≡ length (runWords q) = omega arith in z)) ∙ onward-near t (length (runWords q)) (length out) near (omega arith) in
+      ap (onward t) (w .reaches ∙ (let z : 0 + length (runWords q) ≡ length (runWords q) = omega arith in z)) ∙ onward-near t (length (runWords q)) most near (omega arith) in
       let last : processW ws start end p fresh (drop t out) .out ++ [] ≡ runWords q ++ drop (t + length (runWords q)) out =
       append-nil (processW ws start end p fresh (drop t out) .out)
       ∙ (w .over .all
@@ -175,7 +185,8 @@ module _ {out : List ℕ} {to : ℕ} (pre vs : List ℕ) {last : List ℕ} (o : 
 
 module _ (ws : List ℕ) (from start end : ℕ) (p : Plan) (fresh : List ℕ) (q : Run) (plans : Plans ws start end p fresh q) (inside : end ≤ length ws) (before : from ≤ start)
     (few : p .g ≤ 8192) (wide : 8192 ≤ length fresh) (pre vs : List ℕ) (many : length vs ≡ 32) (stands : part from start ws ≡ pre ++ valuesWords vs)
-    (out : List ℕ) (to : ℕ) (room : to + (length (pre ++ valuesWords vs) + size q) ≤ length out) (near : Near (length out)) where
+    (out : List ℕ) (to : ℕ) (room : to + (length (pre ++ valuesWords vs) + size q) ≤ length out) (most : ℕ) (near : Near most)
+    (under : to + (length (pre ++ valuesWords vs) + size q) ≤ most) where
   same-length : length (pre ++ valuesWords (valued vs (p .x) (p .v))) ≡ length (pre ++ valuesWords vs)
   same-length =
       length-append pre (valuesWords (valued vs (p .x) (p .v)))
@@ -192,14 +203,14 @@ module _ (ws : List ℕ) (from start end : ℕ) (p : Plan) (fresh : List ℕ) (q
       let in-ws : start ≤ length ws = omega (arith, plans .order .l-in, plans .order .m-in, plans .order .a-in, plans .order .b-in, plans .order .c-in, plans .order .d-in, plans .order .end-in) in
       let chunk : length (part from start ws) ≡ length (pre ++ valuesWords vs) = ap length stands in
       let w : Wrote out to (pre ++ valuesWords vs) (copyW ws from start (written to out)) =
-      rw stands at (wrote-copy ws from start before in-ws (omega arith) near (wrote-none out to)) in
+      rw stands at (wrote-copy ws from start before in-ws (omega arith) most near (omega arith) (wrote-none out to)) in
       let t : copyW ws from start (written to out) .to ≡ to + length (pre ++ valuesWords vs) = w .reaches in
       let o = value-over pre vs (w .over) (omega arith) many (p .x) (p .v) in
       let room1 : to + length (pre ++ valuesWords (valued vs (p .x) (p .v))) ≤ length out = omega (arith, same-length) in
       let len : length (valueW (copyW ws from start (written to out) .out) (to + length (pre ++ valuesWords vs)) (p .x) (p .v)) ≡ length out = over-length o room1 in
       let l = lent-wrote ws start end p fresh q plans inside few wide
       (valueW (copyW ws from start (written to out) .out) (to + length (pre ++ valuesWords vs)) (p .x) (p .v)) (to + length (pre ++ valuesWords vs))
-      (omega (arith, len)) (rw len near) in
+      (omega (arith, len)) most near (omega arith) in
       rw t
       (record {
         reaches = l .reaches ∙ (let a = length-append (pre ++ valuesWords (valued vs (p .x) (p .v))) (runWords q) in let b = same-length in let z : to + length (pre ++ valuesWords vs) + length (runWords q) ≡ to + length ((pre ++ valuesWords (valued vs (p .x) (p .v))) ++ runWords q) = omega arith in z);
