@@ -42,13 +42,13 @@ fitted-spent s out a = rw (lt-leb (s .config .issued) 65535 a)
 
 -- by its length
 pub fitted-by :
-    (s : Stepped) (out last : List ℕ) (size : ℕ) → s .config .issued ≤ 65535 → enginesDepth (s .config .engines) ≤ 64 →
+    (s : Stepped) (out last : List ℕ) (size told : ℕ) → s .config .issued ≤ 65535 → enginesDepth (s .config .engines) ≤ 64 →
     lengthOf size (length out) ≡ lengthOf (length (encode (s .config))) (length out) →
-    (length (encode (s .config)) ≤ 8192 → length (encode (s .config)) ≤ length out → (size ≡ length (encode (s .config))) × (last ≡ over (encode (s .config)) out)) →
-    cond (eqb (lengthOf size (length out)) 0) (answered (accepting (s .kind) (s .serial) (s .fault) size) last) (answered (refusing (lengthOf size (length out))) out)
+    (length (encode (s .config)) ≤ 8192 → length (encode (s .config)) ≤ length out → (told ≡ length (encode (s .config))) × (last ≡ over (encode (s .config)) out)) →
+    cond (eqb (lengthOf size (length out)) 0) (answered (accepting (s .kind) (s .serial) (s .fault) told) last) (answered (refusing (lengthOf size (length out))) out)
     ≡ given (fitted (length out) s) out
 unfolding fitted _>>_ _unless_ answerOf outputOf lengthOf
-fitted-by s out last size a b e f = rw (e, le-leb (s .config .issued) 65535 a, le-leb (enginesDepth (s .config .engines)) 64 b) (by (leb (length (encode (s .config))) 8192) (leb (length (encode (s .config))) (length out)) refl refl)
+fitted-by s out last size told a b e f = rw (e, le-leb (s .config .issued) 65535 a, le-leb (enginesDepth (s .config .engines)) 64 b) (by (leb (length (encode (s .config))) 8192) (leb (length (encode (s .config))) (length out)) refl refl)
   where
     n : ℕ
     n = length (encode (s .config))
@@ -56,7 +56,7 @@ fitted-by s out last size a b e f = rw (e, le-leb (s .config .issued) 65535 a, l
     by :
         (x y : Bool) → leb (length (encode (s .config))) 8192 ≡ x → leb (length (encode (s .config))) (length out) ≡ y →
         cond (eqb (cond (ltb 8192 (length (encode (s .config)))) 9 (cond (ltb (length out) (length (encode (s .config)))) 10 0)) 0)
-        (answered (accepting (s .kind) (s .serial) (s .fault) size) last)
+        (answered (accepting (s .kind) (s .serial) (s .fault) told) last)
         (answered (refusing (cond (ltb 8192 (length (encode (s .config)))) 9 (cond (ltb (length out) (length (encode (s .config)))) 10 0))) out)
         ≡ given (_>>_ (long unless x) (_>>_ (short unless y) (done s))) out
     by false y p q = rw (lt-ltb 8192 (length (encode (s .config))) (leb-false (length (encode (s .config))) 8192 p))

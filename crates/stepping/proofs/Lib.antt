@@ -1,4 +1,5 @@
 pub mod Carrying
+pub mod Given
 pub mod Goal
 pub mod Overs
 pub mod Results

@@ -1,0 +1,82 @@
+-- A result carried out is answered and written as the definitions say: of one engine, and of two.
+-- Assumes nothing.
+use Prim.Native.Nat.{ℕ, zero, suc, _+_, _-_, _%_, _≤_, _<_, max}
+use native.Mathlib.Omega.{arith}
+use mathlib.Core.Path.{_≡_, refl, sym, ap, _∙_}
+use mathlib.Core.Bool.{Bool, true, false, cond}
+use mathlib.Core.Option.{Option, none, some}
+use mathlib.Core.List.{List, [], _∷_}
+use borrow.Author.Tests.{eq-eqb, ne-eqb}
+use lib.Dec.{leb, ltb, eqb}
+use lib.ListN.{length, getD, set}
+use Rattle.sock.specs.Running.{Run, size, runDepth}
+use Rattle.sock.specs.Configuration.{Engine, Config, encode, enginesDepth}
+use Rattle.sock.specs.Calls.{Stepped, engineAt, withEngine, over}
+use Rattle.sock.proofs.Fits.{FitsConfig}
+use Rattle.sock.proofs.Located.{startOf}
+use Rattle.rules.specs.declared.plan.Plan.{Plan}
+use Rattle.rules.proofs.Plans.{Plans}
+use Rattle.stepping.specs.declared.answer.Answer.{Answer}
+use Rattle.stepping.specs.Answering.{Answered, answered, refusing, accepting, sizedW, lengthOf, writeOneW, oneW, writeTwoW, twoW}
+use Rattle.stepping.proofs.Goal.{given, fitted, fitted-deep, fitted-by}
+use Rattle.stepping.proofs.Writes.{valued}
+use Rattle.stepping.proofs.Results.{next-sized, next-few, next-fits, next-written}
+use Rattle.stepping.proofs.TwoResults as two
+
+-- ---- how deep the engines are
+
+pub depth-set : (es : List Engine) (e : ℕ) (x : Engine) (n : ℕ) → enginesDepth es ≤ n → runDepth (x .process) ≤ n → enginesDepth (set es e x) ≤ n
+unfolding enginesDepth
+depth-set [] e x n a b = a
+depth-set (g ∷ es) zero x n a b = omega arith
+depth-set (g ∷ es) (suc e) x n a b = let r = depth-set es e x n (omega arith) b in omega arith
+
+pub depth-over : (es : List Engine) (e : ℕ) (x : Engine) (n : ℕ) → e < length es → n < runDepth (x .process) → n < enginesDepth (set es e x)
+unfolding enginesDepth
+depth-over [] e x n h b = absurd (omega arith)
+depth-over (g ∷ es) zero x n h b = omega arith
+depth-over (g ∷ es) (suc e) x n h b = let r = depth-over es e x n (omega arith) b in omega arith
+
+pub depth-at : (es : List Engine) (e : ℕ) (d : Engine) (n : ℕ) → e < length es → enginesDepth es ≤ n → runDepth (getD es e d .process) ≤ n
+unfolding enginesDepth
+depth-at [] e d n h b = absurd (omega arith)
+depth-at (g ∷ es) zero d n h b = omega arith
+depth-at (g ∷ es) (suc e) d n h b = depth-at es e d n (omega arith) (omega arith)
+
+told : (n : ℕ) → n ≤ 8192 → n % 65536 ≡ n
+told n h = omega arith
+
+module _ (c : Config) (fits : FitsConfig c) (deep : enginesDepth (c .engines) ≤ 64) (ws : List ℕ) (same : encode c ≡ ws) (short : length ws ≤ 8192) where
+  -- ---- one
+
+  module _ (e : ℕ) (h : e < length (c .engines)) (p : Plan) (fresh : List ℕ) (kind : ℕ) (out : List ℕ) where
+    abbrev start : ℕ
+    start = startOf c e
+
+    abbrev end : ℕ
+    end = start + size (engineAt c e .process)
+
+    abbrev made : List ℕ → Run → Stepped
+    made vs q = record { config = record { issued = c .issued; engines = withEngine e vs q (c .engines) }; kind = kind; serial = 0; fault = 0 }
+
+    pub one-refused : (p .number ≡ 0 → ⊥) → oneW ws start end p kind fresh out ≡ answered (refusing (p .number)) out
+    unfolding oneW
+    one-refused z = rw (ne-eqb (p .number) 0 z)
+
+    pub one-deep : (vs : List ℕ) (q : Run) → p .number ≡ 8 → 64 < runDepth q → oneW ws start end p kind fresh out ≡ given (fitted (length out) (made vs q)) out
+    one-deep vs q z d =
+        one-refused (λ y. omega arith)
+        ∙ (ap (λ k. answered (refusing k) out) z
+        ∙ sym (fitted-deep (made vs q) out (omega (arith, fits .word)) (depth-over (c .engines) e _ 64 h d)))
+
+    pub one-given :
+        (vs : List ℕ) (q : Run) → p .number ≡ 0 → Plans ws start end p fresh q → runDepth q ≤ 64 → 8192 ≤ length fresh →
+        vs ≡ valued (engineAt c e .values) (p .x) (p .v) →
+        oneW ws start end p kind fresh out ≡ given (fitted (length out) (made vs q)) out
+    unfolding oneW
+    one-given vs q z plans d wide v =
+        rw (eq-eqb (p .number) 0 z, v)
+        (fitted-by (made (valued (engineAt c e .values) (p .x) (p .v)) q) out (writeOneW ws start end p fresh out .out) (sizedW (length ws) p) (sizedW (length ws) p % 65536)
+        (omega (arith, fits .word)) (depth-set (c .engines) e _ 64 deep d) (next-fits c fits e h ws same p fresh q plans short (length out)) λ a b.
+        let s = next-sized c fits e h ws same p fresh q plans short (omega (arith, next-few c fits e h ws same p fresh q plans)) in
+        (ap (λ k. k % 65536) s ∙ told _ a, next-written c fits e h ws same p fresh q plans wide out a b))
