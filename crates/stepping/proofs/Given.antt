@@ -80,3 +80,28 @@ module _ (c : Config) (fits : FitsConfig c) (deep : enginesDepth (c .engines) �
         (omega (arith, fits .word)) (depth-set (c .engines) e _ 64 deep d) (next-fits c fits e h ws same p fresh q plans short (length out)) λ a b.
         let s = next-sized c fits e h ws same p fresh q plans short (omega (arith, next-few c fits e h ws same p fresh q plans)) in
         (ap (λ k. k % 65536) s ∙ told _ a, next-written c fits e h ws same p fresh q plans wide out a b))
+
+  -- ---- two, in the order of the words
+
+  module _ (e i : ℕ) (low : e < i) (high : i < length (c .engines)) (p1 : Plan) (f1 : List ℕ) (q1 : Run)
+      (plans1 : Plans ws (startOf c e) (startOf c e + size (engineAt c e .process)) p1 f1 q1) (p2 : Plan) (f2 : List ℕ) (q2 : Run)
+      (plans2 : Plans ws (startOf c i) (startOf c i + size (engineAt c i .process)) p2 f2 q2) (issued : ℕ) where
+    pub two-given :
+        (a : Answer) (out : List ℕ) → issued ≤ 65535 → runDepth q1 ≤ 64 → runDepth q2 ≤ 64 → p1 .g ≤ 8192 → p2 .g ≤ 8192 → 8192 ≤ length f1 → 8192 ≤ length f2 →
+        twoW ws (startOf c e) (startOf c e + size (engineAt c e .process)) p1 f1 (startOf c i) (startOf c i + size (engineAt c i .process)) p2 f2 issued a out
+        ≡ given
+        (fitted (length out)
+        (record {
+          config = two.next c fits e i low high ws same p1 f1 q1 plans1 p2 f2 q2 plans2 issued;
+          kind = a .kind;
+          serial = a .serial;
+          fault = a .fault;
+        }))
+        out
+    unfolding twoW
+    two-given a out fine d1 d2 g1 g2 w1 w2 =
+        let s = two.two-sized c fits e i low high ws same p1 f1 q1 plans1 p2 f2 q2 plans2 issued short g1 g2 in
+        fitted-by _ out (writeTwoW ws (startOf c e) (startOf c e + size (engineAt c e .process)) p1 f1 (startOf c i) (startOf c i + size (engineAt c i .process)) p2 f2 issued out)
+        (sizedW (sizedW (length ws) p1) p2) (sizedW (sizedW (length ws) p1) p2 % 65536) fine
+        (depth-set (set (c .engines) e _) i _ 64 (depth-set (c .engines) e _ 64 deep d1) d2) (ap (λ k. lengthOf k (length out)) s) λ x y.
+        (ap (λ k. k % 65536) s ∙ told _ x, two.two-written c fits e i low high ws same p1 f1 q1 plans1 p2 f2 q2 plans2 issued w1 w2 out x y)
