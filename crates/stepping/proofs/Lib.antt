@@ -3,6 +3,7 @@ pub mod Given
 pub mod Goal
 pub mod Overs
 pub mod Results
+pub mod Seeking
 pub mod Stepping
 pub mod TwoResults
 pub mod Writes
