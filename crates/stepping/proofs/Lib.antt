@@ -6,5 +6,6 @@ pub mod Results
 pub mod Seeking
 pub mod Stepping
 pub mod TwoResults
+pub mod Whole
 pub mod Writes
 pub mod Writings

@@ -1,0 +1,116 @@
+-- The step's cases by the definitions, once a process is found: it is stuck, it moves alone, or it sends.
+-- Assumes nothing.
+use Prim.Native.Nat.{ℕ, zero, suc, _+_, _-_, _*_, _/_, _%_, _≤_, _<_}
+use native.Mathlib.Omega.{arith}
+use mathlib.Core.Path.{_≡_, refl, sym, ap, _∙_}
+use mathlib.Core.Bool.{Bool, true, false, not, _&&_, cond}
+use mathlib.Core.Option.{Option, none, some}
+use mathlib.Core.List.{List}
+use borrow.Author.Tests.{eq-eqb, ne-eqb}
+use lib.Dec.{eqb}
+use lib.ListN.{length}
+use Rattle.sock.specs.Term.{kind}
+use Rattle.sock.specs.Running.{Run, asNode}
+use Rattle.sock.specs.Configuration.{Limits, standard, Config, guarded, readConfig}
+use Rattle.sock.specs.Frames.{plug}
+use Rattle.sock.specs.Rules.{also, Message, Move, stuck, alone, sends, moveOf, Exchange, exchange}
+use Rattle.sock.specs.Calls.{Refusal, unreadable, nobodyThere, noMove, noPartner, noFit, installing, Result, refused, done, _>>=_, _>>_, _!_, _unless_, Numbers, Spot, enabledAt, movable, partner, lone, between, effect, Stepped, withEngine, carriedOut, step}
+use Rattle.stepping.specs.Stepping.{noneElse}
+use Rattle.stepping.proofs.Goal.{fitted}
+
+-- what follows once the process a is found
+unfoldable pub after : Config → Numbers → Spot → ℕ → Result Stepped
+after c k a room =
+    (noMove ! movable k (moveOf (a .values) (a .frames) (a .process))) >>= λ m.
+    (noPartner ! partner c k a m) >>= λ b.
+    (noFit ! effect c k a b m) >>= λ x.
+    (installing ! carriedOut c a b x) >>= λ s. fitted room s
+
+pub step-read :
+    (ws : List ℕ) (k : Numbers) (room : ℕ) →
+    step standard ws k room ≡ ((unreadable ! readConfig standard ws) >>= λ c. (nobodyThere ! enabledAt c (k .engine) (k .position)) >>= λ a. after c k a room)
+unfolding step after fitted
+step-read ws k room = refl
+
+-- what one engine's step gives
+unfoldable pub loneOf : Config → Spot → List ℕ → Option Run → ℕ → Result Stepped
+loneOf c a vs none room = refused installing
+loneOf c a vs (some q) room =
+    fitted room
+    (record {
+      config = record { issued = c .issued; engines = withEngine (a .engine) vs q (c .engines) };
+      kind = kind (asNode (a .process));
+      serial = 0;
+      fault = 0;
+    })
+
+-- and a step of two
+unfoldable pub pairOf : Config → Numbers → Spot → Spot → Message → ℕ → Result Stepped
+pairOf c k a b m room = (noFit ! effect c k a b (sends m)) >>= λ x. (installing ! carriedOut c a b x) >>= λ s. fitted room s
+
+abbrev pub exchanged : Config → Spot → Spot → Exchange → Stepped
+exchanged c a b x =
+    record {
+      config =
+          record {
+            issued = x .issued;
+            engines =
+                withEngine (b .engine) (x .values) (plug (b .frames) (x .receiver)) (withEngine (a .engine) (a .values) (plug (a .frames) (x .sender)) (c .engines));
+          };
+      kind = kind (asNode (a .process));
+      serial = x .serial;
+      fault = x .fault;
+    }
+
+-- the tests of the numbers, one after the other
+none-else : (i place branch : ℕ) → (eqb i 0 && eqb place 0 && eqb branch 0) ≡ noneElse i place branch
+unfolding noneElse
+none-else i place branch = by (eqb i 0) (eqb place 0) (eqb branch 0)
+  where
+    by : (a b c : Bool) → (a && b && c) ≡ cond a (cond b c false) false
+    by true true c = refl
+    by true false c = refl
+    by false b c = refl
+
+module _ (c : Config) (k : Numbers) (a : Spot) (room : ℕ) where
+  pub after-stuck : moveOf (a .values) (a .frames) (a .process) ≡ stuck → after c k a room ≡ refused noMove
+  unfolding after movable _!_ _>>=_
+  after-stuck e = rw e
+
+  pub after-alone :
+      (vs : List ℕ) (q : Option Run) → moveOf (a .values) (a .frames) (a .process) ≡ alone vs q →
+      after c k a room ≡ cond (noneElse (k .second) (k .secondPosition) (k .branch)) (loneOf c a vs q room) (refused noMove)
+  unfolding after movable partner effect carriedOut loneOf guarded _!_ _>>=_
+  after-alone vs q e = rw (e, none-else (k .second) (k .secondPosition) (k .branch)) (by (noneElse (k .second) (k .secondPosition) (k .branch)) q)
+    where
+      by :
+          (b : Bool) (q : Option Run) →
+          ((noMove ! guarded b (some (alone vs q))) >>= λ m.
+          (noPartner ! partner c k a m) >>= λ b.
+          (noFit ! effect c k a b m) >>= λ x.
+          (installing ! carriedOut c a b x) >>= λ s. fitted room s)
+          ≡ cond b (loneOf c a vs q room) (refused noMove)
+      by true none = refl
+      by true (some q) = refl
+      by false q = refl
+
+  pub after-sends :
+      (m : Message) → moveOf (a .values) (a .frames) (a .process) ≡ sends m →
+      after c k a room ≡ ((noPartner ! enabledAt c (k .second) (k .secondPosition)) >>= λ b. pairOf c k a b m room)
+  unfolding after movable partner pairOf _!_ _>>=_
+  after-sends m e = rw e
+
+  pub pair-same : (b : Spot) (m : Message) → a .engine ≡ b .engine → pairOf c k a b m room ≡ refused noFit
+  unfolding pairOf effect guarded _!_ _>>=_
+  pair-same b m e = rw (eq-eqb (a .engine) (b .engine) e)
+
+  module _ (b : Spot) (m : Message) (other : a .engine ≡ b .engine → ⊥) where
+    pub pair-none : exchange (c .issued) (a .engine) (b .engine) (k .branch) (b .values) (b .process) m ≡ none → pairOf c k a b m room ≡ refused noFit
+    unfolding pairOf effect guarded also _!_ _>>=_
+    pair-none e = rw (ne-eqb (a .engine) (b .engine) other, e)
+
+    pub pair-some :
+        (x : Exchange) → exchange (c .issued) (a .engine) (b .engine) (k .branch) (b .values) (b .process) m ≡ some x →
+        pairOf c k a b m room ≡ fitted room (exchanged c a b x)
+    unfolding pairOf effect carriedOut guarded also _!_ _>>=_
+    pair-some x e = rw (ne-eqb (a .engine) (b .engine) other, e)
