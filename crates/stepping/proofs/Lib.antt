@@ -1,6 +1,7 @@
 pub mod Carrying
 pub mod Given
 pub mod Goal
+pub mod Lone
 pub mod Overs
 pub mod Results
 pub mod Seeking

@@ -1,0 +1,362 @@
+-- What a rule alone makes: the plan for the engine's process, and its values.
+-- Assumes nothing.
+use Prim.Native.Nat.{ℕ, zero, suc, _+_, _-_, _*_, _/_, _%_, _≤_, _<_, max}
+use native.Mathlib.Omega.{arith}
+use mathlib.Core.Path.{_≡_, refl, subst, sym, ap, _∙_}
+use mathlib.Core.Bool.{Bool, true, false, cond}
+use mathlib.Core.Option.{Option, none, some}
+use mathlib.Core.List.{List, [], _∷_, _++_}
+use borrow.Author.Tests.{le-ltb, lt-leb}
+use lib.Dec.{T, eqb, leb, ltb, lit<}
+use lib.ListN.{length, getD, take, drop, set, length-append, length-drop, length-set, length-replicate}
+use lib.Seq.{take-all, getD-drop}
+use Rattle.sock.specs.Words.{kindOf, variableOf, nameOf, scopeKey}
+use Rattle.sock.specs.Term.{Expr, Node, node, absent, list, Entries, noParts, _&_, headWord, kind}
+use Rattle.sock.specs.Layout.{words, depth, exprsDepth}
+use Rattle.sock.specs.Reading.{code, anywhere}
+use Rattle.sock.specs.Running.{Mark, Run, nil, seq, par, scope, executor, waiter, notice, act, asNode, runWords, size, runDepth, enable}
+use Rattle.sock.specs.Configuration.{standard, Engine, Config, valuesWords, encode, enginesDepth}
+use Rattle.sock.specs.Calls.{engineAt}
+use Rattle.sock.specs.Evaluation.{valueAt, evaluate, isTrue}
+use Rattle.sock.specs.Frames.{Frame, Located, isDone, seqOf, plug, nearest, onNearest}
+use Rattle.sock.specs.Handlers.{handler, without, update}
+use Rattle.sock.specs.Rules.{climb, Action, action, Message, reply, Move, stuck, alone, sends, ending, acting, onceDone, moveOf}
+use Rattle.sock.proofs.Logic.{all-some}
+use Rattle.sock.proofs.Fits.{Fits, FitsExpr, FitsEntries, AllBelow, FitsEngine, Sound, nilSound, seqSound, parSound, scopeSound, executorSound, waiterSound, noticeSound, actSound, SoundFrames, noFrames, isPlain}
+use Rattle.sock.proofs.Frames.{Stands, locate-sound}
+use Rattle.sock.proofs.Located.{engine-fits, startOf}
+use Rattle.sock.proofs.Running.{enable-asNode}
+use Rattle.sock.proofs.Measures.{words-act, depth-nil, depth-act}
+use Rattle.sock.proofs.ByKind.{runKind, kind-asNode}
+use Rattle.reading.specs.declared.survey.Starts.{Starts}
+use Rattle.reading.proofs.Combining.{Words}
+use Rattle.reading.proofs.Known.{Known}
+use Rattle.reading.specs.Walk.{processEnd}
+use Rattle.moving.specs.Writing.{pasted, pastedEnd}
+use Rattle.moving.specs.Evaluating.{evaluated}
+use Rattle.moving.proofs.Laid.{Near, near-of, near-below}
+use Rattle.handling.proofs.Leaves.{pasted-keeps}
+use Rattle.finding.specs.declared.find.Spot.{Spot}
+use Rattle.finding.specs.Find.{faultAt}
+use Rattle.finding.proofs.Within.{within, within-locate}
+use Rattle.finding.proofs.Spots.{Spotted}
+use Rattle.finding.proofs.Edits.{part, process-at}
+use Rattle.rules.specs.declared.turn.Turn.{Turn}
+use Rattle.rules.specs.Turning.{Turned, turned, vanishing, keeping, refused, at, partW, assignW, codeEnd, branchW, levelsLeft, unrollW, repeatW}
+use Rattle.rules.specs.Planning.{Planned, plainW}
+use Rattle.rules.proofs.Turns.{Becomes, becomes-nil, Outcome, deepens, becomes, assign-turns, branch-turns, repeat-turns}
+use Rattle.rules.proofs.Plans.{done-nil}
+use Rattle.rules.proofs.Shapes.{Shape, assigns, branches, repeats, chooses, hears, serves, notifies, solicits, installs, throws, compensates, shape}
+use Rattle.rules.proofs.Outcomes.{Ruled, becomes-ruled, outcome-ruled}
+use Rattle.scopes.proofs.ScopeLists.{whole-inside, frames-deep, process-inside, level-low}
+use Rattle.scopes.proofs.Compensates
+use Rattle.scopes.proofs.Installs
+use Rattle.scopes.proofs.Throws.{thrown-ruled}
+use Rattle.scopes.proofs.Ends.{ends}
+use Rattle.stepping.specs.Exchanging.{blank, lent}
+use Rattle.stepping.specs.Alone.{turnW, valuedW, scopedW, ruleW}
+use Rattle.stepping.proofs.Writes.{valued}
+use Rattle.stepping.proofs.Results.{one-stands, one-behind, one-values}
+
+-- no engine is deeper than all
+engine-depth : (es : List Engine) (e : ℕ) (d : Engine) → e < length es → runDepth (getD es e d .process) ≤ enginesDepth es
+unfolding enginesDepth
+engine-depth [] e d h = absurd (omega arith)
+engine-depth (g ∷ gs) zero d h = omega arith
+engine-depth (g ∷ gs) (suc e) d h = omega (arith, engine-depth gs e d (omega arith))
+
+-- code that becomes enabled is as deep as it was
+enabled-depth : {m : Node} → Fits (code false) anywhere m → runDepth (enable m) ≡ depth m
+unfolding runDepth
+enabled-depth f = ap depth (enable-asNode f)
+
+-- scratch
+pub blank-length : length blank ≡ 16384
+blank-length = length-replicate {A = ℕ} 16384 0
+
+pub blank-near : Near (length blank)
+blank-near = near-below (length blank) 16384 (near-of 16384 (lit< tt)) (omega (arith, blank-length))
+
+-- no turn of an if takes a value
+part-none : (ws : List ℕ) (from upto end : ℕ) → partW ws from upto end 32 0 .x ≡ 32
+unfolding partW
+part-none ws from upto end = by (eqb (at ws from) 0)
+  where
+    by : (b : Bool) → cond b (vanishing 32 0) (keeping 0 from upto end 32 0) .x ≡ 32
+    by true = refl
+    by false = refl
+
+branch-none : (bound : ℕ) (ws values : List ℕ) → branchW bound ws values .x ≡ 32
+unfolding branchW
+branch-none bound ws values = by (eqb (evaluated 64 ws values 1 .value) 0)
+  where
+    by : (b : Bool) →
+        (let e = evaluated 64 ws values 1 in
+        let middle : ℕ = codeEnd bound ws (e .end) in
+        let last : ℕ = codeEnd bound ws middle in
+        cond b (partW ws middle last last 32 0) (partW ws (e .end) middle last 32 0) .x ≡ 32)
+    by true = part-none ws _ _ _
+    by false = part-none ws _ _ _
+
+plain-number : (s : Spot) (start : ℕ) (t : Turn) (fresh : List ℕ) → t .nil ≡ false → plainW s start t fresh .plan .number ≡ t .number
+unfolding plainW
+plain-number s start t fresh e = rw e
+
+-- a while keeps the scratch's length
+repeat-keeps : (level bound : ℕ) (ws values fresh : List ℕ) → length (repeatW level bound ws values fresh .fresh) ≡ length fresh
+unfolding repeatW unrollW
+repeat-keeps level bound ws values fresh =
+    let e = evaluated 64 ws values 1 in
+    by (eqb (e .value) 0) (eqb (at ws (e .end)) 0) (eqb (processEnd (levelsLeft level) ws bound 0 0) 0)
+  where
+    by : (a b c : Bool) →
+        (let e = evaluated 64 ws values 1 in
+        let end : ℕ = codeEnd bound ws (e .end) in
+        length
+        (cond a (turned (vanishing 32 0) fresh)
+        (cond b (turned (keeping 0 0 end end 32 0) fresh)
+        (cond c (turned (refused 8) fresh)
+        (turned (keeping (pastedEnd ws (e .end) end 1) 0 end end 32 0) (pasted ws (e .end) end (set fresh 0 4096) 1)))) .fresh)
+        ≡ length fresh)
+    by true b c = refl
+    by false true c = refl
+    by false false true = refl
+    by false false false = pasted-keeps ws _ _ (set fresh 0 4096) 1 ∙ length-set fresh 0 4096
+
+pub words-part : (ws : List ℕ) (i : ℕ) → Words ws → Words (drop i ws)
+words-part ws i ok k = subst (λ (w : ℕ). w < 65536) (sym (getD-drop i ws k 0)) (ok (i + k))
+
+module _ (ws : List ℕ) (ok : Words ws) (n issued : ℕ) (few : n ≤ 8) (small : issued < 65536) (r : Run) (sound : Sound n issued r)
+    (start : ℕ) (words-at : drop start ws ≡ runWords r ++ drop (start + size r) ws) (low : 64 ≤ start) (deep : runDepth r ≤ 64) (short : length ws ≤ 8192)
+    (target : ℕ) (l : Located) (s : Spot) (place : within r start target ≡ some l) (spotted : Spotted (faultAt ws target) target r start 1 l s) where
+  pub near : Near (length ws)
+  near = near-below (length ws) 8192 (near-of 8192 (lit< tt)) short
+
+  pub standing : Stands n issued l
+  standing =
+      let b : start ≤ target = omega (arith, spotted .swap .from) in
+      all-some (locate-sound sound (target - start) noFrames) (sym (within-locate r start target b) ∙ place)
+
+  abbrev rest : List ℕ
+  rest = process-at (faultAt ws target) target r start 1 l s ws (drop (start + size r) ws) words-at spotted .0
+
+  pub part-at : drop (s .at) ws ≡ runWords (l .process) ++ rest
+  part-at = ap (λ i. drop i ws) (spotted .at) ∙ process-at (faultAt ws target) target r start 1 l s ws (drop (start + size r) ws) words-at spotted .1
+
+  -- the process ends within the words
+  pub inside : s .at + size (l .process) ≤ length ws
+  inside =
+      omega (
+        arith,
+        spotted .at,
+        process-inside (faultAt ws target) target r start l s ws words-at spotted near (standing .frames) deep,
+        whole-inside (faultAt ws target) target r start l s ws words-at spotted near (standing .frames) deep,
+      )
+
+  pub part-lent : lent (s .at) (length ws) ws ≡ drop (s .at) ws
+  part-lent = take-all (length ws - s .at) (drop (s .at) ws) (omega (arith, length-drop (s .at) ws))
+
+  process-deep : length (l .frames) + runDepth (l .process) ≤ 64
+  process-deep = frames-deep (faultAt ws target) target r start l s ws words-at spotted near (standing .frames) deep .1
+
+  its-level : s .level ≡ 1 + length (l .frames)
+  its-level = spotted .level
+
+  level : s .level ≤ 64
+  level = level-low (faultAt ws target) target r start l s ws words-at spotted near (standing .frames) deep
+
+  abbrev bound : ℕ
+  bound = n * 65536 + issued
+
+  module _ (vs : List ℕ) (below : AllBelow 4294967296 vs) (values : part (start - 64) start ws ≡ valuesWords vs)
+      (fresh : List ℕ) (room : 16384 ≤ length fresh) (big : Near (length fresh)) where
+    -- what the rule makes, if it moves alone
+    abbrev Makes : Planned → Move → Type 0
+    Makes u stuck = Unit {0}
+    Makes u (alone vs' q) = Ruled ws start (start + size r) (u .plan) (u .fresh) q × (u .plan .number ≡ 0 → vs' ≡ valued vs (u .plan .x) (u .plan .v))
+    Makes u (sends m) = Unit {0}
+
+    -- no value changes
+    still : (u : Planned) (q : Option Run) →
+        Ruled ws start (start + size r) (u .plan) (u .fresh) q × (u .plan .x ≡ 32) → Makes u (alone vs q)
+    still u q (a, b) = (a, λ z. rw b)
+
+    made-scope : (name : ℕ) (mark : Mark) (zombie : Bool) (h : Entries) (a : Run) → l .process ≡ scope name mark zombie h a →
+        (b : Bool) → isDone a ≡ b → Makes (ruleW ws start s 11 bound fresh) (cond b (alone vs (some (ending name mark zombie h (l .frames)))) stuck)
+    unfolding ruleW scopedW
+    made-scope name mark zombie h a is false e = tt
+    made-scope name mark zombie h a is true e =
+        still _ _ (ends (faultAt ws target) target r start l s ws words-at spotted near (standing .frames) deep (omega arith) ok few small short
+        fresh room big sound name mark zombie h (is ∙ ap (scope name mark zombie h) (done-nil a e)))
+
+    made-executor : (b : Bool) (u : Planned) (m : Message) → Makes u (cond b (sends m) stuck)
+    made-executor true u m = tt
+    made-executor false u m = tt
+
+    -- assign, if and while
+    plain-rule : (k : ℕ) → k ≤ 6 → (let t = turnW (drop (s .at) ws) (valuesWords vs) (s .level) k bound fresh in ruleW ws start s k bound fresh ≡ plainW s start (t .turn) (t .fresh))
+    unfolding ruleW valuedW
+    plain-rule k h =
+        rw (le-ltb 6 k h, le-ltb start 64 low, le-ltb (length ws) start (omega (arith, whole-inside (faultAt ws target) target r start l s ws words-at spotted near (standing .frames) deep)), le-ltb (length ws) (s .at) (omega (arith, inside)), part-lent, values)
+
+    -- the process becomes q, and no value changes
+    turns : (q : Run) (t : Turn) (made : List ℕ) → length made ≡ length fresh → Becomes (l .process) q t made → t .x ≡ 32 →
+        s .level + runDepth q ≤ 65 → Makes (plainW s start t made) (alone vs (some (plug (l .frames) q)))
+    turns q t made same b x high =
+        let u = becomes-ruled (faultAt ws target) target r start l s ws words-at spotted near (standing .frames) deep q t made
+        (omega arith) (rw same big) b high in
+        still (plainW s start t made) (some (plug (l .frames) q)) (u .0, u .1 ∙ x)
+
+    -- the words of a node, and its depth
+    node-at : (m : Node) → l .process ≡ act m → drop (s .at) ws ≡ words m ++ rest
+    node-at m is = part-at ∙ ap (λ w. w ++ rest) (ap runWords is ∙ words-act m)
+
+    node-deep : (m : Node) → l .process ≡ act m → s .level + depth m ≤ 65
+    node-deep m is = omega (arith, process-deep, its-level, ap runDepth is ∙ depth-act m)
+
+    made-assign : (h : ℕ) (e : Expr) → FitsExpr e → l .process ≡ act (node h [] (e ∷ []) absent noParts) →
+        Makes (ruleW ws start s 1 bound fresh) (alone (set vs (variableOf h) (evaluate vs e)) (some (plug (l .frames) nil)))
+    unfolding turnW
+    made-assign h e g is =
+        let m : Node = node h [] (e ∷ []) absent noParts in
+        let x : ℕ = variableOf h in
+        let v : ℕ = evaluate vs e in
+        let turn : assignW (drop (s .at) ws) (valuesWords vs) ≡ vanishing x v =
+        assign-turns n issued (drop (s .at) ws) (words-part ws (s .at) ok) few small vs below rest h e g (omega (arith, node-deep m is)) (node-at m is) in
+        let u = becomes-ruled (faultAt ws target) target r start l s ws words-at spotted near (standing .frames) deep nil (vanishing x v) fresh
+        (omega arith) big (becomes-nil (l .process) x v fresh) (omega (arith, depth-nil, level)) in
+        rw (plain-rule 1 (omega arith), turn)
+        (u .0, λ z. rw (u .1, u .2, lt-leb 32 x (omega arith)))
+
+    made-branch : (h : ℕ) (e : Expr) (p q : Node) → FitsExpr e → Fits (code false) anywhere p → Fits (code false) anywhere q →
+        l .process ≡ act (node h [] (e ∷ []) absent (p & q & noParts)) →
+        Makes (ruleW ws start s 4 bound fresh) (alone vs (some (plug (l .frames) (enable (cond (isTrue (evaluate vs e)) p q)))))
+    unfolding turnW depth
+    made-branch h e p q g fp fq is =
+        let m : Node = node h [] (e ∷ []) absent (p & q & noParts) in
+        let high = node-deep m is in
+        let b = branch-turns n issued (drop (s .at) ws) (words-part ws (s .at) ok) few small vs below rest h e p q g fp fq
+        (omega (arith, node-deep m is)) (node-at m is) fresh in
+        rw (plain-rule 4 (omega arith))
+        (turns (enable (cond (isTrue (evaluate vs e)) p q)) (branchW bound (drop (s .at) ws) (valuesWords vs)) fresh refl
+        (rw is b) (branch-none bound (drop (s .at) ws) (valuesWords vs)) (by (isTrue (evaluate vs e))))
+      where
+        by : (b : Bool) → s .level + runDepth (enable (cond b p q)) ≤ 65
+        by true = omega (arith, enabled-depth fp, node-deep (node h [] (e ∷ []) absent (p & q & noParts)) is)
+        by false = omega (arith, enabled-depth fq, node-deep (node h [] (e ∷ []) absent (p & q & noParts)) is)
+
+    made-repeat : (h : ℕ) (e : Expr) (p : Node) → kindOf h ≡ 5 → FitsExpr e → Fits (code false) anywhere p →
+        Fits (code false) anywhere (node h [] (e ∷ []) absent (p & noParts)) → l .process ≡ act (node h [] (e ∷ []) absent (p & noParts)) →
+        Makes (ruleW ws start s 5 bound fresh)
+        (alone vs (some (plug (l .frames) (cond (isTrue (evaluate vs e)) (seqOf (enable p) (node h [] (e ∷ []) absent (p & noParts))) nil))))
+    unfolding turnW
+    made-repeat h e p k g fp f is =
+        let m : Node = node h [] (e ∷ []) absent (p & noParts) in
+        let o = repeat-turns n issued (drop (s .at) ws) (words-part ws (s .at) ok) few small vs below rest h k e p g fp
+        (omega (arith, node-deep m is)) (node-at m is) f fresh (omega (arith, length-drop (s .at) ws)) big (s .level) (node-deep m is) level in
+        rw (plain-rule 5 (omega arith))
+        (by (cond (isTrue (evaluate vs e)) (seqOf (enable p) m) nil) _ _ (repeat-keeps (s .level) bound (drop (s .at) ws) (valuesWords vs) fresh) (rw is o))
+      where
+        by : (q : Run) (t : Turn) (made : List ℕ) → length made ≡ length fresh → Outcome (l .process) (s .level) q t made →
+            Makes (plainW s start t made) (alone vs (some (plug (l .frames) q)))
+        by q t made same (becomes b x high) = turns q t made same b x high
+        by q t made same (deepens a b c d) = (
+          outcome-ruled (faultAt ws target) target r start l s ws words-at spotted near (standing .frames) deep q t made (omega arith) (rw same big)
+              (deepens a b c d),
+          λ z. absurd (omega (arith, z, a, plain-number s start t made b)),
+        )
+
+    -- inst, throw and comp
+    made-install : (h : ℕ) (new : Entries) → FitsEntries false zero new → l .process ≡ act (node h [] [] (list new) noParts) →
+        Makes (ruleW ws start s 12 bound fresh) (alone vs (some (plug (onNearest (λ x. update x new) (l .frames)) nil)))
+    unfolding ruleW scopedW
+    made-install h new fit is =
+        still _ _ (Installs.installs (faultAt ws target) target r start l s ws words-at spotted near (standing .frames) deep (omega arith) ok few small short
+        fresh room big sound h new is fit)
+
+    made-throw : (h : ℕ) → kindOf h ≡ 13 → l .process ≡ act (node h [] [] absent noParts) →
+        Makes (ruleW ws start s 13 bound fresh) (alone vs (climb (nameOf h) (l .frames) nil))
+    unfolding ruleW scopedW
+    made-throw h k is =
+        still _ _ (thrown-ruled ws ok n issued few small sound start words-at (omega arith) deep short fresh room big target l s place spotted
+        (node h [] [] absent noParts) is k)
+
+    made-compensate : (h : ℕ) → l .process ≡ act (node h [] [] absent noParts) →
+        Makes (ruleW ws start s 14 bound fresh)
+        (alone vs (some (plug (onNearest (without (scopeKey (nameOf h))) (l .frames)) (enable (handler (scopeKey (nameOf h)) (nearest (l .frames)))))))
+    unfolding ruleW scopedW
+    made-compensate h is =
+        still _ _ (Compensates.compensates (faultAt ws target) target r start l s ws words-at spotted near (standing .frames) deep (omega arith) ok few small short
+        fresh room big h is)
+
+    made-act : (m : Node) → l .process ≡ act m → Fits (code false) anywhere m → Shape m → Makes (ruleW ws start s (kind m) bound fresh) (acting vs (l .frames) m (action m))
+    unfolding action acting
+    made-act m is f (assigns {h} {e} k g) = rw k (made-assign h e g is)
+    made-act m is f (branches {h} {e} {p} {q} k g fp fq) = rw k (made-branch h e p q g fp fq is)
+    made-act m is f (repeats {h} {e} {p} k g fp) = rw k (made-repeat h e p k g fp f is)
+    made-act m is f (chooses k c pt) = rw k tt
+    made-act m is f (hears k) = rw k tt
+    made-act m is f (serves k t fp) = rw k tt
+    made-act m is f (notifies k t) = rw k tt
+    made-act m is f (solicits k t fl) = rw k tt
+    made-act m is f (installs {h} {l = new} k t fl) = rw k (made-install h new fl is)
+    made-act m is f (throws {h} k t) = rw k (made-throw h k is)
+    made-act m is f (compensates {h} k t) = rw k (made-compensate h is)
+
+    made : (p : Run) → l .process ≡ p → Sound n issued p → Makes (ruleW ws start s (runKind p) bound fresh) (moveOf vs (l .frames) p)
+    unfolding moveOf onceDone
+    made nil is g = tt
+    made (seq a q) is g = tt
+    made (par a b) is g = tt
+    made (scope name mark zombie h a) is g = made-scope name mark zombie h a is (isDone a) refl
+    made (executor o y client serial a) is g = made-executor (isDone a) _ (reply o (valueAt vs y) client serial)
+    made (waiter o x dead server serial q) is g = tt
+    made (notice o f client serial) is g = tt
+    made (act m) is (actSound i f) = made-act m is f (shape i f)
+
+    -- the rule, whatever it is
+    pub lone :
+        (vs' : List ℕ) (q : Option Run) → moveOf vs (l .frames) (l .process) ≡ alone vs' q →
+        (let u = ruleW ws start s (kind (asNode (l .process))) bound fresh in
+        Ruled ws start (start + size r) (u .plan) (u .fresh) q × (u .plan .number ≡ 0 → vs' ≡ valued vs (u .plan .x) (u .plan .v)))
+    lone vs' q e =
+        rw (kind-asNode (standing .process)) (subst (Makes (ruleW ws start s (runKind (l .process)) bound fresh)) e (made (l .process) refl (standing .process)))
+
+-- in a configuration that is known
+module _ (ws : List ℕ) (ok : Words ws) (starts : Starts) (known : Known standard ws starts) (e : ℕ) (h : e < length (known .config .engines)) where
+  abbrev c : Config
+  c = known .config
+
+  abbrev run : Run
+  run = engineAt c e .process
+
+  fit : FitsEngine (length (c .engines)) (c .issued) (engineAt c e)
+  fit = engine-fits _ (known .readable .fitting .engines) e h
+
+  pub run-stands : drop (startOf c e) ws ≡ runWords run ++ drop (startOf c e + size run) ws
+  run-stands =
+      one-stands c (known .readable .fitting) e h ws (known .same)
+      ∙ ap (λ x. runWords run ++ x) (sym (one-behind c (known .readable .fitting) e h ws (known .same)))
+
+  pub run-deep : runDepth run ≤ 64
+  run-deep = omega (arith, engine-depth (c .engines) e (record { values = []; process = nil }) h, known .readable .shallow)
+
+  pub run-short : length ws ≤ 8192
+  run-short = rw (known .same) at (known .readable .short)
+
+  module _ (target : ℕ) (l : Located) (s : Spot) (place : within run (startOf c e) target ≡ some l)
+      (spotted : Spotted (faultAt ws target) target run (startOf c e) 1 l s) where
+    pub known-standing : Stands (length (c .engines)) (c .issued) l
+    known-standing =
+        standing ws ok (length (c .engines)) (c .issued) (known .readable .fitting .few) (known .readable .fitting .word) run (fit .sound) (startOf c e) run-stands (omega arith)
+        run-deep run-short target l s place spotted
+
+    pub known-lone :
+        (vs' : List ℕ) (q : Option Run) → moveOf (engineAt c e .values) (l .frames) (l .process) ≡ alone vs' q →
+        (let u = ruleW ws (startOf c e) s (kind (asNode (l .process))) (length (c .engines) * 65536 + c .issued) blank in
+        Ruled ws (startOf c e) (startOf c e + size run) (u .plan) (u .fresh) q
+        × (u .plan .number ≡ 0 → vs' ≡ valued (engineAt c e .values) (u .plan .x) (u .plan .v)))
+    known-lone =
+        lone ws ok (length (c .engines)) (c .issued) (known .readable .fitting .few) (known .readable .fitting .word) run (fit .sound) (startOf c e) run-stands (omega arith)
+        run-deep run-short target l s place spotted (engineAt c e .values) (fit .bounded) (one-values c (known .readable .fitting) e h ws (known .same))
+        blank (omega (arith, blank-length)) blank-near
