@@ -132,6 +132,46 @@ module _ (ws : List ℕ) (start end : ℕ) (p : Plan) (fresh : List ℕ) (o : Or
       let w = edited-words q e in
       record { order = o; sized = rw w at (laid-length room); words = λ h. w }
 
+-- the fresh words are all there
+take-most : (n : ℕ) (l : List ℕ) → length (take n l) ≤ length l
+take-most zero l = omega arith
+take-most (suc n) [] = omega arith
+take-most (suc n) (x ∷ l) = let h = take-most n l in omega arith
+
+module _ (ws : List ℕ) (start end : ℕ) (p : Plan) (fresh : List ℕ) (q : Run) (plans : Plans ws start end p fresh q) (inside : end ≤ length ws) (few : p .g ≤ 8192) where
+  o : Ordered start end p
+  o = plans .order
+
+  pub fresh-room : p .g ≤ length fresh
+  unfolding size
+  fresh-room =
+      let x1 = part-length start (p .l) ws (o .l-in) (omega (arith, o .m-in, o .a-in, o .b-in, o .c-in, o .d-in, o .end-in)) in
+      let x3 = part-length (p .m) (p .a) ws (o .a-in) (omega (arith, o .b-in, o .c-in, o .d-in, o .end-in)) in
+      let x5 = part-length (p .b) (p .c) ws (o .c-in) (omega (arith, o .d-in, o .end-in)) in
+      let x6 = part-length (p .d) end ws (o .end-in) inside in
+      let y5 = length-append (part (p .b) (p .c) ws) (part (p .d) end ws) in
+      let y4 = length-append (part (p .f) (p .g) fresh) (part (p .b) (p .c) ws ++ part (p .d) end ws) in
+      let y3 = length-append (part (p .m) (p .a) ws) (part (p .f) (p .g) fresh ++ (part (p .b) (p .c) ws ++ part (p .d) end ws)) in
+      let y2 = length-append (take (p .f) fresh) (part (p .m) (p .a) ws ++ (part (p .f) (p .g) fresh ++ (part (p .b) (p .c) ws ++ part (p .d) end ws))) in
+      let y1 = length-append (part start (p .l) ws)
+      (take (p .f) fresh ++ (part (p .m) (p .a) ws ++ (part (p .f) (p .g) fresh ++ (part (p .b) (p .c) ws ++ part (p .d) end ws)))) in
+      let both : take (p .g) fresh ≡ take (p .f) fresh ++ part (p .f) (p .g) fresh = take-part (p .f) (p .g) fresh (o .fresh-in) in
+      let z = ap length both ∙ length-append (take (p .f) fresh) (part (p .f) (p .g) fresh) in
+      let w = ap length (plans .words few) in
+      sums start (p .l) (p .m) (p .a) (p .b) (p .g) (p .c) (p .d) end _ _ _ _ _ _ _ _ _ _ _ _
+      (gap start (p .l) (o .l-in)) (gap (p .l) (p .m) (o .m-in)) (gap (p .m) (p .a) (o .a-in)) (gap (p .a) (p .b) (o .b-in)) (gap (p .b) (p .c) (o .c-in))
+      (gap (p .c) (p .d) (o .d-in)) (gap (p .d) end (o .end-in))
+      (sym w ∙ (y1 ∙ rw (x1, y2, y3, x3, y4, y5, x5, x6))) (plans .sized) z (take-most (p .g) fresh)
+    where
+      gap : (a b : ℕ) → a ≤ b → b ≡ a + (b - a)
+      gap a b h = omega arith
+
+      sums :
+          (s l m a b g c d e x1 y1 x2 y2 x3 y3 x4 t u n k r : ℕ) →
+          l ≡ s + x1 → m ≡ l + y1 → a ≡ m + x2 → b ≡ a + y2 → c ≡ b + x3 → d ≡ c + y3 → e ≡ d + x4 →
+          n ≡ x1 + (t + (x2 + (u + (x3 + x4)))) → n + (y1 + (y2 + y3)) ≡ (e - s) + g → r ≡ t + u → r ≤ k → g ≤ k
+      sums s l m a b g c d e x1 y1 x2 y2 x3 y3 x4 t u n k r h1 h2 h3 h4 h5 h6 h7 p q v w = omega arith
+
 -- ---- of a process that was found
 
 pub done-nil : (q : Run) → isDone q ≡ true → q ≡ nil

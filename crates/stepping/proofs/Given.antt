@@ -70,16 +70,16 @@ module _ (c : Config) (fits : FitsConfig c) (deep : enginesDepth (c .engines) �
         ∙ sym (fitted-deep (made vs q) out (omega (arith, fits .word)) (depth-over (c .engines) e _ 64 h d)))
 
     pub one-given :
-        (vs : List ℕ) (q : Run) → p .number ≡ 0 → Plans ws start end p fresh q → runDepth q ≤ 64 → 8192 ≤ length fresh →
+        (vs : List ℕ) (q : Run) → p .number ≡ 0 → Plans ws start end p fresh q → runDepth q ≤ 64 →
         vs ≡ valued (engineAt c e .values) (p .x) (p .v) →
         oneW ws start end p kind fresh out ≡ given (fitted (length out) (made vs q)) out
     unfolding oneW
-    one-given vs q z plans d wide v =
+    one-given vs q z plans d v =
         rw (eq-eqb (p .number) 0 z, v)
         (fitted-by (made (valued (engineAt c e .values) (p .x) (p .v)) q) out (writeOneW ws start end p fresh out .out) (sizedW (length ws) p) (sizedW (length ws) p % 65536)
         (omega (arith, fits .word)) (depth-set (c .engines) e _ 64 deep d) (next-fits c fits e h ws same p fresh q plans short (length out)) λ a b.
         let s = next-sized c fits e h ws same p fresh q plans short (omega (arith, next-few c fits e h ws same p fresh q plans)) in
-        (ap (λ k. k % 65536) s ∙ told _ a, next-written c fits e h ws same p fresh q plans wide out a b))
+        (ap (λ k. k % 65536) s ∙ told _ a, next-written c fits e h ws same p fresh q plans out a b))
 
   -- ---- two, in the order of the words
 
@@ -87,7 +87,7 @@ module _ (c : Config) (fits : FitsConfig c) (deep : enginesDepth (c .engines) �
       (plans1 : Plans ws (startOf c e) (startOf c e + size (engineAt c e .process)) p1 f1 q1) (p2 : Plan) (f2 : List ℕ) (q2 : Run)
       (plans2 : Plans ws (startOf c i) (startOf c i + size (engineAt c i .process)) p2 f2 q2) (issued : ℕ) where
     pub two-given :
-        (a : Answer) (out : List ℕ) → issued ≤ 65535 → runDepth q1 ≤ 64 → runDepth q2 ≤ 64 → p1 .g ≤ 8192 → p2 .g ≤ 8192 → 8192 ≤ length f1 → 8192 ≤ length f2 →
+        (a : Answer) (out : List ℕ) → issued ≤ 65535 → runDepth q1 ≤ 64 → runDepth q2 ≤ 64 → p1 .g ≤ 8192 → p2 .g ≤ 8192 →
         twoW ws (startOf c e) (startOf c e + size (engineAt c e .process)) p1 f1 (startOf c i) (startOf c i + size (engineAt c i .process)) p2 f2 issued a out
         ≡ given
         (fitted (length out)
@@ -99,9 +99,9 @@ module _ (c : Config) (fits : FitsConfig c) (deep : enginesDepth (c .engines) �
         }))
         out
     unfolding twoW
-    two-given a out fine d1 d2 g1 g2 w1 w2 =
+    two-given a out fine d1 d2 g1 g2 =
         let s = two.two-sized c fits e i low high ws same p1 f1 q1 plans1 p2 f2 q2 plans2 issued short g1 g2 in
         fitted-by _ out (writeTwoW ws (startOf c e) (startOf c e + size (engineAt c e .process)) p1 f1 (startOf c i) (startOf c i + size (engineAt c i .process)) p2 f2 issued out)
         (sizedW (sizedW (length ws) p1) p2) (sizedW (sizedW (length ws) p1) p2 % 65536) fine
         (depth-set (set (c .engines) e _) i _ 64 (depth-set (c .engines) e _ 64 deep d1) d2) (ap (λ k. lengthOf k (length out)) s) λ x y.
-        (ap (λ k. k % 65536) s ∙ told _ x, two.two-written c fits e i low high ws same p1 f1 q1 plans1 p2 f2 q2 plans2 issued w1 w2 out x y)
+        (ap (λ k. k % 65536) s ∙ told _ x, two.two-written c fits e i low high ws same p1 f1 q1 plans1 p2 f2 q2 plans2 issued out x y)

@@ -2,6 +2,7 @@ pub mod Carrying
 pub mod Given
 pub mod Goal
 pub mod Lone
+pub mod LoneLaw
 pub mod Overs
 pub mod Results
 pub mod Seeking

@@ -18,7 +18,7 @@ use Rattle.moving.specs.Writing.{onward}
 use Rattle.moving.proofs.Laid.{Near, near-of, near-below, onward-near}
 use Rattle.finding.proofs.Edits.{part}
 use Rattle.rules.specs.declared.plan.Plan.{Plan}
-use Rattle.rules.proofs.Plans.{Ordered, Plans, part-first, part-length}
+use Rattle.rules.proofs.Plans.{Ordered, Plans, part-first, part-length, fresh-room}
 use Rattle.stepping.specs.Writing.{Written, copyW, engineW}
 use Rattle.stepping.specs.Answering.{sizedW, writeOneW, lengthOf}
 use Rattle.stepping.proofs.Overs.{Over, Wrote, wrote-copy}
@@ -187,12 +187,13 @@ module _ (c : Config) (fits : FitsConfig c) (e : ℕ) (h : e < length (c .engine
 
     -- and what is written
     pub next-written :
-        8192 ≤ length fresh → (out : List ℕ) → length (encode next) ≤ 8192 → length (encode next) ≤ length out →
+        (out : List ℕ) → length (encode next) ≤ 8192 → length (encode next) ≤ length out →
         writeOneW ws start end p fresh out .out ≡ over (encode next) out
     unfolding writeOneW size
-    next-written wide out few room =
+    next-written out few room =
         let near : Near 8192 = near-of 8192 (lit< tt) in
         let g : p .g ≤ 8192 = omega (arith, fresh-few ws start end p fresh q plans, next-length) in
+        let wide : p .g ≤ length fresh = fresh-room ws start end p fresh q plans (omega (arith, one-length)) g in
         let first : part 0 start ws ≡ pre ++ valuesWords values = part-first start ws ∙ one-front in
         let l = length-append pre (valuesWords values) in
         let m : length (valuesWords values) ≡ 64 = omega (arith, values-length values, many) in

@@ -16,7 +16,7 @@ use Rattle.sock.proofs.Located.{values-length, engines-split, engine-fits, star
 use Rattle.moving.proofs.Laid.{Near, near-of}
 use Rattle.finding.proofs.Edits.{part}
 use Rattle.rules.specs.declared.plan.Plan.{Plan}
-use Rattle.rules.proofs.Plans.{Plans, part-first}
+use Rattle.rules.proofs.Plans.{Plans, part-first, fresh-room}
 use Rattle.stepping.specs.Writing.{Written, copyW, engineW}
 use Rattle.stepping.specs.Answering.{sizedW, writeTwoW}
 use Rattle.stepping.proofs.Overs.{Over, over-length, over-then, Wrote, wrote-copy}
@@ -205,10 +205,10 @@ module _ (c : Config) (fits : FitsConfig c) (e i : ℕ) (low : e < i) (high : i 
 
     -- and what is written
     pub two-written :
-        8192 ≤ length f1 → 8192 ≤ length f2 → (out : List ℕ) → length (encode next) ≤ 8192 → length (encode next) ≤ length out →
+        (out : List ℕ) → length (encode next) ≤ 8192 → length (encode next) ≤ length out →
         writeTwoW ws s1 e1 p1 f1 s2 e2 p2 f2 issued out ≡ over (encode next) out
     unfolding writeTwoW size
-    two-written wide1 wide2 out few room =
+    two-written out few room =
         let near : Near 8192 = near-of 8192 (lit< tt) in
         let g1 : p1 .g ≤ 8192 = omega (arith, fresh-few ws s1 e1 p1 f1 q1 plans1, next-length, one-length c fits i high ws same, second-start) in
         let g2 : p2 .g ≤ 8192 = omega (arith, fresh-few ws s2 e2 p2 f2 q2 plans2, next-length, one-length c fits i high ws same, second-start) in
@@ -228,6 +228,8 @@ module _ (c : Config) (fits : FitsConfig c) (e i : ℕ) (low : e < i) (high : i 
         let m4 = same-words v1 many1 in
         let within1 : e1 ≤ length ws = omega (arith, one-length c fits e inside ws same) in
         let within2 : e2 ≤ length ws = omega (arith, one-length c fits i high ws same) in
+        let wide1 = fresh-room ws s1 e1 p1 f1 q1 plans1 within1 g1 in
+        let wide2 = fresh-room ws s2 e2 p2 f2 q2 plans2 within2 g2 in
         let first : Wrote out 0 front (engineW ws 0 s1 e1 p1 f1 out 0) =
         engine-wrote ws 0 s1 e1 p1 f1 q1 plans1 within1 (omega arith) g1 wide1 (length es ∷ c .issued ∷ enginesWords (take e es)) v1 many1
         (part-first s1 ws ∙ one-front c fits e inside ws same) out 0 (omega arith) 8192 near (omega arith) in

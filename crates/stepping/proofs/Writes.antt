@@ -31,7 +31,7 @@ zero-room a b whole n e h = let k = front-room a b whole n e h in omega arith
 -- ---- a process under a plan
 
 module _ (ws : List ℕ) (start end : ℕ) (p : Plan) (fresh : List ℕ) (q : Run) (plans : Plans ws start end p fresh q) (inside : end ≤ length ws)
-    (few : p .g ≤ 8192) (wide : 8192 ≤ length fresh) (out : List ℕ) (room : size q ≤ length out) (most : ℕ) (near : Near most) (under : size q ≤ most) where
+    (few : p .g ≤ 8192) (wide : p .g ≤ length fresh) (out : List ℕ) (room : size q ≤ length out) (most : ℕ) (near : Near most) (under : size q ≤ most) where
   abbrev x1 : List ℕ
   x1 = part start (p .l) ws
 
@@ -98,7 +98,7 @@ module _ (ws : List ℕ) (start end : ℕ) (p : Plan) (fresh : List ℕ) (q : Ru
 -- ---- lent a part of the output
 
 module _ (ws : List ℕ) (start end : ℕ) (p : Plan) (fresh : List ℕ) (q : Run) (plans : Plans ws start end p fresh q) (inside : end ≤ length ws)
-    (few : p .g ≤ 8192) (wide : 8192 ≤ length fresh) (out : List ℕ) (t : ℕ) (room : t + size q ≤ length out) (most : ℕ) (near : Near most) (under : t + size q ≤ most) where
+    (few : p .g ≤ 8192) (wide : p .g ≤ length fresh) (out : List ℕ) (t : ℕ) (room : t + size q ≤ length out) (most : ℕ) (near : Near most) (under : t + size q ≤ most) where
   rest-length : length (drop t out) ≡ length out - t
   rest-length = length-drop t out
 
@@ -184,7 +184,7 @@ module _ {out : List ℕ} {to : ℕ} (pre vs : List ℕ) {last : List ℕ} (o : 
 -- ---- the words in front, the values and the process
 
 module _ (ws : List ℕ) (from start end : ℕ) (p : Plan) (fresh : List ℕ) (q : Run) (plans : Plans ws start end p fresh q) (inside : end ≤ length ws) (before : from ≤ start)
-    (few : p .g ≤ 8192) (wide : 8192 ≤ length fresh) (pre vs : List ℕ) (many : length vs ≡ 32) (stands : part from start ws ≡ pre ++ valuesWords vs)
+    (few : p .g ≤ 8192) (wide : p .g ≤ length fresh) (pre vs : List ℕ) (many : length vs ≡ 32) (stands : part from start ws ≡ pre ++ valuesWords vs)
     (out : List ℕ) (to : ℕ) (room : to + (length (pre ++ valuesWords vs) + size q) ≤ length out) (most : ℕ) (near : Near most)
     (under : to + (length (pre ++ valuesWords vs) + size q) ≤ most) where
   same-length : length (pre ++ valuesWords (valued vs (p .x) (p .v))) ≡ length (pre ++ valuesWords vs)

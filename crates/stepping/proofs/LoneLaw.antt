@@ -1,0 +1,84 @@
+-- A step of one engine alone is the definitions'.
+-- Assumes nothing.
+use Prim.Native.Nat.{ℕ, zero, suc, _+_, _-_, _*_, _/_, _%_, _≤_, _<_}
+use native.Mathlib.Omega.{arith}
+use mathlib.Core.Path.{_≡_, refl, sym, ap, _∙_}
+use mathlib.Core.Bool.{Bool, true, false, cond}
+use mathlib.Core.Option.{Option, none, some}
+use mathlib.Core.List.{List, [], _∷_}
+use lib.ListN.{length, getD}
+use Rattle.sock.specs.Term.{kind}
+use Rattle.sock.specs.Running.{Run, asNode, size, runDepth}
+use Rattle.sock.specs.Configuration.{standard, Config, encode}
+use Rattle.sock.specs.Frames.{Located}
+use Rattle.sock.specs.Rules.{Move, alone, moveOf}
+use Rattle.sock.specs.Calls.{Spot as Place, Refusal, installing, Result, refused, engineAt}
+use Rattle.sock.proofs.Located.{startOf}
+use Rattle.reading.specs.declared.survey.Starts.{Starts}
+use Rattle.reading.proofs.Combining.{Words}
+use Rattle.reading.proofs.Known.{Known, known-length}
+use Rattle.reading.proofs.Standing.{start-next}
+use Rattle.finding.specs.declared.find.Spot.{Spot}
+use Rattle.rules.specs.Planning.{Planned}
+use Rattle.rules.proofs.Outcomes.{Ruled, unkillable, tooDeep, ruled}
+use Rattle.stepping.specs.Answering.{Answered, answered, refusing, oneW}
+use Rattle.stepping.specs.Exchanging.{blank}
+use Rattle.stepping.specs.Alone.{ruleW, aloneW}
+use Rattle.stepping.proofs.Goal.{given, given-refused, fitted}
+use Rattle.stepping.proofs.Given.{one-refused, one-deep, one-given}
+use Rattle.stepping.proofs.Writes.{valued}
+use Rattle.stepping.proofs.Whole.{loneOf}
+use Rattle.stepping.proofs.Lone.{known-lone}
+use Rattle.stepping.proofs.Seeking.{Seen, placed}
+
+module _ (ws : List ℕ) (ok : Words ws) (s : Starts) (known : Known standard ws s) (e target : ℕ) (l : Located) (sp : Spot) (seen : Seen ws ok s known e target l sp) where
+  abbrev c : Config
+  c = known .config
+
+  abbrev start : ℕ
+  start = startOf c e
+
+  abbrev end : ℕ
+  end = start + size (engineAt c e .process)
+
+  abbrev bound : ℕ
+  bound = length (c .engines) * 65536 + c .issued
+
+  abbrev k : ℕ
+  k = kind (asNode (l .process))
+
+  abbrev a : Place
+  a = placed ws ok s known e l
+
+  short : length ws ≤ 8192
+  short = known-length known .1
+
+  by-rule :
+      (u : Planned) (vs' : List ℕ) (q : Option Run) → Ruled ws start end (u .plan) (u .fresh) q →
+      (u .plan .number ≡ 0 → vs' ≡ valued (engineAt c e .values) (u .plan .x) (u .plan .v)) → (out : List ℕ) →
+      oneW ws start end (u .plan) k (u .fresh) out ≡ given (loneOf c a vs' q (length out)) out
+  unfolding loneOf
+  by-rule u vs' none (unkillable z) v out =
+      one-refused c (known .readable .fitting) (known .readable .shallow) ws (known .same) short e (seen .inside) (u .plan) (u .fresh) k out (λ y. omega arith)
+      ∙ (ap (λ n. answered (refusing n) out) z ∙ sym (given-refused installing out))
+  by-rule u vs' (some q) (tooDeep z d) v out =
+      one-deep c (known .readable .fitting) (known .readable .shallow) ws (known .same) short e (seen .inside) (u .plan) (u .fresh) k out vs' q z d
+  by-rule u vs' (some q) (ruled z plans d) v out =
+      one-given c (known .readable .fitting) (known .readable .shallow) ws (known .same) short e (seen .inside) (u .plan) (u .fresh) k out vs' q z plans d (v z)
+
+  kind-low : k < 32 → k % 32 ≡ k
+  kind-low h = omega arith
+
+  -- the answer and the output of a step alone
+  pub lone-law :
+      (vs' : List ℕ) (q : Option Run) → moveOf (engineAt c e .values) (l .frames) (l .process) ≡ alone vs' q → k < 32 → (out : List ℕ) →
+      aloneW ws (getD (s .starts) e 0) (getD (s .starts) (e + 1) 0) sp k bound out ≡ given (loneOf c a vs' q (length out)) out
+  unfolding aloneW
+  lone-law vs' q m low out =
+      let r = known-lone ws ok s known e (seen .inside) target l sp (seen .place) (seen .spotted) vs' q m in
+      let first : getD (s .starts) e 0 ≡ start = known .starts e (omega (arith, seen .inside)) in
+      let last : getD (s .starts) (e + 1) 0 - 64 ≡ end =
+      (let y : getD (s .starts) (e + 1) 0 ≡ startOf c (e + 1) = known .starts (e + 1) (omega (arith, seen .inside)) in
+      let z = start-next c (known .readable .fitting) e (seen .inside) in
+      omega arith) in
+      rw (first, last, kind-low low) (by-rule (ruleW ws start sp k bound blank) vs' q (r .0) (r .1) out)
