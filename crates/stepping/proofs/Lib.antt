@@ -3,7 +3,10 @@ pub mod Given
 pub mod Goal
 pub mod Lone
 pub mod LoneLaw
+pub mod Movers
 pub mod Overs
+pub mod Pairs
+pub mod Partners
 pub mod Results
 pub mod Seeking
 pub mod Stepping

@@ -137,7 +137,7 @@ module _ (ws : List ℕ) (ok : Words ws) (n issued : ℕ) (few : n ≤ 8) (small
       let b : start ≤ target = omega (arith, spotted .swap .from) in
       all-some (locate-sound sound (target - start) noFrames) (sym (within-locate r start target b) ∙ place)
 
-  abbrev rest : List ℕ
+  abbrev pub rest : List ℕ
   rest = process-at (faultAt ws target) target r start 1 l s ws (drop (start + size r) ws) words-at spotted .0
 
   pub part-at : drop (s .at) ws ≡ runWords (l .process) ++ rest
@@ -156,7 +156,7 @@ module _ (ws : List ℕ) (ok : Words ws) (n issued : ℕ) (few : n ≤ 8) (small
   pub part-lent : lent (s .at) (length ws) ws ≡ drop (s .at) ws
   part-lent = take-all (length ws - s .at) (drop (s .at) ws) (omega (arith, length-drop (s .at) ws))
 
-  process-deep : length (l .frames) + runDepth (l .process) ≤ 64
+  pub process-deep : length (l .frames) + runDepth (l .process) ≤ 64
   process-deep = frames-deep (faultAt ws target) target r start l s ws words-at spotted near (standing .frames) deep .1
 
   its-level : s .level ≡ 1 + length (l .frames)
