@@ -1,10 +1,12 @@
 pub mod Carrying
+pub mod Fresh
 pub mod Given
 pub mod Goal
 pub mod Lone
 pub mod LoneLaw
 pub mod Movers
 pub mod Overs
+pub mod PairLaw
 pub mod Pairs
 pub mod Partners
 pub mod Results

@@ -1,28 +1,28 @@
 -- What a rule alone makes: the plan for the engine's process, and its values.
 -- Assumes nothing.
-use Prim.Native.Nat.{ℕ, zero, suc, _+_, _-_, _*_, _/_, _%_, _≤_, _<_, max}
+use Prim.Native.Nat.{ℕ, zero, suc, _+_, _-_, _*_, _≤_, _<_}
 use native.Mathlib.Omega.{arith}
 use mathlib.Core.Path.{_≡_, refl, subst, sym, ap, _∙_}
 use mathlib.Core.Bool.{Bool, true, false, cond}
-use mathlib.Core.Option.{Option, none, some}
+use mathlib.Core.Option.{Option, some}
 use mathlib.Core.List.{List, [], _∷_, _++_}
 use borrow.Author.Tests.{le-ltb, lt-leb}
-use lib.Dec.{T, eqb, leb, ltb, lit<}
-use lib.ListN.{length, getD, take, drop, set, length-append, length-drop, length-set, length-replicate}
+use lib.Dec.{eqb, lit<}
+use lib.ListN.{length, getD, drop, set, length-drop, length-set, length-replicate}
 use lib.Seq.{take-all, getD-drop}
 use Rattle.sock.specs.Words.{kindOf, variableOf, nameOf, scopeKey}
-use Rattle.sock.specs.Term.{Expr, Node, node, absent, list, Entries, noParts, _&_, headWord, kind}
-use Rattle.sock.specs.Layout.{words, depth, exprsDepth}
+use Rattle.sock.specs.Term.{Expr, Node, node, absent, list, Entries, noParts, _&_, kind}
+use Rattle.sock.specs.Layout.{words, depth}
 use Rattle.sock.specs.Reading.{code, anywhere}
 use Rattle.sock.specs.Running.{Mark, Run, nil, seq, par, scope, executor, waiter, notice, act, asNode, runWords, size, runDepth, enable}
-use Rattle.sock.specs.Configuration.{standard, Engine, Config, valuesWords, encode, enginesDepth}
+use Rattle.sock.specs.Configuration.{standard, Engine, Config, valuesWords, enginesDepth}
 use Rattle.sock.specs.Calls.{engineAt}
 use Rattle.sock.specs.Evaluation.{valueAt, evaluate, isTrue}
-use Rattle.sock.specs.Frames.{Frame, Located, isDone, seqOf, plug, nearest, onNearest}
+use Rattle.sock.specs.Frames.{Located, isDone, seqOf, plug, nearest, onNearest}
 use Rattle.sock.specs.Handlers.{handler, without, update}
-use Rattle.sock.specs.Rules.{climb, Action, action, Message, reply, Move, stuck, alone, sends, ending, acting, onceDone, moveOf}
+use Rattle.sock.specs.Rules.{climb, action, Message, reply, Move, stuck, alone, sends, ending, acting, onceDone, moveOf}
 use Rattle.sock.proofs.Logic.{all-some}
-use Rattle.sock.proofs.Fits.{Fits, FitsExpr, FitsEntries, AllBelow, FitsEngine, Sound, nilSound, seqSound, parSound, scopeSound, executorSound, waiterSound, noticeSound, actSound, SoundFrames, noFrames, isPlain}
+use Rattle.sock.proofs.Fits.{Fits, FitsExpr, FitsEntries, AllBelow, FitsEngine, Sound, actSound, noFrames}
 use Rattle.sock.proofs.Frames.{Stands, locate-sound}
 use Rattle.sock.proofs.Located.{engine-fits, startOf}
 use Rattle.sock.proofs.Running.{enable-asNode}
@@ -42,7 +42,7 @@ use Rattle.finding.proofs.Within.{within, within-locate}
 use Rattle.finding.proofs.Spots.{Spotted}
 use Rattle.finding.proofs.Edits.{part, process-at}
 use Rattle.rules.specs.declared.turn.Turn.{Turn}
-use Rattle.rules.specs.Turning.{Turned, turned, vanishing, keeping, refused, at, partW, assignW, codeEnd, branchW, levelsLeft, unrollW, repeatW}
+use Rattle.rules.specs.Turning.{turned, vanishing, keeping, refused, at, partW, assignW, codeEnd, branchW, levelsLeft, unrollW, repeatW}
 use Rattle.rules.specs.Planning.{Planned, plainW}
 use Rattle.rules.proofs.Turns.{Becomes, becomes-nil, Outcome, deepens, becomes, assign-turns, branch-turns, repeat-turns}
 use Rattle.rules.proofs.Plans.{done-nil}
@@ -127,8 +127,9 @@ pub words-part : (ws : List ℕ) (i : ℕ) → Words ws → Words (drop i ws)
 words-part ws i ok k = subst (λ (w : ℕ). w < 65536) (sym (getD-drop i ws k 0)) (ok (i + k))
 
 module _ (ws : List ℕ) (ok : Words ws) (n issued : ℕ) (few : n ≤ 8) (small : issued < 65536) (r : Run) (sound : Sound n issued r)
-    (start : ℕ) (words-at : drop start ws ≡ runWords r ++ drop (start + size r) ws) (low : 64 ≤ start) (deep : runDepth r ≤ 64) (short : length ws ≤ 8192)
-    (target : ℕ) (l : Located) (s : Spot) (place : within r start target ≡ some l) (spotted : Spotted (faultAt ws target) target r start 1 l s) where
+    (start : ℕ) (words-at : drop start ws ≡ runWords r ++ drop (start + size r) ws) (low : 64 ≤ start) (deep : runDepth r ≤ 64)
+    (short : length ws ≤ 8192) (target : ℕ) (l : Located) (s : Spot) (place : within r start target ≡ some l)
+    (spotted : Spotted (faultAt ws target) target r start 1 l s) where
   pub near : Near (length ws)
   near = near-below (length ws) 8192 (near-of 8192 (lit< tt)) short
 
@@ -141,7 +142,9 @@ module _ (ws : List ℕ) (ok : Words ws) (n issued : ℕ) (few : n ≤ 8) (small
   rest = process-at (faultAt ws target) target r start 1 l s ws (drop (start + size r) ws) words-at spotted .0
 
   pub part-at : drop (s .at) ws ≡ runWords (l .process) ++ rest
-  part-at = ap (λ i. drop i ws) (spotted .at) ∙ process-at (faultAt ws target) target r start 1 l s ws (drop (start + size r) ws) words-at spotted .1
+  part-at =
+      ap (λ i. drop i ws) (spotted .at)
+      ∙ process-at (faultAt ws target) target r start 1 l s ws (drop (start + size r) ws) words-at spotted .1
 
   -- the process ends within the words
   pub inside : s .at + size (l .process) ≤ length ws
@@ -173,7 +176,8 @@ module _ (ws : List ℕ) (ok : Words ws) (n issued : ℕ) (few : n ≤ 8) (small
     -- what the rule makes, if it moves alone
     abbrev Makes : Planned → Move → Type 0
     Makes u stuck = Unit {0}
-    Makes u (alone vs' q) = Ruled ws start (start + size r) (u .plan) (u .fresh) q × (u .plan .number ≡ 0 → vs' ≡ valued vs (u .plan .x) (u .plan .v))
+    Makes u (alone vs' q) =
+        Ruled ws start (start + size r) (u .plan) (u .fresh) q × (u .plan .number ≡ 0 → vs' ≡ valued vs (u .plan .x) (u .plan .v))
     Makes u (sends m) = Unit {0}
 
     -- no value changes
@@ -182,22 +186,33 @@ module _ (ws : List ℕ) (ok : Words ws) (n issued : ℕ) (few : n ≤ 8) (small
     still u q (a, b) = (a, λ z. rw b)
 
     made-scope : (name : ℕ) (mark : Mark) (zombie : Bool) (h : Entries) (a : Run) → l .process ≡ scope name mark zombie h a →
-        (b : Bool) → isDone a ≡ b → Makes (ruleW ws start s 11 bound fresh) (cond b (alone vs (some (ending name mark zombie h (l .frames)))) stuck)
+        (b : Bool) → isDone a ≡ b →
+        Makes (ruleW ws start s 11 bound fresh) (cond b (alone vs (some (ending name mark zombie h (l .frames)))) stuck)
     unfolding ruleW scopedW
     made-scope name mark zombie h a is false e = tt
     made-scope name mark zombie h a is true e =
-        still _ _ (ends (faultAt ws target) target r start l s ws words-at spotted near (standing .frames) deep (omega arith) ok few small short
-        fresh room big sound name mark zombie h (is ∙ ap (scope name mark zombie h) (done-nil a e)))
+        still _ _ (ends (faultAt ws target) target r start l s ws words-at spotted near (standing .frames) deep (omega arith)
+        ok few small short fresh room big sound name mark zombie h (is ∙ ap (scope name mark zombie h) (done-nil a e)))
 
     made-executor : (b : Bool) (u : Planned) (m : Message) → Makes u (cond b (sends m) stuck)
     made-executor true u m = tt
     made-executor false u m = tt
 
     -- assign, if and while
-    plain-rule : (k : ℕ) → k ≤ 6 → (let t = turnW (drop (s .at) ws) (valuesWords vs) (s .level) k bound fresh in ruleW ws start s k bound fresh ≡ plainW s start (t .turn) (t .fresh))
+    plain-rule : (k : ℕ) → k ≤ 6 →
+        (let t = turnW (drop (s .at) ws) (valuesWords vs) (s .level) k bound fresh in
+        ruleW ws start s k bound fresh ≡ plainW s start (t .turn) (t .fresh))
     unfolding ruleW valuedW
     plain-rule k h =
-        rw (le-ltb 6 k h, le-ltb start 64 low, le-ltb (length ws) start (omega (arith, whole-inside (faultAt ws target) target r start l s ws words-at spotted near (standing .frames) deep)), le-ltb (length ws) (s .at) (omega (arith, inside)), part-lent, values)
+        let fits = whole-inside (faultAt ws target) target r start l s ws words-at spotted near (standing .frames) deep in
+        rw (
+          le-ltb 6 k h,
+          le-ltb start 64 low,
+          le-ltb (length ws) start (omega (arith, fits)),
+          le-ltb (length ws) (s .at) (omega (arith, inside)),
+          part-lent,
+          values,
+        )
 
     -- the process becomes q, and no value changes
     turns : (q : Run) (t : Turn) (made : List ℕ) → length made ≡ length fresh → Becomes (l .process) q t made → t .x ≡ 32 →
@@ -222,9 +237,10 @@ module _ (ws : List ℕ) (ok : Words ws) (n issued : ℕ) (few : n ≤ 8) (small
         let x : ℕ = variableOf h in
         let v : ℕ = evaluate vs e in
         let turn : assignW (drop (s .at) ws) (valuesWords vs) ≡ vanishing x v =
-        assign-turns n issued (drop (s .at) ws) (words-part ws (s .at) ok) few small vs below rest h e g (omega (arith, node-deep m is)) (node-at m is) in
-        let u = becomes-ruled (faultAt ws target) target r start l s ws words-at spotted near (standing .frames) deep nil (vanishing x v) fresh
-        (omega arith) big (becomes-nil (l .process) x v fresh) (omega (arith, depth-nil, level)) in
+        assign-turns n issued (drop (s .at) ws) (words-part ws (s .at) ok) few small vs below rest h e g
+        (omega (arith, node-deep m is)) (node-at m is) in
+        let u = becomes-ruled (faultAt ws target) target r start l s ws words-at spotted near (standing .frames) deep nil
+        (vanishing x v) fresh (omega arith) big (becomes-nil (l .process) x v fresh) (omega (arith, depth-nil, level)) in
         rw (plain-rule 1 (omega arith), turn)
         (u .0, λ z. rw (u .1, u .2, lt-leb 32 x (omega arith)))
 
@@ -246,22 +262,27 @@ module _ (ws : List ℕ) (ok : Words ws) (n issued : ℕ) (few : n ≤ 8) (small
         by false = omega (arith, enabled-depth fq, node-deep (node h [] (e ∷ []) absent (p & q & noParts)) is)
 
     made-repeat : (h : ℕ) (e : Expr) (p : Node) → kindOf h ≡ 5 → FitsExpr e → Fits (code false) anywhere p →
-        Fits (code false) anywhere (node h [] (e ∷ []) absent (p & noParts)) → l .process ≡ act (node h [] (e ∷ []) absent (p & noParts)) →
+        Fits (code false) anywhere (node h [] (e ∷ []) absent (p & noParts)) →
+        l .process ≡ act (node h [] (e ∷ []) absent (p & noParts)) →
         Makes (ruleW ws start s 5 bound fresh)
-        (alone vs (some (plug (l .frames) (cond (isTrue (evaluate vs e)) (seqOf (enable p) (node h [] (e ∷ []) absent (p & noParts))) nil))))
+        (alone vs
+        (some (plug (l .frames) (cond (isTrue (evaluate vs e)) (seqOf (enable p) (node h [] (e ∷ []) absent (p & noParts))) nil))))
     unfolding turnW
     made-repeat h e p k g fp f is =
         let m : Node = node h [] (e ∷ []) absent (p & noParts) in
         let o = repeat-turns n issued (drop (s .at) ws) (words-part ws (s .at) ok) few small vs below rest h k e p g fp
-        (omega (arith, node-deep m is)) (node-at m is) f fresh (omega (arith, length-drop (s .at) ws)) big (s .level) (node-deep m is) level in
+        (omega (arith, node-deep m is)) (node-at m is) f fresh (omega (arith, length-drop (s .at) ws)) big
+        (s .level) (node-deep m is) level in
         rw (plain-rule 5 (omega arith))
-        (by (cond (isTrue (evaluate vs e)) (seqOf (enable p) m) nil) _ _ (repeat-keeps (s .level) bound (drop (s .at) ws) (valuesWords vs) fresh) (rw is o))
+        (by (cond (isTrue (evaluate vs e)) (seqOf (enable p) m) nil) _ _
+        (repeat-keeps (s .level) bound (drop (s .at) ws) (valuesWords vs) fresh) (rw is o))
       where
         by : (q : Run) (t : Turn) (made : List ℕ) → length made ≡ length fresh → Outcome (l .process) (s .level) q t made →
             Makes (plainW s start t made) (alone vs (some (plug (l .frames) q)))
         by q t made same (becomes b x high) = turns q t made same b x high
         by q t made same (deepens a b c d) = (
-          outcome-ruled (faultAt ws target) target r start l s ws words-at spotted near (standing .frames) deep q t made (omega arith) (rw same big)
+          outcome-ruled (faultAt ws target) target r start l s ws words-at spotted near (standing .frames) deep q t made
+              (omega arith) (rw same big)
               (deepens a b c d),
           λ z. absurd (omega (arith, z, a, plain-number s start t made b)),
         )
@@ -271,25 +292,29 @@ module _ (ws : List ℕ) (ok : Words ws) (n issued : ℕ) (few : n ≤ 8) (small
         Makes (ruleW ws start s 12 bound fresh) (alone vs (some (plug (onNearest (λ x. update x new) (l .frames)) nil)))
     unfolding ruleW scopedW
     made-install h new fit is =
-        still _ _ (Installs.installs (faultAt ws target) target r start l s ws words-at spotted near (standing .frames) deep (omega arith) ok few small short
-        fresh room big sound h new is fit)
+        still _ _ (Installs.installs (faultAt ws target) target r start l s ws words-at spotted near (standing .frames) deep (omega arith)
+        ok few small short fresh room big sound h new is fit)
 
     made-throw : (h : ℕ) → kindOf h ≡ 13 → l .process ≡ act (node h [] [] absent noParts) →
         Makes (ruleW ws start s 13 bound fresh) (alone vs (climb (nameOf h) (l .frames) nil))
     unfolding ruleW scopedW
     made-throw h k is =
-        still _ _ (thrown-ruled ws ok n issued few small sound start words-at (omega arith) deep short fresh room big target l s place spotted
-        (node h [] [] absent noParts) is k)
+        still _ _ (thrown-ruled ws ok n issued few small sound start words-at (omega arith) deep short fresh room big target l s
+        place spotted (node h [] [] absent noParts) is k)
 
     made-compensate : (h : ℕ) → l .process ≡ act (node h [] [] absent noParts) →
         Makes (ruleW ws start s 14 bound fresh)
-        (alone vs (some (plug (onNearest (without (scopeKey (nameOf h))) (l .frames)) (enable (handler (scopeKey (nameOf h)) (nearest (l .frames)))))))
+        (alone vs
+        (some (plug (onNearest (without (scopeKey (nameOf h))) (l .frames))
+        (enable (handler (scopeKey (nameOf h)) (nearest (l .frames)))))))
     unfolding ruleW scopedW
     made-compensate h is =
-        still _ _ (Compensates.compensates (faultAt ws target) target r start l s ws words-at spotted near (standing .frames) deep (omega arith) ok few small short
-        fresh room big h is)
+        still _ _
+        (Compensates.compensates (faultAt ws target) target r start l s ws words-at spotted near (standing .frames) deep (omega arith)
+        ok few small short fresh room big h is)
 
-    made-act : (m : Node) → l .process ≡ act m → Fits (code false) anywhere m → Shape m → Makes (ruleW ws start s (kind m) bound fresh) (acting vs (l .frames) m (action m))
+    made-act : (m : Node) → l .process ≡ act m → Fits (code false) anywhere m → Shape m →
+        Makes (ruleW ws start s (kind m) bound fresh) (acting vs (l .frames) m (action m))
     unfolding action acting
     made-act m is f (assigns {h} {e} k g) = rw k (made-assign h e g is)
     made-act m is f (branches {h} {e} {p} {q} k g fp fq) = rw k (made-branch h e p q g fp fq is)
@@ -320,10 +345,12 @@ module _ (ws : List ℕ) (ok : Words ws) (n issued : ℕ) (few : n ≤ 8) (small
         (let u = ruleW ws start s (kind (asNode (l .process))) bound fresh in
         Ruled ws start (start + size r) (u .plan) (u .fresh) q × (u .plan .number ≡ 0 → vs' ≡ valued vs (u .plan .x) (u .plan .v)))
     lone vs' q e =
-        rw (kind-asNode (standing .process)) (subst (Makes (ruleW ws start s (runKind (l .process)) bound fresh)) e (made (l .process) refl (standing .process)))
+        rw (kind-asNode (standing .process))
+        (subst (Makes (ruleW ws start s (runKind (l .process)) bound fresh)) e (made (l .process) refl (standing .process)))
 
 -- in a configuration that is known
-module _ (ws : List ℕ) (ok : Words ws) (starts : Starts) (known : Known standard ws starts) (e : ℕ) (h : e < length (known .config .engines)) where
+module _ (ws : List ℕ) (ok : Words ws) (starts : Starts) (known : Known standard ws starts) (e : ℕ)
+    (h : e < length (known .config .engines)) where
   abbrev c : Config
   c = known .config
 
@@ -348,8 +375,8 @@ module _ (ws : List ℕ) (ok : Words ws) (starts : Starts) (known : Known standa
       (spotted : Spotted (faultAt ws target) target run (startOf c e) 1 l s) where
     pub known-standing : Stands (length (c .engines)) (c .issued) l
     known-standing =
-        standing ws ok (length (c .engines)) (c .issued) (known .readable .fitting .few) (known .readable .fitting .word) run (fit .sound) (startOf c e) run-stands (omega arith)
-        run-deep run-short target l s place spotted
+        standing ws ok (length (c .engines)) (c .issued) (known .readable .fitting .few) (known .readable .fitting .word) run (fit .sound)
+        (startOf c e) run-stands (omega arith) run-deep run-short target l s place spotted
 
     pub known-lone :
         (vs' : List ℕ) (q : Option Run) → moveOf (engineAt c e .values) (l .frames) (l .process) ≡ alone vs' q →
@@ -357,6 +384,7 @@ module _ (ws : List ℕ) (ok : Words ws) (starts : Starts) (known : Known standa
         Ruled ws (startOf c e) (startOf c e + size run) (u .plan) (u .fresh) q
         × (u .plan .number ≡ 0 → vs' ≡ valued (engineAt c e .values) (u .plan .x) (u .plan .v)))
     known-lone =
-        lone ws ok (length (c .engines)) (c .issued) (known .readable .fitting .few) (known .readable .fitting .word) run (fit .sound) (startOf c e) run-stands (omega arith)
-        run-deep run-short target l s place spotted (engineAt c e .values) (fit .bounded) (one-values c (known .readable .fitting) e h ws (known .same))
+        lone ws ok (length (c .engines)) (c .issued) (known .readable .fitting .few) (known .readable .fitting .word) run (fit .sound)
+        (startOf c e) run-stands (omega arith) run-deep run-short target l s place spotted (engineAt c e .values)
+        (fit .bounded) (one-values c (known .readable .fitting) e h ws (known .same))
         blank (omega (arith, blank-length)) blank-near

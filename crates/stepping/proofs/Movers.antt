@@ -1,18 +1,17 @@
 -- Which processes move alone, which send, and which do neither: the code tells them by their kinds.
 -- Assumes nothing.
-use Prim.Native.Nat.{ℕ, zero, suc, _+_, _*_, _/_, _≤_, _<_, max}
+use Prim.Native.Nat.{ℕ, zero, suc, _+_, _*_, _≤_, _<_, max}
 use native.Mathlib.Omega.{arith}
 use mathlib.Core.Path.{_≡_, refl, sym, ap, _∙_}
 use mathlib.Core.Bool.{Bool, true, false, cond}
 use mathlib.Core.Option.{Option, some}
-use mathlib.Core.List.{List, [], _∷_, _++_, append-assoc}
-use borrow.Author.Tests.{eq-eqb, ne-eqb, eqb-true, eqb-false}
+use mathlib.Core.List.{List, _∷_, _++_, append-assoc}
+use borrow.Author.Tests.{ne-eqb, eqb-false}
 use lib.Dec.{eqb}
 use lib.ListN.{length, drop}
 use Rattle.sock.specs.Words.{kindOf}
-use Rattle.sock.specs.Term.{Node, node, Entries, headWord, kind}
-use Rattle.sock.specs.Layout.{count, words, entriesWords, entriesDepth}
-use Rattle.sock.specs.Reading.{code, anywhere}
+use Rattle.sock.specs.Term.{Node, Entries, headWord, kind}
+use Rattle.sock.specs.Layout.{count, entriesWords, entriesDepth}
 use Rattle.sock.specs.Running.{Mark, markedFault, scopeHead, Run, nil, seq, par, scope, executor, waiter, notice, act, asNode, runWords, size, runDepth}
 use Rattle.sock.specs.Configuration.{standard, Config}
 use Rattle.sock.specs.Calls.{engineAt}
@@ -20,18 +19,17 @@ use Rattle.sock.specs.Evaluation.{valueAt}
 use Rattle.sock.specs.Frames.{Located, isDone}
 use Rattle.sock.specs.Rules.{action, Message, reply, Move, stuck, alone, sends, ending, acting, onceDone, moveOf}
 use Rattle.sock.proofs.Fits.{FitsEntries, FitsEngine, Sound, scopeSound, executorSound, actSound}
-use Rattle.sock.proofs.Frames.{Stands}
 use Rattle.sock.proofs.Located.{engine-fits, startOf}
 use Rattle.sock.proofs.Measures.{words-scope, words-executor, size-scope, size-executor, depth-scope}
 use Rattle.sock.proofs.ByKind.{runKind, kind-asNode, done-kind}
-use Rattle.sock.proofs.Positions.{At, at-head, at-past}
+use Rattle.sock.proofs.Positions.{at-head, at-past}
 use Rattle.reading.specs.declared.survey.Starts.{Starts}
 use Rattle.reading.specs.Walk.{processEnd, listEnd}
 use Rattle.reading.proofs.Combining.{Words}
 use Rattle.reading.proofs.Ended.{list-end}
 use Rattle.reading.proofs.Known.{Known}
 use Rattle.moving.specs.Writing.{onward}
-use Rattle.moving.proofs.Laid.{Near, onward-near}
+use Rattle.moving.proofs.Laid.{onward-near}
 use Rattle.finding.specs.declared.find.Spot.{Spot}
 use Rattle.finding.specs.Find.{faultAt}
 use Rattle.finding.proofs.Within.{within}
@@ -81,8 +79,9 @@ head-done {a = a} g = by (isDone a) refl
         ne-eqb (headWord (asNode a)) 0 (λ z. k (sym (kind-asNode g) ∙ ap kindOf z))
 
 module _ (ws : List ℕ) (ok : Words ws) (n issued : ℕ) (few : n ≤ 8) (small : issued < 65536) (r : Run) (sound : Sound n issued r)
-    (start : ℕ) (words-at : drop start ws ≡ runWords r ++ drop (start + size r) ws) (low : 64 ≤ start) (deep : runDepth r ≤ 64) (short : length ws ≤ 8192)
-    (target : ℕ) (l : Located) (s : Spot) (place : within r start target ≡ some l) (spotted : Spotted (faultAt ws target) target r start 1 l s) (vs : List ℕ) where
+    (start : ℕ) (words-at : drop start ws ≡ runWords r ++ drop (start + size r) ws) (low : 64 ≤ start) (deep : runDepth r ≤ 64)
+    (short : length ws ≤ 8192) (target : ℕ) (l : Located) (s : Spot) (place : within r start target ≡ some l)
+    (spotted : Spotted (faultAt ws target) target r start 1 l s) (vs : List ℕ) where
   abbrev bound : ℕ
   bound = n * 65536 + issued
 
@@ -99,7 +98,10 @@ module _ (ws : List ℕ) (ok : Words ws) (n issued : ℕ) (few : n ≤ 8) (small
   shallow = omega (arith, process-deep ws ok n issued few small r sound start words-at low deep short target l s place spotted)
 
   onward-at : (k : ℕ) → k ≤ size (l .process) → onward (s .at) k ≡ s .at + k
-  onward-at k h = onward-near (s .at) k (length ws) (near ws ok n issued few small r sound start words-at low deep short target l s place spotted) (omega (arith, within-words))
+  onward-at k h =
+      onward-near (s .at) k (length ws)
+      (near ws ok n issued few small r sound start words-at low deep short target l s place spotted)
+      (omega (arith, within-words))
 
   -- a part that is done begins with the word 0
   at-done : (a : Run) (i : ℕ) (rest : List ℕ) → Sound n issued a → drop i ws ≡ runWords a ++ rest → eqb (at ws i) 0 ≡ isDone a
@@ -107,8 +109,9 @@ module _ (ws : List ℕ) (ok : Words ws) (n issued : ℕ) (few : n ≤ 8) (small
   at-done a i rest g e = ap (λ w. eqb w 0) (head-on ws i (asNode a) rest e) ∙ head-done g
 
   -- a scope's body
-  body-done : (name : ℕ) (mark : Mark) (zombie : Bool) (h : Entries) (a : Run) → l .process ≡ scope name mark zombie h a → FitsEntries true zero h → Sound n issued a →
-      bodyNil bound ws (s .at) ≡ isDone a
+  body-done :
+      (name : ℕ) (mark : Mark) (zombie : Bool) (h : Entries) (a : Run) → l .process ≡ scope name mark zombie h a →
+      FitsEntries true zero h → Sound n issued a → bodyNil bound ws (s .at) ≡ isDone a
   unfolding bodyNil
   body-done name mark zombie h a is f g =
       let i : ℕ = s .at in
@@ -124,13 +127,17 @@ module _ (ws : List ℕ) (ok : Words ws) (n issued : ℕ) (few : n ≤ 8) (small
       let ends : listEnd (processEnd 64 ws bound) ws 0 128 (i + 1 + 1) ≡ i + 1 + 1 + 1 + length (entriesWords h) =
       list-end ws ok bound true f 64 (i + 1 + 1) (omega (arith, shallow)) (runWords a ++ more) (second .next) in
       let third = at-head ws (i + 1 + 1) _ _ (second .next) in
-      rw (two, ends) (at-done a (i + 1 + 1 + 1 + length (entriesWords h)) more g (at-past ws (entriesWords h) (runWords a ++ more) (i + 1 + 1 + 1) (third .next)))
+      rw (two, ends) (at-done a (i + 1 + 1 + 1 + length (entriesWords h)) more g
+      (at-past ws (entriesWords h) (runWords a ++ more) (i + 1 + 1 + 1) (third .next)))
 
   -- and an executor's
-  work-done : (o y client serial : ℕ) (a : Run) → l .process ≡ executor o y client serial a → Sound n issued a → eqb (at ws (onward (s .at) 3)) 0 ≡ isDone a
+  work-done :
+      (o y client serial : ℕ) (a : Run) → l .process ≡ executor o y client serial a → Sound n issued a →
+      eqb (at ws (onward (s .at) 3)) 0 ≡ isDone a
   work-done o y client serial a is g =
       let i : ℕ = s .at in
-      let e : drop i ws ≡ _ ∷ _ ∷ _ ∷ (runWords a ++ more) = stands ∙ ap (λ w. w ++ more) (ap runWords is ∙ words-executor o y client serial a) in
+      let e : drop i ws ≡ _ ∷ _ ∷ _ ∷ (runWords a ++ more) =
+      stands ∙ ap (λ w. w ++ more) (ap runWords is ∙ words-executor o y client serial a) in
       let first = at-head ws i _ _ e in
       let second = at-head ws (i + 1) _ _ (first .next) in
       let third = at-head ws (i + 1 + 1) _ _ (second .next) in
@@ -157,19 +164,25 @@ module _ (ws : List ℕ) (ok : Words ws) (n issued : ℕ) (few : n ≤ 8) (small
   moves nil is g = stays
   moves (seq a q) is g = stays
   moves (par a b) is g = stays
-  moves (scope name mark zombie h a) is (scopeSound x y f g) = rw (body-done name mark zombie h a is f g) (once-moving (isDone a) (alone vs (some (ending name mark zombie h (l .frames)))) 1 goes)
-  moves (executor o y client serial a) is (executorSound x z t g) = rw (work-done o y client serial a is g) (once-moving (isDone a) (sends (reply o (valueAt vs y) client serial)) 2 asks)
+  moves (scope name mark zombie h a) is (scopeSound x y f g) =
+      rw (body-done name mark zombie h a is f g)
+      (once-moving (isDone a) (alone vs (some (ending name mark zombie h (l .frames)))) 1 goes)
+  moves (executor o y client serial a) is (executorSound x z t g) =
+      rw (work-done o y client serial a is g)
+      (once-moving (isDone a) (sends (reply o (valueAt vs y) client serial)) 2 asks)
   moves (waiter o x dead server serial q) is g = stays
   moves (notice o f client serial) is g = asks
   moves (act m) is (actSound i f) = act-moves m (shape i f)
 
   pub moving : Moving (moveOf vs (l .frames) (l .process)) (movesW (n * 65536 + issued) ws (s .at) (kind (asNode (l .process))))
   moving =
-      let g : Sound n issued (l .process) = standing ws ok n issued few small r sound start words-at low deep short target l s place spotted .process in
+      let g : Sound n issued (l .process) =
+      standing ws ok n issued few small r sound start words-at low deep short target l s place spotted .process in
       rw (kind-asNode g) (moves (l .process) refl g)
 
 -- in a configuration that is known
-module _ (ws : List ℕ) (ok : Words ws) (starts : Starts) (known : Known standard ws starts) (e : ℕ) (h : e < length (known .config .engines))
+module _ (ws : List ℕ) (ok : Words ws) (starts : Starts) (known : Known standard ws starts) (e : ℕ)
+    (h : e < length (known .config .engines))
     (target : ℕ) (l : Located) (s : Spot) (place : within (engineAt (known .config) e .process) (startOf (known .config) e) target ≡ some l)
     (spotted : Spotted (faultAt ws target) target (engineAt (known .config) e .process) (startOf (known .config) e) 1 l s) where
   abbrev c : Config
@@ -180,6 +193,7 @@ module _ (ws : List ℕ) (ok : Words ws) (starts : Starts) (known : Known standa
       (movesW (length (c .engines) * 65536 + c .issued) ws (s .at) (kind (asNode (l .process))))
   known-moving =
       let fit : FitsEngine (length (c .engines)) (c .issued) (engineAt c e) = engine-fits _ (known .readable .fitting .engines) e h in
-      moving ws ok (length (c .engines)) (c .issued) (known .readable .fitting .few) (known .readable .fitting .word) (engineAt c e .process) (fit .sound)
+      moving ws ok (length (c .engines)) (c .issued) (known .readable .fitting .few) (known .readable .fitting .word)
+      (engineAt c e .process) (fit .sound)
       (startOf c e) (run-stands ws ok starts known e h) (omega arith) (run-deep ws ok starts known e h) (run-short ws ok starts known e h)
       target l s place spotted (engineAt c e .values)

@@ -108,6 +108,10 @@ module _ (ws : List ℕ) (ok : Words ws) (s : Starts) (known : Known standard ws
     pub found-shallow : runDepth (l .process) ≤ 64
     found-shallow = omega (arith, engine-shallow, sym (wrap-depth (l .frames) (l .process)) ∙ ap runDepth (spotted .wraps))
 
+    -- with the frames around it
+    pub found-deep : length (l .frames) + runDepth (l .process) ≤ 64
+    found-deep = omega (arith, engine-shallow, sym (wrap-depth (l .frames) (l .process)) ∙ ap runDepth (spotted .wraps))
+
     abbrev pub behind : List ℕ
     behind =
         process-at (faultAt ws target) target r (startOf c e) 1 l sp ws (wordsAfter c e)

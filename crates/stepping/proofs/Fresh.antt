@@ -1,0 +1,120 @@
+-- The fresh words of an exchange: how many at most, and that the scratch keeps its length.
+-- Assumes nothing.
+use Prim.Native.Nat.{ℕ, _+_, _%_, _≤_, _<_}
+use native.Mathlib.Omega.{arith}
+use mathlib.Core.Path.{_≡_, refl, sym, ap, _∙_}
+use mathlib.Core.Bool.{Bool, true, false, cond}
+use mathlib.Core.List.{List}
+use lib.Dec.{eqb, leb, lit<}
+use lib.ListN.{length, getD, set, length-set, length-replicate}
+use Rattle.moving.specs.Writing.{onward}
+use Rattle.moving.proofs.Laid.{Near, near-of}
+use Rattle.rules.specs.declared.pair.Offer.{Offer}
+use Rattle.rules.specs.declared.turn.Turn.{Turn}
+use Rattle.finding.specs.declared.find.Spot.{Spot}
+use Rattle.moving.specs.Evaluating.{valueIn}
+use Rattle.rules.specs.Turning.{Turned, turned, vanishing, keeping, partW}
+use Rattle.rules.specs.Offering.{Placed, placed, throwHead, runEnd, hearW, seqFirst, threeTo, threeW, serveW, askW, answerW, failW}
+use Rattle.rules.specs.Planning.{Planned, planned, hollowW, nilW, plainW}
+use Rattle.rules.proofs.Exchanges.{three-to, first-place}
+use Rattle.stepping.specs.Exchanging.{blank}
+use Rattle.stepping.specs.Meeting.{sendW, receiveW}
+
+pub blank-length : length blank ≡ 16384
+blank-length = length-replicate {A = ℕ} 16384 0
+
+pub blank-near : Near (length blank)
+blank-near = rw blank-length (near-of 16384 (lit< tt))
+
+three-length : (fresh : List ℕ) (to a b c : ℕ) → length (threeW fresh to a b c) ≡ length fresh
+unfolding threeW
+three-length fresh to a b c =
+    length-set (set (set fresh to a) (onward to 1) b) (onward (onward to 1) 1) c ∙ (length-set (set fresh to a) (onward to 1) b ∙ length-set fresh to a)
+
+first-length : (next : ℕ) (fresh : List ℕ) → length (seqFirst next fresh .fresh) ≡ length fresh
+unfolding seqFirst
+first-length next fresh = by (eqb next 0)
+  where
+    by : (b : Bool) → length (cond b (placed 0 fresh) (placed (onward 0 1) (set fresh 0 4096)) .fresh) ≡ length fresh
+    by true = refl
+    by false = length-set fresh 0 4096
+
+first-to : (next : ℕ) (fresh : List ℕ) → seqFirst next fresh .to ≤ 1
+unfolding seqFirst
+first-to next fresh = by (eqb next 0)
+  where
+    by : (b : Bool) → cond b (placed 0 fresh) (placed (onward 0 1) (set fresh 0 4096)) .to ≤ 1
+    by true = omega arith
+    by false = omega (arith, first-place)
+
+-- a turn with few fresh words, in scratch of the same length
+abbrev Few : Turned → List ℕ → Type 0
+Few t fresh = (t .turn .fresh ≤ 4) × (length (t .fresh) ≡ length fresh)
+
+module _ (fresh : List ℕ) (near : Near (length fresh)) (room : 4 ≤ length fresh) where
+  pub send-few : (bound : ℕ) (ws : List ℕ) (kind server serial : ℕ) → Few (sendW bound ws kind server serial fresh) fresh
+  unfolding sendW askW
+  send-few bound ws kind server serial = by (eqb kind 10)
+    where
+      by : (b : Bool) → Few (cond b (askW bound ws server serial fresh) (turned (vanishing 32 0) fresh)) fresh
+      by true = (omega (arith, three-to fresh 0 near (omega arith)), three-length fresh 0 _ _ _)
+      by false = (omega arith, refl)
+
+  hear-few : (ws : List ℕ) (o : Offer) (v : ℕ) → hearW ws o v .fresh ≤ 4
+  unfolding hearW partW
+  hear-few ws o v = by (eqb (o .next) 0) (eqb (getD ws (o .next) 0) 0)
+    where
+      by : (a b : Bool) → cond a (vanishing (getD ws (o .guard) 0 % 32) v) (cond b (vanishing (getD ws (o .guard) 0 % 32) v) (keeping 0 (o .next) (o .upto) (o .end) (getD ws (o .guard) 0 % 32) v)) .fresh ≤ 4
+      by true b = omega arith
+      by false true = omega arith
+      by false false = omega arith
+
+  serve-few : (ws : List ℕ) (o : Offer) (client serial v : ℕ) → Few (serveW ws o client serial v fresh) fresh
+  unfolding serveW
+  serve-few ws o client serial v =
+      let l = first-length (o .next) fresh in
+      let t = first-to (o .next) fresh in
+      let n = three-to (seqFirst (o .next) fresh .fresh) (seqFirst (o .next) fresh .to) (rw l near) (omega arith) in
+      (omega arith, three-length _ _ _ _ _ ∙ l)
+
+  fail-few : (bound : ℕ) (ws : List ℕ) (w : ℕ) → Few (failW bound ws w fresh) fresh
+  unfolding failW
+  fail-few bound ws w = by (leb 32768 (getD ws 1 0))
+    where
+      by :
+          (b : Bool) →
+          Few (cond b (turned (vanishing 32 0) fresh) (turned (keeping (onward 0 1) (runEnd bound ws) (runEnd bound ws) (runEnd bound ws) 32 0) (set fresh 0 (throwHead w)))) fresh
+      by true = (omega arith, refl)
+      by false = (omega (arith, first-place), length-set fresh 0 _)
+
+  pub receive-few : (bound : ℕ) (ws vs other : List ℕ) (o : Offer) (kind client serial : ℕ) → Few (receiveW bound ws vs other o kind client serial fresh) fresh
+  unfolding receiveW answerW
+  receive-few bound ws vs other o kind client serial = by (eqb kind 9) (eqb kind 10) (eqb kind 16)
+    where
+      by :
+          (a b d : Bool) →
+          Few (cond a (turned (hearW other o (valueIn vs (getD ws 0 0 % 32))) fresh)
+          (cond b (serveW other o client serial (valueIn vs (getD ws 0 0 % 32)) fresh)
+          (cond d (answerW bound other (valueIn vs (getD ws 0 0 % 32)) fresh) (failW bound other (getD ws 1 0) fresh)))) fresh
+      by true b d = (hear-few other o _, refl)
+      by false true d = serve-few other o client serial _
+      by false false true = (omega (arith, first-place), length-set fresh 0 24576)
+      by false false false = fail-few bound other _
+
+  -- a plan made of such a turn
+  pub plain-few : (s : Spot) (start : ℕ) (t : Turn) → t .fresh ≤ 4 → plainW s start t fresh .plan .g ≤ 8192
+  unfolding plainW nilW hollowW
+  plain-few s start t h = by (t .nil) (s .hollow)
+    where
+      by :
+          (a b : Bool) →
+          cond a
+          (planned
+          (record { number = 0; l = start; m = start; f = 0; a = s .a; b = s .b; g = cond b (placed (onward 0 1) (set fresh 0 0)) (placed 0 fresh) .to; c = s .c; d = s .d; x = t .x; v = t .v })
+          (cond b (placed (onward 0 1) (set fresh 0 0)) (placed 0 fresh) .fresh))
+          (planned
+          (record { number = t .number; l = start; m = start; f = 0; a = s .at; b = onward (s .at) (t .from); g = t .fresh; c = onward (s .at) (t .upto); d = onward (s .at) (t .end); x = t .x; v = t .v })
+          fresh) .plan .g ≤ 8192
+      by true true = omega (arith, first-place)
+      by true false = omega arith
+      by false b = omega arith
