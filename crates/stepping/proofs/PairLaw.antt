@@ -8,6 +8,7 @@ use mathlib.Core.Bool.{Bool, true, false, cond}
 use mathlib.Core.Option.{Option, none, some}
 use mathlib.Core.List.{List, [], _∷_, _++_}
 use borrow.Author.Tests.{eq-eqb, ne-eqb, lt-ltb, le-ltb, ltb-true, ltb-false, eqb-true, eqb-false}
+use lib.Arith.{lt-of-le-ne}
 use lib.Dec.{ltb, eqb}
 use lib.ListN.{length, getD, drop, set}
 use lib.Seq.{set-comm}
@@ -32,7 +33,7 @@ use Rattle.rules.specs.declared.plan.Plan.{Plan}
 use Rattle.rules.specs.Turning.{Turned, at}
 use Rattle.rules.specs.Offering.{offerW}
 use Rattle.rules.specs.Planning.{Planned, plainW}
-use Rattle.rules.proofs.Turns.{Becomes}
+use Rattle.rules.proofs.Turns.{Becomes, both-ways}
 use Rattle.rules.proofs.Plans.{Plans, plain-plans}
 use Rattle.rules.proofs.Outcomes.{Ruled, tooDeep, ruled, becomes-ruled}
 use Rattle.rules.proofs.Exchanges.{Takes}
@@ -96,3 +97,97 @@ module _ (ws : List ℕ) (ok : Words ws) (s : Starts) (known : Known standard ws
         by : {p : Plan} {f : List ℕ} → Ruled ws (startOf c e) (end e) p f (some (plug (l .frames) q)) → p .number ≡ 0 → runDepth (plug (l .frames) q) ≤ 64
         by (tooDeep z d) y = absurd (omega arith)
         by (ruled z plans d) y = d
+
+  -- ---- an exchange carried out
+
+  same-stepped :
+      {i1 i2 k1 k2 s1 s2 f1 f2 : ℕ} {e1 e2 : List Engine} → i1 ≡ i2 → e1 ≡ e2 → k1 ≡ k2 → s1 ≡ s2 → f1 ≡ f2 → (out : List ℕ) →
+      given (fitted (length out) (record { config = record { issued = i1; engines = e1 }; kind = k1; serial = s1; fault = f1 })) out
+      ≡ given (fitted (length out) (record { config = record { issued = i2; engines = e2 }; kind = k2; serial = s2; fault = f2 })) out
+  same-stepped a b d e f out = rw (a, b, d, e, f)
+
+  starts-at : (e : ℕ) → e < length (c .engines) → (getD (s .starts) e 0 ≡ startOf c e) × (getD (s .starts) (e + 1) 0 - 64 ≡ end e)
+  starts-at e h =
+      let y : getD (s .starts) (e + 1) 0 ≡ startOf c (e + 1) = known .starts (e + 1) (omega arith) in
+      let z = start-next c (known .readable .fitting) e h in
+      (known .starts e (omega arith), omega arith)
+
+  module _ (e : ℕ) (he : e < length (c .engines)) (i : ℕ) (hi : i < length (c .engines)) (other : e ≡ i → ⊥) (p : Plan) (f : List ℕ) (qa : Run)
+      (plansA : Plans ws (startOf c e) (end e) p f qa) (deepA : runDepth qa ≤ 64) (fewA : p .g ≤ 8192) (r : Plan) (g : List ℕ) (qb : Run)
+      (plansB : Plans ws (startOf c i) (end i) r g qb) (deepB : runDepth qb ≤ 64) (fewB : r .g ≤ 8192) (issued : ℕ) (fine : issued ≤ 65535) (told : Answer) (out : List ℕ) where
+    abbrev va : List ℕ
+    va = valued (engineAt c e .values) (p .x) (p .v)
+
+    abbrev vb : List ℕ
+    vb = valued (engineAt c i .values) (r .x) (r .v)
+
+    ordered-law :
+        orderedW ws (s .starts) e i p f r g issued told out
+        ≡ given
+        (fitted (length out)
+        (record {
+          config = record { issued = issued; engines = withEngine i vb qb (withEngine e va qa (c .engines)) };
+          kind = told .kind;
+          serial = told .serial;
+          fault = told .fault;
+        }))
+        out
+    unfolding orderedW
+    ordered-law =
+        rw (starts-at e he .0, starts-at e he .1, starts-at i hi .0, starts-at i hi .1) (by (ltb e i) refl)
+      where
+        by :
+            (b : Bool) → ltb e i ≡ b →
+            cond b (twoW ws (startOf c e) (end e) p f (startOf c i) (end i) r g issued told out) (twoW ws (startOf c i) (end i) r g (startOf c e) (end e) p f issued told out)
+            ≡ given
+            (fitted (length out)
+            (record {
+              config = record { issued = issued; engines = withEngine i vb qb (withEngine e va qa (c .engines)) };
+              kind = told .kind;
+              serial = told .serial;
+              fault = told .fault;
+            }))
+            out
+        by true z =
+            two-given c (known .readable .fitting) (known .readable .shallow) ws (known .same) short e i (ltb-true e i z) hi p f qa plansA r g qb plansB issued told out fine deepA deepB
+            fewA fewB
+        by false z =
+            let low : i < e = (let y : i ≤ e = ltb-false e i z in lt-of-le-ne y (λ w. other (sym w))) in
+            two-given c (known .readable .fitting) (known .readable .shallow) ws (known .same) short i e low he r g qb plansB p f qa plansA issued told out fine deepB deepA
+            fewB fewA
+            ∙ same-stepped refl (set-comm (c .engines) i e _ _ (λ w. other (sym w))) refl refl refl out
+
+  -- the serials of an exchange that finds one
+  module _ (part : List ℕ) (kind : ℕ) (left : spentW ws kind ≡ false) where
+    next-serial : serialW part kind (nextOf (at ws 1)) ≡ serialW part kind (suc (c .issued))
+    unfolding serialW spentW nextOf
+    next-serial = by (eqb kind 9) (eqb kind 10) (eqb (at ws 1) 65535) left refl
+      where
+        by :
+            (a b d : Bool) → cond b d false ≡ false → eqb (at ws 1) 65535 ≡ d →
+            cond a 0 (cond b (cond d (at ws 1) (at ws 1 + 1)) (at part 2)) ≡ cond a 0 (cond b (suc (c .issued)) (at part 2))
+        by true b d q z = refl
+        by false false d q z = refl
+        by false true true q z = absurd (both-ways true refl q)
+        by false true false q z = (let y = known-issued known in omega arith)
+
+    next-issued : issuedOf kind (at ws 1) (nextOf (at ws 1)) ≡ issuedOf kind (c .issued) (suc (c .issued))
+    unfolding issuedOf spentW nextOf
+    next-issued = by (eqb kind 10) (eqb (at ws 1) 65535) left refl
+      where
+        by : (b d : Bool) → cond b d false ≡ false → eqb (at ws 1) 65535 ≡ d → cond b (cond d (at ws 1) (at ws 1 + 1)) (at ws 1) ≡ cond b (suc (c .issued)) (c .issued)
+        by false d q z = known-issued known
+        by true true q z = absurd (both-ways true refl q)
+        by true false q z = (let y = known-issued known in omega arith)
+
+    issued-fine : issuedOf kind (c .issued) (suc (c .issued)) ≤ 65535
+    unfolding issuedOf spentW
+    issued-fine = by (eqb kind 10) (eqb (at ws 1) 65535) left refl
+      where
+        by : (b d : Bool) → cond b d false ≡ false → eqb (at ws 1) 65535 ≡ d → cond b (suc (c .issued)) (c .issued) ≤ 65535
+        by false d q z = omega (arith, known .readable .fitting .word)
+        by true true q z = absurd (both-ways true refl q)
+        by true false q z =
+            let y = known-issued known in
+            let w : c .issued ≡ 65535 → ⊥ = λ u. eqb-false (at ws 1) 65535 z (y ∙ u) in
+            lt-of-le-ne (omega (arith, known .readable .fitting .word)) w
