@@ -3,7 +3,7 @@
 use Prim.Native.Nat.{ℕ, zero, suc, _+_, _-_, _*_, _/_, _%_, _≤_, _<_}
 use native.Mathlib.Omega.{arith}
 use native.Mathlib.Decide.{ℕ-discrete}
-use mathlib.Core.Path.{_≡_, refl, sym, ap, _∙_}
+use mathlib.Core.Path.{_≡_, refl, sym, ap, ap₂, _∙_}
 use mathlib.Core.Bool.{Bool, true, false, cond}
 use mathlib.Core.Option.{Option, none, some}
 use mathlib.Core.List.{List, [], _∷_, _++_}
@@ -191,3 +191,51 @@ module _ (ws : List ℕ) (ok : Words ws) (s : Starts) (known : Known standard ws
             let y = known-issued known in
             let w : c .issued ≡ 65535 → ⊥ = λ u. eqb-false (at ws 1) 65535 z (y ∙ u) in
             lt-of-le-ne (omega (arith, known .readable .fitting .word)) w
+
+  -- ---- two processes found
+
+  module _ (e ta : ℕ) (la : Located) (sa : Spot) (seenA : Seen ws ok s known e ta la sa) (i tb : ℕ) (lb : Located) (sb : Spot) (seenB : Seen ws ok s known i tb lb sb)
+      (k : Numbers) (m : Message) (moves : moveOf (engineAt c e .values) (la .frames) (la .process) ≡ sends m) (low : kind (asNode (la .process)) < 32) (out : List ℕ) where
+    abbrev a : Place
+    a = placed ws ok s known e la
+
+    abbrev b : Place
+    b = placed ws ok s known i lb
+
+    abbrev kd : ℕ
+    kd = kind (asNode (la .process))
+
+    abbrev part : List ℕ
+    part = lent (sa .at) (length ws) ws
+
+    abbrev values : List ℕ
+    values = lent (startOf c e - 64) (startOf c e) ws
+
+    abbrev rest : List ℕ
+    rest = lent (sb .at) (length ws) ws
+
+    abbrev serial : ℕ
+    serial = serialW part kd (suc (c .issued))
+
+    unchanged : (vs : List ℕ) (x v : ℕ) → x ≡ 32 → valued vs x v ≡ vs
+    unchanged vs x v q = rw q
+
+    carry-law :
+        (other : e ≡ i → ⊥) (x : Exchange) → spentW ws kd ≡ false →
+        Trades (la .process) (lb .process) (engineAt c i .values) (issuedOf kd (c .issued) (suc (c .issued))) serial (faultOf kd) (sendW bound part kd i serial blank)
+        (receiveW bound part values rest (offerW bound rest (k .branch)) kd e serial blank) x →
+        carryW ws part values rest (offerW bound rest (k .branch)) (s .starts) e i sa sb kd bound out ≡ given (fitted (length out) (exchanged c a b x)) out
+    unfolding carryW senderW receiverW
+    carry-law other x left t =
+        let few1 = send-few blank blank-near (omega (arith, blank-length)) bound part kd i serial in
+        let few2 = receive-few blank blank-near (omega (arith, blank-length)) bound part values rest (offerW bound rest (k .branch)) kd e serial in
+        let p1 = turned-plans e ta la sa seenA (x .sender) _ _ (few1 .1 ∙ blank-length) (few1 .0) (t .sender .becomes) (t .sender .shallow) in
+        let p2 = turned-plans i tb lb sb seenB (x .receiver) _ _ (few2 .1 ∙ blank-length) (few2 .0) (t .receiver) (t .shallow) in
+        rw (next-serial part kd left, next-issued part kd left, starts-at e (seenA .inside) .0, starts-at i (seenB .inside) .0)
+        (ordered-law e (seenA .inside) i (seenB .inside) other _ _ (plug (la .frames) (x .sender)) (p1 .plans) (p1 .deep) (p1 .few) _ _ (plug (lb .frames) (x .receiver)) (p2 .plans)
+        (p2 .deep) (p2 .few) (issuedOf kd (c .issued) (suc (c .issued))) (issued-fine part kd left) (accepting (kd % 32) serial (faultOf kd) 0) out
+        ∙ same-stepped (sym (t .issues))
+        (ap₂ (λ (vs us : List ℕ). withEngine i vs (plug (lb .frames) (x .receiver)) (withEngine e us (plug (la .frames) (x .sender)) (c .engines)))
+        (ap₂ (λ (y w : ℕ). valued (engineAt c i .values) y w) (p2 .x) (p2 .v) ∙ sym (t .values))
+        (unchanged (engineAt c e .values) _ _ (p1 .x ∙ t .sender .takes)))
+        (let z : kd % 32 ≡ kd = omega arith in z) (sym (t .numbers)) (sym (t .fails)) out)
