@@ -239,3 +239,62 @@ module _ (ws : List ℕ) (ok : Words ws) (s : Starts) (known : Known standard ws
         (ap₂ (λ (y w : ℕ). valued (engineAt c i .values) y w) (p2 .x) (p2 .v) ∙ sym (t .values))
         (unchanged (engineAt c e .values) _ _ (p1 .x ∙ t .sender .takes)))
         (let z : kd % 32 ≡ kd = omega arith in z) (sym (t .numbers)) (sym (t .fails)) out)
+
+    -- where no serial is left
+    spent-law :
+        (x : Exchange) → spentW ws kd ≡ true → x .issued ≡ issuedOf kd (c .issued) (suc (c .issued)) →
+        answered (refusing 7) out ≡ given (fitted (length out) (exchanged c a b x)) out
+    unfolding spentW issuedOf
+    spent-law x full q = sym (fitted-spent (exchanged c a b x) out (by (eqb kd 10) (eqb (at ws 1) 65535) full refl q))
+      where
+        by :
+            (y z : Bool) → cond y z false ≡ true → eqb (at ws 1) 65535 ≡ z → x .issued ≡ cond y (suc (c .issued)) (c .issued) → 65535 < x .issued
+        by true true f g h = omega (arith, eqb-true (at ws 1) 65535 g, known-issued known)
+        by true false f g h = absurd (both-ways false f refl)
+        by false z f g h = absurd (both-ways false f refl)
+
+    meet-law :
+        (other : e ≡ i → ⊥) →
+        meetW ws part values rest (s .starts) e i sa sb kd (k .branch) bound out ≡ given (pairOf c k a b m (length out)) out
+    unfolding meetW
+    meet-law other =
+        by (exchange (c .issued) e i (k .branch) (engineAt c i .values) (lb .process) m) refl
+        (partners.partners-trade ws ok s known e (seenA .inside) ta la sa (seenA .spotted) i (seenB .inside) tb lb sb (seenB .spotted) (k .branch) m moves)
+      where
+        by :
+            (o : Option Exchange) → exchange (c .issued) e i (k .branch) (engineAt c i .values) (lb .process) m ≡ o →
+            Pairs bound (c .issued) e i (k .branch) (la .process) (lb .process) (engineAt c i .values) part values rest kd blank o →
+            cond (fitW part values rest (offerW bound rest (k .branch)) kd (k .branch) e i)
+            (cond (spentW ws kd) (answered (refusing 7) out) (carryW ws part values rest (offerW bound rest (k .branch)) (s .starts) e i sa sb kd bound out))
+            (answered (refusing 5) out)
+            ≡ given (pairOf c k a b m (length out)) out
+        by none q (misfit z) = rw (z, pair-none c k a (length out) b m other q) (sym (given-refused noFit out))
+        by (some x) q (fit z t) = rw (z, pair-some c k a (length out) b m other x q) (spend (spentW ws kd) refl)
+          where
+            spend :
+                (y : Bool) → spentW ws kd ≡ y →
+                cond y (answered (refusing 7) out) (carryW ws part values rest (offerW bound rest (k .branch)) (s .starts) e i sa sb kd bound out)
+                ≡ given (fitted (length out) (exchanged c a b x)) out
+            spend true f = spent-law x f (t .issues)
+            spend false f = carry-law other x f t
+
+    -- the answer and the output of a step between two
+    pub pair-law : betweenW ws (s .starts) e i sa sb kd (k .branch) bound out ≡ given (pairOf c k a b m (length out)) out
+    unfolding betweenW
+    pair-law = by (ℕ-discrete e i)
+      where
+        start-low : startOf c e ≤ length ws
+        start-low = omega (arith, one-length c (known .readable .fitting) e (seenA .inside) ws (known .same))
+
+        by : Dec (e ≡ i) → betweenW ws (s .starts) e i sa sb kd (k .branch) bound out ≡ given (pairOf c k a b m (length out)) out
+        by (yes q) = rw (eq-eqb e i q, pair-same c k a (length out) b m q) (sym (given-refused noFit out))
+        by (no q) =
+            rw (
+              ne-eqb e i q,
+              starts-at e (seenA .inside) .0,
+              le-ltb (startOf c e) 64 (omega arith),
+              le-ltb (length ws) (startOf c e) start-low,
+              le-ltb (length ws) (sa .at) (partners.found-inside ws ok s known e (seenA .inside) ta la sa (seenA .spotted)),
+              le-ltb (length ws) (sb .at) (partners.found-inside ws ok s known i (seenB .inside) tb lb sb (seenB .spotted)),
+            )
+            (meet-law q)
