@@ -12,12 +12,12 @@ use Rattle.sock.specs.Running.{Run, runDepth}
 use Rattle.sock.specs.Configuration.{Limits, standard, Engine, Config, encode, enginesDepth}
 use Rattle.sock.specs.Calls.{Refusal, serialsSpent, deep, long, short, Result, refused, done, _>>=_, _>>_, _!_, _unless_, Stepped, answerOf, outputOf, over, withEngine, number}
 use Rattle.stepping.specs.declared.answer.Answer.{Answer}
-use Rattle.stepping.specs.Answers.{stepped}
+use Rattle.stepping.specs.Answers.{answerAs}
 use Rattle.stepping.specs.Answering.{Answered, answered, refusing, accepting, lengthOf}
 
 -- the answer and the output of a result
 abbrev pub given : Result Stepped → List ℕ → Answered
-given r out = answered (stepped (answerOf r)) (outputOf r out)
+given r out = answered (answerAs (answerOf r)) (outputOf r out)
 
 -- the tests of what a rule makes
 unfoldable pub fitted : ℕ → Stepped → Result Stepped

@@ -2,6 +2,7 @@ pub mod Carrying
 pub mod Fresh
 pub mod Given
 pub mod Goal
+pub mod Law
 pub mod Lone
 pub mod LoneLaw
 pub mod Movers

@@ -13,6 +13,9 @@ use reading::survey::survey;
 use rules::turn::word;
 ghost use mathlib.Core.Path.{_≡_};
 ghost use Prim.Native.Nat.{_≤_, _<_};
+ghost use Rattle.sock.specs.Configuration.{standard};
+ghost use Rattle.sock.specs.Calls.{stepAnswer, stepOutput};
+ghost use Rattle.stepping.specs.Answers.{answerAs, numbers};
 ghost use Rattle.stepping.specs.Stepping.{bodyNil, byKind, movesW, receivingW, noneElse, movingW, stepW};
 
 // Whether the body of the scope at a position is nil.
@@ -196,4 +199,20 @@ fn stepped(
         Found::Past(p) => refuse(2),
         Found::Hit(a) => moving(ws, starts, n, engine, a, second, place, branch, bound, out),
     }
+}
+
+// The call step: from a configuration's words and the five numbers to the answer and, where it is accepted, the next configuration's
+// words in the output. A refusal changes no word of the output, and words behind the result stay.
+pub fn step(
+    ws: &[u16],
+    engine: u16,
+    position: u16,
+    second: u16,
+    place: u16,
+    branch: u16,
+    out: &mut [u16],
+) -> Answer
+    ensures { λ r. ⌜ (r ≡ answerAs (stepAnswer standard (now (ws .entry)) (numbers engine position second place branch) (now (out .entry)))) × (now (out .exit) ≡ stepOutput standard (now (ws .entry)) (numbers engine position second place branch) (now (out .entry))) ⌝ }
+{
+    stepped(ws, engine, position, second, place, branch, out)
 }

@@ -1,0 +1,214 @@
+-- The whole step on words is the definitions' step, for all words and numbers.
+-- Assumes nothing.
+use Prim.Native.Nat.{ℕ, zero, suc, _+_, _-_, _*_, _/_, _%_, _≤_, _<_}
+use native.Mathlib.Omega.{arith}
+use native.Mathlib.Decide.{ℕ-discrete}
+use mathlib.Core.Path.{_≡_, refl, sym, ap, _∙_}
+use mathlib.Core.Bool.{Bool, true, false, cond}
+use mathlib.Core.Option.{Option, none, some}
+use mathlib.Core.List.{List}
+use borrow.Author.Tests.{eq-eqb, ne-eqb, le-ltb, le-leb, lt-leb, leb-true, leb-false}
+use lib.Dec.{leb, eqb}
+use lib.ListN.{length, getD}
+use Rattle.sock.specs.Words.{kindOf}
+use Rattle.sock.specs.Term.{kind}
+use Rattle.sock.specs.Running.{asNode, runWords}
+use Rattle.sock.specs.Configuration.{standard, Config, readConfig}
+use Rattle.sock.specs.Frames.{Located}
+use Rattle.sock.specs.Rules.{Message, Move, stuck, alone, sends, moveOf}
+use Rattle.sock.specs.Calls.{Spot as Place, Refusal, unreadable, nobodyThere, noMove, noPartner, Result, refused, _>>=_, _!_, Numbers, engineAt, enabledAt, step, stepAnswer, stepOutput, answerOf, outputOf}
+use Rattle.sock.proofs.Located.{startOf}
+use Rattle.reading.specs.declared.survey.Starts.{Starts}
+use Rattle.reading.specs.Survey.{surveyed}
+use Rattle.reading.proofs.Combining.{Words}
+use Rattle.reading.proofs.Known.{Known, survey-known, survey-unknown, few-engines, known-issued}
+use Rattle.moving.specs.Writing.{onward}
+use Rattle.finding.specs.declared.find.Spot.{Spot}
+use Rattle.finding.specs.declared.find.Found.{Found}
+use Rattle.finding.specs.declared.find.Found.the-variants.{Hit, Past}
+use Rattle.finding.specs.Find.{findW}
+use Rattle.rules.specs.Turning.{at}
+use Rattle.rules.proofs.Turns.{head-on}
+use Rattle.stepping.specs.Answers.{answerAs}
+use Rattle.stepping.specs.Answering.{Answered, answered, refusing}
+use Rattle.stepping.specs.Exchanging.{betweenW}
+use Rattle.stepping.specs.Alone.{aloneW}
+use Rattle.stepping.specs.Stepping.{movesW, partnerW, receivingW, noneElse, movingW, foundW, stepW}
+use Rattle.stepping.proofs.Goal.{given, given-refused}
+use Rattle.stepping.proofs.Whole.{after, step-read, loneOf, pairOf, after-stuck, after-alone, after-sends}
+use Rattle.stepping.proofs.Seeking.{Seen, placed, Seeks, unseen, seen, seeks, seeks-none}
+use Rattle.stepping.proofs.Movers.{Moving, stays, goes, asks, known-moving}
+use Rattle.stepping.proofs.LoneLaw.{lone-law}
+use Rattle.stepping.proofs.PairLaw.{pair-law}
+use Rattle.stepping.proofs.Partners as partners
+
+-- no engine, nothing read
+refused-at :
+    (ws : List ℕ) (e position i place branch : ℕ) (out : List ℕ) (s : Starts) → s ≡ surveyed 64 8192 11 ws → s .engines ≡ 0 →
+    stepW ws e position i place branch out ≡ answered (refusing 1) out
+unfolding stepW
+refused-at ws e position i place branch out s q z = rw (← q, eq-eqb (s .engines) 0 z)
+
+-- the first engine looked up
+looked-up :
+    (ws : List ℕ) (e position i place branch : ℕ) (out : List ℕ) (s : Starts) (n issued : ℕ) → s ≡ surveyed 64 8192 11 ws → s .engines ≡ n → (n ≡ 0 → ⊥) → n ≤ 8 →
+    at ws 1 ≡ issued →
+    stepW ws e position i place branch out
+    ≡ cond (leb n e) (answered (refusing 2) out)
+    (foundW ws (s .starts) n e i place branch (n * 65536 + issued) out
+    (findW 64 ws (n * 65536 + issued) (onward (getD (s .starts) e 0) position) 1 (getD (s .starts) e 0)))
+unfolding stepW
+looked-up ws e position i place branch out s n issued q z more few w = rw (← q, z, ne-eqb n 0 more, le-ltb 8 n few, w)
+
+module _ (ws : List ℕ) (ok : Words ws) (k : Numbers) (position-low : k .position < 65536) (place-low : k .secondPosition < 65536) (out : List ℕ) where
+  -- ---- a configuration that is known
+
+  module _ (s : Starts) (known : Known standard ws s) where
+    abbrev c : Config
+    c = known .config
+
+    abbrev n : ℕ
+    n = length (c .engines)
+
+    abbrev bound : ℕ
+    bound = n * 65536 + c .issued
+
+    -- the process found, by its kind
+    module _ (target : ℕ) (l : Located) (sp : Spot) (found : Seen ws ok s known (k .engine) target l sp) where
+      abbrev a : Place
+      a = placed ws ok s known (k .engine) l
+
+      kind-at : at ws (sp .at) / 2048 ≡ kind (asNode (l .process))
+      unfolding runWords
+      kind-at =
+          ap kindOf
+          (head-on ws (sp .at) (asNode (l .process)) _
+          (sym (partners.lent-on ws ok s known (sp .at)) ∙ partners.found-at ws ok s known (k .engine) (found .inside) target l sp (found .spotted)))
+
+      kind-low : kind (asNode (l .process)) < 32
+      kind-low = let w : at ws (sp .at) < 65536 = ok (sp .at) in omega (arith, kind-at)
+
+      receiving-law :
+          (m : Message) → moveOf (engineAt c (k .engine) .values) (l .frames) (l .process) ≡ sends m →
+          receivingW ws (s .starts) n (k .engine) sp (kind (asNode (l .process))) (k .second) (k .secondPosition) (k .branch) bound out
+          ≡ given ((noPartner ! enabledAt c (k .second) (k .secondPosition)) >>= λ b. pairOf c k a b m (length out)) out
+      unfolding receivingW partnerW _!_ _>>=_
+      receiving-law m moves = by (leb n (k .second)) refl
+        where
+          seek :
+              (f : Found) (o : Option Place) → Seeks ws ok s known (k .second) (k .secondPosition) (startOf c (k .second) + k .secondPosition) f o →
+              partnerW ws (s .starts) (k .engine) (k .second) sp (kind (asNode (l .process))) (k .branch) bound out f
+              ≡ given ((noPartner ! o) >>= λ b. pairOf c k a b m (length out)) out
+          seek _ _ unseen = sym (given-refused noPartner out)
+          seek _ _ (seen {l = lb} {sp = sb} y) = pair-law ws ok s known (k .engine) target l sp found (k .second) _ lb sb y k m moves kind-low out
+
+          by :
+              (b : Bool) → leb n (k .second) ≡ b →
+              cond b (answered (refusing 4) out)
+              (partnerW ws (s .starts) (k .engine) (k .second) sp (kind (asNode (l .process))) (k .branch) bound out
+              (findW 64 ws bound (onward (getD (s .starts) (k .second) 0) (k .secondPosition)) 1 (getD (s .starts) (k .second) 0)))
+              ≡ given ((noPartner ! enabledAt c (k .second) (k .secondPosition)) >>= λ b. pairOf c k a b m (length out)) out
+          by true q = rw (seeks-none ws ok s known (k .second) (k .secondPosition) (leb-true n (k .second) q)) (sym (given-refused noPartner out))
+          by false q =
+              let h : k .second < n = leb-false n (k .second) q in
+              let first : getD (s .starts) (k .second) 0 ≡ startOf c (k .second) = known .starts (k .second) (omega arith) in
+              rw first (seek _ _ (seeks ws ok s known (k .second) h (k .secondPosition) place-low))
+
+      moving-law : movingW ws (s .starts) n (k .engine) sp (k .second) (k .secondPosition) (k .branch) bound out ≡ given (after c k a (length out)) out
+      unfolding movingW
+      moving-law =
+          rw kind-at
+          (by (moveOf (engineAt c (k .engine) .values) (l .frames) (l .process)) (movesW bound ws (sp .at) (kind (asNode (l .process)))) refl
+          (known-moving ws ok s known (k .engine) (found .inside) target l sp (found .place) (found .spotted)))
+        where
+          by :
+              (m : Move) (j : ℕ) → moveOf (engineAt c (k .engine) .values) (l .frames) (l .process) ≡ m → Moving m j →
+              cond (eqb j 0) (answered (refusing 3) out)
+              (cond (eqb j 2) (receivingW ws (s .starts) n (k .engine) sp (kind (asNode (l .process))) (k .second) (k .secondPosition) (k .branch) bound out)
+              (cond (noneElse (k .second) (k .secondPosition) (k .branch))
+              (aloneW ws (getD (s .starts) (k .engine) 0) (getD (s .starts) (k .engine + 1) 0) sp (kind (asNode (l .process))) bound out)
+              (answered (refusing 3) out)))
+              ≡ given (after c k a (length out)) out
+          by _ _ q stays = rw (after-stuck c k a (length out) q) (sym (given-refused noMove out))
+          by _ _ q (goes {vs = vs} {q = o}) = rw (after-alone c k a (length out) vs o q) (go (noneElse (k .second) (k .secondPosition) (k .branch)))
+            where
+              go :
+                  (b : Bool) →
+                  cond b (aloneW ws (getD (s .starts) (k .engine) 0) (getD (s .starts) (k .engine + 1) 0) sp (kind (asNode (l .process))) bound out) (answered (refusing 3) out)
+                  ≡ given (cond b (loneOf c a vs o (length out)) (refused noMove)) out
+              go true = lone-law ws ok s known (k .engine) target l sp found vs o q kind-low out
+              go false = sym (given-refused noMove out)
+          by _ _ q (asks {m = m}) = rw (after-sends c k a (length out) m q) (receiving-law m q)
+
+    -- the search in the first engine
+    known-law : (k .engine < n) → foundW ws (s .starts) n (k .engine) (k .second) (k .secondPosition) (k .branch) bound out
+        (findW 64 ws bound (onward (startOf c (k .engine)) (k .position)) 1 (startOf c (k .engine)))
+        ≡ given ((nobodyThere ! enabledAt c (k .engine) (k .position)) >>= λ a. after c k a (length out)) out
+    unfolding foundW _!_ _>>=_
+    known-law h = by _ _ (seeks ws ok s known (k .engine) h (k .position) position-low)
+      where
+        by :
+            (f : Found) (o : Option Place) → Seeks ws ok s known (k .engine) (k .position) (startOf c (k .engine) + k .position) f o →
+            foundW ws (s .starts) n (k .engine) (k .second) (k .secondPosition) (k .branch) bound out f
+            ≡ given ((nobodyThere ! o) >>= λ a. after c k a (length out)) out
+        by _ _ unseen = sym (given-refused nobodyThere out)
+        by _ _ (seen {l = l} {sp = sp} y) = moving-law _ l sp y
+
+    read-law :
+        (s .engines ≡ 0 → ⊥) → s ≡ surveyed 64 8192 11 ws →
+        stepW ws (k .engine) (k .position) (k .second) (k .secondPosition) (k .branch) out
+        ≡ given ((nobodyThere ! enabledAt c (k .engine) (k .position)) >>= λ a. after c k a (length out)) out
+    unfolding _!_ _>>=_
+    read-law more q =
+        looked-up ws (k .engine) (k .position) (k .second) (k .secondPosition) (k .branch) out s n (c .issued) q (known .engines) (λ z. more (known .engines ∙ z))
+        (omega (arith, few-engines known, known .engines)) (known-issued known)
+        ∙ by (leb n (k .engine)) refl
+      where
+        by :
+            (b : Bool) → leb n (k .engine) ≡ b →
+            cond b (answered (refusing 2) out)
+            (foundW ws (s .starts) n (k .engine) (k .second) (k .secondPosition) (k .branch) bound out
+            (findW 64 ws bound (onward (getD (s .starts) (k .engine) 0) (k .position)) 1 (getD (s .starts) (k .engine) 0)))
+            ≡ given ((nobodyThere ! enabledAt c (k .engine) (k .position)) >>= λ a. after c k a (length out)) out
+        by true y = rw (seeks-none ws ok s known (k .engine) (k .position) (leb-true n (k .engine) y)) none-there
+          where
+            none-there : answered (refusing 2) out ≡ given ((nobodyThere ! none) >>= λ a. after c k a (length out)) out
+            none-there = sym (given-refused nobodyThere out)
+        by false y =
+            let h : k .engine < n = leb-false n (k .engine) y in
+            let first : getD (s .starts) (k .engine) 0 ≡ startOf c (k .engine) = known .starts (k .engine) (omega arith) in
+            rw first (known-law h)
+
+  -- ---- all words
+
+  pub step-law :
+      stepW ws (k .engine) (k .position) (k .second) (k .secondPosition) (k .branch) out ≡ given (step standard ws k (length out)) out
+  unfolding _!_ _>>=_
+  step-law = by (surveyed 64 8192 11 ws) refl
+    where
+      refuses : (s : Starts) → s ≡ surveyed 64 8192 11 ws → s .engines ≡ 0 → stepW ws (k .engine) (k .position) (k .second) (k .secondPosition) (k .branch) out ≡ answered (refusing 1) out
+      refuses s q z = refused-at ws (k .engine) (k .position) (k .second) (k .secondPosition) (k .branch) out s q z
+
+      by :
+          (s : Starts) → s ≡ surveyed 64 8192 11 ws →
+          stepW ws (k .engine) (k .position) (k .second) (k .secondPosition) (k .branch) out ≡ given (step standard ws k (length out)) out
+      by s q = decide (ℕ-discrete (s .engines) 0)
+        where
+          decide : Dec (s .engines ≡ 0) → stepW ws (k .engine) (k .position) (k .second) (k .secondPosition) (k .branch) out ≡ given (step standard ws k (length out)) out
+          decide (yes z) =
+              refuses s q z
+              ∙ (sym (given-refused unreadable out)
+              ∙ ap (λ r. given r out) (sym (step-read ws k (length out) ∙ ap (λ o. (unreadable ! o) >>= λ c. (nobodyThere ! enabledAt c (k .engine) (k .position)) >>= λ a. after c k a (length out)) (survey-unknown standard ws ok s q z))))
+          decide (no z) =
+              let known = survey-known standard ws ok s q z in
+              read-law s known z q
+              ∙ ap (λ r. given r out) (sym (step-read ws k (length out) ∙ ap (λ o. (unreadable ! o) >>= λ c. (nobodyThere ! enabledAt c (k .engine) (k .position)) >>= λ a. after c k a (length out)) (known .reads)))
+
+  -- the answer and the output
+  pub answer-law : stepW ws (k .engine) (k .position) (k .second) (k .secondPosition) (k .branch) out .answer ≡ answerAs (stepAnswer standard ws k out)
+  unfolding stepAnswer
+  answer-law = ap (λ (x : Answered). x .answer) step-law
+
+  pub output-law : stepW ws (k .engine) (k .position) (k .second) (k .secondPosition) (k .branch) out .out ≡ stepOutput standard ws k out
+  unfolding stepOutput
+  output-law = ap (λ (x : Answered). x .out) step-law
