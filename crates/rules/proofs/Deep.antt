@@ -1,16 +1,16 @@
 -- Code read with fewer levels than it has is refused; and the head of nil is 0.
 -- Assumes nothing.
-use Prim.Native.Nat.{ℕ, _+_, _*_, _/_, _%_, _≤_, _<_}
+use Prim.Native.Nat.{ℕ, _+_, _*_, _%_, _≤_, _<_}
 use native.Mathlib.Omega.{arith}
-use mathlib.Core.Path.{_≡_, refl, sym, ap, subst, _∙_}
-use mathlib.Core.Bool.{Bool, true, false, not, cond}
-use mathlib.Core.List.{List, _∷_, _++_}
+use mathlib.Core.Path.{_≡_, refl, sym, ap, _∙_}
+use mathlib.Core.Bool.{Bool, true, false, cond}
+use mathlib.Core.List.{List, _++_}
 use borrow.Author.Tests.{eq-eqb, ne-eqb, leb-false, eqb-true, eqb-false}
-use lib.Dec.{T, eqb, leb, leb→le, eqb→eq, lit<}
+use lib.Dec.{eqb, leb, leb→le, eqb→eq, lit<}
 use lib.ListN.{length, drop}
 use Rattle.sock.specs.Kind.{rows, rowOf}
-use Rattle.sock.specs.Words.{kindOf, clear}
-use Rattle.sock.specs.Term.{Node, node, headWord, isNil}
+use Rattle.sock.specs.Words.{kindOf}
+use Rattle.sock.specs.Term.{Node, headWord, isNil}
 use Rattle.sock.specs.Layout.{words, depth}
 use Rattle.sock.specs.Reading.{Got, fail, got, code, anywhere, process}
 use Rattle.sock.proofs.Fits.{Fits, fits}

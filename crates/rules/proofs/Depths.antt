@@ -1,9 +1,9 @@
 -- How deep a process is with frames around it; and when what a rule makes of it is too deep.
 -- Assumes nothing.
-use Prim.Native.Nat.{ℕ, zero, suc, _+_, _≤_, _<_, max}
+use Prim.Native.Nat.{ℕ, suc, _+_, _≤_, _<_, max}
 use native.Mathlib.Omega.{arith}
-use mathlib.Core.Path.{_≡_, refl, sym, ap, _∙_}
-use mathlib.Core.Bool.{Bool, true, false, not, cond}
+use mathlib.Core.Path.{_≡_, refl, ap, _∙_}
+use mathlib.Core.Bool.{Bool, true, false, not}
 use mathlib.Core.List.{List, [], _∷_}
 use lib.ListN.{length}
 use lib.Dec.{T}
@@ -11,10 +11,9 @@ use Rattle.sock.specs.Layout.{depth, entriesDepth}
 use Rattle.sock.specs.Term.{Node, node}
 use Rattle.sock.specs.Running.{Run, nil, seq, par, scope, executor, asNode, runDepth}
 use Rattle.sock.specs.Frames.{Frame, seqFrame, leftFrame, rightFrame, scopeFrame, executorFrame, isDone, seqOf, parOf, plug}
-use Rattle.sock.proofs.Fits.{SoundFrame, seqFrameSound, leftFrameSound, rightFrameSound, scopeFrameSound, executorFrameSound, SoundFrames, noFrames, oneFrame}
+use Rattle.sock.proofs.Fits.{seqFrameSound, leftFrameSound, rightFrameSound, scopeFrameSound, executorFrameSound, SoundFrames, noFrames, oneFrame}
 use Rattle.sock.proofs.Located.{wrap}
 use Rattle.sock.proofs.Measures.{depth-seq, depth-par, depth-scope, depth-executor}
-use Rattle.rules.proofs.Turns.{both-ways}
 
 -- the other part that a frame holds
 abbrev side : Frame → ℕ

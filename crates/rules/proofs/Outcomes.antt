@@ -1,14 +1,14 @@
 -- What a rule alone makes of an engine's process, as a plan.
 -- Assumes nothing.
-use Prim.Native.Nat.{ℕ, suc, _+_, _≤_, _<_}
+use Prim.Native.Nat.{ℕ, _+_, _≤_, _<_}
 use native.Mathlib.Omega.{arith}
-use mathlib.Core.Path.{_≡_, refl, sym, ap, _∙_}
+use mathlib.Core.Path.{_≡_, refl, ap}
 use mathlib.Core.Bool.{Bool, true, false}
 use mathlib.Core.Option.{Option, none, some}
 use mathlib.Core.List.{List, _++_}
 use lib.ListN.{length, drop}
 use Rattle.sock.specs.Running.{Run, nil, runWords, size, runDepth}
-use Rattle.sock.specs.Frames.{Frame, Located, isDone, plug}
+use Rattle.sock.specs.Frames.{Located, isDone, plug}
 use Rattle.sock.proofs.Fits.{SoundFrames}
 use Rattle.sock.proofs.Located.{wrap, size-positive}
 use Rattle.sock.proofs.Measures.{size-nil, depth-nil}

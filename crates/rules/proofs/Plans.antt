@@ -3,25 +3,23 @@
 use Prim.Native.Nat.{ℕ, zero, suc, _+_, _-_, _≤_, _<_}
 use native.Mathlib.Omega.{arith}
 use mathlib.Core.Path.{_≡_, refl, sym, ap, ap₂, _∙_}
-use mathlib.Core.Bool.{Bool, true, false, cond}
-use mathlib.Core.List.{List, [], _∷_, _++_, append-nil, append-assoc}
-use lib.Dec.{T}
+use mathlib.Core.Bool.{Bool, true, false}
+use mathlib.Core.List.{List, [], _∷_, _++_, append-assoc}
 use lib.ListN.{length, take, drop, set, length-append, length-drop, length-set, take-append-drop}
 use lib.Seq.{take-at, take-add, drop-at, drop-drop, length-take-le, take-suc-set, take-set-le}
 use Rattle.sock.specs.Running.{Run, nil, seq, par, scope, executor, waiter, notice, act, runWords, size}
-use Rattle.sock.specs.Frames.{Frame, Located, isDone, plug}
+use Rattle.sock.specs.Frames.{Located, isDone, plug}
 use Rattle.sock.proofs.Located.{size-positive}
 use Rattle.finding.specs.declared.find.Spot.{Spot}
 use Rattle.finding.proofs.Framing.{region}
-use Rattle.finding.proofs.Pieces.{hole, Swap, Cut}
+use Rattle.finding.proofs.Pieces.{hole, Swap}
 use Rattle.finding.proofs.Spots.{Spotted}
 use Rattle.finding.proofs.Edits.{part, edited, nil-plain, swap-plain, cut-order}
 use Rattle.moving.specs.Writing.{onward}
 use Rattle.moving.proofs.Laid.{Near, onward-near}
 use Rattle.rules.specs.declared.turn.Turn.{Turn}
 use Rattle.rules.specs.declared.plan.Plan.{Plan}
-use Rattle.rules.specs.Offering.{placed}
-use Rattle.rules.specs.Planning.{Planned, planned, hollowW, nilW, plainW}
+use Rattle.rules.specs.Planning.{hollowW, nilW, plainW}
 use Rattle.rules.proofs.Turns.{Pieces, Becomes, both-ways}
 
 -- a plan's words for the process start..end

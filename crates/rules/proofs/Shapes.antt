@@ -1,16 +1,16 @@
 -- An enabled process that is neither nil, seq, par, scope nor an end, by its kind: what its node holds.
 -- Assumes nothing.
-use Prim.Native.Nat.{ℕ, zero, _*_, _<_, _≤_}
+use Prim.Native.Nat.{ℕ, zero, _*_, _<_}
 use native.Mathlib.Omega.{arith}
-use mathlib.Core.Path.{_≡_, refl, subst, ap}
-use mathlib.Core.Bool.{Bool, true, false, not, _&&_, _||_, cond}
+use mathlib.Core.Path.{_≡_, refl}
+use mathlib.Core.Bool.{Bool, true, false, _&&_, cond}
 use mathlib.Core.List.{List, [], _∷_}
-use lib.Dec.{T, eqb, ltb, leb, ltb→lt, leb→le}
+use lib.Dec.{T, eqb, ltb, leb, ltb→lt}
 use Rattle.sock.specs.Kind
 use Rattle.sock.specs.Kind.{rows, rowOf}
 use Rattle.sock.specs.Words.{kindOf, countOf, isWord, clear}
 use Rattle.sock.specs.Term.{Expr, Node, node, Block, absent, list, Entries, Nodes, noParts, _&_, kind, processesOf}
-use Rattle.sock.specs.Reading.{code, anywhere, headFits, branched, partStratum, partPlace}
+use Rattle.sock.specs.Reading.{code, anywhere, branched, partStratum, partPlace}
 use Rattle.sock.proofs.Fits.{FitsExpr, FitsExprs, noExprs, oneExpr, FitsFixed, noFixed, oneFixed, Fits, fits, FitsBlock, noList, aList, FitsEntries, FitsParts, noPart, onePart, isPlain}
 use Rattle.sock.proofs.Fields.{From, end, _then_, fact-at}
 use Rattle.sock.proofs.ByKind.{head-tests, code-kind}

@@ -1,27 +1,26 @@
 -- What a turn says of the process before and after; and the laws of assign, if and while.
 -- Assumes nothing.
-use Prim.Native.Nat.{ℕ, zero, suc, _+_, _-_, _*_, _/_, _%_, _≤_, _<_, max}
+use Prim.Native.Nat.{ℕ, suc, _+_, _-_, _*_, _≤_, _<_}
 use native.Mathlib.Omega.{arith}
 use mathlib.Core.Path.{_≡_, refl, sym, ap, _∙_}
 use mathlib.Core.Bool.{Bool, true, false, not, cond}
 use mathlib.Core.List.{List, [], _∷_, _++_, append-nil, append-assoc}
-use borrow.Author.Tests.{lt-ltb, ne-eqb, eq-eqb, leb-true, leb-false, ltb-false}
-use lib.Dec.{T, eqb, leb, ltb}
+use borrow.Author.Tests.{ne-eqb, leb-true, leb-false, ltb-false}
+use lib.Dec.{eqb, leb, ltb}
 use lib.ListN.{length, getD, take, drop, set, length-append, length-set}
-use lib.Seq.{take-at, drop-at, getD-drop}
+use lib.Seq.{drop-at, getD-drop}
 use Rattle.sock.specs.Words.{kindOf, variableOf, bit}
 use Rattle.sock.specs.Term.{Expr, Node, node, absent, Nodes, noParts, _&_, headWord, kind, isNil}
-use Rattle.sock.specs.Layout.{exprWords, exprsWords, exprDepth, exprsDepth, words, nodesWords, depth, nodesDepth}
+use Rattle.sock.specs.Layout.{exprWords, exprsWords, exprsDepth, words, nodesWords, depth}
 use Rattle.sock.specs.Reading.{code, anywhere}
 use Rattle.sock.specs.Running.{Run, nil, seq, act, asNode, runWords, size, runDepth, forms, inForm, opened, enable}
 use Rattle.sock.specs.Configuration.{valuesWords}
 use Rattle.sock.specs.Evaluation.{evaluate, isTrue}
 use Rattle.sock.specs.Frames.{isDone, seqOf}
-use Rattle.sock.specs.Rules.{Action, assign, branch, repeat, action}
+use Rattle.sock.specs.Rules.{assign}
 use Rattle.sock.proofs.Fits.{Fits, FitsExpr, AllBelow}
 use Rattle.sock.proofs.Running.{enable-asNode, enable-done}
 use Rattle.sock.proofs.Measures.{words-act, words-seq, depth-nil, depth-seq, depth-act}
-use Rattle.reading.specs.Walk.{processEnd}
 use Rattle.reading.proofs.Combining.{Words}
 use Rattle.reading.proofs.Ended.{code-end}
 use Rattle.moving.specs.Evaluating.{evaluated}

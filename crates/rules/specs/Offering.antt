@@ -1,9 +1,9 @@
 -- The rules between two engines on words, as the code goes. No public contract of the library names it.
 use Prim.Native.Nat.{ℕ, zero, suc, _+_, _-_, _*_, _/_, _%_}
-use mathlib.Core.Bool.{Bool, true, false, not, _&&_, cond}
+use mathlib.Core.Bool.{Bool, true, false, cond}
 use mathlib.Core.List.{List}
 use lib.Dec.{leb, ltb, eqb}
-use lib.ListN.{length, getD, set}
+use lib.ListN.{set}
 use Rattle.reading.specs.Walk.{processEnd}
 use Rattle.moving.specs.Writing.{onward}
 use Rattle.rules.specs.Turning.{Turned, turned, vanishing, keeping, at, partW, codeEnd}

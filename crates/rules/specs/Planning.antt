@@ -1,6 +1,6 @@
 -- What a rule makes of an engine's words, as the code goes.
-use Prim.Native.Nat.{ℕ, _+_}
-use mathlib.Core.Bool.{Bool, true, false, cond}
+use Prim.Native.Nat.{ℕ}
+use mathlib.Core.Bool.{Bool, cond}
 use mathlib.Core.List.{List}
 use lib.ListN.{set}
 use Rattle.moving.specs.Writing.{onward}

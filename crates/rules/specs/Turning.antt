@@ -1,11 +1,11 @@
 -- What a process turns into alone, on words, as the code goes. No public contract of the library names it.
-use Prim.Native.Nat.{ℕ, _+_, _-_, _*_, _/_, _%_}
-use mathlib.Core.Bool.{Bool, true, false, cond}
+use Prim.Native.Nat.{ℕ, _-_, _/_, _%_}
+use mathlib.Core.Bool.{true, false, cond}
 use mathlib.Core.List.{List}
 use lib.Dec.{ltb, eqb}
-use lib.ListN.{length, getD, set}
+use lib.ListN.{getD, set}
 use Rattle.reading.specs.Walk.{processEnd}
-use Rattle.moving.specs.Writing.{onward, pasted, pastedEnd}
+use Rattle.moving.specs.Writing.{pasted, pastedEnd}
 use Rattle.moving.specs.Evaluating.{evaluated}
 use Rattle.rules.specs.declared.turn.Turn.{Turn}
 

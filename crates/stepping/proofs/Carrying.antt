@@ -1,7 +1,7 @@
 -- A step between two engines carried out: from what each call leaves.
 -- Assumes nothing.
 use Prim.Native.Nat.{ℕ, _-_, _%_, _≤_}
-use mathlib.Core.Path.{_≡_, refl, sym, ap, _∙_}
+use mathlib.Core.Path.{_≡_, sym, _∙_}
 use mathlib.Core.Bool.{Bool, true, false}
 use mathlib.Core.List.{List}
 use borrow.Author.Tests.{ne-eqb, le-ltb}
@@ -12,7 +12,7 @@ use Rattle.rules.specs.declared.plan.Plan.{Plan}
 use Rattle.rules.specs.Turning.{at}
 use Rattle.rules.specs.Offering.{offerW}
 use Rattle.stepping.specs.declared.answer.Answer.{Answer}
-use Rattle.stepping.specs.Answering.{Answered, accepting}
+use Rattle.stepping.specs.Answering.{accepting}
 use Rattle.stepping.specs.Meeting.{fitW, serialW}
 use Rattle.stepping.specs.Exchanging.{blank, senderW, receiverW, orderedW, nextOf, issuedOf, faultOf, carryW, spentW, meetW, lent, betweenW}
 

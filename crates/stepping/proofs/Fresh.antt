@@ -1,8 +1,8 @@
 -- The fresh words of an exchange: how many at most, and that the scratch keeps its length.
 -- Assumes nothing.
-use Prim.Native.Nat.{ℕ, _+_, _%_, _≤_, _<_}
+use Prim.Native.Nat.{ℕ, _%_, _≤_, _<_}
 use native.Mathlib.Omega.{arith}
-use mathlib.Core.Path.{_≡_, refl, sym, ap, _∙_}
+use mathlib.Core.Path.{_≡_, refl, _∙_}
 use mathlib.Core.Bool.{Bool, true, false, cond}
 use mathlib.Core.List.{List}
 use lib.Dec.{eqb, leb, lit<}
@@ -14,8 +14,8 @@ use Rattle.rules.specs.declared.turn.Turn.{Turn}
 use Rattle.finding.specs.declared.find.Spot.{Spot}
 use Rattle.moving.specs.Evaluating.{valueIn}
 use Rattle.rules.specs.Turning.{Turned, turned, vanishing, keeping, partW}
-use Rattle.rules.specs.Offering.{Placed, placed, throwHead, runEnd, hearW, seqFirst, threeTo, threeW, serveW, askW, answerW, failW}
-use Rattle.rules.specs.Planning.{Planned, planned, hollowW, nilW, plainW}
+use Rattle.rules.specs.Offering.{placed, throwHead, runEnd, hearW, seqFirst, threeW, serveW, askW, answerW, failW}
+use Rattle.rules.specs.Planning.{planned, hollowW, nilW, plainW}
 use Rattle.rules.proofs.Exchanges.{three-to, first-place}
 use Rattle.stepping.specs.Exchanging.{blank}
 use Rattle.stepping.specs.Meeting.{sendW, receiveW}

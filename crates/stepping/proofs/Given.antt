@@ -1,23 +1,20 @@
 -- A result carried out is answered and written as the definitions say: of one engine, and of two.
 -- Assumes nothing.
-use Prim.Native.Nat.{ℕ, zero, suc, _+_, _-_, _%_, _≤_, _<_, max}
+use Prim.Native.Nat.{ℕ, zero, suc, _+_, _-_, _%_, _≤_, _<_}
 use native.Mathlib.Omega.{arith}
-use mathlib.Core.Path.{_≡_, refl, sym, ap, _∙_}
-use mathlib.Core.Bool.{Bool, true, false, cond}
-use mathlib.Core.Option.{Option, none, some}
+use mathlib.Core.Path.{_≡_, sym, ap, _∙_}
 use mathlib.Core.List.{List, [], _∷_}
 use borrow.Author.Tests.{eq-eqb, ne-eqb}
-use lib.Dec.{leb, ltb, eqb}
 use lib.ListN.{length, getD, set}
 use Rattle.sock.specs.Running.{Run, size, runDepth}
 use Rattle.sock.specs.Configuration.{Engine, Config, encode, enginesDepth}
-use Rattle.sock.specs.Calls.{Stepped, engineAt, withEngine, over}
+use Rattle.sock.specs.Calls.{Stepped, engineAt, withEngine}
 use Rattle.sock.proofs.Fits.{FitsConfig}
 use Rattle.sock.proofs.Located.{startOf}
 use Rattle.rules.specs.declared.plan.Plan.{Plan}
 use Rattle.rules.proofs.Plans.{Plans}
 use Rattle.stepping.specs.declared.answer.Answer.{Answer}
-use Rattle.stepping.specs.Answering.{Answered, answered, refusing, accepting, sizedW, lengthOf, writeOneW, oneW, writeTwoW, twoW}
+use Rattle.stepping.specs.Answering.{answered, refusing, sizedW, lengthOf, writeOneW, oneW, writeTwoW, twoW}
 use Rattle.stepping.proofs.Goal.{given, fitted, fitted-deep, fitted-by}
 use Rattle.stepping.proofs.Writes.{valued}
 use Rattle.stepping.proofs.Results.{next-sized, next-few, next-fits, next-written}

@@ -1,17 +1,14 @@
 -- What the step is to answer and to leave, by the definitions; and its last tests, in their order.
 -- Assumes nothing.
-use Prim.Native.Nat.{ℕ, zero, suc, _+_, _≤_, _<_, max}
-use native.Mathlib.Omega.{arith}
-use mathlib.Core.Path.{_≡_, refl, sym, ap, _∙_}
+use Prim.Native.Nat.{ℕ, _≤_, _<_}
+use mathlib.Core.Path.{_≡_, refl}
 use mathlib.Core.Bool.{Bool, true, false, cond}
-use mathlib.Core.List.{List, [], _∷_}
+use mathlib.Core.List.{List}
 use borrow.Author.Tests.{le-ltb, lt-ltb, le-leb, lt-leb, leb-true, leb-false}
 use lib.Dec.{leb, ltb, eqb}
-use lib.ListN.{length, getD, set}
-use Rattle.sock.specs.Running.{Run, runDepth}
-use Rattle.sock.specs.Configuration.{Limits, standard, Engine, Config, encode, enginesDepth}
-use Rattle.sock.specs.Calls.{Refusal, serialsSpent, deep, long, short, Result, refused, done, _>>=_, _>>_, _!_, _unless_, Stepped, answerOf, outputOf, over, withEngine, number}
-use Rattle.stepping.specs.declared.answer.Answer.{Answer}
+use lib.ListN.{length}
+use Rattle.sock.specs.Configuration.{encode, enginesDepth}
+use Rattle.sock.specs.Calls.{Refusal, serialsSpent, deep, long, short, Result, refused, done, _>>_, _unless_, Stepped, answerOf, outputOf, over, number}
 use Rattle.stepping.specs.Answers.{answerAs}
 use Rattle.stepping.specs.Answering.{Answered, answered, refusing, accepting, lengthOf}
 

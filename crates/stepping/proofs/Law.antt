@@ -1,22 +1,22 @@
 -- The whole step on words is the definitions' step, for all words and numbers.
 -- Assumes nothing.
-use Prim.Native.Nat.{ℕ, zero, suc, _+_, _-_, _*_, _/_, _%_, _≤_, _<_}
+use Prim.Native.Nat.{ℕ, _+_, _-_, _*_, _/_, _≤_, _<_}
 use native.Mathlib.Omega.{arith}
 use native.Mathlib.Decide.{ℕ-discrete}
 use mathlib.Core.Path.{_≡_, refl, sym, ap, _∙_}
 use mathlib.Core.Bool.{Bool, true, false, cond}
-use mathlib.Core.Option.{Option, none, some}
+use mathlib.Core.Option.{Option, none}
 use mathlib.Core.List.{List}
-use borrow.Author.Tests.{eq-eqb, ne-eqb, le-ltb, le-leb, lt-leb, leb-true, leb-false}
+use borrow.Author.Tests.{eq-eqb, ne-eqb, le-ltb, leb-true, leb-false}
 use lib.Dec.{leb, eqb}
 use lib.ListN.{length, getD}
 use Rattle.sock.specs.Words.{kindOf}
 use Rattle.sock.specs.Term.{kind}
 use Rattle.sock.specs.Running.{asNode, runWords}
-use Rattle.sock.specs.Configuration.{standard, Config, readConfig}
+use Rattle.sock.specs.Configuration.{standard, Config}
 use Rattle.sock.specs.Frames.{Located}
-use Rattle.sock.specs.Rules.{Message, Move, stuck, alone, sends, moveOf}
-use Rattle.sock.specs.Calls.{Spot as Place, Refusal, unreadable, nobodyThere, noMove, noPartner, Result, refused, _>>=_, _!_, Numbers, engineAt, enabledAt, step, stepAnswer, stepOutput, answerOf, outputOf}
+use Rattle.sock.specs.Rules.{Message, Move, sends, moveOf}
+use Rattle.sock.specs.Calls.{Spot as Place, unreadable, nobodyThere, noMove, noPartner, refused, _>>=_, _!_, Numbers, engineAt, enabledAt, step, stepAnswer, stepOutput}
 use Rattle.sock.proofs.Located.{startOf}
 use Rattle.reading.specs.declared.survey.Starts.{Starts}
 use Rattle.reading.specs.Survey.{surveyed}
@@ -25,13 +25,11 @@ use Rattle.reading.proofs.Known.{Known, survey-known, survey-unknown, few-engin
 use Rattle.moving.specs.Writing.{onward}
 use Rattle.finding.specs.declared.find.Spot.{Spot}
 use Rattle.finding.specs.declared.find.Found.{Found}
-use Rattle.finding.specs.declared.find.Found.the-variants.{Hit, Past}
 use Rattle.finding.specs.Find.{findW}
 use Rattle.rules.specs.Turning.{at}
 use Rattle.rules.proofs.Turns.{head-on}
 use Rattle.stepping.specs.Answers.{answerAs}
 use Rattle.stepping.specs.Answering.{Answered, answered, refusing}
-use Rattle.stepping.specs.Exchanging.{betweenW}
 use Rattle.stepping.specs.Alone.{aloneW}
 use Rattle.stepping.specs.Stepping.{movesW, partnerW, receivingW, noneElse, movingW, foundW, stepW}
 use Rattle.stepping.proofs.Goal.{given, given-refused}

@@ -1,18 +1,17 @@
 -- A step of one engine alone is the definitions'.
 -- Assumes nothing.
-use Prim.Native.Nat.{ℕ, zero, suc, _+_, _-_, _*_, _/_, _%_, _≤_, _<_}
+use Prim.Native.Nat.{ℕ, _+_, _-_, _*_, _%_, _≤_, _<_}
 use native.Mathlib.Omega.{arith}
-use mathlib.Core.Path.{_≡_, refl, sym, ap, _∙_}
-use mathlib.Core.Bool.{Bool, true, false, cond}
+use mathlib.Core.Path.{_≡_, sym, ap, _∙_}
 use mathlib.Core.Option.{Option, none, some}
-use mathlib.Core.List.{List, [], _∷_}
+use mathlib.Core.List.{List}
 use lib.ListN.{length, getD}
 use Rattle.sock.specs.Term.{kind}
-use Rattle.sock.specs.Running.{Run, asNode, size, runDepth}
-use Rattle.sock.specs.Configuration.{standard, Config, encode}
+use Rattle.sock.specs.Running.{Run, asNode, size}
+use Rattle.sock.specs.Configuration.{standard, Config}
 use Rattle.sock.specs.Frames.{Located}
-use Rattle.sock.specs.Rules.{Move, alone, moveOf}
-use Rattle.sock.specs.Calls.{Spot as Place, Refusal, installing, Result, refused, engineAt}
+use Rattle.sock.specs.Rules.{alone, moveOf}
+use Rattle.sock.specs.Calls.{Spot as Place, installing, engineAt}
 use Rattle.sock.proofs.Located.{startOf}
 use Rattle.reading.specs.declared.survey.Starts.{Starts}
 use Rattle.reading.proofs.Combining.{Words}
@@ -21,10 +20,10 @@ use Rattle.reading.proofs.Standing.{start-next}
 use Rattle.finding.specs.declared.find.Spot.{Spot}
 use Rattle.rules.specs.Planning.{Planned}
 use Rattle.rules.proofs.Outcomes.{Ruled, unkillable, tooDeep, ruled}
-use Rattle.stepping.specs.Answering.{Answered, answered, refusing, oneW}
+use Rattle.stepping.specs.Answering.{answered, refusing, oneW}
 use Rattle.stepping.specs.Exchanging.{blank}
 use Rattle.stepping.specs.Alone.{ruleW, aloneW}
-use Rattle.stepping.proofs.Goal.{given, given-refused, fitted}
+use Rattle.stepping.proofs.Goal.{given, given-refused}
 use Rattle.stepping.proofs.Given.{one-refused, one-deep, one-given}
 use Rattle.stepping.proofs.Writes.{valued}
 use Rattle.stepping.proofs.Whole.{loneOf}

@@ -2,12 +2,12 @@
 -- Assumes nothing.
 use Prim.Native.Nat.{ℕ, zero, suc, _+_, _-_, _≤_, _<_}
 use native.Mathlib.Omega.{arith}
-use mathlib.Core.Path.{_≡_, refl, sym, ap, ap₂, _∙_}
+use mathlib.Core.Path.{_≡_, sym, ap, ap₂, _∙_}
 use mathlib.Core.List.{List, [], _∷_, _++_, append-nil, append-assoc}
 use borrow.Author.Tests.{le-ltb}
 use lib.ListN.{length, take, drop, set, length-append, length-drop, length-set, take-append-drop}
 use lib.Seq.{take-at, drop-at, drop-drop, length-take-le, set-append-left}
-use Rattle.moving.specs.Writing.{onward, pasted, pastedEnd}
+use Rattle.moving.specs.Writing.{pasted, pastedEnd}
 use Rattle.moving.proofs.Laid.{Near, onward-near}
 use Rattle.finding.proofs.Edits.{part}
 use Rattle.rules.proofs.Plans.{part-length}

@@ -1,24 +1,23 @@
 -- A step between two engines is the definitions'.
 -- Assumes nothing.
-use Prim.Native.Nat.{ℕ, zero, suc, _+_, _-_, _*_, _/_, _%_, _≤_, _<_}
+use Prim.Native.Nat.{ℕ, suc, _+_, _-_, _*_, _%_, _≤_, _<_}
 use native.Mathlib.Omega.{arith}
 use native.Mathlib.Decide.{ℕ-discrete}
 use mathlib.Core.Path.{_≡_, refl, sym, ap, ap₂, _∙_}
 use mathlib.Core.Bool.{Bool, true, false, cond}
 use mathlib.Core.Option.{Option, none, some}
-use mathlib.Core.List.{List, [], _∷_, _++_}
-use borrow.Author.Tests.{eq-eqb, ne-eqb, lt-ltb, le-ltb, ltb-true, ltb-false, eqb-true, eqb-false}
+use mathlib.Core.List.{List, _++_}
+use borrow.Author.Tests.{eq-eqb, ne-eqb, le-ltb, ltb-true, ltb-false, eqb-true, eqb-false}
 use lib.Arith.{lt-of-le-ne}
 use lib.Dec.{ltb, eqb}
-use lib.ListN.{length, getD, drop, set}
+use lib.ListN.{length, getD, drop}
 use lib.Seq.{set-comm}
 use Rattle.sock.specs.Term.{kind}
 use Rattle.sock.specs.Running.{Run, asNode, runWords, size, runDepth}
 use Rattle.sock.specs.Configuration.{standard, Config, Engine}
 use Rattle.sock.specs.Frames.{Located, plug}
 use Rattle.sock.specs.Rules.{Message, sends, moveOf, Exchange, exchange}
-use Rattle.sock.specs.Calls.{Spot as Place, noFit, Numbers, engineAt, withEngine, Stepped}
-use Rattle.sock.proofs.Fits.{SoundFrames}
+use Rattle.sock.specs.Calls.{Spot as Place, noFit, Numbers, engineAt, withEngine}
 use Rattle.sock.proofs.Located.{startOf}
 use Rattle.reading.specs.declared.survey.Starts.{Starts}
 use Rattle.reading.proofs.Combining.{Words}
@@ -26,19 +25,17 @@ use Rattle.reading.proofs.Known.{Known, known-length, known-issued}
 use Rattle.reading.proofs.Standing.{start-next}
 use Rattle.finding.specs.declared.find.Spot.{Spot}
 use Rattle.finding.specs.Find.{faultAt}
-use Rattle.finding.proofs.Spots.{Spotted}
 use Rattle.moving.proofs.Laid.{Near}
 use Rattle.rules.specs.declared.turn.Turn.{Turn}
 use Rattle.rules.specs.declared.plan.Plan.{Plan}
-use Rattle.rules.specs.Turning.{Turned, at}
+use Rattle.rules.specs.Turning.{at}
 use Rattle.rules.specs.Offering.{offerW}
 use Rattle.rules.specs.Planning.{Planned, plainW}
 use Rattle.rules.proofs.Turns.{Becomes, both-ways}
 use Rattle.rules.proofs.Plans.{Plans, plain-plans}
 use Rattle.rules.proofs.Outcomes.{Ruled, tooDeep, ruled, becomes-ruled}
-use Rattle.rules.proofs.Exchanges.{Takes}
 use Rattle.stepping.specs.declared.answer.Answer.{Answer}
-use Rattle.stepping.specs.Answering.{Answered, answered, refusing, accepting, twoW}
+use Rattle.stepping.specs.Answering.{answered, refusing, accepting, twoW}
 use Rattle.stepping.specs.Meeting.{fitW, serialW, sendW, receiveW}
 use Rattle.stepping.specs.Exchanging.{blank, lent, senderW, receiverW, orderedW, nextOf, issuedOf, faultOf, carryW, spentW, meetW, betweenW}
 use Rattle.stepping.proofs.Goal.{given, given-refused, fitted, fitted-spent}

@@ -1,27 +1,26 @@
 -- The result of a step that changes one engine: how long it is, and that it is what is written.
 -- Assumes nothing.
-use Prim.Native.Nat.{ℕ, zero, suc, _+_, _-_, _*_, _%_, _≤_, _<_}
+use Prim.Native.Nat.{ℕ, suc, _+_, _-_, _≤_, _<_}
 use native.Mathlib.Omega.{arith}
 use mathlib.Core.Path.{_≡_, refl, sym, ap, ap₂, _∙_}
 use mathlib.Core.Bool.{Bool, true, false, cond}
-use mathlib.Core.List.{List, [], _∷_, _++_, append-nil, append-assoc}
+use mathlib.Core.List.{List, _∷_, _++_, append-assoc}
 use borrow.Author.Tests.{le-ltb, lt-ltb, leb-true, leb-false}
-use lib.Dec.{leb, ltb, eqb, lit<}
-use lib.ListN.{length, getD, take, drop, set, length-append, length-drop, length-set}
-use lib.Seq.{take-at, drop-at, take-all, length-take-le, take-set-le, drop-set-lt, getD-set-same}
+use lib.Dec.{leb, lit<}
+use lib.ListN.{length, take, drop, set, length-append, length-drop, length-set}
+use lib.Seq.{take-at, drop-at, take-all, take-set-le, drop-set-lt, getD-set-same}
 use Rattle.sock.specs.Running.{Run, runWords, size}
 use Rattle.sock.specs.Configuration.{Engine, Config, valuesWords, engineWords, enginesWords, encode}
 use Rattle.sock.specs.Calls.{engineAt, withEngine, over}
-use Rattle.sock.proofs.Fits.{FitsConfig, FitsEngine}
+use Rattle.sock.proofs.Fits.{FitsConfig}
 use Rattle.sock.proofs.Located.{values-length, engines-split, engine-fits, startOf, wordsBefore, wordsAfter, encode-split, before-length}
-use Rattle.moving.specs.Writing.{onward}
 use Rattle.moving.proofs.Laid.{Near, near-of, near-below, onward-near}
 use Rattle.finding.proofs.Edits.{part}
 use Rattle.rules.specs.declared.plan.Plan.{Plan}
-use Rattle.rules.proofs.Plans.{Ordered, Plans, part-first, part-length, fresh-room}
-use Rattle.stepping.specs.Writing.{Written, copyW, engineW}
+use Rattle.rules.proofs.Plans.{Ordered, Plans, part-first, fresh-room}
+use Rattle.stepping.specs.Writing.{engineW}
 use Rattle.stepping.specs.Answering.{sizedW, writeOneW, lengthOf}
-use Rattle.stepping.proofs.Overs.{Over, Wrote, wrote-copy}
+use Rattle.stepping.proofs.Overs.{Wrote, wrote-copy}
 use Rattle.stepping.proofs.Writes.{valued, engine-wrote}
 
 -- ---- lengths

@@ -1,26 +1,25 @@
 -- Who moves: the search on words is the definitions' search among the engines.
 -- Assumes nothing.
-use Prim.Native.Nat.{ℕ, zero, suc, _+_, _-_, _*_, _≤_, _<_}
+use Prim.Native.Nat.{ℕ, _+_, _-_, _*_, _≤_, _<_}
 use native.Mathlib.Omega.{arith}
 use mathlib.Core.Path.{_≡_, refl, sym, ap, _∙_}
-use mathlib.Core.Bool.{Bool, true, false, cond}
 use mathlib.Core.Option.{Option, none, some}
-use mathlib.Core.List.{List, [], _∷_, _++_}
+use mathlib.Core.List.{List, [], _++_}
 use borrow.Author.Tests.{lt-ltb, le-ltb}
-use lib.Dec.{ltb, lit<}
-use lib.ListN.{length, getD, drop}
+use lib.Dec.{lit<}
+use lib.ListN.{length, drop}
 use Rattle.sock.specs.Running.{Run, runWords, size, runDepth}
-use Rattle.sock.specs.Configuration.{standard, Config, encode, guarded}
+use Rattle.sock.specs.Configuration.{standard, Config, guarded}
 use Rattle.sock.specs.Frames.{Located, locate}
 use Rattle.sock.specs.Rules.{also}
 use Rattle.sock.specs.Calls.{Spot as Place, engineAt, enabledAt}
-use Rattle.sock.proofs.Fits.{Sound, FitsConfig, FitsEngine}
+use Rattle.sock.proofs.Fits.{Sound}
 use Rattle.sock.proofs.Located.{startOf, engine-fits}
 use Rattle.reading.specs.declared.survey.Starts.{Starts}
 use Rattle.reading.proofs.Combining.{Words}
 use Rattle.reading.proofs.Known.{Known, known-length}
 use Rattle.moving.specs.Writing.{onward}
-use Rattle.moving.proofs.Laid.{Near, near-of, near-below, onward-near}
+use Rattle.moving.proofs.Laid.{near-of, onward-near}
 use Rattle.finding.specs.declared.find.Spot.{Spot}
 use Rattle.finding.specs.declared.find.Found.{Found}
 use Rattle.finding.specs.declared.find.Found.the-variants.{Hit, Past}

@@ -1,8 +1,7 @@
 -- The search for who moves and who receives: from what each call leaves.
 -- Assumes nothing.
 use Prim.Native.Nat.{ℕ, _+_, _*_, _≤_, _<_}
-use native.Mathlib.Omega.{arith}
-use mathlib.Core.Path.{_≡_, refl, sym, ap, _∙_}
+use mathlib.Core.Path.{_≡_, sym, ap, _∙_}
 use mathlib.Core.List.{List}
 use borrow.Author.Tests.{ne-eqb, le-ltb, le-leb, lt-leb}
 use lib.ListN.{getD}
@@ -14,7 +13,7 @@ use Rattle.finding.specs.declared.find.Found.{Found}
 use Rattle.finding.specs.declared.find.Found.the-variants.{Hit, Past}
 use Rattle.finding.specs.Find.{findW}
 use Rattle.rules.specs.Turning.{at}
-use Rattle.stepping.specs.Answering.{Answered, answered, refusing}
+use Rattle.stepping.specs.Answering.{answered, refusing}
 use Rattle.stepping.specs.Exchanging.{betweenW}
 use Rattle.stepping.specs.Stepping.{partnerW, receivingW, movingW, foundW, stepW}
 

@@ -1,20 +1,18 @@
 -- The step's cases by the definitions, once a process is found: it is stuck, it moves alone, or it sends.
 -- Assumes nothing.
-use Prim.Native.Nat.{ℕ, zero, suc, _+_, _-_, _*_, _/_, _%_, _≤_, _<_}
-use native.Mathlib.Omega.{arith}
-use mathlib.Core.Path.{_≡_, refl, sym, ap, _∙_}
-use mathlib.Core.Bool.{Bool, true, false, not, _&&_, cond}
+use Prim.Native.Nat.{ℕ, _-_}
+use mathlib.Core.Path.{_≡_, refl}
+use mathlib.Core.Bool.{Bool, true, false, _&&_, cond}
 use mathlib.Core.Option.{Option, none, some}
 use mathlib.Core.List.{List}
 use borrow.Author.Tests.{eq-eqb, ne-eqb}
 use lib.Dec.{eqb}
-use lib.ListN.{length}
 use Rattle.sock.specs.Term.{kind}
 use Rattle.sock.specs.Running.{Run, asNode}
-use Rattle.sock.specs.Configuration.{Limits, standard, Config, guarded, readConfig}
+use Rattle.sock.specs.Configuration.{standard, Config, guarded, readConfig}
 use Rattle.sock.specs.Frames.{plug}
-use Rattle.sock.specs.Rules.{also, Message, Move, stuck, alone, sends, moveOf, Exchange, exchange}
-use Rattle.sock.specs.Calls.{Refusal, unreadable, nobodyThere, noMove, noPartner, noFit, installing, Result, refused, done, _>>=_, _>>_, _!_, _unless_, Numbers, Spot, enabledAt, movable, partner, lone, between, effect, Stepped, withEngine, carriedOut, step}
+use Rattle.sock.specs.Rules.{also, Message, stuck, alone, sends, moveOf, Exchange, exchange}
+use Rattle.sock.specs.Calls.{unreadable, nobodyThere, noMove, noPartner, noFit, installing, Result, refused, _>>=_, _>>_, _!_, Numbers, Spot, enabledAt, movable, partner, effect, Stepped, withEngine, carriedOut, step}
 use Rattle.stepping.specs.Stepping.{noneElse}
 use Rattle.stepping.proofs.Goal.{fitted}
 

@@ -2,23 +2,23 @@
 -- Assumes nothing.
 use Prim.Native.Nat.{ℕ, zero, suc, _+_, _-_, _*_, _/_, _%_, _≤_, _<_}
 use native.Mathlib.Omega.{arith}
-use mathlib.Core.Path.{_≡_, refl, sym, ap, ap₂, _∙_}
+use mathlib.Core.Path.{_≡_, refl, sym, ap, _∙_}
 use mathlib.Core.Bool.{Bool, true, false, cond}
 use mathlib.Core.List.{List, [], _∷_, _++_, append-nil, append-assoc}
 use borrow.Author.Tests.{le-ltb, leb-false}
 use lib.Dec.{leb, ltb}
 use lib.ListN.{length, take, drop, set, length-append, length-drop, length-set}
-use lib.Seq.{drop-drop, length-take-le, take-all, drop-length}
+use lib.Seq.{drop-drop, take-all, drop-length}
 use Rattle.sock.specs.Words.{highWord, lowWord}
 use Rattle.sock.specs.Running.{Run, runWords, size}
 use Rattle.sock.specs.Configuration.{valuesWords}
 use Rattle.sock.proofs.Located.{values-length}
 use Rattle.moving.specs.Writing.{onward}
-use Rattle.moving.proofs.Laid.{Near, near-below, onward-near}
+use Rattle.moving.proofs.Laid.{Near, onward-near}
 use Rattle.finding.proofs.Edits.{part}
 use Rattle.rules.specs.declared.plan.Plan.{Plan}
-use Rattle.rules.proofs.Plans.{laidOut, Ordered, Plans, part-length, part-first}
-use Rattle.stepping.specs.Writing.{Written, written, copyW, frontW, backW, processW, valueW, lentW, engineW}
+use Rattle.rules.proofs.Plans.{Ordered, Plans, part-first}
+use Rattle.stepping.specs.Writing.{written, copyW, frontW, backW, processW, valueW, lentW, engineW}
 use Rattle.stepping.proofs.Overs.{Over, over-length, over-then, over-set, Wrote, wrote-none, wrote-copy}
 
 -- the words in front of others are no more than all

@@ -1,12 +1,12 @@
 -- An engine written, and two: from what each call leaves.
 -- Assumes nothing.
 use Prim.Native.Nat.{ℕ}
-use mathlib.Core.Path.{_≡_, refl, sym, _∙_}
+use mathlib.Core.Path.{_≡_}
 use mathlib.Core.List.{List}
 use lib.ListN.{length, set}
 use Rattle.moving.specs.Writing.{pasted, pastedEnd}
 use Rattle.rules.specs.declared.plan.Plan.{Plan}
-use Rattle.stepping.specs.Writing.{Written, written, copyW, valueW, lentW, engineW}
+use Rattle.stepping.specs.Writing.{written, copyW, valueW, lentW, engineW}
 use Rattle.stepping.specs.Answering.{writeTwoW}
 
 pub engine-made :

@@ -1,12 +1,12 @@
 -- A step of one engine alone, as the code goes.
-use Prim.Native.Nat.{ℕ, _+_, _-_, _%_}
-use mathlib.Core.Bool.{Bool, true, false, cond}
+use Prim.Native.Nat.{ℕ, _-_, _%_}
+use mathlib.Core.Bool.{cond}
 use mathlib.Core.List.{List}
 use lib.Dec.{ltb, eqb}
 use lib.ListN.{length}
 use Rattle.finding.specs.declared.find.Spot.{Spot}
 use Rattle.rules.specs.Turning.{Turned, turned, refused, assignW, branchW, repeatW}
-use Rattle.rules.specs.Planning.{Planned, planned, plainW}
+use Rattle.rules.specs.Planning.{Planned, plainW}
 use Rattle.scopes.specs.Compensating.{compensatedW}
 use Rattle.scopes.specs.Ending.{endedW}
 use Rattle.scopes.specs.Installing.{installedW}

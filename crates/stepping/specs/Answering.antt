@@ -1,8 +1,8 @@
 -- The answer of a step and the result written, as the code goes.
-use Prim.Native.Nat.{ℕ, _+_, _-_, _%_}
-use mathlib.Core.Bool.{Bool, true, false, cond}
+use Prim.Native.Nat.{ℕ, _-_, _%_}
+use mathlib.Core.Bool.{cond}
 use mathlib.Core.List.{List}
-use lib.Dec.{leb, ltb, eqb}
+use lib.Dec.{ltb, eqb}
 use lib.ListN.{length, set}
 use Rattle.moving.specs.Writing.{onward}
 use Rattle.rules.specs.declared.plan.Plan.{Plan}

@@ -1,6 +1,6 @@
 -- A step between two different engines, as the code goes.
 use Prim.Native.Nat.{ℕ, _+_, _-_, _%_}
-use mathlib.Core.Bool.{Bool, true, false, cond}
+use mathlib.Core.Bool.{Bool, false, cond}
 use mathlib.Core.List.{List}
 use lib.Dec.{ltb, eqb}
 use lib.ListN.{length, getD, replicate, take, drop}

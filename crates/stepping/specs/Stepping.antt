@@ -1,9 +1,9 @@
 -- The whole step on words, as the code goes.
 use Prim.Native.Nat.{ℕ, _+_, _*_, _/_}
-use mathlib.Core.Bool.{Bool, true, false, cond}
-use mathlib.Core.List.{List, [], _∷_}
+use mathlib.Core.Bool.{Bool, false, cond}
+use mathlib.Core.List.{List}
 use lib.Dec.{leb, ltb, eqb}
-use lib.ListN.{length, getD}
+use lib.ListN.{getD}
 use Rattle.reading.specs.Walk.{processEnd, listEnd}
 use Rattle.reading.specs.Survey.{surveyed}
 use Rattle.moving.specs.Writing.{onward}
