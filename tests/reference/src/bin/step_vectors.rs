@@ -11,7 +11,7 @@ use reference::generate::random::Random;
 use reference::generate::run::{Origin, Run, ORIGINS};
 use reference::generate::{damage, steps};
 use reference::process::{Key, Mark, Part};
-use reference::{readable, step, write, Answer, Numbers, STANDARD};
+use reference::{measure, readable, step, write, Answer, Numbers, STANDARD};
 use std::collections::BTreeMap;
 use std::fs;
 use std::path::Path;
@@ -179,7 +179,7 @@ fn alone(position: u16) -> Numbers {
     Numbers::new(0, position, 0, 0, 0)
 }
 
-/// A root with an entry so deep and a body.
+/// A root with an entry and a body.
 fn holding(key: Key, entry: Part, body: Part) -> Configuration {
     let root = build::scope_with(1, Mark::None, false, build::list([(key, entry)]), body);
     build::configuration(0, vec![root])
@@ -195,25 +195,79 @@ fn first(configuration: &Configuration, kind: u8) -> Numbers {
 /// A configuration of 64 levels is read and one of 65 is not; a result of 65 levels is refused.
 fn of_depth(cases: &mut Cases) {
     for way in WAYS {
-        let standing = |depth: usize| {
-            let side = nest(*way, depth - 2);
-            build::configuration(0, vec![build::scope(1, build::par(build::comp(1), side))])
-        };
-        cases.edge(&standing(64), alone(4), 1000, 0);
-        cases.edge(&standing(65), alone(4), 1000, 1);
-        cases.edge(&edges::result_deep(*way, 64), alone(3), 1000, 0);
-        cases.edge(&edges::result_deep(*way, 65), alone(3), 1000, 8);
+        for (depth, number) in [(64, 0), (65, 1)] {
+            let side = build::par(build::comp(1), nest(*way, depth - 2));
+            let standing = build::configuration(0, vec![build::scope(1, side)]);
+            cases.edge(&standing, alone(4), 1000, number);
+        }
+        for (depth, number) in [(64, 0), (65, 8)] {
+            cases.edge(&edges::result_deep(*way, depth), alone(3), 1000, number);
+            let body = build::par(build::throw(2), build::comp(1));
+            let comp = holding(Key::Scope(1), nest(*way, depth - 2), body);
+            cases.edge(&comp, first(&comp, 14), 1000, number);
+            let (around, levels) = around_old(*way);
+            let body = build::inst(build::list([(Key::Fault(1), around)]));
+            let inst = holding(Key::Fault(1), nest(*way, depth - 1 - levels), body);
+            cases.edge(&inst, first(&inst, 12), 1000, number);
+        }
+        let other = build::inst(build::list([(Key::Scope(1), build::throw(1))]));
+        let kept = holding(Key::Fault(1), nest(*way, 63), other);
+        cases.edge(&kept, first(&kept, 12), 1000, 0);
     }
-    for (depth, number) in [(62, 0), (63, 8)] {
-        let key = Key::Scope(1);
-        let body = build::par(build::throw(2), build::comp(1));
-        let comp = holding(key, nest(Way::SeqSecond, depth), body);
-        cases.edge(&comp, first(&comp, 14), 1000, number);
-        let around = build::seq(build::throw(2), build::current_handler());
-        let body = build::inst(build::list([(key, around)]));
-        let inst = holding(key, nest(Way::InstEntry, depth), body);
-        cases.edge(&inst, first(&inst, 12), 1000, number);
+    for way in [Way::LeftOperand, Way::RightOperand] {
+        cases.edge(&edges::deep(way, 64), alone(3), 1000, 0);
     }
+}
+
+/// Entries of every kind at the bottom, that a step sets deeper.
+fn of_leaves(cases: &mut Cases) {
+    let (nil, variable) = (build::nil, || build::variable(1));
+    let leaves = [
+        nil(),
+        build::assign(1, build::constant(2)),
+        build::if_else(variable(), nil(), nil()),
+        build::while_true(variable(), nil()),
+        build::choice(vec![(build::one_way(1, 1), nil())]),
+        build::one_way(1, 1),
+        build::request(1, 1, 1, nil()),
+        build::notify(1, 1, 1),
+        build::solicit(1, 1, 1, 1, build::list([])),
+        build::scope(1, build::throw(1)),
+        build::inst(build::list([])),
+        build::comp(1),
+    ];
+    for leaf in leaves {
+        for (depth, number) in [(62, 0), (63, 8)] {
+            let mut old = leaf.clone();
+            while measure::depth(&old) < depth {
+                old = build::seq(build::comp(1), old);
+            }
+            let around = build::seq(build::throw(2), build::current_handler());
+            let body = build::inst(build::list([(Key::Scope(1), around)]));
+            let inst = holding(Key::Scope(1), old, body);
+            cases.edge(&inst, first(&inst, 12), 1000, number);
+        }
+    }
+}
+
+/// An entry with cH in the way, or in another where it can't stand so, and the levels around cH.
+fn around_old(way: Way) -> (Part, usize) {
+    let old = build::current_handler();
+    let (nil, throw, condition) = (build::nil(), build::throw(2), build::variable(1));
+    let around = match way {
+        Way::SeqFirst => build::seq(old, nil),
+        Way::ParLeft => build::par(old, throw),
+        Way::ParRight => build::par(throw, old),
+        Way::IfYes => build::if_else(condition, old, nil),
+        Way::IfNo => build::if_else(condition, nil, old),
+        Way::While => build::while_true(condition, old),
+        Way::BranchThen => build::choice(vec![(build::one_way(1, 1), old)]),
+        Way::BranchRequest => build::choice(vec![(build::request(1, 1, 1, old), nil)]),
+        Way::Request => build::request(1, 1, 1, old),
+        Way::Scope => build::scope(1, old),
+        _ => build::seq(throw, old),
+    };
+    (around, if way == Way::BranchRequest { 2 } else { 1 })
 }
 
 /// 8,192 words are read and 8,193 are not; a result of 8,193 words is refused, whatever the room.
@@ -246,13 +300,209 @@ fn of_serials(cases: &mut Cases) {
     }
 }
 
+/// Two engines' processes, with a value for the first one's address.
+fn pair(first: &Part, second: &Part, address: u32) -> Configuration {
+    let processes = vec![build::scope(1, first.clone()), build::scope(2, second.clone())];
+    let mut both = build::configuration(4, processes);
+    both.engines[0].values[2] = 70_000;
+    both.engines[0].values[3] = address;
+    both
+}
+
+/// Sender and receiver that fit, and ones that fit but for one thing.
+fn of_meetings(cases: &mut Cases) {
+    let send = |cases: &mut Cases, from: &Part, to: &Part, address, branch, number| {
+        let numbers = Numbers::new(0, 3, 1, 3, branch);
+        cases.edge(&pair(from, to, address), numbers, 1000, number);
+    };
+    let nil = build::nil;
+    let list = build::list([(Key::Fault(5), build::throw(6))]);
+    let notify = build::notify(33, 2, 3);
+    let solicit = build::solicit(33, 2, 3, 4, list.clone());
+    let one_way = |operation: u8| build::one_way(operation, 5);
+    let request = |operation: u8| build::request(operation, 5, 6, build::comp(7));
+    let branch = |receiver: Part| build::choice(vec![(receiver, build::comp(8))]);
+    let second = |receiver: Part| build::choice(vec![(one_way(9), nil()), (receiver, nil())]);
+    for (from, fits, other, misses) in [
+        (&notify, one_way(33), one_way(1), request(33)),
+        (&solicit, request(33), request(1), one_way(33)),
+    ] {
+        send(cases, from, &fits, 1, 0, 0);
+        send(cases, from, &fits, 1, 1, 5);
+        for address in [0, 2, 9, 65_537] {
+            send(cases, from, &fits, address, 0, 5);
+        }
+        for receiver in [other, misses] {
+            send(cases, from, &receiver, 1, 0, 5);
+            send(cases, from, &branch(receiver), 1, 1, 5);
+        }
+        for (number, answer) in [(0, 5), (1, 0), (2, 5), (65_535, 5)] {
+            send(cases, from, &branch(fits.clone()), 1, number, answer);
+        }
+        for (number, answer) in [(1, 5), (2, 0), (3, 5)] {
+            send(cases, from, &second(fits.clone()), 1, number, answer);
+        }
+        let within = build::configuration(4, vec![build::scope(1, build::par(from.clone(), fits))]);
+        let stands = steps::stands(&within);
+        let place = stands.last().map_or(0, |s| s.position as u16);
+        cases.edge(&within, Numbers::new(0, 4, 0, place, 0), 1000, 5);
+    }
+    let waiter = |operation, server, serial, dead| {
+        build::waiter(operation, 5, dead, server, serial, list.clone())
+    };
+    for reply in [true, false] {
+        let from = |client: u8| match reply {
+            true => build::executor(33, 2, client, 3, nil()),
+            false => build::notice(33, 5, client, 3),
+        };
+        send(cases, &from(1), &waiter(33, 0, 3, false), 0, 0, 0);
+        send(cases, &from(1), &waiter(33, 0, 3, true), 0, 0, 0);
+        send(cases, &from(1), &waiter(33, 0, 3, false), 0, 1, 5);
+        send(cases, &from(0), &waiter(33, 0, 3, false), 0, 0, 5);
+        send(cases, &from(1), &waiter(1, 0, 3, false), 0, 0, 5);
+        send(cases, &from(1), &waiter(33, 1, 3, false), 0, 0, 5);
+        send(cases, &from(1), &waiter(33, 0, 4, false), 0, 0, 5);
+        send(cases, &from(1), &request(33), 1, 0, 5);
+    }
+}
+
+/// Eight branches and eight engines are read and nine are not; the sender behind the receiver.
+fn of_eight(cases: &mut Cases) {
+    let notify = build::notify(7, 2, 3);
+    for (count, number) in [(8, 0), (9, 1)] {
+        let branches = (0..count).map(|o| (build::one_way(o, 5), build::comp(o)));
+        let choice = build::choice(branches.collect());
+        let to = Numbers::new(0, 3, 1, 3, 8);
+        cases.edge(&pair(&notify, &choice, 1), to, 1000, number);
+        let mut processes = vec![build::nil(); usize::from(count)];
+        processes[2] = build::scope(1, build::one_way(7, 31));
+        processes[7] = build::scope(1, notify.clone());
+        let mut engines = build::configuration(0, processes);
+        engines.engines[7].values[2] = u32::MAX;
+        engines.engines[7].values[3] = 2;
+        cases.edge(&engines, Numbers::new(7, 3, 2, 3, 0), 1000, number);
+    }
+    let list = build::list([(Key::Scope(5), build::throw(6))]);
+    let request = build::request(7, 5, 6, build::comp(7));
+    let branch = build::choice(vec![(request.clone(), build::throw(8))]);
+    let waiter = build::waiter(7, 5, false, 1, 3, list.clone());
+    let asks = build::solicit(7, 2, 3, 4, list);
+    for (from, to, number) in [
+        (asks.clone(), request, 0),
+        (asks, branch, 1),
+        (build::executor(7, 2, 0, 3, build::nil()), waiter.clone(), 0),
+        (build::notice(7, 9, 0, 3), waiter, 0),
+    ] {
+        let mut both = pair(&to, &build::par(from, build::throw(1)), 0);
+        both.engines[1].values[2] = 65_536;
+        cases.edge(&both, Numbers::new(1, 4, 0, 3, number), 1000, 0);
+    }
+}
+
+/// Processes that move alone, one of each sort.
+fn movers() -> Vec<Part> {
+    let list = build::list([(Key::Scope(3), build::throw(4))]);
+    vec![
+        build::assign(1, build::constant(70_000)),
+        build::scope_with(3, Mark::None, false, list.clone(), build::nil()),
+        build::scope(3, build::nil()),
+        build::if_else(build::constant(1), build::comp(4), build::nil()),
+        build::if_else(build::constant(0), build::comp(4), build::nil()),
+        build::while_true(build::constant(1), build::nil()),
+        build::while_true(build::constant(0), build::comp(4)),
+        build::inst(list),
+        build::comp(2),
+        build::comp(9),
+        build::throw(2),
+        build::throw(9),
+    ]
+}
+
+/// One level around an enabled process.
+fn frames() -> Vec<fn(Part) -> Part> {
+    vec![
+        |inner| build::seq(inner, build::nil()),
+        |inner| build::seq(inner, build::comp(6)),
+        |inner| build::par(inner, build::one_way(6, 1)),
+        |inner| build::par(build::one_way(6, 1), inner),
+        |inner| build::executor(6, 7, 0, 1, inner),
+        |inner| {
+            let entries = [(Key::Fault(2), build::comp(5)), (Key::Scope(2), build::throw(5))];
+            build::scope_with(3, Mark::None, false, build::list(entries), inner)
+        },
+        |inner| build::scope_with(5, Mark::None, true, build::list([]), inner),
+    ]
+}
+
+/// Each mover in each frame, and the first two in each frame of each frame.
+fn of_places(cases: &mut Cases) {
+    let mut place = |mover: &Part, process: Part| {
+        let before = build::configuration(1, vec![build::scope(2, process)]);
+        let stands = steps::stands(&before);
+        let found = stands.iter().find(|s| s.process == *mover);
+        let position = found.map_or(0, |s| s.position as u16);
+        cases.edge(&before, alone(position), 200, 0);
+    };
+    for (index, mover) in movers().iter().enumerate() {
+        for outer in frames() {
+            place(mover, outer(mover.clone()));
+            for inner in frames().into_iter().filter(|_| index < 2) {
+                place(mover, outer(inner(mover.clone())));
+            }
+        }
+    }
+}
+
+/// The first and the last name as keys, and where they come in a list.
+fn of_keys(cases: &mut Cases) {
+    for name in [0, 63] {
+        for (key, number) in [(Key::Fault(name), 0), (Key::Scope(name), 1)] {
+            let empty = holding(key, build::nil(), build::throw(name));
+            cases.edge(&empty, alone(4 + 1), 200, number);
+            for (mover, kind) in [(build::throw(name), 13), (build::comp(name), 14)] {
+                let full = holding(key, build::notify(name, 31, 30), mover);
+                cases.edge(&full, first(&full, kind), 200, 0);
+            }
+        }
+    }
+    let comp = build::comp;
+    let old = build::list([(Key::Fault(1), comp(1)), (Key::Scope(62), comp(2))]);
+    let keys = [Key::Fault(0), Key::Fault(63), Key::Scope(0), Key::Scope(63)];
+    let new = keys.into_iter().map(|key| (key, comp(3))).collect();
+    let root = build::scope_with(1, Mark::None, false, old, build::inst(new));
+    let inst = build::configuration(0, vec![root]);
+    cases.edge(&inst, first(&inst, 12), 200, 0);
+}
+
+/// One case for each way to break a condition of readable.
+fn of_damage(cases: &mut Cases) {
+    let mut random = Random::new(7);
+    for (_, broken) in damage::CONDITIONS {
+        for seed in 0..200 {
+            let origin = ORIGINS[seed as usize % ORIGINS.len()];
+            let start = Run::new(seed, origin).configuration();
+            let words = start.and_then(|c| broken(&mut random, &c));
+            if let Some(words) = words.filter(|w| w.len() < 400) {
+                cases.add(Case::new(&words, alone(0), 1000));
+                break;
+            }
+        }
+    }
+}
+
 fn main() -> std::io::Result<()> {
     let folder = std::env::args().nth(1).unwrap_or_else(|| ".".to_string());
     let mut cases = Cases::default();
     of_runs(&mut cases);
     of_depth(&mut cases);
+    of_leaves(&mut cases);
     of_length(&mut cases);
     of_serials(&mut cases);
+    of_meetings(&mut cases);
+    of_eight(&mut cases);
+    of_places(&mut cases);
+    of_keys(&mut cases);
+    of_damage(&mut cases);
     for words in [&[][..], &[1], &[1, 0]] {
         cases.add(Case::new(words, alone(0), 8));
     }
