@@ -6,11 +6,12 @@ use reference::build;
 use reference::bytes::from_words;
 use reference::configuration::Configuration;
 use reference::coverage::{Coverage, ROWS};
+use reference::expression::Operator;
 use reference::generate::edges::{self, filler, nest, Way, WAYS};
 use reference::generate::random::Random;
 use reference::generate::run::{Origin, Run, ORIGINS};
 use reference::generate::{damage, steps};
-use reference::process::{Key, Mark, Part};
+use reference::process::{Key, List, Mark, Part};
 use reference::{measure, readable, step, write, Answer, Numbers, STANDARD};
 use std::collections::BTreeMap;
 use std::fs;
@@ -402,10 +403,20 @@ fn of_eight(cases: &mut Cases) {
 /// Processes that move alone, one of each sort.
 fn movers() -> Vec<Part> {
     let list = build::list([(Key::Scope(3), build::throw(4))]);
+    let own = build::list([(Key::Fault(4), build::comp(4)), (Key::Scope(2), build::throw(4))]);
+    let none = || build::list([]);
+    let ending =
+        |mark, zombie, list: &List| build::scope_with(2, mark, zombie, list.clone(), build::nil());
     vec![
         build::assign(1, build::constant(70_000)),
-        build::scope_with(3, Mark::None, false, list.clone(), build::nil()),
-        build::scope(3, build::nil()),
+        ending(Mark::None, false, &own),
+        ending(Mark::None, false, &none()),
+        ending(Mark::None, true, &own),
+        ending(Mark::None, true, &none()),
+        ending(Mark::Fault(4), false, &own),
+        ending(Mark::Fault(4), true, &own),
+        ending(Mark::OwnName, true, &own),
+        ending(Mark::OwnName, true, &none()),
         build::if_else(build::constant(1), build::comp(4), build::nil()),
         build::if_else(build::constant(0), build::comp(4), build::nil()),
         build::while_true(build::constant(1), build::nil()),
@@ -450,6 +461,76 @@ fn of_places(cases: &mut Cases) {
                 place(mover, outer(inner(mover.clone())));
             }
         }
+    }
+}
+
+/// Deep below each frame: a while, a comp and an inst at the limit, and what a throw kills.
+fn of_deep_places(cases: &mut Cases) {
+    let grown = |levels: usize| nest(Way::SeqSecond, levels);
+    let config = |process: Part| build::configuration(1, vec![build::scope(1, process)]);
+    for frame in frames() {
+        let deep = |inner: Part, count: usize| (0..count).fold(inner, |part, _| frame(part));
+        for (levels, number) in [(0, 0), (1, 8)] {
+            let again = build::while_true(build::constant(1), grown(22 + levels));
+            let before = config(deep(again, 39));
+            cases.edge(&before, first(&before, 5), 2000, number);
+            let held = build::list([(Key::Scope(8), grown(21 + levels))]);
+            let body = frame(build::comp(8));
+            let scope = build::scope_with(1, Mark::None, false, held.clone(), body);
+            let before = config(deep(scope, 40));
+            let (all, kept) = (steps::stands(&before), build::comp(8));
+            let found = all.iter().find(|s| s.process == kept);
+            let position = found.map_or(0, |s| s.position as u16);
+            // Within a nearer scope, comp finds no entry.
+            let near = frame(build::nil()).kind() == 11;
+            cases.edge(&before, alone(position), 2000, if near { 0 } else { number });
+            let around = build::seq(build::throw(2), build::current_handler());
+            let body = build::inst(build::list([(Key::Scope(8), around)]));
+            let scope = build::scope_with(1, Mark::None, false, held, body);
+            let before = config(deep(scope, 40));
+            cases.edge(&before, first(&before, 12), 2000, number);
+        }
+        for side in [deep(build::one_way(1, 1), 61), deep(build::throw(8), 61)] {
+            let before = config(build::par(build::throw(9), side));
+            cases.edge(&before, alone(4), 2000, 0);
+            let last = steps::stands(&before).into_iter().rev().find(|s| s.process.kind() == 13);
+            let position = last.map_or(0, |s| s.position as u16);
+            cases.edge(&before, alone(position), 2000, 0);
+        }
+    }
+    for way in WAYS {
+        let before = config(build::par(build::throw(9), nest(*way, 62)));
+        cases.add(Case::of(&before, alone(4), 2000));
+    }
+}
+
+/// Each operator at its edges, each variable's place, and numbers that a step alone may not have.
+fn of_values(cases: &mut Cases) {
+    let most = u32::MAX;
+    let pairs = [(5, 5), (4, 5), (5, 4), (most, 1), (0, 1), (65_535, 65_536), (most, most)];
+    for operator in [Operator::Sum, Operator::Difference, Operator::Less, Operator::Equal] {
+        for (left, right) in pairs {
+            let sum = build::binary(operator, build::variable(31), build::constant(right));
+            let mut before = build::configuration(0, vec![build::scope(1, build::assign(30, sum))]);
+            before.engines[0].values[31] = left;
+            cases.edge(&before, alone(3), 100, 0);
+        }
+    }
+    for value in [0, 1, 2, 65_536] {
+        let condition = build::variable(0);
+        let chooses = build::if_else(condition.clone(), build::comp(1), build::throw(1));
+        for process in [chooses, build::while_true(condition, build::comp(1))] {
+            let mut before = build::configuration(0, vec![build::scope(1, process)]);
+            before.engines[0].values[0] = value;
+            cases.edge(&before, alone(3), 100, 0);
+        }
+    }
+    let before = build::configuration(0, vec![build::scope(1, build::comp(1))]);
+    for (second, place, branch) in [(1, 0, 0), (0, 1, 0), (0, 0, 1), (65_535, 0, 0)] {
+        cases.edge(&before, Numbers::new(0, 3, second, place, branch), 100, 3);
+    }
+    for (engine, position, number) in [(0, 3, 0), (1, 3, 2), (0, 4, 2), (0, 2, 2), (0, 0, 3)] {
+        cases.edge(&before, Numbers::new(engine, position, 0, 0, 0), 100, number);
     }
 }
 
@@ -501,6 +582,8 @@ fn main() -> std::io::Result<()> {
     of_meetings(&mut cases);
     of_eight(&mut cases);
     of_places(&mut cases);
+    of_deep_places(&mut cases);
+    of_values(&mut cases);
     of_keys(&mut cases);
     of_damage(&mut cases);
     for words in [&[][..], &[1], &[1, 0]] {
