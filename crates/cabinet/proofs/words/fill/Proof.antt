@@ -1,0 +1,85 @@
+-- `fill` of `cabinet::words` meets its contract. The loop's invariant: the first i words are in their places.
+-- Assumes nothing.
+use Prim.Native.Nat.{ℕ, _-_, _≤_, _<_}
+use mathlib.Core.Path.{_≡_, refl, _∙_}
+use lib.ListN.{length, getD}
+use native.Mathlib.Omega.{arith}
+use borrow.Author.Needs.{needs}
+use Rattle.cabinet.specs.Held.{pairAt}
+use Rattle.cabinet.proofs.Holding.{fill-turn}
+use Rattle.cabinet.proofs.words.fill.Statement.{statement}
+use Rattle.cabinet.proofs.words.fill.Tie as tie
+
+abbrev Inv-loop : tie.InvT-loop
+Inv-loop bytes n ws₀ i₀ ws i = (i ≤ n) × (length ws ≡ length ws₀) × ((j : ℕ) → j < i → getD ws j 0 ≡ pairAt bytes j)
+
+abbrev μ-loop : tie.MeasureT-loop
+μ-loop bytes n ws₀ i₀ ws i = n - i
+
+loop-holds : tie.Need-loop-holds Inv-loop μ-loop
+loop-holds c = (omega arith, refl, λ j h. absurd (omega arith))
+
+mul-word : tie.Need-mul-word Inv-loop μ-loop
+mul-word c = search needs
+
+shared-slice-read-word : tie.Need-shared-slice-read-word Inv-loop μ-loop
+shared-slice-read-word c = search needs
+
+mul-word-2 : tie.Need-mul-word-2 Inv-loop μ-loop
+mul-word-2 c = search needs
+
+add-word : tie.Need-add-word Inv-loop μ-loop
+add-word c = search needs
+
+shared-slice-read-word-2 : tie.Need-shared-slice-read-word-2 Inv-loop μ-loop
+shared-slice-read-word-2 c = search needs
+
+word-requires : tie.Need-word-requires Inv-loop μ-loop
+word-requires c κs = search needs
+
+mul-ws : tie.Need-mul-ws Inv-loop μ-loop
+mul-ws c = search needs
+
+slice-write-ws : tie.Need-slice-write-ws Inv-loop μ-loop
+slice-write-ws c = search needs
+
+add-i : tie.Need-add-i Inv-loop μ-loop
+add-i c = search needs
+
+loop-less : tie.Need-loop-less Inv-loop μ-loop
+loop-less c = search needs
+
+loop-again : tie.Need-loop-again Inv-loop μ-loop
+loop-again c =
+    let l = c .before .before .before .before .loop in
+    (omega arith, search needs, fill-turn (c .before .before .before .before .before .before .before .args .bytes .now) (l .ws) (l .i) _ (omega (arith, l .inv .1)) (c .word .ensures) (l .inv .2))
+
+same-length : tie.Need-same-length Inv-loop μ-loop
+same-length c = search needs
+
+returns : tie.Need-returns Inv-loop μ-loop
+returns c =
+    let l = c .before .loop in
+    let i : l .i ≡ c .before .before .before .before .args .n = omega arith in
+    (i, λ j h. l .inv .2 j (omega (arith, i, h)))
+
+pub fill-spec : {M : Type 1} → statement M
+fill-spec =
+    tie.close
+    (tie.spec
+    Inv-loop
+    μ-loop
+    loop-holds
+    mul-word
+    shared-slice-read-word
+    mul-word-2
+    add-word
+    shared-slice-read-word-2
+    word-requires
+    mul-ws
+    slice-write-ws
+    add-i
+    loop-less
+    loop-again
+    same-length
+    returns)

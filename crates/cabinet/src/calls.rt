@@ -1,0 +1,35 @@
+// The calls on bytes.
+use crate::words::hold;
+ghost use mathlib.Core.Path.{_≡_};
+ghost use Rattle.sock.specs.Bytes.{byteCheckReadable, byteCheckStart, byteEnds};
+
+// Readable check: 0, or 1 if the configuration is not readable.
+#[no_mangle]
+pub extern "C" fn sock_check_readable(config: &[u8]) -> u8
+    ensures { λ r. ⌜ r ≡ byteCheckReadable (now (config .entry)) ⌝ }
+{
+    let mut scratch = [0u16; 8192];
+    let n = hold(config, &mut scratch);
+    reading::calls::check_readable(&scratch[..n])
+}
+
+// Start check: 1 if the configuration is not readable, 11 if it is not fresh, else 0.
+#[no_mangle]
+pub extern "C" fn sock_check_start(config: &[u8]) -> u8
+    ensures { λ r. ⌜ r ≡ byteCheckStart (now (config .entry)) ⌝ }
+{
+    let mut scratch = [0u16; 8192];
+    let n = hold(config, &mut scratch);
+    reading::calls::check_start(&scratch[..n])
+}
+
+// Ends: from the top, the number in 8 bits, 24 zero, the waiters and the workers in 16 each.
+#[no_mangle]
+pub extern "C" fn sock_ends(config: &[u8], serial: u16) -> u64
+    ensures { λ r. ⌜ r ≡ byteEnds (now (config .entry)) serial ⌝ }
+{
+    let mut scratch = [0u16; 8192];
+    let n = hold(config, &mut scratch);
+    let e = reading::ends::ends(&scratch[..n], serial);
+    (e.number as u64) * 72057594037927936 + (e.waiters as u64) * 65536 + (e.workers as u64)
+}

@@ -1,0 +1,3 @@
+// The calls on bytes, exported for C. Words are two bytes, high first; an odd length is unreadable.
+pub mod calls;
+pub mod words;
