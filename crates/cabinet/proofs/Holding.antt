@@ -12,8 +12,8 @@ use lib.ListN.{length, getD, set, take}
 use lib.Seq.{getD-set-same, getD-set-other}
 use borrow.Author.Tests.{lt-ltb, le-ltb, ltb-true}
 use Rattle.sock.specs.Rules.{also}
-use Rattle.sock.specs.Bytes.{wordsOf, wordsOrNone, byteCheckReadable, byteCheckStart, byteEnds, packedEnds}
-use Rattle.sock.specs.Calls.{unreadable, notFresh, unknownSerial, done, _!_, _>>=_, _>>_, _unless_, passed, Ends, checkReadable, start, checkStart, counted, known, ends}
+use Rattle.sock.specs.Bytes.{wordsOf, wordsOrNone, byteCheckReadable, byteCheckStart, byteEnds, packedEnds, packedPart, byteProcess}
+use Rattle.sock.specs.Calls.{unreadable, notFresh, unknownSerial, done, _!_, _>>=_, _>>_, _unless_, passed, Ends, checkReadable, start, checkStart, counted, known, ends, partIn, processPart}
 use Rattle.sock.specs.Configuration.{Config, standard, readConfig, fresh}
 use Rattle.sock.proofs.Configuration.{config-found}
 use Rattle.reading.specs.declared.ends.EndCounts.{EndCounts}
@@ -136,6 +136,10 @@ module _ (bytes ws : List ℕ) (e : ws ≡ held bytes) where
   pub ends-as : (s : ℕ) → packedEnds (ends standard ws s) ≡ byteEnds bytes s
   unfolding ends known byteEnds
   ends-as s = ap (λ (o : Option Config). packedEnds (counted s (unreadable ! o >>= λ c. _>>_ (unknownSerial unless (ltb 0 s && leb s (c .issued))) (done c)))) read-as
+
+  pub process-as : (e : ℕ) → packedPart (processPart standard ws e) ≡ byteProcess bytes e
+  unfolding processPart byteProcess
+  process-as e = ap (λ (o : Option Config). packedPart (partIn e o)) read-as
 
 pub ends-packed : (r : EndCounts) (e : Ends) → r ≡ endCounts e → r .number * 72057594037927936 + r .waiters * 65536 + r .workers ≡ packedEnds e
 unfolding packedEnds

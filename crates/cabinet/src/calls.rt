@@ -1,7 +1,11 @@
 // The calls on bytes.
 use crate::words::hold;
+use reading::reader::wide;
+use reading::survey::survey;
 ghost use mathlib.Core.Path.{_≡_};
-ghost use Rattle.sock.specs.Bytes.{byteCheckReadable, byteCheckStart, byteEnds};
+ghost use Rattle.sock.specs.Bytes.{byteCheckReadable, byteCheckStart, byteEnds, packedPart, byteProcess};
+ghost use Rattle.sock.specs.Configuration.{standard};
+ghost use Rattle.sock.specs.Calls.{processPart};
 
 // Readable check: 0, or 1 if the configuration is not readable.
 #[no_mangle]
@@ -32,4 +36,30 @@ pub extern "C" fn sock_ends(config: &[u8], serial: u16) -> u64
     let n = hold(config, &mut scratch);
     let e = reading::ends::ends(&scratch[..n], serial);
     (e.number as u64) * 72057594037927936 + (e.waiters as u64) * 65536 + (e.workers as u64)
+}
+
+fn part(ws: &[u16], engine: u16) -> u64
+    ensures { λ r. ⌜ r ≡ packedPart (processPart standard (now (ws .entry)) engine) ⌝ }
+{
+    let s = survey(ws, 64, 8192, 11);
+    let e = wide(engine);
+    let n = s.engines;
+    if n <= e {
+        return 0;
+    }
+    let starts = s.starts;
+    let first = starts[e];
+    let end = starts[e + 1] - 64;
+    (first as u64) * 4294967296 + ((end - first) as u64)
+}
+
+// Process of an engine: its first word in the upper 32 bits, the count of its words in the lower, both counted from the configuration's
+// start; 0 if unreadable or no such engine.
+#[no_mangle]
+pub extern "C" fn sock_process(config: &[u8], engine: u16) -> u64
+    ensures { λ r. ⌜ r ≡ byteProcess (now (config .entry)) engine ⌝ }
+{
+    let mut scratch = [0u16; 8192];
+    let n = hold(config, &mut scratch);
+    part(&scratch[..n], engine)
 }

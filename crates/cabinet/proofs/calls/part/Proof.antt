@@ -1,0 +1,85 @@
+-- `part` of `cabinet::calls` meets its contract.
+-- Assumes nothing.
+use Prim.Native.Nat.{ℕ}
+use native.Mathlib.Omega.{arith}
+use mathlib.Core.Path.{ap, _∙_}
+use Rattle.sock.specs.Bytes.{packedPart}
+use Rattle.sock.specs.Calls.{processPart}
+use Rattle.sock.specs.Configuration.{standard}
+use Rattle.cabinet.proofs.Placing.{is-placed, none-placed}
+use borrow.Author.Needs.{needs}
+use Rattle.cabinet.proofs.calls.part.Statement.{statement}
+use Rattle.cabinet.proofs.calls.part.Tie as tie
+
+survey-requires : tie.Need-survey-requires
+survey-requires c κs = search needs
+
+wide-requires : tie.Need-wide-requires
+wide-requires c κs = search needs
+
+returns : tie.Need-returns
+returns c =
+    none-placed (c .before .before .before .before .args .ws .now) (λ i. (c .before .before .before .shared-slice-known .given) i .fits) (c .before .before .survey .result) (c .before .before .survey .ensures) (c .before .wide .result) (c .if1 .taken)
+    ∙ ap (λ (e : ℕ). packedPart (processPart standard (c .before .before .before .before .args .ws .now) e)) (c .before .wide .ensures .0)
+
+mul-first : tie.Need-mul-first
+mul-first c = search needs
+
+array-read-first : tie.Need-array-read-first
+array-read-first c =
+    let p = is-placed (c .before .before .before .before .before .args .ws .now) (λ i. (c .before .before .before .before .shared-slice-known .given) i .fits) (c .before .before .before .survey .result) (c .before .before .before .survey .ensures) (c .before .before .wide .result) (c .before .if1 .left) in
+    omega (arith, p .few, p .behind, p .forward, p .inside)
+
+add-end : tie.Need-add-end
+add-end c = search needs
+
+mul-end : tie.Need-mul-end
+mul-end c = search needs
+
+array-read-end : tie.Need-array-read-end
+array-read-end c =
+    let p = is-placed (c .before .before .before .before .before .args .ws .now) (λ i. (c .before .before .before .before .shared-slice-known .given) i .fits) (c .before .before .before .survey .result) (c .before .before .before .survey .ensures) (c .before .before .wide .result) (c .before .if1 .left) in
+    omega (arith, p .few, p .behind, p .forward, p .inside)
+
+sub-end : tie.Need-sub-end
+sub-end c =
+    let p = is-placed (c .before .before .before .before .before .args .ws .now) (λ i. (c .before .before .before .before .shared-slice-known .given) i .fits) (c .before .before .before .survey .result) (c .before .before .before .survey .ensures) (c .before .before .wide .result) (c .before .if1 .left) in
+    omega (arith, p .few, p .behind, p .forward, p .inside)
+
+mul-result : tie.Need-mul-result
+mul-result c =
+    let p = is-placed (c .before .before .before .before .before .args .ws .now) (λ i. (c .before .before .before .before .shared-slice-known .given) i .fits) (c .before .before .before .survey .result) (c .before .before .before .survey .ensures) (c .before .before .wide .result) (c .before .if1 .left) in
+    omega (arith, p .few, p .behind, p .forward, p .inside)
+
+sub-result : tie.Need-sub-result
+sub-result c =
+    let p = is-placed (c .before .before .before .before .before .args .ws .now) (λ i. (c .before .before .before .before .shared-slice-known .given) i .fits) (c .before .before .before .survey .result) (c .before .before .before .survey .ensures) (c .before .before .wide .result) (c .before .if1 .left) in
+    omega (arith, p .few, p .behind, p .forward, p .inside)
+
+add-result : tie.Need-add-result
+add-result c =
+    let p = is-placed (c .before .before .before .before .before .args .ws .now) (λ i. (c .before .before .before .before .shared-slice-known .given) i .fits) (c .before .before .before .survey .result) (c .before .before .before .survey .ensures) (c .before .before .wide .result) (c .before .if1 .left) in
+    omega (arith, p .few, p .behind, p .forward, p .inside)
+
+returns-2 : tie.Need-returns-2
+returns-2 c =
+    is-placed (c .before .before .before .before .before .args .ws .now) (λ i. (c .before .before .before .before .shared-slice-known .given) i .fits) (c .before .before .before .survey .result) (c .before .before .before .survey .ensures) (c .before .before .wide .result) (c .before .if1 .left) .part
+    ∙ ap (λ (e : ℕ). packedPart (processPart standard (c .before .before .before .before .before .args .ws .now) e)) (c .before .before .wide .ensures .0)
+
+pub part-spec : {M : Type 1} → statement M
+part-spec =
+    tie.close
+    (tie.spec
+    survey-requires
+    wide-requires
+    returns
+    mul-first
+    array-read-first
+    add-end
+    mul-end
+    array-read-end
+    sub-end
+    mul-result
+    sub-result
+    add-result
+    returns-2)
