@@ -90,7 +90,7 @@ length-words (h ∷ []) = refl
 length-words (h ∷ l ∷ bytes) = by (wordsOf bytes) (length-words bytes)
   where
     by : (o : Option (List ℕ)) → lengthOr o (length bytes) ≡ length bytes →
-         lengthOr (also o λ ws. some ((h * 256 + l) ∷ ws)) (suc (suc (length bytes))) ≡ suc (suc (length bytes))
+        lengthOr (also o λ ws. some ((h * 256 + l) ∷ ws)) (suc (suc (length bytes))) ≡ suc (suc (length bytes))
     by none i = refl
     by (some us) i = omega (arith, i)
 

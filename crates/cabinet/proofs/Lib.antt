@@ -1,2 +1,4 @@
 pub mod Holding
 pub mod Placing
+pub mod Spreading
+pub mod Stepping

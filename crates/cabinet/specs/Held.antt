@@ -1,13 +1,23 @@
 -- The words that the calls are handed: those of the bytes, none where the bytes are more than any configuration's.
-use Prim.Native.Nat.{ℕ, _+_, _*_}
+use Prim.Native.Nat.{ℕ, _+_, _*_, _/_}
 use mathlib.Core.Bool.{cond}
 use mathlib.Core.List.{List, [], _∷_}
 use lib.Dec.{ltb}
 use lib.ListN.{length, getD}
 use Rattle.sock.specs.Bytes.{wordsOf, wordsOrNone}
+use Rattle.stepping.specs.declared.answer.Answer.{Answer}
 
 unfoldable pub held : List ℕ → List ℕ
 held bytes = cond (ltb 16384 (length bytes)) [] (wordsOrNone (wordsOf bytes))
 
 abbrev pub pairAt : List ℕ → ℕ → ℕ
 pairAt bytes i = getD bytes (i * 2) 0 * 256 + getD bytes (i * 2 + 1) 0
+
+-- the answer of a step in 64 bits, from the type that the code declares
+abbrev pub packedAs : Answer → ℕ
+packedAs a =
+    a .number * 72057594037927936 + a .kind * 281474976710656 + a .fault * 1099511627776 + a .serial * 65536 + a .length
+
+-- how many words the result may have, with an output of so many bytes
+unfoldable pub roomOf : ℕ → ℕ
+roomOf bytes = cond (ltb 8192 (bytes / 2)) 8192 (bytes / 2)
