@@ -1,11 +1,10 @@
 -- Bytes of words laid over an output word by word.
 -- Assumes nothing.
-use Prim.Native.Nat.{ℕ, zero, suc, _+_, _*_, _/_, _%_, _≤_, _<_}
+use Prim.Native.Nat.{ℕ, zero, suc, _+_, _*_, _/_, _%_, _<_}
 use native.Mathlib.Omega.{arith}
-use native.Mathlib.Numerals.{add-one}
 use mathlib.Core.Path.{_≡_, refl, sym, ap, _∙_}
-use mathlib.Core.List.{List, [], _∷_, _++_}
-use lib.ListN.{length, getD, set, take, drop}
+use mathlib.Core.List.{List, [], _∷_}
+use lib.ListN.{length, getD, set, take}
 use Rattle.sock.specs.Bytes.{bytesOf}
 use Rattle.sock.specs.Calls.{over}
 

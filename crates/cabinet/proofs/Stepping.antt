@@ -1,16 +1,16 @@
 -- The step on words with room for any result, and on the bytes' words, is the step on bytes.
 -- Assumes nothing.
-use Prim.Native.Nat.{ℕ, _+_, _*_, _/_, _≤_, _<_}
+use Prim.Native.Nat.{ℕ, _*_, _/_, _≤_, _<_}
 use native.Mathlib.Omega.{arith}
 use mathlib.Core.Path.{_≡_, refl, sym, ap, subst, _∙_}
 use mathlib.Core.Bool.{Bool, true, false, cond}
 use mathlib.Core.Option.{Option, none, some}
-use mathlib.Core.List.{List, [], _++_}
+use mathlib.Core.List.{List, []}
 use lib.Dec.{leb, ltb}
 use lib.ListN.{length, take, drop}
 use lib.Seq.{take-append-seam}
 use borrow.Author.Tests.{lt-ltb, le-ltb, ltb-true, ltb-false, leb-true, leb-false}
-use Rattle.sock.specs.Configuration.{Config, standard, encode, readConfig}
+use Rattle.sock.specs.Configuration.{standard, encode, readConfig}
 use Rattle.sock.specs.Calls.{Refusal, unreadable, nobodyThere, noMove, noPartner, noFit, installing, serialsSpent, deep, long, short, notFresh, unknownSerial, number, Result, refused, done, _>>=_, _>>_, _!_, _unless_, Numbers, Stepped, step, answerOf, over, outputOf, stepAnswer, stepOutput}
 use Rattle.sock.specs.Bytes.{bytesOf, wordsOf, wordsOrNone, byteStep, packed, byteAnswer, bytesAfter, byteOutput}
 use Rattle.stepping.specs.declared.answer.Answer.{Answer}

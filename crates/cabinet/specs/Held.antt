@@ -1,7 +1,7 @@
 -- The words that the calls are handed: those of the bytes, none where the bytes are more than any configuration's.
 use Prim.Native.Nat.{ℕ, _+_, _*_, _/_}
 use mathlib.Core.Bool.{cond}
-use mathlib.Core.List.{List, [], _∷_}
+use mathlib.Core.List.{List, []}
 use lib.Dec.{ltb}
 use lib.ListN.{length, getD}
 use Rattle.sock.specs.Bytes.{wordsOf, wordsOrNone}

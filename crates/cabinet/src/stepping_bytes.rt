@@ -4,8 +4,6 @@ use stepping::answer::Answer;
 use stepping::steps::step;
 ghost use mathlib.Core.Path.{_≡_};
 ghost use Prim.Native.Nat.{_≤_, _*_, _/_, _%_};
-ghost use mathlib.Core.Bool.{cond};
-ghost use lib.Dec.{ltb};
 ghost use lib.ListN.{length, take};
 ghost use Rattle.sock.specs.Configuration.{standard};
 ghost use Rattle.sock.specs.Calls.{answerOf, over};

@@ -2,7 +2,6 @@
 -- Assumes nothing.
 use native.Mathlib.Omega.{arith}
 use Rattle.cabinet.proofs.Stepping.{room-long, room-half}
-use borrow.Author.Needs.{needs}
 use Rattle.cabinet.proofs.stepping_bytes.room_of.Statement.{statement}
 use Rattle.cabinet.proofs.stepping_bytes.room_of.Tie as tie
 

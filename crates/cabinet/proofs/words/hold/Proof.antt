@@ -1,6 +1,6 @@
 -- `hold` of `cabinet::words` meets its contract.
 -- Assumes nothing.
-use Prim.Native.Nat.{ℕ, _+_, _*_, _/_}
+use Prim.Native.Nat.{ℕ, _*_, _/_}
 use native.Mathlib.Omega.{arith}
 use mathlib.Core.Path.{_≡_, ap, _∙_}
 use lib.ListN.{length, take}
