@@ -1,8 +1,0 @@
-//! Links the proved library that `rt staticlib timing` writes.
-
-fn main() {
-    let root = std::path::Path::new(env!("CARGO_MANIFEST_DIR")).join("../../target/staticlib");
-    println!("cargo:rustc-link-search=native={}", root.display());
-    println!("cargo:rustc-link-lib=static=timing");
-    println!("cargo:rerun-if-changed={}", root.join("libtiming.a").display());
-}

@@ -1,0 +1,108 @@
+//! Times `sock_step`: beside the second implementation, which builds trees, and beside a bare copy of the configuration. Every rule, at
+//! about 200, 2,000 and 8,192 words, and the worst shapes. Prints a table and, given a file's name, draws the times a word there.
+
+use benches::rules::{by_rule, worst, Case, RULES};
+use benches::{clock, plot};
+use reference::Numbers;
+use std::hint::black_box;
+
+extern "C" {
+    fn sock_step(
+        engine: u16,
+        position: u16,
+        second: u16,
+        second_position: u16,
+        branch: u16,
+        config: *const u8,
+        config_length: usize,
+        out: *mut u8,
+        out_length: usize,
+    ) -> u64;
+}
+
+fn proved(numbers: Numbers, config: &[u8], out: &mut [u8]) -> u64 {
+    let Numbers { engine, position, second_engine, second_position, branch } = numbers;
+    // The library reads the configuration's bytes and writes the output's, no others.
+    unsafe {
+        sock_step(
+            engine,
+            position,
+            second_engine,
+            second_position,
+            branch,
+            config.as_ptr(),
+            config.len(),
+            out.as_mut_ptr(),
+            out.len(),
+        )
+    }
+}
+
+fn tree(numbers: Numbers, config: &[u8], out: &mut [u8]) -> u64 {
+    let Numbers { engine, position, second_engine, second_position, branch } = numbers;
+    reference::sock_step(engine, position, second_engine, second_position, branch, config, out)
+}
+
+fn copy(_: Numbers, config: &[u8], out: &mut [u8]) -> u64 {
+    out[..config.len()].copy_from_slice(config);
+    0
+}
+
+type Step = fn(Numbers, &[u8], &mut [u8]) -> u64;
+
+/// Nanoseconds of a step on these, taken in turn.
+fn time(cases: &[Case], step: Step) -> f64 {
+    let mut out = vec![0; 16_384];
+    let pass = || {
+        for case in cases {
+            black_box(step(case.numbers, black_box(&case.config), &mut out));
+        }
+    };
+    clock::nanoseconds(pass) / cases.len() as f64
+}
+
+/// Both implementations answer the same, with the number, and write the same.
+fn agree(name: &str, case: &Case, number: u64) {
+    let (mut ours, mut theirs) = (vec![0; 16_384], vec![0; 16_384]);
+    let answers = [
+        proved(case.numbers, &case.config, &mut ours),
+        tree(case.numbers, &case.config, &mut theirs),
+    ];
+    assert_eq!(answers[0], answers[1], "{name}");
+    assert_eq!(answers[0] >> 56, number, "{name}");
+    assert_eq!(ours, theirs, "{name}");
+}
+
+fn row(name: &str, cases: &[Case], number: u64) -> plot::Point {
+    cases.iter().for_each(|case| agree(name, case, number));
+    let words =
+        cases.iter().map(|case| case.config.len() / 2).sum::<usize>() as f64 / cases.len() as f64;
+    let [ours, trees, copies] = [proved as Step, tree, copy].map(|step| time(cases, step));
+    let [a, b] = [ours, trees].map(|t| t / words);
+    println!(
+        "| {name} | {words:.0} | {ours:.0} | {a:.2} | {b:.1} | {:.1} | {:.0} |",
+        trees / ours,
+        ours / copies
+    );
+    plot::Point { words, proved: ours / words, tree: trees / words, copy: copies / words }
+}
+
+fn main() {
+    println!("| step | words | proved, ns | proved, ns a word | tree, ns a word | times faster | bare copies |");
+    println!("|---|---|---|---|---|---|---|");
+    let mut points = Vec::new();
+    for words in [200, 2_000, 8_192] {
+        for rule in &RULES {
+            let cases = (0..20).map(|seed| by_rule(rule, seed, words)).collect::<Vec<_>>();
+            points.push(row(rule.0, &cases, 0));
+        }
+    }
+    for words in [2_000, 8_192] {
+        for (name, case) in worst(words) {
+            points.push(row(name, &[case], if name.starts_with("refused") { 2 } else { 0 }));
+        }
+    }
+    if let Some(file) = std::env::args().nth(1) {
+        std::fs::write(file, plot::draw(&points)).expect("the plot's file can be written");
+    }
+}
