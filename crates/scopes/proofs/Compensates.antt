@@ -43,6 +43,7 @@ use Rattle.scopes.specs.Compensating.{levelsAt, movedW, compensatedW}
 use Rattle.scopes.proofs.NilLists.{laid-part}
 use Rattle.scopes.proofs.NearestLists.{nearest-empty, nearest-kept, nearest-length, nearest-spread, nearest-within, without-keeps, handler-lives}
 use Rattle.scopes.proofs.ScopeLists.{whole-inside, frames-deep, level-low, nil-ruled, process-inside, list-deep, region-length, list-first, list-before, list-inside, to-list, list-ends}
+use Rattle.scopes.proofs.Scratch.{Roomy}
 
 levels-at : (level : ℕ) → levelsAt level ≡ 65 - level
 unfolding levelsAt
@@ -61,7 +62,7 @@ module _ (f target : ℕ) (r : Run) (start : ℕ) (l : Located) (s : Spot) (ws :
     (spotted : Spotted f target r start 1 l s) (near : Near (length ws)) {n issued : ℕ} (frames : SoundFrames n issued (l .frames))
     (deep : runDepth r ≤ 64)
     (pos : 0 < start) (ok : Words ws) (few : n ≤ 8) (small : issued < 65536) (short : length ws ≤ 8192)
-    (fresh : List ℕ) (room : 16384 ≤ length fresh) (big : Near (length fresh))
+    (fresh : List ℕ) (room : Roomy ws fresh) (big : Near (length fresh))
     (h : ℕ) (is : l .process ≡ act (node h [] [] absent noParts)) where
   abbrev bound : ℕ
   bound = n * 65536 + issued
@@ -123,7 +124,7 @@ module _ (f target : ℕ) (r : Run) (start : ℕ) (l : Located) (s : Spot) (ws :
         takes ws near bound 64 (λ d i x rest g b e. code-end ws ok n issued few small g d i b rest e) k (nearest-fits frames)
         (list-deep f target r start l s ws words-at spotted near frames deep t) (s .scope + 2) (a .0) (a .1) fresh
 
-    list-short : s .scope + 3 + length (entriesWords es) ≤ 8192
+    list-short : s .scope + 3 + length (entriesWords es) ≤ length ws
     list-short =
         omega (
           arith,

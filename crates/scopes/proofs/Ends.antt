@@ -29,13 +29,14 @@ use Rattle.scopes.proofs.ScopeLists.{nil-ruled, list-first}
 use Rattle.scopes.proofs.ScopeWords.{inner-sound, scope-fits, head-mark, head-zombie, head-at, own-key}
 use Rattle.scopes.proofs.Resumes.{resumes}
 use Rattle.scopes.proofs.Promotes.{promotes}
+use Rattle.scopes.proofs.Scratch.{Roomy}
 
 module _ (f target : ℕ) (r : Run) (start : ℕ) (l : Located) (s : Spot) (ws : List ℕ)
     (words-at : drop start ws ≡ runWords r ++ drop (start + size r) ws)
     (spotted : Spotted f target r start 1 l s) (near : Near (length ws)) {n issued : ℕ} (frames : SoundFrames n issued (l .frames))
     (deep : runDepth r ≤ 64)
     (pos : 0 < start) (ok : Words ws) (few : n ≤ 8) (small : issued < 65536) (short : length ws ≤ 8192)
-    (fresh : List ℕ) (room : 16384 ≤ length fresh) (big : Near (length fresh)) (sound : Sound n issued r) where
+    (fresh : List ℕ) (room : Roomy ws fresh) (big : Near (length fresh)) (sound : Sound n issued r) where
   abbrev Result : ℕ → Mark → Bool → Entries → Type 0
   Result name mark zombie h =
       (let u = endedW (n * 65536 + issued) ws start s fresh in

@@ -225,7 +225,7 @@ module _ (f target : ℕ) (r : Run) (start : ℕ) (l : Located) (s : Spot) (ws :
               (list-plans f target r start l s ws words-at spotted near frames deep t change (made .answer .to) (made .out)
               (updating .reaches)
               (near-of (made .answer .to + 1) (omega (arith, updating .reaches, not-huge)))
-              (omega (arith, updating .keeps)) list-laid 32 0)
+              (λ x. omega (arith, updating .keeps)) list-laid 32 0)
               (changed-fits (ltb-false 64 (suc (outside (l .frames)) + made .answer .levels) e)),
           refl,
         )

@@ -11,4 +11,5 @@ pub mod Promotes
 pub mod Resumes
 pub mod ScopeLists
 pub mod ScopeWords
+pub mod Scratch
 pub mod Throws

@@ -55,7 +55,7 @@ module _ (f target : ℕ) (r : Run) (start : ℕ) (l : Located) (s : Spot) (ws :
     (spotted : Spotted f target r start 1 l s) (near : Near (length ws)) {n issued : ℕ} (frames : SoundFrames n issued (l .frames))
     (deep : runDepth r ≤ 64)
     (t : T (scoped (l .frames))) (g : Entries → Entries) (to : ℕ) (out : List ℕ)
-    (reaches : to ≡ 1 + length (entriesWords (g (nearest (l .frames))))) (low : Near (to + 1)) (room : 8192 < length out)
+    (reaches : to ≡ 1 + length (entriesWords (g (nearest (l .frames))))) (low : Near (to + 1)) (room : to ≤ 8192 → to < length out)
     (laid : to ≤ 8192 → take to out ≡ region (onNearest g (l .frames))) (x v : ℕ) where
   abbrev m : ℕ
   m = s .scope + 2 + length (region (l .frames))
@@ -124,7 +124,7 @@ module _ (f target : ℕ) (r : Run) (start : ℕ) (l : Located) (s : Spot) (ws :
         words =
             λ h.
             let e = hollow-to (s .hollow) to out low in
-            let w = hollow-laid (s .hollow) to out (omega arith) in
+            let w = hollow-laid (s .hollow) to out (room (omega arith)) in
             edited-words ws start (start + size r) p (hollowW (s .hollow) to out .fresh) order
             (whole-inside f target r start l s ws words spotted near frames deep) q
             (ap (λ new. edited ws (s .scope + 2) m new (s .a) (s .b)

@@ -37,16 +37,17 @@ use Rattle.handling.specs.Updating.{Update, updateByW}
 use Rattle.handling.proofs.Replaces.{replaces}
 use Rattle.handling.proofs.Takes.{Takes, takes, Stands, Keyed}
 use Rattle.handling.proofs.Updates.{Updates, updates-by}
-use Rattle.handling.proofs.Stays.{one-shallow, one-short, update-nil}
+use Rattle.handling.proofs.Stays.{one-shallow, one-short, update-nil, without-short}
 use Rattle.rules.specs.Planning.{Planned, nilW}
 use Rattle.rules.proofs.Depths.{wrap-depth, depth-some}
 use Rattle.rules.proofs.Outcomes.{Ruled, ruled}
 use Rattle.scopes.specs.Installing.{updatedW}
 use Rattle.scopes.specs.Ending.{promotedTo, promotedW, endingW}
 use Rattle.scopes.proofs.NearestLists.{outside, nearest-length, nearest-spread, nearest-within, update-keeps}
-use Rattle.scopes.proofs.ScopeLists.{frames-deep, list-deep, region-length, list-inside, to-list, list-ends}
+use Rattle.scopes.proofs.ScopeLists.{frames-deep, list-deep, region-length, list-before, to-list, list-ends}
 use Rattle.scopes.proofs.NilLists.{list-plans}
 use Rattle.scopes.proofs.ScopeWords.{node-some, handler-shallow, handler-short, its-place, its-inside, to-own, own-list}
+use Rattle.scopes.proofs.Scratch.{Roomy}
 
 -- fewer frames stand around the nearest scope than around the process
 outside-less : (fs : List Frame) → T (scoped fs) → suc (outside fs) ≤ length fs
@@ -63,7 +64,7 @@ module _ (f target : ℕ) (r : Run) (start : ℕ) (l : Located) (s : Spot) (ws :
     (spotted : Spotted f target r start 1 l s) (near : Near (length ws)) {n issued : ℕ} (frames : SoundFrames n issued (l .frames))
     (deep : runDepth r ≤ 64)
     (ok : Words ws) (few : n ≤ 8) (small : issued < 65536) (short : length ws ≤ 8192)
-    (fresh : List ℕ) (room : 16384 ≤ length fresh)
+    (fresh : List ℕ) (room : Roomy ws fresh)
     (name : ℕ) (mark : Mark) (zombie : Bool) (h : Entries) (is : l .process ≡ scope name mark zombie h nil)
     (low : name < 64) (fit : FitsEntries true zero h) (t : T (scoped (l .frames))) where
   abbrev bound : ℕ
@@ -100,15 +101,15 @@ module _ (f target : ℕ) (r : Run) (start : ℕ) (l : Located) (s : Spot) (ws :
   inside : target + 4 + length (entriesWords h) ≤ length ws
   inside = its-inside f target r start l s ws words-at spotted near frames deep name mark zombie h is
 
-  list-short : 3 + length (entriesWords es) ≤ 8192
+  list-short : 3 + length (entriesWords es) ≤ target
   list-short =
       omega (
         arith,
-        list-inside f target r start l s ws words-at spotted near frames deep t,
+        list-before f target r start l s ws words-at spotted near frames deep t,
         region-length f target r start l s ws words-at spotted near frames deep t,
       )
 
-  not-huge : length (entriesWords (change es)) ≤ 16384
+  not-huge : 2 + length (entriesWords (change es)) ≤ length ws
   not-huge = omega (arith, one-short k fitting es, handler-short k h, inside, list-short)
 
   changed-fits : runDepth (plug changed nil) ≤ 64
@@ -147,7 +148,7 @@ module _ (f target : ℕ) (r : Run) (start : ℕ) (l : Located) (s : Spot) (ws :
       rw (list-ends f target r start l s ws words-at spotted near frames deep t ok bound) (
         ruled refl
             (list-plans f target r start l s ws words-at spotted near frames deep t change to out reaches
-            (near-of (to + 1) (omega (arith, not-huge))) (omega arith)
+            (near-of (to + 1) (omega (arith, not-huge))) (λ x. omega (arith, not-huge))
             (λ x. laid x ∙ sym (region-changed change (l .frames) t)) 32 0)
             changed-fits,
         refl,
@@ -177,7 +178,7 @@ module _ (f target : ℕ) (r : Run) (start : ℕ) (l : Located) (s : Spot) (ws :
       let same : change es ≡ without k es = ap (λ p. update es (entry k p noEntries)) e ∙ update-nil k es (omega arith) in
       placed (dropped .answer .to) (dropped .out) (rw same (dropping .reaches)) (dropping .keeps ∙ taking .keeps)
       (λ x. rw same
-      (ap (λ i. take i (dropped .out)) (dropping .reaches) ∙ dropping .laid (omega (arith, dropping .reaches, taking .keeps))))
+      (ap (λ i. take i (dropped .out)) (dropping .reaches) ∙ dropping .laid (omega (arith, dropping .reaches, taking .keeps, without-short k es, list-short, inside))))
 
   -- a handler: it is put there
   module _ (there : holds k h ≡ true) where
@@ -216,7 +217,7 @@ module _ (f target : ℕ) (r : Run) (start : ℕ) (l : Located) (s : Spot) (ws :
     gives : Result (updatedW bound ws s (s .scope + 2) (given .answer .to) (given .out))
     gives =
         placed (given .answer .to) (given .out) (giving .reaches) (giving .keeps ∙ taking .keeps)
-        (λ x. ap (λ i. take i (given .out)) (giving .reaches) ∙ giving .laid (omega (arith, giving .reaches, taking .keeps)))
+        (λ x. ap (λ i. take i (given .out)) (giving .reaches) ∙ giving .laid (omega (arith, giving .reaches, taking .keeps, not-huge)))
 
   pub promotes :
       (let u = endingW (n * 65536 + issued) ws s (scopeKey name) fresh in

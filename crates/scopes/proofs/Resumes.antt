@@ -36,6 +36,7 @@ use Rattle.rules.proofs.Outcomes.{Ruled, ruled}
 use Rattle.scopes.specs.Ending.{took, takeBehindW, takenTo, takenW, resumedW}
 use Rattle.scopes.proofs.ScopeLists.{whole-inside, process-inside, process-begins}
 use Rattle.scopes.proofs.ScopeWords.{head-cleared, node-some, handler-shallow, handler-short, its-size, its-place, its-inside, head-at, to-own, own-list, own-ends}
+use Rattle.scopes.proofs.Scratch.{Roomy}
 
 -- the list is written behind two words
 behind-two :
@@ -89,7 +90,7 @@ module _ (f target : ℕ) (r : Run) (start : ℕ) (l : Located) (s : Spot) (ws :
     (spotted : Spotted f target r start 1 l s) (near : Near (length ws)) {n issued : ℕ} (frames : SoundFrames n issued (l .frames))
     (deep : runDepth r ≤ 64)
     (ok : Words ws) (few : n ≤ 8) (small : issued < 65536) (short : length ws ≤ 8192)
-    (fresh : List ℕ) (room : 16384 ≤ length fresh) (big : Near (length fresh))
+    (fresh : List ℕ) (room : Roomy ws fresh) (big : Near (length fresh))
     (name : ℕ) (mark : Mark) (zombie : Bool) (h : Entries) (is : l .process ≡ scope name mark zombie h nil)
     (low : name < 64) (fit : FitsEntries true zero h) (k : ℕ) where
   abbrev bound : ℕ

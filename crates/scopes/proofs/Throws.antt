@@ -47,6 +47,7 @@ use Rattle.scopes.specs.Throwing.{faultW, faultedHead, faultedWord, clea
 use Rattle.scopes.proofs.ClimbingDepths.{climb-shallow}
 use Rattle.scopes.proofs.Climbing.{Sought, unstopped, stoppedBy, sought, markFor, also-same, climb-through, climb-stops}
 use Rattle.scopes.proofs.ClimbingPlaces.{offset, locate-offset, offset-found, offset-append, offset-scope}
+use Rattle.scopes.proofs.Scratch.{Roomy}
 
 -- ---- positions
 
@@ -101,7 +102,7 @@ whole-edited ws fr start e =
 
 module _ (ws : List ℕ) (ok : Words ws) (n issued : ℕ) (few : n ≤ 8) (small : issued < 65536) {r : Run} (sound : Sound n issued r)
     (start : ℕ) (words : drop start ws ≡ runWords r ++ drop (start + size r) ws) (pos : 0 < start)
-    (deep : runDepth r ≤ 64) (short : length ws ≤ 8192) (fresh : List ℕ) (large : 16384 ≤ length fresh) (near : Near (length fresh))
+    (deep : runDepth r ≤ 64) (short : length ws ≤ 8192) (fresh : List ℕ) (large : Roomy ws fresh) (near : Near (length fresh))
     (f : ℕ) (low : f < 64) where
   inside : start + size r ≤ length ws
   unfolding size
@@ -390,7 +391,7 @@ module _ (ws : List ℕ) (ok : Words ws) (n issued : ℕ) (few : n ≤ 8) (small
 -- a throw that was found
 module _ (ws : List ℕ) (ok : Words ws) (n issued : ℕ) (few : n ≤ 8) (small : issued < 65536) {r : Run} (sound : Sound n issued r)
     (start : ℕ) (words : drop start ws ≡ runWords r ++ drop (start + size r) ws) (pos : 0 < start)
-    (deep : runDepth r ≤ 64) (short : length ws ≤ 8192) (fresh : List ℕ) (large : 16384 ≤ length fresh) (near : Near (length fresh))
+    (deep : runDepth r ≤ 64) (short : length ws ≤ 8192) (fresh : List ℕ) (large : Roomy ws fresh) (near : Near (length fresh))
     (target : ℕ) (l : Located) (s : Spot) (place : within r start target ≡ some l)
     (spotted : Spotted (faultAt ws target) target r start 1 l s) where
   pub thrown-ruled :

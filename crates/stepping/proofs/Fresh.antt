@@ -20,11 +20,11 @@ use Rattle.rules.proofs.Exchanges.{three-to, first-place}
 use Rattle.stepping.specs.Exchanging.{blank}
 use Rattle.stepping.specs.Meeting.{sendW, receiveW}
 
-pub blank-length : length blank ≡ 16384
-blank-length = length-replicate {A = ℕ} 16384 0
+pub blank-length : length blank ≡ 64
+blank-length = length-replicate {A = ℕ} 64 0
 
 pub blank-near : Near (length blank)
-blank-near = rw blank-length (near-of 16384 (lit< tt))
+blank-near = rw blank-length (near-of 64 (lit< tt))
 
 three-length : (fresh : List ℕ) (to a b c : ℕ) → length (threeW fresh to a b c) ≡ length fresh
 unfolding threeW

@@ -8,7 +8,7 @@ use mathlib.Core.Option.{Option, some}
 use mathlib.Core.List.{List, [], _∷_, _++_}
 use borrow.Author.Tests.{le-ltb, lt-leb}
 use lib.Dec.{eqb, lit<}
-use lib.ListN.{length, getD, drop, set, length-drop, length-set, length-replicate}
+use lib.ListN.{length, getD, drop, set, length-drop, length-set}
 use lib.Seq.{take-all, getD-drop}
 use Rattle.sock.specs.Words.{kindOf, variableOf, nameOf, scopeKey}
 use Rattle.sock.specs.Term.{Expr, Node, node, absent, list, Entries, noParts, _&_, kind}
@@ -53,7 +53,8 @@ use Rattle.scopes.proofs.Compensates
 use Rattle.scopes.proofs.Installs
 use Rattle.scopes.proofs.Throws.{thrown-ruled}
 use Rattle.scopes.proofs.Ends.{ends}
-use Rattle.stepping.specs.Exchanging.{blank, lent}
+use Rattle.scopes.proofs.Scratch.{Roomy}
+use Rattle.stepping.specs.Exchanging.{lent}
 use Rattle.stepping.specs.Alone.{turnW, valuedW, scopedW, ruleW}
 use Rattle.stepping.proofs.Writes.{valued}
 use Rattle.stepping.proofs.Results.{one-stands, one-behind, one-values}
@@ -69,13 +70,6 @@ engine-depth (g ∷ gs) (suc e) d h = omega (arith, engine-depth gs e d (omega a
 enabled-depth : {m : Node} → Fits (code false) anywhere m → runDepth (enable m) ≡ depth m
 unfolding runDepth
 enabled-depth f = ap depth (enable-asNode f)
-
--- scratch
-pub blank-length : length blank ≡ 16384
-blank-length = length-replicate {A = ℕ} 16384 0
-
-pub blank-near : Near (length blank)
-blank-near = near-below (length blank) 16384 (near-of 16384 (lit< tt)) (omega (arith, blank-length))
 
 -- no turn of an if takes a value
 part-none : (ws : List ℕ) (from upto end : ℕ) → partW ws from upto end 32 0 .x ≡ 32
@@ -172,7 +166,7 @@ module _ (ws : List ℕ) (ok : Words ws) (n issued : ℕ) (few : n ≤ 8) (small
   bound = n * 65536 + issued
 
   module _ (vs : List ℕ) (below : AllBelow 4294967296 vs) (values : part (start - 64) start ws ≡ valuesWords vs)
-      (fresh : List ℕ) (room : 16384 ≤ length fresh) (big : Near (length fresh)) where
+      (fresh : List ℕ) (room : Roomy ws fresh) (wide : kind (asNode (l .process)) ≡ 12 → 16384 ≤ length fresh) (big : Near (length fresh)) where
     -- what the rule makes, if it moves alone
     abbrev Makes : Planned → Move → Type 0
     Makes u stuck = Unit {0}
@@ -288,12 +282,12 @@ module _ (ws : List ℕ) (ok : Words ws) (n issued : ℕ) (few : n ≤ 8) (small
         )
 
     -- inst, throw and comp
-    made-install : (h : ℕ) (new : Entries) → FitsEntries false zero new → l .process ≡ act (node h [] [] (list new) noParts) →
+    made-install : (h : ℕ) (new : Entries) → kindOf h ≡ 12 → FitsEntries false zero new → l .process ≡ act (node h [] [] (list new) noParts) →
         Makes (ruleW ws start s 12 bound fresh) (alone vs (some (plug (onNearest (λ x. update x new) (l .frames)) nil)))
-    unfolding ruleW scopedW
-    made-install h new fit is =
+    unfolding ruleW scopedW asNode
+    made-install h new k fit is =
         still _ _ (Installs.installs (faultAt ws target) target r start l s ws words-at spotted near (standing .frames) deep (omega arith)
-        ok few small short fresh room big sound h new is fit)
+        ok few small short fresh (wide (ap (λ p. kind (asNode p)) is ∙ k)) big sound h new is fit)
 
     made-throw : (h : ℕ) → kindOf h ≡ 13 → l .process ≡ act (node h [] [] absent noParts) →
         Makes (ruleW ws start s 13 bound fresh) (alone vs (climb (nameOf h) (l .frames) nil))
@@ -324,7 +318,7 @@ module _ (ws : List ℕ) (ok : Words ws) (n issued : ℕ) (few : n ≤ 8) (small
     made-act m is f (serves k t fp) = rw k tt
     made-act m is f (notifies k t) = rw k tt
     made-act m is f (solicits k t fl) = rw k tt
-    made-act m is f (installs {h} {l = new} k t fl) = rw k (made-install h new fl is)
+    made-act m is f (installs {h} {l = new} k t fl) = rw k (made-install h new k fl is)
     made-act m is f (throws {h} k t) = rw k (made-throw h k is)
     made-act m is f (compensates {h} k t) = rw k (made-compensate h is)
 
@@ -379,12 +373,13 @@ module _ (ws : List ℕ) (ok : Words ws) (starts : Starts) (known : Known standa
         (startOf c e) run-stands (omega arith) run-deep run-short target l s place spotted
 
     pub known-lone :
+        (fresh : List ℕ) → Roomy ws fresh → (kind (asNode (l .process)) ≡ 12 → 16384 ≤ length fresh) → Near (length fresh) →
         (vs' : List ℕ) (q : Option Run) → moveOf (engineAt c e .values) (l .frames) (l .process) ≡ alone vs' q →
-        (let u = ruleW ws (startOf c e) s (kind (asNode (l .process))) (length (c .engines) * 65536 + c .issued) blank in
+        (let u = ruleW ws (startOf c e) s (kind (asNode (l .process))) (length (c .engines) * 65536 + c .issued) fresh in
         Ruled ws (startOf c e) (startOf c e + size run) (u .plan) (u .fresh) q
         × (u .plan .number ≡ 0 → vs' ≡ valued (engineAt c e .values) (u .plan .x) (u .plan .v)))
-    known-lone =
+    known-lone fresh room wide big =
         lone ws ok (length (c .engines)) (c .issued) (known .readable .fitting .few) (known .readable .fitting .word) run (fit .sound)
         (startOf c e) run-stands (omega arith) run-deep run-short target l s place spotted (engineAt c e .values)
         (fit .bounded) (one-values c (known .readable .fitting) e h ws (known .same))
-        blank (omega (arith, blank-length)) blank-near
+        fresh room wide big

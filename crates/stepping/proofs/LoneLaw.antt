@@ -2,10 +2,13 @@
 -- Assumes nothing.
 use Prim.Native.Nat.{ℕ, _+_, _-_, _*_, _%_, _≤_, _<_}
 use native.Mathlib.Omega.{arith}
-use mathlib.Core.Path.{_≡_, sym, ap, _∙_}
+use mathlib.Core.Path.{_≡_, refl, sym, ap, _∙_}
+use mathlib.Core.Bool.{Bool, true, false, cond}
 use mathlib.Core.Option.{Option, none, some}
 use mathlib.Core.List.{List}
-use lib.ListN.{length, getD}
+use borrow.Author.Tests.{ltb-false, eqb-false}
+use lib.Dec.{ltb, eqb, lit<}
+use lib.ListN.{length, getD, length-replicate}
 use Rattle.sock.specs.Term.{kind}
 use Rattle.sock.specs.Running.{Run, asNode, size}
 use Rattle.sock.specs.Configuration.{standard, Config}
@@ -19,16 +22,23 @@ use Rattle.reading.proofs.Known.{Known, known-length}
 use Rattle.reading.proofs.Standing.{start-next}
 use Rattle.finding.specs.declared.find.Spot.{Spot}
 use Rattle.rules.specs.Planning.{Planned}
+use Rattle.moving.proofs.Laid.{Near, near-of}
 use Rattle.rules.proofs.Outcomes.{Ruled, unkillable, tooDeep, ruled}
+use Rattle.scopes.proofs.Scratch.{Roomy}
 use Rattle.stepping.specs.Answering.{answered, refusing, oneW}
-use Rattle.stepping.specs.Exchanging.{blank}
-use Rattle.stepping.specs.Alone.{ruleW, aloneW}
+use Rattle.stepping.specs.Alone.{ruleW, loneW, large, small, aloneW}
 use Rattle.stepping.proofs.Goal.{given, given-refused}
 use Rattle.stepping.proofs.Given.{one-refused, one-deep, one-given}
 use Rattle.stepping.proofs.Writes.{valued}
 use Rattle.stepping.proofs.Whole.{loneOf}
 use Rattle.stepping.proofs.Lone.{known-lone}
 use Rattle.stepping.proofs.Seeking.{Seen, placed}
+
+large-length : length large ≡ 16384
+large-length = length-replicate {A = ℕ} 16384 0
+
+small-length : length small ≡ 1024
+small-length = length-replicate {A = ℕ} 1024 0
 
 module _ (ws : List ℕ) (ok : Words ws) (s : Starts) (known : Known standard ws s) (e target : ℕ) (l : Located) (sp : Spot) (seen : Seen ws ok s known e target l sp) where
   abbrev c : Config
@@ -72,12 +82,36 @@ module _ (ws : List ℕ) (ok : Words ws) (s : Starts) (known : Known standard ws
   pub lone-law :
       (vs' : List ℕ) (q : Option Run) → moveOf (engineAt c e .values) (l .frames) (l .process) ≡ alone vs' q → k < 32 → (out : List ℕ) →
       aloneW ws (getD (s .starts) e 0) (getD (s .starts) (e + 1) 0) sp k bound out ≡ given (loneOf c a vs' q (length out)) out
-  unfolding aloneW
-  lone-law vs' q m low out =
-      let r = known-lone ws ok s known e (seen .inside) target l sp (seen .place) (seen .spotted) vs' q m in
-      let first : getD (s .starts) e 0 ≡ start = known .starts e (omega (arith, seen .inside)) in
-      let last : getD (s .starts) (e + 1) 0 - 64 ≡ end =
-      (let y : getD (s .starts) (e + 1) 0 ≡ startOf c (e + 1) = known .starts (e + 1) (omega (arith, seen .inside)) in
-      let z = start-next c (known .readable .fitting) e (seen .inside) in
-      omega arith) in
-      rw (first, last, kind-low low) (by-rule (ruleW ws start sp k bound blank) vs' q (r .0) (r .1) out)
+  unfolding aloneW loneW
+  lone-law vs' q m low out = by (eqb k 12) (ltb 512 (length ws)) refl refl
+    where
+      -- whatever the scratch is, if it has room
+      scratched :
+          (fresh : List ℕ) → Roomy ws fresh → (k ≡ 12 → 16384 ≤ length fresh) → Near (length fresh) →
+          loneW ws (getD (s .starts) e 0) (getD (s .starts) (e + 1) 0) sp k bound fresh out ≡ given (loneOf c a vs' q (length out)) out
+      scratched fresh room wide big =
+          let r = known-lone ws ok s known e (seen .inside) target l sp (seen .place) (seen .spotted) fresh room wide big vs' q m in
+          let first : getD (s .starts) e 0 ≡ start = known .starts e (omega (arith, seen .inside)) in
+          let last : getD (s .starts) (e + 1) 0 - 64 ≡ end =
+          (let y : getD (s .starts) (e + 1) 0 ≡ startOf c (e + 1) = known .starts (e + 1) (omega (arith, seen .inside)) in
+          let z = start-next c (known .readable .fitting) e (seen .inside) in
+          omega arith) in
+          rw (first, last, kind-low low) (by-rule (ruleW ws start sp k bound fresh) vs' q (r .0) (r .1) out)
+
+      in-large : loneW ws (getD (s .starts) e 0) (getD (s .starts) (e + 1) 0) sp k bound large out ≡ given (loneOf c a vs' q (length out)) out
+      in-large =
+          scratched large (record { twice = omega (arith, large-length, short); few = omega (arith, large-length) })
+          (λ i. omega (arith, large-length)) (rw large-length (near-of 16384 (lit< tt)))
+
+      by :
+          (b d : Bool) → eqb k 12 ≡ b → ltb 512 (length ws) ≡ d →
+          cond b (loneW ws (getD (s .starts) e 0) (getD (s .starts) (e + 1) 0) sp k bound large out)
+          (cond d (loneW ws (getD (s .starts) e 0) (getD (s .starts) (e + 1) 0) sp k bound large out)
+          (loneW ws (getD (s .starts) e 0) (getD (s .starts) (e + 1) 0) sp k bound small out))
+          ≡ given (loneOf c a vs' q (length out)) out
+      by true d p r = in-large
+      by false true p r = in-large
+      by false false p r =
+          let few : length ws ≤ 512 = omega (arith, ltb-false 512 (length ws) r) in
+          scratched small (record { twice = omega (arith, small-length, few); few = omega (arith, small-length) })
+          (λ i. absurd (eqb-false k 12 p i)) (rw small-length (near-of 1024 (lit< tt)))

@@ -76,7 +76,7 @@ module _ (ws : List ℕ) (ok : Words ws) (s : Starts) (known : Known standard ws
         ∙ ap (λ x. runWords (engineAt c e .process) ++ x) (sym (one-behind c (known .readable .fitting) e (seen .inside) ws (known .same)))
 
     turned-plans :
-        (q : Run) (t : Turn) (fresh : List ℕ) → length fresh ≡ 16384 → t .fresh ≤ 4 → Becomes (l .process) q t fresh → runDepth q ≤ runDepth (l .process) →
+        (q : Run) (t : Turn) (fresh : List ℕ) → length fresh ≡ 64 → t .fresh ≤ 4 → Becomes (l .process) q t fresh → runDepth q ≤ runDepth (l .process) →
         Planned-by e l (plainW sp (startOf c e) t fresh) t q
     turned-plans q t fresh n few b low =
         let near : Near (length fresh) = rw (n ∙ sym blank-length) blank-near in

@@ -6,7 +6,7 @@ use mathlib.Core.Path.{_≡_, sym, ap, _∙_}
 use mathlib.Core.Bool.{Bool}
 use mathlib.Core.List.{List, [], _∷_, _++_}
 use lib.Dec.{lit<}
-use lib.ListN.{length, getD, drop, length-append, length-drop, length-replicate}
+use lib.ListN.{length, getD, drop, length-append, length-drop}
 use lib.Seq.{take-all, getD-drop}
 use Rattle.sock.specs.Term.{Node, Entries, kind}
 use Rattle.sock.specs.Running.{Mark, Run, seq, par, scope, executor, asNode, runWords, size, runDepth}
@@ -29,9 +29,7 @@ use Rattle.scopes.proofs.ScopeWords.{inner-sound}
 use Rattle.stepping.specs.Exchanging.{blank, lent}
 use Rattle.stepping.proofs.Results.{one-stands, one-values}
 use Rattle.stepping.proofs.Pairs.{Pairs, sender-pairs}
-
-blank-length : length blank ≡ 16384
-blank-length = length-replicate {A = ℕ} 16384 0
+use Rattle.stepping.proofs.Fresh.{blank-length, blank-near}
 
 engine-depth : (es : List Engine) (e : ℕ) (d : Engine) → e < length es → runDepth (getD es e d .process) ≤ enginesDepth es
 unfolding enginesDepth
@@ -146,7 +144,7 @@ module _ (ws : List ℕ) (ok : Words ws) (s : Starts) (known : Known standard ws
         (exchange (c .issued) e i branch (engineAt c i .values) (lb .process) m)
     partners-trade m moves =
         sender-pairs (length (c .engines)) (c .issued) (known .readable .fitting .few) (known .readable .fitting .word) e i branch blank
-        (rw blank-length (near-of 16384 (lit< tt))) (omega (arith, blank-length))
+        blank-near (omega (arith, blank-length))
         (lent (sa .at) (length ws) ws) (lent (startOf c e - 64) (startOf c e) ws) (lent-words (sa .at)) (engineAt c e .values)
         (engine-fits _ (known .readable .fitting .engines) e he .bounded) (one-values c (known .readable .fitting) e he ws (known .same))
         (lent (sb .at) (length ws) ws) (lent-words (sb .at)) (lent-near (sb .at))

@@ -3,7 +3,7 @@ use Prim.Native.Nat.{ℕ, _-_, _%_}
 use mathlib.Core.Bool.{cond}
 use mathlib.Core.List.{List}
 use lib.Dec.{ltb, eqb}
-use lib.ListN.{length}
+use lib.ListN.{length, replicate}
 use Rattle.finding.specs.declared.find.Spot.{Spot}
 use Rattle.rules.specs.Turning.{Turned, turned, refused, assignW, branchW, repeatW}
 use Rattle.rules.specs.Planning.{Planned, plainW}
@@ -12,7 +12,7 @@ use Rattle.scopes.specs.Ending.{endedW}
 use Rattle.scopes.specs.Installing.{installedW}
 use Rattle.scopes.specs.Throwing.{thrownW}
 use Rattle.stepping.specs.Answering.{Answered, oneW}
-use Rattle.stepping.specs.Exchanging.{blank, lent}
+use Rattle.stepping.specs.Exchanging.{lent}
 
 unfoldable pub turnW : List ℕ → List ℕ → ℕ → ℕ → ℕ → List ℕ → Turned
 turnW part vs level kind bound fresh =
@@ -37,7 +37,19 @@ ruleW ws start s kind bound fresh =
     let t = valuedW ws start s kind bound fresh in
     cond (ltb 6 kind) (scopedW ws start s kind bound fresh) (plainW s start (t .turn) (t .fresh))
 
+unfoldable pub loneW : List ℕ → ℕ → ℕ → Spot → ℕ → ℕ → List ℕ → List ℕ → Answered
+loneW ws start next s kind bound fresh out =
+    let p = ruleW ws start s kind bound fresh in
+    oneW ws start (next - 64) (p .plan) (kind % 32) (p .fresh) out
+
+-- scratch for all, and for short configurations
+abbrev pub large : List ℕ
+large = replicate 16384 0
+
+abbrev pub small : List ℕ
+small = replicate 1024 0
+
 unfoldable pub aloneW : List ℕ → ℕ → ℕ → Spot → ℕ → ℕ → List ℕ → Answered
 aloneW ws start next s kind bound out =
-    let p = ruleW ws start s kind bound blank in
-    oneW ws start (next - 64) (p .plan) (kind % 32) (p .fresh) out
+    cond (eqb kind 12) (loneW ws start next s kind bound large out)
+    (cond (ltb 512 (length ws)) (loneW ws start next s kind bound large out) (loneW ws start next s kind bound small out))

@@ -42,9 +42,9 @@ issuedOf kind issued next = cond (eqb kind 10) next issued
 unfoldable pub faultOf : ℕ → ℕ
 faultOf kind = cond (eqb kind 18) 1 0
 
--- scratch
+-- scratch: no process that sends or receives turns into more than a few words that are new
 abbrev pub blank : List ℕ
-blank = replicate 16384 0
+blank = replicate 64 0
 
 unfoldable pub carryW : List ℕ → List ℕ → List ℕ → List ℕ → Offer → List ℕ → ℕ → ℕ → Spot → Spot → ℕ → ℕ → List ℕ → Answered
 carryW ws part vs other o starts e i a b kind bound out =

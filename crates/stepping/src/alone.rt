@@ -17,7 +17,7 @@ use scopes::throwing::thrown;
 ghost use mathlib.Core.Path.{_≡_};
 ghost use Prim.Native.Nat.{_<_};
 ghost use lib.ListN.{length};
-ghost use Rattle.stepping.specs.Alone.{turnW, valuedW, scopedW, ruleW, aloneW};
+ghost use Rattle.stepping.specs.Alone.{turnW, valuedW, scopedW, ruleW, loneW, large, aloneW};
 
 // Assign, if or while, handed the words from its position on and the engine's values.
 fn turn(
@@ -85,7 +85,48 @@ fn rule(ws: &[u16], start: usize, s: Spot, kind: usize, bound: usize, fresh: &mu
     plain(s, start, t, fresh)
 }
 
-// The engine's process begins at `start`, the next one's at `next`.
+// The rule worked out in scratch, then the answer. The engine's process begins at `start`, the next one's at `next`.
+fn lone(
+    ws: &[u16],
+    start: usize,
+    next: usize,
+    s: Spot,
+    kind: usize,
+    bound: usize,
+    fresh: &mut [u16],
+    out: &mut [u16],
+) -> Answer
+    ensures { λ r. ⌜ (r ≡ loneW (now (ws .entry)) start next s kind bound (now (fresh .entry)) (now (out .entry)) .answer) × (now (out .exit) ≡ loneW (now (ws .entry)) start next s kind bound (now (fresh .entry)) (now (out .entry)) .out) ⌝ }
+{
+    let p = rule(ws, start, s, kind, bound, fresh);
+    one(
+        ws,
+        start,
+        end_before(next),
+        p,
+        (kind % 32) as u8,
+        fresh,
+        out,
+    )
+}
+
+// With scratch for every result.
+fn roomy(
+    ws: &[u16],
+    start: usize,
+    next: usize,
+    s: Spot,
+    kind: usize,
+    bound: usize,
+    out: &mut [u16],
+) -> Answer
+    ensures { λ r. ⌜ (r ≡ loneW (now (ws .entry)) start next s kind bound large (now (out .entry)) .answer) × (now (out .exit) ≡ loneW (now (ws .entry)) start next s kind bound large (now (out .entry)) .out) ⌝ }
+{
+    let mut fresh = [0u16; 16384];
+    lone(ws, start, next, s, kind, bound, &mut fresh, out)
+}
+
+// Only inst writes more than twice the words that it reads. For a short configuration a long scratch would take more time than the step.
 pub fn alone(
     ws: &[u16],
     start: usize,
@@ -97,15 +138,12 @@ pub fn alone(
 ) -> Answer
     ensures { λ r. ⌜ (r ≡ aloneW (now (ws .entry)) start next s kind bound (now (out .entry)) .answer) × (now (out .exit) ≡ aloneW (now (ws .entry)) start next s kind bound (now (out .entry)) .out) ⌝ }
 {
-    let mut fresh = [0u16; 16384];
-    let p = rule(ws, start, s, kind, bound, &mut fresh);
-    one(
-        ws,
-        start,
-        end_before(next),
-        p,
-        (kind % 32) as u8,
-        &fresh,
-        out,
-    )
+    if kind == 12 {
+        return roomy(ws, start, next, s, kind, bound, out);
+    }
+    if 512 < ws.len() {
+        return roomy(ws, start, next, s, kind, bound, out);
+    }
+    let mut fresh = [0u16; 1024];
+    lone(ws, start, next, s, kind, bound, &mut fresh, out)
 }

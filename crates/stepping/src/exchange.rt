@@ -133,8 +133,8 @@ fn carry(
     let issued = word(ws, 1);
     let next = next_of(issued);
     let serial = serial_of(part, kind, next);
-    let mut fresh = [0u16; 16384];
-    let mut fresh2 = [0u16; 16384];
+    let mut fresh = [0u16; 64];
+    let mut fresh2 = [0u16; 64];
     let p = sender(part, a, starts[e], kind, second, serial, bound, &mut fresh);
     let q = receiver(
         part,
