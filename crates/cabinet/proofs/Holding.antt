@@ -66,15 +66,18 @@ held-as bytes b e = ap (λ (t : Bool). cond t [] (wordsOrNone (wordsOf bytes))) 
 pub held-long : (bytes : List ℕ) → 16384 < length bytes → [] ≡ held bytes
 held-long bytes b = sym (held-as bytes true (lt-ltb _ _ b))
 
-pub held-odd : (n : ℕ) (bytes : List ℕ) → length bytes ≤ 16384 → length bytes ≡ n * 2 + 1 → [] ≡ held bytes
-unfolding wordsOrNone
-held-odd n bytes b e = sym (held-as bytes false (le-ltb _ _ b) ∙ ap wordsOrNone (words-of-odd n bytes e))
+pub held-short : (bytes : List ℕ) → length bytes ≤ 16384 → wordsOrNone (wordsOf bytes) ≡ held bytes
+held-short bytes b = sym (held-as bytes false (le-ltb _ _ b))
 
-pub held-even :
-    (n : ℕ) (bytes ws : List ℕ) → length bytes ≤ 16384 → length bytes ≡ n * 2 → n ≤ length ws →
-    ((j : ℕ) → j < n → getD ws j 0 ≡ pairAt bytes j) → take n ws ≡ held bytes
+pub odd-none : (n : ℕ) (bytes : List ℕ) → length bytes ≡ n * 2 + 1 → [] ≡ wordsOrNone (wordsOf bytes)
 unfolding wordsOrNone
-held-even n bytes ws s e b f = sym (held-as bytes false (le-ltb _ _ s) ∙ ap wordsOrNone (words-of-even n bytes ws e b f))
+odd-none n bytes e = sym (ap wordsOrNone (words-of-odd n bytes e))
+
+pub even-words :
+    (n : ℕ) (bytes ws : List ℕ) → length bytes ≡ n * 2 → n ≤ length ws → ((j : ℕ) → j < n → getD ws j 0 ≡ pairAt bytes j) →
+    take n ws ≡ wordsOrNone (wordsOf bytes)
+unfolding wordsOrNone
+even-words n bytes ws e b f = sym (ap wordsOrNone (words-of-even n bytes ws e b f))
 
 -- ---- what is not held is not readable
 

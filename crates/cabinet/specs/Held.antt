@@ -18,6 +18,6 @@ abbrev pub packedAs : Answer → ℕ
 packedAs a =
     a .number * 72057594037927936 + a .kind * 281474976710656 + a .fault * 1099511627776 + a .serial * 65536 + a .length
 
--- how many words the result may have, with an output of so many bytes
-unfoldable pub roomOf : ℕ → ℕ
-roomOf bytes = cond (ltb 8192 (bytes / 2)) 8192 (bytes / 2)
+-- how many words the result may have, at most so many and what an output of so many bytes has room for
+unfoldable pub roomOf : ℕ → ℕ → ℕ
+roomOf most bytes = cond (ltb most (bytes / 2)) most (bytes / 2)

@@ -1,5 +1,6 @@
 // The step on bytes.
 use crate::words::hold;
+use crate::words::words_in;
 use stepping::answer::Answer;
 use stepping::steps::step;
 ghost use mathlib.Core.Path.{_≡_};
@@ -8,8 +9,8 @@ ghost use lib.ListN.{length, take};
 ghost use Rattle.sock.specs.Configuration.{standard};
 ghost use Rattle.sock.specs.Calls.{answerOf, over};
 ghost use Rattle.sock.specs.Calls as calls;
-ghost use Rattle.sock.specs.Bytes.{bytesOf, packed, bytesAfter, byteAnswer, byteOutput};
-ghost use Rattle.stepping.specs.Answers.{numbers};
+ghost use Rattle.sock.specs.Bytes.{bytesOf, bytesAfter, byteStep, byteAnswer, byteOutput};
+ghost use Rattle.stepping.specs.Answers.{answerAs, numbers};
 ghost use Rattle.cabinet.specs.Held.{packedAs, roomOf};
 
 fn high(w: u16) -> u8
@@ -49,12 +50,12 @@ fn pack(a: Answer) -> u64
         + (a.length as u64)
 }
 
-// How many words the result may have.
-fn room_of(bytes: usize) -> usize
-    ensures { λ r. ⌜ (r ≡ roomOf bytes) × (r ≤ 8192) ⌝ }
+// How many words the result may have, `most` or what the output has room for.
+fn room_of(bytes: usize, most: usize) -> usize
+    ensures { λ r. ⌜ (r ≡ roomOf most bytes) × (r ≤ most) × (r * 2 ≤ bytes) ⌝ }
 {
     let half = bytes / 2;
-    if 8192 < half { 8192 } else { half }
+    if most < half { most } else { half }
 }
 
 // The step on words, its result written to `result` first.
@@ -67,21 +68,19 @@ fn written(
     branch: u16,
     result: &mut [u16],
     out: &mut [u8],
-) -> u64
-    requires { ⌜ length (now result) ≡ roomOf (length (now out)) ⌝ }
-    ensures { λ r. ⌜ (r ≡ packed (answerOf (calls.step standard (now (ws .entry)) (numbers engine position second place branch) (length (now (out .entry)) / 2)))) × (now (out .exit) ≡ bytesAfter (calls.step standard (now (ws .entry)) (numbers engine position second place branch) (length (now (out .entry)) / 2)) (now (out .entry))) ⌝ }
+) -> Answer
+    requires { ⌜ length (now result) * 2 ≤ length (now out) ⌝ }
+    ensures { λ r. ⌜ (r ≡ answerAs (answerOf (calls.step standard (now (ws .entry)) (numbers engine position second place branch) (length (now (result .entry)))))) × (now (out .exit) ≡ bytesAfter (calls.step standard (now (ws .entry)) (numbers engine position second place branch) (length (now (result .entry)))) (now (out .entry))) ⌝ }
 {
     let a = step(ws, engine, position, second, place, branch, result);
-    if a.number != 0 {
-        return pack(a);
+    if a.number == 0 {
+        spread(result, a.length as usize, out);
     }
-    spread(result, a.length as usize, out);
-    pack(a)
+    a
 }
 
-// Step: from the top, the number, kind and fault in 8 bits each, 8 zero, serial and length in 16 each. A refusal changes no byte.
-#[no_mangle]
-pub extern "C" fn sock_step(
+// The step with scratch for every configuration and every result.
+fn large(
     engine: u16,
     position: u16,
     second: u16,
@@ -95,7 +94,36 @@ pub extern "C" fn sock_step(
     let mut scratch = [0u16; 8192];
     let n = hold(config, &mut scratch);
     let mut result = [0u16; 8192];
-    let room = room_of(out.len());
+    let room = room_of(out.len(), 8192);
+    pack(written(
+        &scratch[..n],
+        engine,
+        position,
+        second,
+        place,
+        branch,
+        &mut result[..room],
+        out,
+    ))
+}
+
+// The step of a short configuration, with room for a result twice as long.
+fn small(
+    engine: u16,
+    position: u16,
+    second: u16,
+    place: u16,
+    branch: u16,
+    config: &[u8],
+    out: &mut [u8],
+) -> Answer
+    requires { ⌜ length (now config) ≤ 1024 ⌝ }
+    ensures { λ r. ⌜ (r ≡ answerAs (answerOf (byteStep (now (config .entry)) (numbers engine position second place branch) (roomOf 1024 (length (now (out .entry))))))) × (now (out .exit) ≡ bytesAfter (byteStep (now (config .entry)) (numbers engine position second place branch) (roomOf 1024 (length (now (out .entry))))) (now (out .entry))) ⌝ }
+{
+    let mut scratch = [0u16; 512];
+    let n = words_in(config, &mut scratch);
+    let mut result = [0u16; 1024];
+    let room = room_of(out.len(), 1024);
     written(
         &scratch[..n],
         engine,
@@ -106,4 +134,28 @@ pub extern "C" fn sock_step(
         &mut result[..room],
         out,
     )
+}
+
+// Step: from the top, the number, kind and fault in 8 bits each, 8 zero, serial and length in 16 each. A refusal changes no byte.
+// A long scratch would take most of a short configuration's time, so that is first tried with a short one; 10 may then be for that alone.
+#[no_mangle]
+pub extern "C" fn sock_step(
+    engine: u16,
+    position: u16,
+    second: u16,
+    place: u16,
+    branch: u16,
+    config: &[u8],
+    out: &mut [u8],
+) -> u64
+    ensures { λ r. ⌜ (r ≡ byteAnswer (now (config .entry)) (numbers engine position second place branch) (now (out .entry))) × (now (out .exit) ≡ byteOutput (now (config .entry)) (numbers engine position second place branch) (now (out .entry))) ⌝ }
+{
+    if 1024 < config.len() {
+        return large(engine, position, second, place, branch, config, out);
+    }
+    let a = small(engine, position, second, place, branch, config, out);
+    if a.number == 10 {
+        return large(engine, position, second, place, branch, config, out);
+    }
+    pack(a)
 }

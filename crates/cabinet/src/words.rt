@@ -2,6 +2,7 @@
 ghost use mathlib.Core.Path.{_≡_};
 ghost use Prim.Native.Nat.{ℕ, _≤_, _<_, _+_, _*_};
 ghost use lib.ListN.{length, getD, take};
+ghost use Rattle.sock.specs.Bytes.{wordsOf, wordsOrNone};
 ghost use Rattle.cabinet.specs.Held.{held, pairAt};
 
 fn word(high: u8, low: u8) -> u16
@@ -23,7 +24,19 @@ fn fill(bytes: &[u8], n: usize, ws: &mut [u16]) -> usize
     i
 }
 
-// How many words there are, and the words; none where the length is odd or more than any configuration's.
+// How many words there are, and the words; none where the length is odd.
+pub fn words_in(bytes: &[u8], ws: &mut [u16]) -> usize
+    requires { ⌜ length (now bytes) ≤ length (now ws) * 2 ⌝ }
+    ensures { λ r. ⌜ (r ≤ length (now (ws .exit))) × (take r (now (ws .exit)) ≡ wordsOrNone (wordsOf (now (bytes .entry)))) ⌝ }
+{
+    let n = bytes.len() / 2;
+    if n * 2 != bytes.len() {
+        return 0;
+    }
+    fill(bytes, n, ws)
+}
+
+// The same; none where there are more than any configuration has.
 pub fn hold(bytes: &[u8], ws: &mut [u16]) -> usize
     requires { ⌜ length (now ws) ≡ 8192 ⌝ }
     ensures { λ r. ⌜ (r ≤ 8192) × (take r (now (ws .exit)) ≡ held (now (bytes .entry))) ⌝ }
@@ -31,9 +44,5 @@ pub fn hold(bytes: &[u8], ws: &mut [u16]) -> usize
     if 16384 < bytes.len() {
         return 0;
     }
-    let n = bytes.len() / 2;
-    if n * 2 != bytes.len() {
-        return 0;
-    }
-    fill(bytes, n, ws)
+    words_in(bytes, ws)
 }

@@ -1,54 +1,59 @@
 -- `sock_step` of `cabinet::stepping_bytes` meets its contract.
 -- Assumes nothing.
-use native.Mathlib.Omega.{arith}
-use mathlib.Core.Path.{sym, _∙_}
-use lib.Seq.{length-take-le}
-use Rattle.cabinet.proofs.Stepping.{answer-held, output-held}
+use mathlib.Core.Path.{ap, _∙_}
+use Rattle.sock.specs.Bytes.{byteAnswer, byteOutput}
+use Rattle.cabinet.proofs.Stepping.{small-answer, small-output, small-keeps}
 use borrow.Author.Needs.{needs}
 use Rattle.cabinet.proofs.stepping_bytes.sock_step.Statement.{statement}
 use Rattle.cabinet.proofs.stepping_bytes.sock_step.Tie as tie
 
-slice-aggregate-hold : tie.Need-slice-aggregate-hold
-slice-aggregate-hold c = search needs
-
-hold-requires : tie.Need-hold-requires
-hold-requires c κs = search needs
-
-room-of-requires : tie.Need-room-of-requires
-room-of-requires c κs = search needs
-
-array-share-prefix-scratch : tie.Need-array-share-prefix-scratch
-array-share-prefix-scratch c = search needs
-
-slice-aggregate-written : tie.Need-slice-aggregate-written
-slice-aggregate-written c = sym (length-take-le _ _ (search needs))
-
-array-borrow-prefix-result : tie.Need-array-borrow-prefix-result
-array-borrow-prefix-result c = search needs
-
-slice-aggregate-written-2 : tie.Need-slice-aggregate-written-2
-slice-aggregate-written-2 c = sym (length-take-le _ _ (omega (arith, c .before .before .room-of .ensures .1)))
-
-written-requires : tie.Need-written-requires
-written-requires c κs = length-take-le _ _ (omega (arith, c .before .before .before .room-of .ensures .1)) ∙ c .before .before .before .room-of .ensures .0
+large-requires : tie.Need-large-requires
+large-requires c κs = search needs
 
 same-length : tie.Need-same-length
 same-length c = search needs
 
 returns : tie.Need-returns
-returns c = (c .before .before .before .written .ensures .0 ∙ answer-held _ _ (c .before .before .before .before .before .before .before .before .before .hold .ensures .1) _ _, c .before .before .before .written .ensures .1 ∙ output-held _ _ (c .before .before .before .before .before .before .before .before .before .hold .ensures .1) _ _)
+returns c = search needs
+
+small-requires : tie.Need-small-requires
+small-requires c κs = search needs
+
+large-requires-2 : tie.Need-large-requires-2
+large-requires-2 c κs = search needs
+
+same-length-2 : tie.Need-same-length-2
+same-length-2 c = search needs
+
+returns-2 : tie.Need-returns-2
+returns-2 c =
+    let e = c .before .before .before .before .before .before .before .before .small .ensures in
+    let kept = e .1 ∙ small-keeps _ _ _ _ (e .0) (c .before .before .before .before .if2 .taken) in
+    (c .before .before .large2 .ensures .0 ∙ ap (byteAnswer _ _) kept, c .before .before .large2 .ensures .1 ∙ ap (byteOutput _ _) kept)
+
+pack-requires : tie.Need-pack-requires
+pack-requires c κs = search needs
+
+same-length-3 : tie.Need-same-length-3
+same-length-3 c = search needs
+
+returns-3 : tie.Need-returns-3
+returns-3 c =
+    let e = c .before .before .before .before .before .small .ensures in
+    let n = c .before .if2 .left in
+    (c .pack .ensures ∙ small-answer _ _ _ _ (e .0) n, e .1 ∙ small-output _ _ _ _ (e .0) n)
 
 pub sock-step-spec : {M : Type 1} → statement M
 sock-step-spec =
     tie.close
     (tie.spec
-    slice-aggregate-hold
-    hold-requires
-    room-of-requires
-    array-share-prefix-scratch
-    slice-aggregate-written
-    array-borrow-prefix-result
-    slice-aggregate-written-2
-    written-requires
+    large-requires
     same-length
-    returns)
+    returns
+    small-requires
+    large-requires-2
+    same-length-2
+    returns-2
+    pack-requires
+    same-length-3
+    returns-3)

@@ -1,0 +1,64 @@
+-- `large` of `cabinet::stepping_bytes` meets its contract.
+-- Assumes nothing.
+use native.Mathlib.Omega.{arith}
+use mathlib.Core.Path.{sym, ap, _∙_}
+use lib.Seq.{length-take-le}
+use Rattle.cabinet.specs.Held.{packedAs}
+use Rattle.cabinet.proofs.Stepping.{part-fits, large-answer, large-output}
+use borrow.Author.Needs.{needs}
+use Rattle.cabinet.proofs.stepping_bytes.large.Statement.{statement}
+use Rattle.cabinet.proofs.stepping_bytes.large.Tie as tie
+
+slice-aggregate-hold : tie.Need-slice-aggregate-hold
+slice-aggregate-hold c = search needs
+
+hold-requires : tie.Need-hold-requires
+hold-requires c κs = search needs
+
+room-of-requires : tie.Need-room-of-requires
+room-of-requires c κs = search needs
+
+array-share-prefix-scratch : tie.Need-array-share-prefix-scratch
+array-share-prefix-scratch c = search needs
+
+slice-aggregate-written : tie.Need-slice-aggregate-written
+slice-aggregate-written c = sym (length-take-le _ _ (search needs))
+
+array-borrow-prefix-result : tie.Need-array-borrow-prefix-result
+array-borrow-prefix-result c = search needs
+
+slice-aggregate-written-2 : tie.Need-slice-aggregate-written-2
+slice-aggregate-written-2 c = sym (length-take-le _ _ (omega (arith, c .before .before .room-of .ensures .1)))
+
+written-requires : tie.Need-written-requires
+written-requires c κs =
+    let r = c .before .before .before .room-of .ensures in
+    part-fits _ _ (omega (arith, r .1)) (r .2)
+
+pack-requires : tie.Need-pack-requires
+pack-requires c κs = search needs
+
+same-length : tie.Need-same-length
+same-length c = search needs
+
+returns : tie.Need-returns
+returns c =
+    let r = c .before .before .before .before .before .before .before .before .room-of .ensures in
+    let held = c .before .before .before .before .before .before .before .before .before .before .hold .ensures .1 in
+    (c .pack .ensures ∙ (ap packedAs (c .before .before .before .before .written .ensures .0) ∙ large-answer _ _ held _ _ _ (length-take-le _ _ (omega (arith, r .1)) ∙ r .0)), c .before .before .before .before .written .ensures .1 ∙ large-output _ _ held _ _ _ (length-take-le _ _ (omega (arith, r .1)) ∙ r .0))
+
+pub large-spec : {M : Type 1} → statement M
+large-spec =
+    tie.close
+    (tie.spec
+    slice-aggregate-hold
+    hold-requires
+    room-of-requires
+    array-share-prefix-scratch
+    slice-aggregate-written
+    array-borrow-prefix-result
+    slice-aggregate-written-2
+    written-requires
+    pack-requires
+    same-length
+    returns)

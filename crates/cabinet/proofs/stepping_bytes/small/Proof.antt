@@ -1,0 +1,59 @@
+-- `small` of `cabinet::stepping_bytes` meets its contract.
+-- Assumes nothing.
+use native.Mathlib.Omega.{arith}
+use mathlib.Core.Path.{sym, _∙_}
+use lib.Seq.{length-take-le}
+use Rattle.cabinet.proofs.Stepping.{part-fits, tried-answer, tried-output}
+use borrow.Author.Needs.{needs}
+use Rattle.cabinet.proofs.stepping_bytes.small.Statement.{statement}
+use Rattle.cabinet.proofs.stepping_bytes.small.Tie as tie
+
+slice-aggregate-words-in : tie.Need-slice-aggregate-words-in
+slice-aggregate-words-in c = search needs
+
+words-in-requires : tie.Need-words-in-requires
+words-in-requires c κs = search needs
+
+room-of-requires : tie.Need-room-of-requires
+room-of-requires c κs = search needs
+
+array-share-prefix-scratch : tie.Need-array-share-prefix-scratch
+array-share-prefix-scratch c = search needs
+
+slice-aggregate-written : tie.Need-slice-aggregate-written
+slice-aggregate-written c = sym (length-take-le _ _ (search needs))
+
+array-borrow-prefix-result : tie.Need-array-borrow-prefix-result
+array-borrow-prefix-result c = search needs
+
+slice-aggregate-written-2 : tie.Need-slice-aggregate-written-2
+slice-aggregate-written-2 c = sym (length-take-le _ _ (omega (arith, c .before .before .room-of .ensures .1)))
+
+written-requires : tie.Need-written-requires
+written-requires c κs =
+    let r = c .before .before .before .room-of .ensures in
+    part-fits _ _ (omega (arith, r .1)) (r .2)
+
+same-length : tie.Need-same-length
+same-length c = search needs
+
+returns : tie.Need-returns
+returns c =
+    let r = c .before .before .before .before .before .before .before .room-of .ensures in
+    let words = c .before .before .before .before .before .before .before .before .before .words-in .ensures .1 in
+    (c .before .before .before .written .ensures .0 ∙ tried-answer _ _ words _ _ (length-take-le _ _ (omega (arith, r .1)) ∙ r .0), c .before .before .before .written .ensures .1 ∙ tried-output _ _ words _ _ (length-take-le _ _ (omega (arith, r .1)) ∙ r .0) _)
+
+pub small-spec : {M : Type 1} → statement M
+small-spec =
+    tie.close
+    (tie.spec
+    slice-aggregate-words-in
+    words-in-requires
+    room-of-requires
+    array-share-prefix-scratch
+    slice-aggregate-written
+    array-borrow-prefix-result
+    slice-aggregate-written-2
+    written-requires
+    same-length
+    returns)
