@@ -1,0 +1,173 @@
+//! One call on both sides: the library's answer and output are the second implementation's, bit
+//! for bit, and the configuration and all around what was lent stays as it was.
+
+use crate::counts::Counts;
+use crate::exported;
+use crate::fault;
+use crate::input::{Call, Input};
+use crate::memory::{Lent, Memory};
+use crate::outputs::{pattern, Output};
+use reference::{Answer, Numbers};
+
+/// Engines that are asked for; a configuration has at most eight. 256 is engine 0 in 8 bits.
+pub const ENGINES: [u16; 12] = [0, 1, 2, 3, 4, 5, 6, 7, 8, 9, 256, 65_535];
+
+/// Makes calls on memory of one kind and counts what they meet.
+pub struct Comparison<M> {
+    pub counts: Counts,
+    memory: M,
+    /// Calls so far, from which patterns differ.
+    round: u64,
+}
+
+/// What a step answered, and the result's bytes: none for a refusal.
+#[derive(Clone, Debug)]
+pub struct Stepped {
+    pub answer: Answer,
+    pub result: Vec<u8>,
+}
+
+impl<M: Memory> Comparison<M> {
+    pub fn new(memory: M) -> Comparison<M> {
+        Comparison { counts: Counts::default(), memory, round: 0 }
+    }
+
+    /// The four calls that only read, for every serial and engine worth asking for.
+    pub fn read_all(&mut self, input: &Input) {
+        self.checks(input);
+        for serial in serials(input.config) {
+            self.ends(input, serial);
+        }
+        for engine in ENGINES {
+            self.process(input, engine);
+        }
+    }
+
+    /// The four calls that only read, for one serial and one engine in turn.
+    pub fn read_one(&mut self, input: &Input) {
+        self.checks(input);
+        let turn = self.round as usize / 4;
+        let serials = serials(input.config);
+        self.ends(input, serials[turn % serials.len()]);
+        self.process(input, ENGINES[turn % ENGINES.len()]);
+    }
+
+    fn checks(&mut self, input: &Input) {
+        let start = u64::from(reference::sock_check_start(input.config));
+        let ours = |config| u64::from(exported::check_start(config));
+        self.read(input, Call::CheckStart, ours, start);
+        self.counts.number("start check", input.source.class, start as u8);
+        let readable = u64::from(reference::sock_check_readable(input.config));
+        let ours = |config| u64::from(exported::check_readable(config));
+        self.read(input, Call::CheckReadable, ours, readable);
+        self.counts.number("readable check", input.source.class, readable as u8);
+    }
+
+    fn ends(&mut self, input: &Input, serial: u16) {
+        let expected = reference::sock_ends(input.config, serial);
+        let ours = |config| exported::ends(config, serial);
+        self.read(input, Call::Ends { serial }, ours, expected);
+        self.counts.number("ends", input.source.class, (expected >> 56) as u8);
+    }
+
+    fn process(&mut self, input: &Input, engine: u16) {
+        let expected = reference::sock_process(input.config, engine);
+        let ours = |config| exported::process(config, engine);
+        self.read(input, Call::Process { engine }, ours, expected);
+        self.counts.process(input.source.class, expected != 0);
+    }
+
+    /// A call that only reads.
+    fn read(&mut self, input: &Input, call: Call, ours: impl Fn(Lent) -> u64, expected: u64) {
+        self.round += 1;
+        let config = self.memory.configuration(input.config);
+        fault::entering(input.source, call);
+        let answer = ours(config);
+        same_answer(input, call, answer, expected);
+        self.untouched(input, call, config);
+    }
+
+    /// A step with an output of this length, filled with a pattern before.
+    pub fn step(&mut self, input: &Input, numbers: Numbers, output: Output) -> Stepped {
+        self.round += 1;
+        let call = Call::Step { numbers, output: output.length };
+        let filled = pattern(self.round, output.length);
+        let config = self.memory.configuration(input.config);
+        let lent = self.memory.output(&filled);
+        fault::entering(input.source, call);
+        let packed = exported::step(numbers, config, lent);
+        let mut expected = filled.clone();
+        same_answer(input, call, packed, expected_step(numbers, input.config, &mut expected));
+        same_output(input, call, lent.bytes(), &expected);
+        self.untouched(input, call, config);
+        let answer = unpacked(packed);
+        let (result, past) = lent.bytes().split_at(2 * usize::from(answer.length));
+        // Of itself, whatever the second implementation says; all bytes are past a refusal's.
+        if *past != filled[result.len()..] {
+            differ(input, call, "bytes past the result changed");
+        }
+        self.count_step(input, &answer, output);
+        Stepped { answer, result: result.to_vec() }
+    }
+
+    fn count_step(&mut self, input: &Input, answer: &Answer, output: Output) {
+        self.counts.number("step", input.source.class, answer.number);
+        self.counts.output(output.name);
+        if answer.number == 0 {
+            self.counts.accepted(answer.kind);
+        }
+    }
+
+    fn untouched(&self, input: &Input, call: Call, config: Lent) {
+        if config.bytes() != input.config {
+            differ(input, call, "the configuration changed");
+        }
+        if !self.memory.intact() {
+            differ(input, call, "bytes beside what was lent changed");
+        }
+    }
+}
+
+/// Serials worth asking for: 0, 1, issued, the one behind it, the last, and one that is 1 in 8 bits.
+fn serials(config: &[u8]) -> [u16; 6] {
+    let issued = match config {
+        [_, _, high, low, ..] => u16::from_be_bytes([*high, *low]),
+        _ => 0,
+    };
+    [0, 1, issued, issued.saturating_add(1), u16::MAX, 257]
+}
+
+fn expected_step(numbers: Numbers, config: &[u8], output: &mut [u8]) -> u64 {
+    let Numbers { engine, position, second_engine, second_position, branch } = numbers;
+    reference::sock_step(engine, position, second_engine, second_position, branch, config, output)
+}
+
+/// Number 8, kind 8, fault 8, zero 8, serial 16, length 16.
+fn unpacked(packed: u64) -> Answer {
+    Answer {
+        number: (packed >> 56) as u8,
+        kind: (packed >> 48) as u8,
+        fault: (packed >> 40) as u8,
+        serial: (packed >> 16) as u16,
+        length: packed as u16,
+    }
+}
+
+fn same_answer(input: &Input, call: Call, answer: u64, expected: u64) {
+    if answer != expected {
+        differ(input, call, &format!("answered {answer:016x}, not {expected:016x}"));
+    }
+}
+
+fn same_output(input: &Input, call: Call, output: &[u8], expected: &[u8]) {
+    if output == expected {
+        return;
+    }
+    let at = output.iter().zip(expected).position(|(one, other)| one != other).unwrap_or(0);
+    let (is, should) = (output[at], expected[at]);
+    differ(input, call, &format!("output byte {at} is {is:02x}, not {should:02x}"));
+}
+
+fn differ(input: &Input, call: Call, what: &str) -> ! {
+    panic!("{what}\n{call:?}\n{input}");
+}

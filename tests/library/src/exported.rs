@@ -1,0 +1,57 @@
+//! The five calls as the library exports them: a slice is a pointer and a length. They take what
+//! was lent as raw memory, so that a write where none belongs is seen and not assumed away.
+
+use crate::memory::Lent;
+use reference::Numbers;
+
+extern "C" {
+    fn sock_step(
+        engine: u16,
+        position: u16,
+        second_engine: u16,
+        second_position: u16,
+        branch: u16,
+        config: *const u8,
+        config_length: usize,
+        output: *mut u8,
+        output_length: usize,
+    ) -> u64;
+    fn sock_check_start(config: *const u8, length: usize) -> u8;
+    fn sock_check_readable(config: *const u8, length: usize) -> u8;
+    fn sock_ends(config: *const u8, length: usize, serial: u16) -> u64;
+    fn sock_process(config: *const u8, length: usize, engine: u16) -> u64;
+}
+
+pub fn step(numbers: Numbers, config: Lent, output: Lent) -> u64 {
+    let Numbers { engine, position, second_engine, second_position, branch } = numbers;
+    // Both are lent whole for the call, and no reference to either is held meanwhile.
+    unsafe {
+        sock_step(
+            engine,
+            position,
+            second_engine,
+            second_position,
+            branch,
+            config.start,
+            config.length,
+            output.start,
+            output.length,
+        )
+    }
+}
+
+pub fn check_start(config: Lent) -> u8 {
+    unsafe { sock_check_start(config.start, config.length) }
+}
+
+pub fn check_readable(config: Lent) -> u8 {
+    unsafe { sock_check_readable(config.start, config.length) }
+}
+
+pub fn ends(config: Lent, serial: u16) -> u64 {
+    unsafe { sock_ends(config.start, config.length, serial) }
+}
+
+pub fn process(config: Lent, engine: u16) -> u64 {
+    unsafe { sock_process(config.start, config.length, engine) }
+}

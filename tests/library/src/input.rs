@@ -1,0 +1,48 @@
+//! What a call is made on: a configuration's bytes and where they come from, so that a difference
+//! can be repeated.
+
+use reference::Numbers;
+use std::fmt;
+
+/// Class of the input, the seed that it is made from, and the step of the run.
+#[derive(Clone, Copy, Debug)]
+pub struct Source {
+    pub class: &'static str,
+    pub seed: u64,
+    pub step: usize,
+}
+
+#[derive(Clone, Copy, Debug)]
+pub struct Input<'a> {
+    pub source: Source,
+    pub config: &'a [u8],
+}
+
+/// A call, without its configuration.
+#[derive(Clone, Copy, Debug)]
+pub enum Call {
+    CheckStart,
+    CheckReadable,
+    Ends { serial: u16 },
+    Process { engine: u16 },
+    Step { numbers: Numbers, output: usize },
+}
+
+/// Bytes of a configuration that are printed; the seed gives the others.
+const PRINTED: usize = 4096;
+
+impl fmt::Display for Source {
+    fn fmt(&self, to: &mut fmt::Formatter) -> fmt::Result {
+        write!(to, "{}, seed {}, step {}", self.class, self.seed, self.step)
+    }
+}
+
+impl fmt::Display for Input<'_> {
+    fn fmt(&self, to: &mut fmt::Formatter) -> fmt::Result {
+        write!(to, "{}; {} bytes: ", self.source, self.config.len())?;
+        for byte in self.config.iter().take(PRINTED) {
+            write!(to, "{byte:02x}")?;
+        }
+        Ok(())
+    }
+}
