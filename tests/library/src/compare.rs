@@ -3,9 +3,9 @@
 
 use crate::counts::Counts;
 use crate::exported;
-use crate::fault;
 use crate::input::{Call, Input};
 use crate::memory::{Lent, Memory};
+use crate::memory_fault;
 use crate::outputs::{pattern, Output};
 use reference::{Answer, Numbers};
 
@@ -81,7 +81,7 @@ impl<M: Memory> Comparison<M> {
     fn read(&mut self, input: &Input, call: Call, ours: impl Fn(Lent) -> u64, expected: u64) {
         self.round += 1;
         let config = self.memory.configuration(input.config);
-        fault::entering(input.source, call);
+        memory_fault::entering(input.source, call);
         let answer = ours(config);
         same_answer(input, call, answer, expected);
         self.untouched(input, call, config);
@@ -94,7 +94,7 @@ impl<M: Memory> Comparison<M> {
         let filled = pattern(self.round, output.length);
         let config = self.memory.configuration(input.config);
         let lent = self.memory.output(&filled);
-        fault::entering(input.source, call);
+        memory_fault::entering(input.source, call);
         let packed = exported::step(numbers, config, lent);
         let mut expected = filled.clone();
         same_answer(input, call, packed, expected_step(numbers, input.config, &mut expected));

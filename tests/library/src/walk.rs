@@ -54,7 +54,7 @@ pub fn walk<M: Memory>(
     }
 }
 
-/// The root of every engine as first and as second.
+/// Every engine as first, at its root, and as second, at the body of a root scope.
 fn heads<M: Memory>(comparison: &mut Comparison<M>, input: &Input) {
     for engine in ENGINES {
         let output = Output { length: 2 * STANDARD.words, name: "longest" };

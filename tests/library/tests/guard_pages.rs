@@ -5,9 +5,9 @@
 use library::bytes::{arbitrary, damaged, WAYS};
 use library::compare::Comparison;
 use library::counts::{Wanted, ACTORS};
-use library::fault;
 use library::guard::{Edge, Guarded};
 use library::input::{Input, Source};
+use library::memory_fault;
 use library::outputs::{one_around, Output, NAMES};
 use library::walk::walk;
 use reference::bytes::from_words;
@@ -30,7 +30,7 @@ fn nothing_before_what_is_lent_is_touched() {
 }
 
 fn guarded(edge: Edge, name: &'static str) {
-    fault::report(name);
+    memory_fault::report(name);
     let mut comparison = Comparison::new(Guarded::new(edge));
     runs(&mut comparison);
     damage(&mut comparison);
