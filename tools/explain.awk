@@ -35,7 +35,7 @@ function done(kind, serial, i,    who, to) {
     if (kind == 5) return who " tests a loop's condition"
     if (kind == 9) return who " notifies " to
     if (kind == 10) return who " sends a request to " to ", serial " serial " is issued"
-    if (kind == 11) return who ": a scope with nothing left to run ends, or runs the handler that it is marked for"
+    if (kind == 11) return who ": a scope whose body is done ends, or runs the handler that it is marked for"
     if (kind == 12) return who " installs handlers"
     if (kind == 13) return who " throws a fault"
     if (kind == 14) return who " runs a compensation"
