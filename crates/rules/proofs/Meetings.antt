@@ -15,7 +15,7 @@ use Rattle.sock.specs.Running.{Run, nil, executor, waiter, runWords, runDepth, 
 use Rattle.sock.specs.Configuration.{guarded}
 use Rattle.sock.specs.Rules.{Receiver, offer, followed, Exchange, notified, solicited, replied, faulting, awaited}
 use Rattle.sock.proofs.Fits.{Sound}
-use Rattle.sock.proofs.Fields.{second-below}
+use Rattle.sock.proofs.Fields.{turned-round, second-below}
 use Rattle.reading.proofs.Combining.{Words}
 use Rattle.moving.proofs.Laid.{Near}
 use Rattle.rules.specs.declared.turn.Turn.{Turn}
@@ -24,7 +24,7 @@ use Rattle.rules.specs.Turning.{at}
 use Rattle.rules.specs.Offering.{offerW, receivesW, fitsW, hearW, serveW, awaitsW, answerW, failW}
 use Rattle.rules.proofs.Offers.{Offers, silent, hearing, serving, not-kind, offers}
 use Rattle.rules.proofs.Exchanges.{Takes, hear-turns, serve-turns}
-use Rattle.rules.proofs.Waiters.{Awaits, awaiting, elsewhere, awaits, turned-round, fields, answer-turns, fail-turns}
+use Rattle.rules.proofs.Waiters.{Awaits, awaiting, elsewhere, awaits, fields, answer-turns, fail-turns}
 
 -- they meet: the receiver r turns as t says into q, where x takes v; or they don't
 pub data Meets (b : Bool) (r : Run) (t : Turn) (fresh : List ℕ) (v : ℕ) (made : Run → ℕ → Exchange) : Option Exchange → Type 0 where

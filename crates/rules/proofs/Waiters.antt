@@ -18,7 +18,7 @@ use Rattle.sock.specs.Frames.{isDone}
 use Rattle.sock.specs.Configuration.{guarded}
 use Rattle.sock.specs.Rules.{Exchange, awaited, instOf, throwOf}
 use Rattle.sock.proofs.Fits.{Fits, Sound, nilSound, seqSound, parSound, scopeSound, executorSound, waiterSound, noticeSound, actSound}
-use Rattle.sock.proofs.Fields.{head-kind, fields-below, name-of, second-of, server-of, end-tests}
+use Rattle.sock.proofs.Fields.{turned-round, head-kind, fields-below, name-of, second-of, server-of, end-tests}
 use Rattle.sock.proofs.ByKind.{runKind, kind-asNode, code-kind}
 use Rattle.sock.proofs.Measures.{words-act, words-waiter, depth-nil, depth-act, depth-waiter}
 use Rattle.reading.proofs.Combining.{Words}
@@ -209,13 +209,6 @@ nested false false true true = refl
 nested false false true false = refl
 nested false false false true = refl
 nested false false false false = refl
-
-pub turned-round : (a b : ℕ) → eqb a b ≡ eqb b a
-turned-round a b = by (eqb b a) refl
-  where
-    by : (t : Bool) → eqb b a ≡ t → eqb a b ≡ t
-    by true e = eq-eqb a b (sym (eqb-true b a e))
-    by false e = ne-eqb a b λ z. eqb-false b a e (sym z)
 
 module _ (ws rest : List ℕ) (h serial client sender receiver : ℕ) where
   -- no waiter

@@ -3,33 +3,24 @@
 -- Assumes nothing.
 use Prim.Native.Nat.{ℕ, zero, suc, _+_, _*_, _/_, _%_, _≤_, _<_, max}
 use native.Mathlib.Omega.{arith}
-use native.Mathlib.Decide.{ℕ-discrete}
 use mathlib.Core.Path.{_≡_, refl, sym, ap, _∙_}
 use mathlib.Core.Bool.{Bool, true, false, _||_, cond, or-false, or-assoc}
 use mathlib.Core.List.{List, [], _∷_, _++_, append-assoc}
-use borrow.Author.Tests.{lt-ltb, eq-eqb, ne-eqb}
+use borrow.Author.Tests.{lt-ltb}
 use lib.Dec.{leb, eqb}
 use lib.ListN.{length, getD, drop, length-append}
 use Rattle.sock.specs.Words.{kindOf, keyWord, keyOf}
 use Rattle.sock.specs.Term.{Expr, constant, variable, apply, Operator, sum, difference, less, equal, Node, node, Block, absent, list, Entries, noEntries, entry, Nodes, noParts, _&_, processesOf}
 use Rattle.sock.specs.Layout.{operatorTag, exprWords, exprsWords, count, words, blockWords, entriesWords, nodesWords, depth, blockDepth, entriesDepth, nodesDepth}
 use Rattle.sock.specs.Reading.{Stratum, Place, holds}
-use Rattle.sock.proofs.Fits.{FitsExpr, constantFits, variableFits, applyFits, FitsExprs, noExprs, oneExpr, FitsFixed, noFixed, oneFixed, Fits, fits, FitsBlock, noList, aList, FitsEntries, emptyFits, entryFitsOn, FitsParts, noPart, onePart}
+use Rattle.sock.proofs.Fits.{FitsExpr, constantFits, variableFits, applyFits, FitsExprs, noExprs, oneExpr, Fits, fits, FitsBlock, noList, aList, FitsEntries, emptyFits, entryFitsOn, FitsParts, noPart, onePart}
+use Rattle.sock.proofs.Fields.{turned-round}
+use Rattle.sock.proofs.Nodes.{fixed-length, depth-some}
 use Rattle.sock.proofs.Positions.{At, at-head, at-past}
+use Rattle.sock.proofs.Reading.{in-order}
 use Rattle.skipping.specs.Skip.{exprForm, exprLoop, exprSkip, entriesSkip, listBy, behindBy, formOf, partsBy, turnBy, skipLoop, skipEnd}
 use Rattle.skipping.proofs.Forms.{Follows, nothingFollows, expressionFollows, listFollows, formed, parts-of}
 use Rattle.skipping.proofs.Turns.{expr-last, skip-last}
-
-fixed-length : {ms f : List ℕ} → FitsFixed ms f → length f ≡ length ms
-fixed-length noFixed = refl
-fixed-length (oneFixed t h) = ap suc (fixed-length h)
-
-pub depth-some : (m : Node) → 0 < depth m
-unfolding depth
-depth-some (node h f es b ps) = omega arith
-
-in-order : (a b c d e : List ℕ) → (a ++ (b ++ (c ++ d))) ++ e ≡ a ++ (b ++ (c ++ (d ++ e)))
-in-order a b c d e = simp append-assoc
 
 in-all : (a b c d : List ℕ) → length (a ++ (b ++ (c ++ d))) ≡ length a + (length b + (length c + length d))
 in-all a b c d = simp length-append
@@ -42,13 +33,6 @@ grouped a b c = omega arith
 
 no-more : (n : ℕ) → n ≡ n + 0
 no-more n = omega arith
-
-same-key : (a b : ℕ) → eqb a b ≡ eqb b a
-same-key a b =
-    elim (ℕ-discrete a b) [
-      | yes e ↦ eq-eqb a b e ∙ sym (eq-eqb b a (sym e))
-      | no n ↦ ne-eqb a b n ∙ sym (ne-eqb b a (λ e. n (sym e)))
-    ]
 
 module _ (ws : List ℕ) where
   -- ---- expressions
@@ -244,5 +228,5 @@ module _ (ws : List ℕ) where
         let key : keyWord k / 512 ≡ k = omega arith in
         rw (lt-ltb i (length ws) (here .inside), here .word, key, passed)
         (entries-pass fs (suc d) (omega arith) wanted (met || eqb k wanted) (i + 1 + length (words m)) rest second
-        ∙ rw (or-assoc met (eqb k wanted) (holds wanted l), same-key k wanted)
+        ∙ rw (or-assoc met (eqb k wanted) (holds wanted l), turned-round k wanted)
         (ap (λ n. cond (met || (eqb wanted k || holds wanted l)) n 0) (in-entry i (words m) (entriesWords l))))

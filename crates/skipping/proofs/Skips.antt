@@ -13,10 +13,11 @@ use Rattle.sock.specs.Layout.{count, words, entriesWords, depth, entriesDepth}
 use Rattle.sock.specs.Reading.{Stratum, Place, anywhere, holds}
 use Rattle.sock.specs.Running.{Run, asNode, runWords, size, runDepth}
 use Rattle.sock.proofs.Fits.{Fits, FitsEntries, Sound}
+use Rattle.sock.proofs.Nodes.{depth-some}
 use Rattle.sock.proofs.Positions.{at-head}
 use Rattle.sock.proofs.Running.{asNode-fits}
 use Rattle.skipping.specs.Skip.{entriesSkip, skipEnd, skipList}
-use Rattle.skipping.proofs.Passing.{depth-some, node-pass, entries-pass, whole, list-by}
+use Rattle.skipping.proofs.Passing.{node-pass, entries-pass, whole, list-by}
 
 module _ (ws : List ℕ) where
   pub code-end :
