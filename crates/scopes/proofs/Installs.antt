@@ -29,7 +29,6 @@ use Rattle.finding.proofs.Within.{within}
 use Rattle.finding.proofs.Stops.{stopped, anyScope, Standing, nowhere, somewhere}
 use Rattle.finding.proofs.Spots.{Spotted}
 use Rattle.finding.proofs.Edits.{process-at, list-at, region-changed, scope-none}
-use Rattle.finding.proofs.Readers.{reader}
 use Rattle.finding.proofs.Search.{found}
 use Rattle.moving.specs.Writing.{onward}
 use Rattle.moving.proofs.Laid.{Near, near-of, onward-near}
@@ -85,14 +84,14 @@ module _ (f target : ℕ) (r : Run) (start : ℕ) (l : Located) (s : Spot) (ws :
     (deep : runDepth r ≤ 64)
     (pos : 0 < start) (ok : Words ws) (few : n ≤ 8) (small : issued < 65536) where
   pub scope-level : Sound n issued r → T (scoped (l .frames)) →
-      levelW (n * 65536 + issued) ws start (s .scope) ≡ suc (outside (l .frames))
+      levelW ws start (s .scope) ≡ suc (outside (l .frames))
   unfolding levelW levelOf
   scope-level sound t =
       let x =
       standing-located (spotted .nearest) (λ m e. outside-stopped (l .frames) (l .process) m t e)
       (stopped-some (l .frames) (l .process) t) in
       let y =
-      found n issued (n * 65536 + issued) ws (reader ws ok n issued few small)
+      found n issued few small ws
       (s .scope) sound 64 start 1 (drop (start + size r) ws) pos deep words-at
       (x .0) (x .1 .0) in
       ap levelOf (y .1 .0) ∙ (y .1 .1 .level ∙ omega (arith, x .1 .1))
@@ -185,7 +184,7 @@ module _ (f target : ℕ) (r : Run) (start : ℕ) (l : Located) (s : Spot) (ws :
     to-own : onward (s .at) 1 ≡ target + 1
     to-own = ap (λ i. onward i 1) (spotted .at) ∙ onward-near target 1 (length ws) near (omega (arith, own-inside))
 
-    level-is : levelW bound ws start (s .scope) ≡ suc (outside (l .frames))
+    level-is : levelW ws start (s .scope) ≡ suc (outside (l .frames))
     level-is = scope-level f target r start l s ws words-at spotted near frames deep pos ok few small sound t
 
     level-low : suc (outside (l .frames) + entriesDepth es) ≤ 64

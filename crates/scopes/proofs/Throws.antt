@@ -31,7 +31,6 @@ use Rattle.finding.proofs.Edits.{edited, swap-plain, process-at}
 use Rattle.finding.proofs.Stops.{catches, Standing, nowhere, somewhere}
 use Rattle.finding.proofs.Spots.{Spotted}
 use Rattle.finding.proofs.Search.{found}
-use Rattle.finding.proofs.Readers.{reader}
 use Rattle.moving.specs.Writing.{onward}
 use Rattle.moving.specs.Killing.{Killed}
 use Rattle.moving.proofs.Laid.{Near, near-of, onward-near, Laid, laid-put, laid-then, laid-copy, copy-end}
@@ -183,7 +182,7 @@ module _ (ws : List ℕ) (ok : Words ws) (n issued : ℕ) (few : n ≤ 8) (small
     -- the scope in the words
     spot : (s : Spot) × Spotted (faultAt ws c) c r start 1 (record { frames = outer; process = whole }) s
     spot =
-        let g = found n issued bound ws (reader ws ok n issued few small) c sound 64 start 1
+        let g = found n issued few small ws c sound 64 start 1
         (drop (start + size r) ws) pos deep words _ stopping in
         (g .0, g .1 .1)
 

@@ -20,5 +20,5 @@ unfoldable pub installedW : ℕ → List ℕ → ℕ → Spot → List ℕ → P
 installedW bound ws start s fresh =
     cond (eqb (s .scope) 0) (nilW s start start 0 32 0 fresh)
     (let u = updateW 64 bound ws (onward (s .scope) 2) (onward (s .at) 1) fresh in
-    cond (tooDeepW (levelW bound ws start (s .scope)) (u .answer .levels)) (planned (refusedPlan 8) (u .out))
+    cond (tooDeepW (levelW ws start (s .scope)) (u .answer .levels)) (planned (refusedPlan 8) (u .out))
     (updatedW bound ws s (onward (s .scope) 2) (u .answer .to) (u .out)))

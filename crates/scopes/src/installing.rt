@@ -38,7 +38,7 @@ pub fn installed(ws: &[u16], start: usize, s: Spot, bound: usize, fresh: &mut [u
     let scope = s.scope;
     let l = further(scope, 2);
     let u = update(ws, l, further(s.at, 1), 64, bound, fresh);
-    if too_deep(level(ws, start, scope, bound), u.levels) {
+    if too_deep(level(ws, start, scope), u.levels) {
         return refuse(8);
     }
     let f = u.to;

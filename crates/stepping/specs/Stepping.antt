@@ -44,7 +44,7 @@ partnerW ws starts e i a kind branch bound out (Hit b) = betweenW ws starts e i 
 unfoldable pub receivingW : List ℕ → List ℕ → ℕ → ℕ → Spot → ℕ → ℕ → ℕ → ℕ → ℕ → List ℕ → Answered
 receivingW ws starts n e a kind i place branch bound out =
     cond (leb n i) (answered (refusing 4) out)
-    (partnerW ws starts e i a kind branch bound out (findW 64 ws bound (onward (startAt starts i) place) 1 (startAt starts i)))
+    (partnerW ws starts e i a kind branch bound out (findW 64 ws (onward (startAt starts i) place) 1 (startAt starts i)))
 
 unfoldable pub noneElse : ℕ → ℕ → ℕ → Bool
 noneElse i place branch = cond (eqb i 0) (cond (eqb place 0) (eqb branch 0) false) false
@@ -69,4 +69,4 @@ stepW ws e position i place branch out =
     cond (eqb n 0) (answered (refusing 1) out)
     (cond (ltb 8 n) (answered (refusing 1) out)
     (cond (leb n e) (answered (refusing 2) out)
-    (foundW ws (s .starts) n e i place branch bound out (findW 64 ws bound (onward (startAt (s .starts) e) position) 1 (startAt (s .starts) e)))))
+    (foundW ws (s .starts) n e i place branch bound out (findW 64 ws (onward (startAt (s .starts) e) position) 1 (startAt (s .starts) e)))))

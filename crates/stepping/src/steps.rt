@@ -95,7 +95,7 @@ fn receiving(
         return refuse(4);
     }
     let start = starts[i];
-    match find(ws, start, further(start, wide(place)), 64, 1, bound) {
+    match find(ws, start, further(start, wide(place)), 64, 1) {
         Found::Past(e) => refuse(4),
         Found::Hit(b) => between(
             ws,
@@ -195,7 +195,7 @@ fn stepped(
     let starts = s.starts;
     let start = starts[e];
     let bound = n * 65536 + wide(word(ws, 1));
-    match find(ws, start, further(start, wide(position)), 64, 1, bound) {
+    match find(ws, start, further(start, wide(position)), 64, 1) {
         Found::Past(p) => refuse(2),
         Found::Hit(a) => moving(ws, starts, n, engine, a, second, place, branch, bound, out),
     }
