@@ -37,9 +37,6 @@ module _ (ws : List ℕ) (ok : Words ws) (s : Starts) (known : Known standard ws
   abbrev n : ℕ
   n = length (c .engines)
 
-  abbrev bound : ℕ
-  bound = n * 65536 + c .issued
-
   -- a process of the engine e, found at a target
   pub record Seen (e target : ℕ) (l : Located) (sp : Spot) : Type 0 where
     pub inside : e < n
