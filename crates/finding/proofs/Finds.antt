@@ -19,7 +19,7 @@ use Rattle.sock.proofs.Fits.{Fits}
 use Rattle.sock.proofs.Logic.{true-test, cond-case}
 use Rattle.sock.proofs.Measures.{words-nil, size-seq, size-par, size-scope, size-executor}
 use Rattle.sock.proofs.Running.{enable-asNode, enable-done}
-use Rattle.reading.specs.Walk.{processEnd}
+use Rattle.skipping.specs.Skip.{skipEnd}
 use Rattle.finding.specs.declared.find.Spot.{Spot}
 use Rattle.finding.specs.declared.find.Found.{Found}
 use Rattle.finding.specs.declared.find.Found.the-variants.{Hit, Past}
@@ -90,12 +90,12 @@ spot-shut : (ws : List ℕ) (i : ℕ) (s : Spot) → s .d < length ws → (getD 
 unfolding seqSpot
 spot-shut ws i s p q = rw (lt-ltb (s .d) (length ws) p, ne-eqb (getD ws (s .d) 0) 0 q)
 
-module _ (f target : ℕ) (ws : List ℕ) (bound d i level : ℕ) where
+module _ (f target : ℕ) (ws : List ℕ) (d i level : ℕ) where
   -- ---- a seq
 
   module _ (a : Run) (q : Node) (fits : Fits (code false) anywhere q) (inside : i + 1 + size a < length ws)
       (second : getD ws (i + 1 + size a) 0 ≡ headWord q)
-      (read : processEnd d ws bound 0 (i + 1 + size a) ≡ i + 1 + size a + length (words q)) where
+      (read : skipEnd d ws (i + 1 + size a) ≡ i + 1 + size a + length (words q)) where
     seq-open :
         (l : Located) (s : Spot) →
         T (not (s .closed)) →
@@ -126,10 +126,10 @@ module _ (f target : ℕ) (ws : List ℕ) (bound d i level : ℕ) where
     pub seq-agrees :
         {o : Option Located} {x : Found} →
         Agrees f target a (i + 1) (level + 1) o x →
-        Agrees f target (seq a q) i level (lifted (seqFrame q ∷ []) o) (inSeqW d ws bound i x)
+        Agrees f target (seq a q) i level (lifted (seqFrame q ∷ []) o) (inSeqW d ws i x)
     unfolding lifted inSeqW stopped
     seq-agrees (misses {e = e} p) =
-        let end : processEnd d ws bound 0 e ≡ i + size (seq a q) = ap (processEnd d ws bound 0) p ∙ (read ∙ omega (arith, size-seq a q)) in
+        let end : skipEnd d ws e ≡ i + size (seq a q) = ap (skipEnd d ws) p ∙ (read ∙ omega (arith, size-seq a q)) in
         misses end
     seq-agrees (hits {l = l} {s = s} sub) =
         cond-case (Agrees f target (seq a q) i level (some (behind (seqFrame q ∷ []) l))) (s .closed)
@@ -191,13 +191,13 @@ module _ (f target : ℕ) (ws : List ℕ) (bound d i level : ℕ) where
   pub scope-agrees :
       (name : ℕ) (mark : Mark) (zombie : Bool) (h : Entries) (a : Run) →
       0 < i →
-      catchesW d ws bound i (faultAt ws target) ≡ catches f zombie h →
+      catchesW d ws i (faultAt ws target) ≡ catches f zombie h →
       {p : Option Located} {x : Found} →
       Agrees f target a (i + (3 + length (entriesWords h))) (level + 1) p x →
-      Agrees f target (scope name mark zombie h a) i level (lifted (scopeFrame name mark zombie h ∷ []) p) (inScopeW d ws bound target i x)
+      Agrees f target (scope name mark zombie h a) i level (lifted (scopeFrame name mark zombie h ∷ []) p) (inScopeW d ws target i x)
   unfolding lifted inScopeW catcherOf
   scope-agrees name mark zombie h a positive e (misses q) = misses (q ∙ omega (arith, size-scope name mark zombie h a))
   scope-agrees name mark zombie h a positive e (hits {l = l} {s = s} sub) =
       hits
-      (scope-spotted f target i level name mark zombie h a l s positive sub (catcherOf d ws bound target i (s .catcher))
+      (scope-spotted f target i level name mark zombie h a l s positive sub (catcherOf d ws target i (s .catcher))
       (ap (λ c. cond (eqb (s .catcher) 0) (cond c i 0) (s .catcher)) e))

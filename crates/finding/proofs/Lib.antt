@@ -5,7 +5,6 @@ pub mod Finding
 pub mod Finds
 pub mod Framing
 pub mod Pieces
-pub mod Readers
 pub mod Search
 pub mod Spots
 pub mod Stops

@@ -1,4 +1,4 @@
--- The search on the words of what is sound finds what the definitions' `locate` does, given that the reader gives each part's end.
+-- The search on the words of what is sound finds what the definitions' `locate` does.
 -- Assumes nothing.
 use Prim.Native.Nat.{ℕ, zero, suc, _+_, _*_, _/_, _%_, _≤_, _<_, max}
 use native.Mathlib.Omega.{arith}
@@ -19,8 +19,10 @@ use Rattle.sock.specs.Frames.{Frame, Located}
 use Rattle.sock.proofs.Fits.{Fits, FitsEntries, Sound, nilSound, seqSound, parSound, scopeSound, executorSound, waiterSound, noticeSound, actSound}
 use Rattle.sock.proofs.Fields.{plain-kind, isOne-bit, scope-zombie}
 use Rattle.sock.proofs.ByKind.{code-kind, runKind, kind-asNode}
+use Rattle.sock.proofs.Nodes.{depth-some}
 use Rattle.sock.proofs.Measures.{words-scope, depth-seq, depth-par, depth-scope, depth-executor}
-use Rattle.reading.specs.Walk.{processEnd, listEnd}
+use Rattle.skipping.specs.Skip.{skipEnd, skipList}
+use Rattle.skipping.proofs.Skips.{run-end, code-end, list-end, wanted-end}
 use Rattle.finding.specs.declared.find.Spot.{Spot}
 use Rattle.finding.specs.declared.find.Found.{Found}
 use Rattle.finding.specs.declared.find.Found.the-variants.{Hit, Past}
@@ -30,30 +32,6 @@ use Rattle.finding.proofs.Stops.{catches}
 use Rattle.finding.proofs.Spots.{Spotted, here-spotted, Around}
 use Rattle.finding.proofs.Arounds.{around-seq, around-left, around-right, around-executor, around-scope}
 use Rattle.finding.proofs.Finds.{Agrees, misses, hits, agrees-none, agrees-some, seq-agrees, par-agrees, executor-agrees, scope-agrees}
-
--- what the reader gives on words: the end of what is sound, of code, and of a scope's list; with a fault wanted, 0 unless that is there
-pub record Reader (n issued bound : ℕ) (ws : List ℕ) : Type 0 where
-  pub process :
-      (d i : ℕ) (r : Run) (rest : List ℕ) → Sound n issued r → runDepth r ≤ d → drop i ws ≡ runWords r ++ rest → processEnd d ws bound 8 i ≡ i + size r
-  pub coded :
-      (d i : ℕ) (m : Node) (rest : List ℕ) →
-      Fits (code false) anywhere m →
-      depth m ≤ d →
-      drop i ws ≡ words m ++ rest →
-      processEnd d ws bound 0 i ≡ i + length (words m)
-  pub list :
-      (d i : ℕ) (h : Entries) (rest : List ℕ) →
-      FitsEntries true zero h →
-      entriesDepth h ≤ d →
-      drop i ws ≡ count h ∷ (entriesWords h ++ rest) →
-      listEnd (processEnd d ws bound) ws 0 128 i ≡ i + 1 + length (entriesWords h)
-  pub listed :
-      (d i f : ℕ) (h : Entries) (rest : List ℕ) →
-      f < 64 →
-      FitsEntries true zero h →
-      entriesDepth h ≤ d →
-      drop i ws ≡ count h ∷ (entriesWords h ++ rest) →
-      listEnd (processEnd d ws bound) ws 0 f i ≡ cond (holds f h) (i + 1 + length (entriesWords h)) 0
 
 -- ---- words from a position on
 
@@ -74,31 +52,27 @@ node-head : (m : Node) (rest : List ℕ) → (tail : List ℕ) × (words m ++ re
 unfolding words
 node-head (node h f es b ps) rest = (_, refl)
 
-depth-some : (m : Node) → 0 < depth m
-unfolding depth
-depth-some (node h f es b ps) = omega arith
-
 -- ---- the search, one level
 
-module _ (sub : ℕ → Found) (d : ℕ) (ws : List ℕ) (bound target k i : ℕ) where
-  node-seq : k ≡ 2 → nodeW sub d ws bound target k i ≡ inSeqW d ws bound i (sub (i + 1))
+module _ (sub : ℕ → Found) (d : ℕ) (ws : List ℕ) (target k i : ℕ) where
+  node-seq : k ≡ 2 → nodeW sub d ws target k i ≡ inSeqW d ws i (sub (i + 1))
   unfolding nodeW
   node-seq e = rw e
 
-  node-par : k ≡ 3 → nodeW sub d ws bound target k i ≡ inParW sub i
+  node-par : k ≡ 3 → nodeW sub d ws target k i ≡ inParW sub i
   unfolding nodeW
   node-par e = rw e
 
-  node-scope : k ≡ 11 → nodeW sub d ws bound target k i ≡ inScopeW d ws bound target i (sub (listEnd (processEnd d ws bound) ws 0 128 (i + 2)))
+  node-scope : k ≡ 11 → nodeW sub d ws target k i ≡ inScopeW d ws target i (sub (skipList d ws 128 (i + 2)))
   unfolding nodeW
   node-scope e = rw e
 
-  node-executor : k ≡ 16 → nodeW sub d ws bound target k i ≡ inBodyW (sub (i + 3))
+  node-executor : k ≡ 16 → nodeW sub d ws target k i ≡ inBodyW (sub (i + 3))
   unfolding nodeW
   node-executor e = rw e
 
   node-other :
-      eqb k 2 ≡ false → eqb k 3 ≡ false → eqb k 11 ≡ false → eqb k 16 ≡ false → nodeW sub d ws bound target k i ≡ Past (processEnd (suc d) ws bound 8 i)
+      eqb k 2 ≡ false → eqb k 3 ≡ false → eqb k 11 ≡ false → eqb k 16 ≡ false → nodeW sub d ws target k i ≡ Past (skipEnd (suc d) ws i)
   unfolding nodeW
   node-other p q r s = rw (p, q, r, s)
 
@@ -127,7 +101,7 @@ catches-test : (b : Bool) (x : ℕ) → 0 < x → not (eqb (cond b x 0) 0) ≡ b
 catches-test true x h = rw (ne-eqb x 0 (λ z. omega arith))
 catches-test false x h = refl
 
-module _ (n issued bound : ℕ) (ws : List ℕ) (reader : Reader n issued bound ws) (target : ℕ) where
+module _ (n issued : ℕ) (few : n ≤ 8) (small : issued < 65536) (ws : List ℕ) (target : ℕ) where
   at-head : (m : Node) (i : ℕ) (rest : List ℕ) → drop i ws ≡ words m ++ rest → (getD ws i 0 ≡ headWord m) × (i < length ws)
   at-head m i rest e =
       let h = node-head m rest in
@@ -142,11 +116,11 @@ module _ (n issued bound : ℕ) (ws : List ℕ) (reader : Reader n issued bound 
   here-agrees :
       {r : Run} (f t d i level : ℕ) →
       i ≡ t →
-      processEnd (suc d) ws bound 8 i ≡ i + size r →
-      Agrees f t r i level (within r i t) (hereW (suc d) ws bound level i)
+      skipEnd (suc d) ws i ≡ i + size r →
+      Agrees f t r i level (within r i t) (hereW (suc d) ws level i)
   unfolding hereW
   here-agrees {r} f t d i level p e =
-      rw (← p, within-here r i) (hits (here-spotted f r i level (processEnd (suc d) ws bound 8 i) e))
+      rw (← p, within-here r i) (hits (here-spotted f r i level (skipEnd (suc d) ws i) e))
 
   opened :
       {r : Run} →
@@ -156,8 +130,8 @@ module _ (n issued bound : ℕ) (ws : List ℕ) (reader : Reader n issued bound 
       drop i ws ≡ runWords r ++ rest →
       ((i ≡ target → ⊥) →
       Agrees (faultAt ws target) target r i level (within r i target)
-      (nodeW (findW d ws bound target (level + 1)) d ws bound target (getD ws i 0 / 2048) i)) →
-      Agrees (faultAt ws target) target r i level (within r i target) (findW (suc d) ws bound target level i)
+      (nodeW (findW d ws target (level + 1)) d ws target (getD ws i 0 / 2048) i)) →
+      Agrees (faultAt ws target) target r i level (within r i target) (findW (suc d) ws target level i)
   unfolding findW
   opened {r} s d i level rest dp e k = rw (lt-ltb i (length ws) (at-run s i rest e .1)) (by (eqb i target) refl)
     where
@@ -165,9 +139,9 @@ module _ (n issued bound : ℕ) (ws : List ℕ) (reader : Reader n issued bound 
           (b : Bool) →
           eqb i target ≡ b →
           Agrees (faultAt ws target) target r i level (within r i target)
-          (cond b (hereW (suc d) ws bound level i)
-          (nodeW (findW d ws bound target (level + 1)) d ws bound target (getD ws i 0 / 2048) i))
-      by true q = here-agrees (faultAt ws target) target d i level (eqb-true i target q) (reader .process (suc d) i r rest s dp e)
+          (cond b (hereW (suc d) ws level i)
+          (nodeW (findW d ws target (level + 1)) d ws target (getD ws i 0 / 2048) i))
+      by true q = here-agrees (faultAt ws target) target d i level (eqb-true i target q) (run-end ws n issued few small s (suc d) i dp rest e)
       by false q = k (eqb-false i target q)
 
   -- what has no enabled part
@@ -182,16 +156,16 @@ module _ (n issued bound : ℕ) (ws : List ℕ) (reader : Reader n issued bound 
       eqb (runKind r) 11 ≡ false →
       eqb (runKind r) 16 ≡ false →
       ((i ≡ target → ⊥) → within r i target ≡ none) →
-      Agrees (faultAt ws target) target r i level (within r i target) (findW (suc d) ws bound target level i)
+      Agrees (faultAt ws target) target r i level (within r i target) (findW (suc d) ws target level i)
   other-agrees {r} s d i level rest dp e k2 k3 k11 k16 w =
       opened s d i level rest dp e λ ne.
       let kind = at-run s i rest e .0 in
       rw (
         w ne,
-        node-other (findW d ws bound target (level + 1)) d ws bound target (getD ws i 0 / 2048) i (ap (λ k. eqb k 2) kind ∙ k2) (ap (λ k. eqb k 3) kind ∙ k3)
+        node-other (findW d ws target (level + 1)) d ws target (getD ws i 0 / 2048) i (ap (λ k. eqb k 2) kind ∙ k2) (ap (λ k. eqb k 3) kind ∙ k3)
             (ap (λ k. eqb k 11) kind ∙ k11) (ap (λ k. eqb k 16) kind ∙ k16),
       )
-      (misses (reader .process (suc d) i r rest s dp e))
+      (misses (run-end ws n issued few small s (suc d) i dp rest e))
 
   -- whether the scope at i stops the fault
   scope-catches :
@@ -202,12 +176,12 @@ module _ (n issued bound : ℕ) (ws : List ℕ) (reader : Reader n issued bound 
       entriesDepth h ≤ d →
       getD ws i 0 ≡ scopeHead name mark zombie →
       drop (i + 2) ws ≡ count h ∷ (entriesWords h ++ rest) →
-      catchesW d ws bound i f ≡ catches f zombie h
+      catchesW d ws i f ≡ catches f zombie h
   unfolding catchesW
   scope-catches d i f name mark zombie h rest named faulty fits dp head e =
       let z : eqb (getD ws i 0 / 4 % 2) 1 ≡ zombie = ap (λ w. isOne (zombieOf w)) head ∙ (ap isOne (scope-zombie name mark zombie named) ∙ isOne-bit zombie) in
-      let l : not (eqb (listEnd (processEnd d ws bound) ws 0 f (i + 2)) 0) ≡ holds f h =
-      ap (λ k. not (eqb k 0)) (reader .listed d (i + 2) f h rest faulty fits dp e) ∙ catches-test (holds f h) (i + 2 + 1 + length (entriesWords h)) (omega arith) in
+      let l : not (eqb (skipList d ws f (i + 2)) 0) ≡ holds f h =
+      ap (λ k. not (eqb k 0)) (wanted-end ws f (omega arith) fits d (i + 2) dp rest e) ∙ catches-test (holds f h) (i + 2 + 1 + length (entriesWords h)) (omega arith) in
       rw (z, l)
 
   behind-run : (a : Run) (i : ℕ) (rest : List ℕ) → drop i ws ≡ runWords a ++ rest → drop (i + size a) ws ≡ rest
@@ -225,7 +199,7 @@ module _ (n issued bound : ℕ) (ws : List ℕ) (reader : Reader n issued bound 
       0 < i →
       runDepth r ≤ d →
       drop i ws ≡ runWords r ++ rest →
-      Agrees (faultAt ws target) target r i level (within r i target) (findW d ws bound target level i)
+      Agrees (faultAt ws target) target r i level (within r i target) (findW d ws target level i)
   unfolding runDepth inParW
   finds {r} s zero i level rest pos dp e = absurd (omega (arith, depth-some (asNode r)))
   finds nilSound (suc d) i level rest pos dp e =
@@ -238,19 +212,19 @@ module _ (n issued bound : ℕ) (ws : List ℕ) (reader : Reader n issued bound 
       let head = at-head q (i + 1 + size a) rest second in
       rw (
         within-seq i target ne a q,
-        node-seq (findW d ws bound target (level + 1)) d ws bound target (getD ws i 0 / 2048) i (at-run (seqSound g t coded) i rest e .0),
+        node-seq (findW d ws target (level + 1)) d ws target (getD ws i 0 / 2048) i (at-run (seqSound g t coded) i rest e .0),
       )
-      (seq-agrees (faultAt ws target) target ws bound d i level a q coded (head .1) (head .0)
-      (reader .coded d (i + 1 + size a) q rest coded (omega arith) second)
+      (seq-agrees (faultAt ws target) target ws d i level a q coded (head .1) (head .0)
+      (code-end ws coded d (i + 1 + size a) (omega arith) rest second)
       (finds g d (i + 1) (level + 1) (words q ++ rest) (omega arith) (omega arith) first))
   finds (parSound {a = a} {b = b} g t k u) (suc d) i level rest pos dp e =
       opened (parSound g t k u) d i level rest dp e λ ne.
       let deep : suc (max (runDepth a) (runDepth b)) ≤ suc d = rw (depth-par a b) at dp in
       rw (
         within-par i target ne a b,
-        node-par (findW d ws bound target (level + 1)) d ws bound target (getD ws i 0 / 2048) i (at-run (parSound g t k u) i rest e .0),
+        node-par (findW d ws target (level + 1)) d ws target (getD ws i 0 / 2048) i (at-run (parSound g t k u) i rest e .0),
       )
-      (par-agrees (faultAt ws target) target ws bound d i level a b t u (findW d ws bound target (level + 1))
+      (par-agrees (faultAt ws target) target ws d i level a b t u (findW d ws target (level + 1))
       (finds g d (i + 1) (level + 1) (runWords b ++ rest) (omega arith) (omega arith) (inner ws rest (around-left a b i u) e))
       (finds k d (i + 1 + size a) (level + 1) rest (omega arith) (omega arith) (inner ws rest (around-right a b i t) e)))
   finds (scopeSound {name = name} {mark = mark} {zombie = zombie} {h = h} {a = a} named m listed g) (suc d) i level rest pos dp e =
@@ -259,15 +233,15 @@ module _ (n issued bound : ℕ) (ws : List ℕ) (reader : Reader n issued bound 
       let body : drop (i + (3 + length (entriesWords h))) ws ≡ runWords a ++ rest = inner ws rest (around-scope name mark zombie h a i) e in
       let whole = scope-words name mark zombie h a rest in
       let list : drop (i + 2) ws ≡ count h ∷ (entriesWords h ++ (runWords a ++ rest)) = drop-on ws i (i + 2) (_ ∷ _ ∷ []) _ (omega arith) (e ∙ whole) in
-      let end : listEnd (processEnd d ws bound) ws 0 128 (i + 2) ≡ i + (3 + length (entriesWords h)) =
-      reader .list d (i + 2) h (runWords a ++ rest) listed (omega arith) list ∙ omega arith in
+      let end : skipList d ws 128 (i + 2) ≡ i + (3 + length (entriesWords h)) =
+      list-end ws listed d (i + 2) (omega arith) (runWords a ++ rest) list ∙ omega arith in
       rw (
         within-scope i target ne name mark zombie h a,
-        node-scope (findW d ws bound target (level + 1)) d ws bound target (getD ws i 0 / 2048) i
+        node-scope (findW d ws target (level + 1)) d ws target (getD ws i 0 / 2048) i
             (at-run (scopeSound {mark = mark} {zombie = zombie} named m listed g) i rest e .0),
         end,
       )
-      (scope-agrees (faultAt ws target) target ws bound d i level name mark zombie h a pos
+      (scope-agrees (faultAt ws target) target ws d i level name mark zombie h a pos
       (scope-catches d i (faultAt ws target) name mark zombie h (runWords a ++ rest) named fault-below listed (omega arith)
       (head-on ws i (scopeHead name mark zombie) _ (e ∙ whole)) list)
       (finds g d (i + (3 + length (entriesWords h))) (level + 1) rest (omega arith) (omega arith) body))
@@ -276,9 +250,9 @@ module _ (n issued bound : ℕ) (ws : List ℕ) (reader : Reader n issued bound 
       let deep : suc (runDepth a) ≤ suc d = rw (depth-executor o y client serial a) at dp in
       rw (
         within-executor i target ne o y client serial a,
-        node-executor (findW d ws bound target (level + 1)) d ws bound target (getD ws i 0 / 2048) i (at-run (executorSound bo by be g) i rest e .0),
+        node-executor (findW d ws target (level + 1)) d ws target (getD ws i 0 / 2048) i (at-run (executorSound bo by be g) i rest e .0),
       )
-      (executor-agrees (faultAt ws target) target ws bound d i level o y client serial a
+      (executor-agrees (faultAt ws target) target ws d i level o y client serial a
       (finds g d (i + 3) (level + 1) rest (omega arith) (omega arith) (inner ws rest (around-executor o y client serial a i) e)))
   finds (waiterSound {o = o} {x = x} {server = server} {serial = serial} {dead = dead} {l = l} bo bx be g) (suc d) i level rest pos dp e =
       other-agrees (waiterSound bo bx be g) d i level rest dp e refl refl refl refl λ ne. within-waiter i target ne o x dead server serial l
@@ -292,11 +266,11 @@ module _ (n issued bound : ℕ) (ws : List ℕ) (reader : Reader n issued bound 
   -- ---- what the search answers
 
   module _ {r : Run} (s : Sound n issued r) (d i level : ℕ) (rest : List ℕ) (pos : 0 < i) (deep : runDepth r ≤ d) (at : drop i ws ≡ runWords r ++ rest) where
-    pub missed : within r i target ≡ none → findW d ws bound target level i ≡ Past (i + size r)
+    pub missed : within r i target ≡ none → findW d ws target level i ≡ Past (i + size r)
     missed e = agrees-none (finds s d i level rest pos deep at) e
 
     pub found :
         (l : Located) →
         within r i target ≡ some l →
-        (spot : Spot) × ((findW d ws bound target level i ≡ Hit spot) × Spotted (faultAt ws target) target r i level l spot)
+        (spot : Spot) × ((findW d ws target level i ≡ Hit spot) × Spotted (faultAt ws target) target r i level l spot)
     found l e = agrees-some (finds s d i level rest pos deep at) e

@@ -5,22 +5,22 @@ use mathlib.Core.Bool.{Bool, true, false, not, _||_, cond}
 use mathlib.Core.List.{List}
 use lib.Dec.{ltb, eqb}
 use lib.ListN.{length, getD}
-use Rattle.reading.specs.Walk.{processEnd, listEnd}
+use Rattle.skipping.specs.Skip.{skipEnd, skipList}
 use Rattle.finding.specs.declared.find.Spot.{Spot}
 use Rattle.finding.specs.declared.find.Found.{Found}
 use Rattle.finding.specs.declared.find.Found.the-variants.{Hit, Past}
 
 -- a spot where a nil stands or goes: at the process itself, and as it goes on outwards
-unfoldable pub hereW : ℕ → List ℕ → ℕ → ℕ → ℕ → Found
-hereW d ws bound level i =
+unfoldable pub hereW : ℕ → List ℕ → ℕ → ℕ → Found
+hereW d ws level i =
     Hit
     (record {
       at = i;
       level = level;
       a = i;
-      b = processEnd d ws bound 8 i;
-      c = processEnd d ws bound 8 i;
-      d = processEnd d ws bound 8 i;
+      b = skipEnd d ws i;
+      c = skipEnd d ws i;
+      d = skipEnd d ws i;
       hollow = true;
       closed = false;
       scope = 0;
@@ -40,9 +40,9 @@ seqSpot ws i s =
     (Hit (cut s i (s .d) (s .d) (s .d) false)))
     (Past 0)
 
-unfoldable pub inSeqW : ℕ → List ℕ → ℕ → ℕ → Found → Found
-inSeqW d ws bound i (Past e) = Past (processEnd d ws bound 0 e)
-inSeqW d ws bound i (Hit s) = cond (s .closed) (Hit s) (seqSpot ws i s)
+unfoldable pub inSeqW : ℕ → List ℕ → ℕ → Found → Found
+inSeqW d ws i (Past e) = Past (skipEnd d ws e)
+inSeqW d ws i (Hit s) = cond (s .closed) (Hit s) (seqSpot ws i s)
 
 -- a side of a par
 unfoldable pub leftW : ℕ → Spot → Found
@@ -83,15 +83,15 @@ scopeOf i scope = cond (eqb scope 0) i scope
 unfoldable pub faultAt : List ℕ → ℕ → ℕ
 faultAt ws target = getD ws target 0 / 32 % 64
 
-unfoldable pub catchesW : ℕ → List ℕ → ℕ → ℕ → ℕ → Bool
-catchesW d ws bound i fault = eqb (getD ws i 0 / 4 % 2) 1 || not (eqb (listEnd (processEnd d ws bound) ws 0 fault (i + 2)) 0)
+unfoldable pub catchesW : ℕ → List ℕ → ℕ → ℕ → Bool
+catchesW d ws i fault = eqb (getD ws i 0 / 4 % 2) 1 || not (eqb (skipList d ws fault (i + 2)) 0)
 
-unfoldable pub catcherOf : ℕ → List ℕ → ℕ → ℕ → ℕ → ℕ → ℕ
-catcherOf d ws bound target i catcher = cond (eqb catcher 0) (cond (catchesW d ws bound i (faultAt ws target)) i 0) catcher
+unfoldable pub catcherOf : ℕ → List ℕ → ℕ → ℕ → ℕ → ℕ
+catcherOf d ws target i catcher = cond (eqb catcher 0) (cond (catchesW d ws i (faultAt ws target)) i 0) catcher
 
-unfoldable pub inScopeW : ℕ → List ℕ → ℕ → ℕ → ℕ → Found → Found
-inScopeW d ws bound target i (Past e) = Past e
-inScopeW d ws bound target i (Hit s) =
+unfoldable pub inScopeW : ℕ → List ℕ → ℕ → ℕ → Found → Found
+inScopeW d ws target i (Past e) = Past e
+inScopeW d ws target i (Hit s) =
     Hit
     (record {
       at = s .at;
@@ -103,23 +103,23 @@ inScopeW d ws bound target i (Hit s) =
       hollow = s .hollow;
       closed = true;
       scope = scopeOf i (s .scope);
-      catcher = catcherOf d ws bound target i (s .catcher);
+      catcher = catcherOf d ws target i (s .catcher);
     })
 
 -- by kind; `sub` finds one level down, in what begins at a position
-unfoldable pub nodeW : (ℕ → Found) → ℕ → List ℕ → ℕ → ℕ → ℕ → ℕ → Found
-nodeW sub d ws bound target k i =
-    cond (eqb k 2) (inSeqW d ws bound i (sub (i + 1)))
+unfoldable pub nodeW : (ℕ → Found) → ℕ → List ℕ → ℕ → ℕ → ℕ → Found
+nodeW sub d ws target k i =
+    cond (eqb k 2) (inSeqW d ws i (sub (i + 1)))
     (cond (eqb k 3) (inParW sub i)
-    (cond (eqb k 11) (inScopeW d ws bound target i (sub (listEnd (processEnd d ws bound) ws 0 128 (i + 2))))
+    (cond (eqb k 11) (inScopeW d ws target i (sub (skipList d ws 128 (i + 2))))
     (cond (eqb k 16) (inBodyW (sub (i + 3)))
-    (Past (processEnd (suc d) ws bound 8 i)))))
+    (Past (skipEnd (suc d) ws i)))))
 
-unfoldable pub findW : ℕ → List ℕ → ℕ → ℕ → ℕ → ℕ → Found
-findW zero ws bound target level i = Past 0
-findW (suc d) ws bound target level i =
+unfoldable pub findW : ℕ → List ℕ → ℕ → ℕ → ℕ → Found
+findW zero ws target level i = Past 0
+findW (suc d) ws target level i =
     cond (ltb i (length ws))
     (cond (eqb i target)
-    (hereW (suc d) ws bound level i)
-    (nodeW (findW d ws bound target (level + 1)) d ws bound target (getD ws i 0 / 2048) i))
+    (hereW (suc d) ws level i)
+    (nodeW (findW d ws target (level + 1)) d ws target (getD ws i 0 / 2048) i))
     (Past 0)

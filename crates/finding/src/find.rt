@@ -1,7 +1,7 @@
 // Finding an enabled process by its position: the cut that its end would make, the nearest scope, and the scope that catches its fault.
-use reading::reader::list;
-use reading::reader::process;
 use reading::reader::wide;
+use skipping::skip::skip;
+use skipping::skip::skip_list;
 ghost use mathlib.Core.Path.{_≡_};
 ghost use Prim.Native.Nat.{_+_, _<_};
 ghost use lib.ListN.{length};
@@ -29,9 +29,9 @@ pub enum Found {
 }
 
 // The enabled process whose head is at `target`, in the process at `at`, `level` levels deep; or where that process ends.
-pub fn find(ws: &[u16], at: usize, target: usize, depth: usize, level: usize, bound: usize) -> Found
+pub fn find(ws: &[u16], at: usize, target: usize, depth: usize, level: usize) -> Found
     requires { ⌜ level + depth < 65536 ⌝ }
-    ensures { λ r. ⌜ r ≡ findW depth (now (ws .entry)) bound target level at ⌝ }
+    ensures { λ r. ⌜ r ≡ findW depth (now (ws .entry)) target level at ⌝ }
 {
     if depth == 0 {
         return Found::Past(0);
@@ -40,43 +40,29 @@ pub fn find(ws: &[u16], at: usize, target: usize, depth: usize, level: usize, bo
         return Found::Past(0);
     }
     if at == target {
-        return here(ws, at, depth, level, bound);
+        return here(ws, at, depth, level);
     }
     let d = depth - 1;
     match wide(ws[at]) / 2048 {
-        2 => in_seq(
-            ws,
-            at,
-            find(ws, at + 1, target, d, level + 1, bound),
-            d,
-            bound,
-        ),
-        3 => in_par(ws, at, target, d, level + 1, bound),
+        2 => in_seq(ws, at, find(ws, at + 1, target, d, level + 1), d),
+        3 => in_par(ws, at, target, d, level + 1),
         11 => in_scope(
             ws,
             at,
             target,
-            find(
-                ws,
-                list(ws, at + 2, d, 0, 128, bound),
-                target,
-                d,
-                level + 1,
-                bound,
-            ),
+            find(ws, skip_list(ws, at + 2, d, 128), target, d, level + 1),
             d,
-            bound,
         ),
-        16 => in_body(find(ws, at + 3, target, d, level + 1, bound)),
-        _ => Found::Past(process(ws, at, depth, 8, bound)),
+        16 => in_body(find(ws, at + 3, target, d, level + 1)),
+        _ => Found::Past(skip(ws, at, depth)),
     }
 }
 
 // The process itself.
-fn here(ws: &[u16], at: usize, depth: usize, level: usize, bound: usize) -> Found
-    ensures { λ r. ⌜ r ≡ hereW depth (now (ws .entry)) bound level at ⌝ }
+fn here(ws: &[u16], at: usize, depth: usize, level: usize) -> Found
+    ensures { λ r. ⌜ r ≡ hereW depth (now (ws .entry)) level at ⌝ }
 {
-    let e = process(ws, at, depth, 8, bound);
+    let e = skip(ws, at, depth);
     Found::Hit(Spot {
         at,
         level,
@@ -92,11 +78,11 @@ fn here(ws: &[u16], at: usize, depth: usize, level: usize, bound: usize) -> Foun
 }
 
 // The first of a seq becoming nil, the second takes the seq's place; a nil second goes on.
-fn in_seq(ws: &[u16], at: usize, f: Found, depth: usize, bound: usize) -> Found
-    ensures { λ r. ⌜ r ≡ inSeqW depth (now (ws .entry)) bound at f ⌝ }
+fn in_seq(ws: &[u16], at: usize, f: Found, depth: usize) -> Found
+    ensures { λ r. ⌜ r ≡ inSeqW depth (now (ws .entry)) at f ⌝ }
 {
     match f {
-        Found::Past(e) => Found::Past(process(ws, e, depth, 0, bound)),
+        Found::Past(e) => Found::Past(skip(ws, e, depth)),
         Found::Hit(s) => {
             if s.closed {
                 return Found::Hit(s);
@@ -136,13 +122,13 @@ fn in_seq(ws: &[u16], at: usize, f: Found, depth: usize, bound: usize) -> Found
 }
 
 // A side of a par becoming nil, the other takes the par's place.
-fn in_par(ws: &[u16], at: usize, target: usize, depth: usize, level: usize, bound: usize) -> Found
+fn in_par(ws: &[u16], at: usize, target: usize, depth: usize, level: usize) -> Found
     requires { ⌜ (level + depth < 65536) × (at < length (now ws)) ⌝ }
-    ensures { λ r. ⌜ r ≡ inParW (findW depth (now (ws .entry)) bound target level) at ⌝ }
+    ensures { λ r. ⌜ r ≡ inParW (findW depth (now (ws .entry)) target level) at ⌝ }
 {
-    match find(ws, at + 1, target, depth, level, bound) {
+    match find(ws, at + 1, target, depth, level) {
         Found::Hit(s) => left(at, s),
-        Found::Past(e) => beside(at, e, find(ws, e, target, depth, level, bound)),
+        Found::Past(e) => beside(at, e, find(ws, e, target, depth, level)),
     }
 }
 
@@ -215,9 +201,9 @@ fn in_body(f: Found) -> Found
     }
 }
 
-fn in_scope(ws: &[u16], at: usize, target: usize, f: Found, depth: usize, bound: usize) -> Found
+fn in_scope(ws: &[u16], at: usize, target: usize, f: Found, depth: usize) -> Found
     requires { ⌜ at < length (now ws) ⌝ }
-    ensures { λ r. ⌜ r ≡ inScopeW depth (now (ws .entry)) bound target at f ⌝ }
+    ensures { λ r. ⌜ r ≡ inScopeW depth (now (ws .entry)) target at f ⌝ }
 {
     match f {
         Found::Past(e) => Found::Past(e),
@@ -231,7 +217,7 @@ fn in_scope(ws: &[u16], at: usize, target: usize, f: Found, depth: usize, bound:
             hollow: s.hollow,
             closed: true,
             scope: scope_of(at, s.scope),
-            catcher: catcher_of(ws, at, target, s.catcher, depth, bound),
+            catcher: catcher_of(ws, at, target, s.catcher, depth),
         }),
     }
 }
@@ -244,21 +230,14 @@ fn scope_of(at: usize, scope: usize) -> usize
 }
 
 // The scope that catches, if `catcher` does in the body.
-fn catcher_of(
-    ws: &[u16],
-    at: usize,
-    target: usize,
-    catcher: usize,
-    depth: usize,
-    bound: usize,
-) -> usize
+fn catcher_of(ws: &[u16], at: usize, target: usize, catcher: usize, depth: usize) -> usize
     requires { ⌜ at < length (now ws) ⌝ }
-    ensures { λ r. ⌜ r ≡ catcherOf depth (now (ws .entry)) bound target at catcher ⌝ }
+    ensures { λ r. ⌜ r ≡ catcherOf depth (now (ws .entry)) target at catcher ⌝ }
 {
     if catcher != 0 {
         return catcher;
     }
-    if catches(ws, at, fault_at(ws, target), depth, bound) {
+    if catches(ws, at, fault_at(ws, target), depth) {
         at
     } else {
         0
@@ -276,12 +255,12 @@ fn fault_at(ws: &[u16], target: usize) -> usize
 }
 
 // Whether the scope at `at` stops a fault: its list has it, or the scope is a zombie.
-fn catches(ws: &[u16], at: usize, fault: usize, depth: usize, bound: usize) -> bool
+fn catches(ws: &[u16], at: usize, fault: usize, depth: usize) -> bool
     requires { ⌜ at < length (now ws) ⌝ }
-    ensures { λ r. ⌜ r ≡ catchesW depth (now (ws .entry)) bound at fault ⌝ }
+    ensures { λ r. ⌜ r ≡ catchesW depth (now (ws .entry)) at fault ⌝ }
 {
     if wide(ws[at]) / 4 % 2 == 1 {
         return true;
     }
-    list(ws, at + 2, depth, 0, fault, bound) != 0
+    skip_list(ws, at + 2, depth, fault) != 0
 }

@@ -15,18 +15,10 @@ use Rattle.sock.specs.Reading.{code, anywhere}
 use Rattle.sock.proofs.Logic.{false-test}
 use Rattle.sock.proofs.Fits.{Fits, FitsEntries, emptyFits, entryFitsOn}
 use Rattle.sock.proofs.Positions.{at-head, at-past}
-use Rattle.reading.specs.Walk.{processEnd}
+use Rattle.skipping.specs.Skip.{skipEnd}
+use Rattle.skipping.proofs.Skips.{code-end}
 use Rattle.moving.specs.Writing.{onward, pasted, pastedEnd}
 use Rattle.moving.proofs.Laid.{Near, onward-near, Laid, laid-copy, copy-end}
-
--- what the reader gives on words of code
-abbrev pub Coded : List ℕ → ℕ → Type 0
-Coded ws bound =
-    (d i : ℕ) (m : Node) (rest : List ℕ) →
-    Fits (code false) anywhere m →
-    depth m ≤ d →
-    drop i ws ≡ words m ++ rest →
-    processEnd d ws bound 0 i ≡ i + length (words m)
 
 pub record FirstEntry (ws : List ℕ) (i k : ℕ) (p : Node) (behind : List ℕ) : Type 0 where
   pub inside : i < length ws
@@ -103,9 +95,9 @@ module _ (ws : List ℕ) (near : Near (length ws)) where
   module _ {i k : ℕ} {p : Node} {behind : List ℕ} (f : FirstEntry ws i k p behind) where
     -- where the entry ends
     pub entry-end :
-        (bound : ℕ) → Coded ws bound → (d : ℕ) → Fits (code false) anywhere p → depth p ≤ d →
-        processEnd d ws bound 0 (onward i 1) ≡ i + 1 + length (words p)
-    entry-end bound coded d g b = rw (f .next) (coded d (i + 1) p behind g b (f .process))
+        (d : ℕ) → Fits (code false) anywhere p → depth p ≤ d →
+        skipEnd d ws (onward i 1) ≡ i + 1 + length (words p)
+    entry-end d g b = rw (f .next) (code-end ws g d (i + 1) b behind (f .process))
 
     -- the entry copied
     behind-it : i + 1 + length (words p) ≡ i + length (keyWord k ∷ words p)

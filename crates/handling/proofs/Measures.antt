@@ -16,6 +16,7 @@ use Rattle.sock.specs.Layout.{operatorTag, exprWords, exprDepth, exprsWords, ex
 use Rattle.sock.specs.Reading.{code, Place, anywhere, allowed, nodeFits, restingFits, isEmpty, fixedAt, partStratum, partPlace}
 use Rattle.sock.proofs.Fits.{FitsExpr, constantFits, variableFits, applyFits, FitsExprs, noExprs, oneExpr, FitsFixed, noFixed, oneFixed, Fits, fits, FitsBlock, noList, aList, FitsEntries, emptyFits, entryFitsOn, FitsParts, noPart, onePart}
 use Rattle.sock.proofs.Fields.{From, end, _then_, fact-at, four}
+use Rattle.sock.proofs.Nodes.{fixed-length}
 use Rattle.sock.proofs.ByKind.{head-tests}
 use Rattle.sock.proofs.Positions.{At, at-head, at-past}
 use Rattle.handling.specs.declared.measure.Measured.{Measured}
@@ -80,10 +81,6 @@ mutual
       let y = nodes-shallow ps in
       let l = length-append (words p) (nodesWords ps) in
       omega arith
-
-pub fixed-length : {ms f : List ℕ} → FitsFixed ms f → length f ≡ length ms
-fixed-length noFixed = refl
-fixed-length (oneFixed t h) = ap suc (fixed-length h)
 
 pub code-bound : (c : Bool) (k : ℕ) → T (allowed (code c) k) → k < 16
 unfolding allowed

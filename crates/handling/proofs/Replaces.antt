@@ -17,6 +17,7 @@ use Rattle.sock.specs.Reading.{code, Place, anywhere, nodeFits, restingFits, is
 use Rattle.sock.specs.Handlers.{rebuilt, replaced, allReplaced}
 use Rattle.sock.proofs.Fits.{FitsExprs, noExprs, oneExpr, FitsFixed, noFixed, oneFixed, Fits, fits, FitsBlock, noList, aList, emptyFits, entryFitsOn, FitsParts, noPart, onePart}
 use Rattle.sock.proofs.Fields.{From, end, _then_, fact-at, four}
+use Rattle.sock.proofs.Nodes.{fixed-length}
 use Rattle.sock.proofs.ByKind.{head-tests}
 use Rattle.sock.proofs.Positions.{At, at-head}
 use Rattle.moving.specs.Writing.{onward}
@@ -25,7 +26,7 @@ use Rattle.handling.specs.declared.measure.Measured.{Measured}
 use Rattle.handling.specs.declared.replace.Old.{Old}
 use Rattle.handling.specs.Measuring.{measured, expressionLevels, codeLevels}
 use Rattle.handling.specs.Replacing.{Wrote, seqW, parW, keptW, conditionW, otherW, cHW, nilW, nodeW, replaceW}
-use Rattle.handling.proofs.Measures.{expr-shallow, fixed-length, code-bound, left-over, expression-measured, code-measured}
+use Rattle.handling.proofs.Measures.{expr-shallow, code-bound, left-over, expression-measured, code-measured}
 use Rattle.handling.proofs.Replaced.{OldIs, Replaced}
 use Rattle.handling.proofs.Leaves.{onward-one, onward-suc}
 use Rattle.handling.proofs.Pairs.{Right, turned, seq-right, par-right}

@@ -19,7 +19,7 @@ use Rattle.moving.specs.Writing.{pasted}
 use Rattle.moving.proofs.Laid.{Near, onward-near, Laid, laid-then}
 use Rattle.handling.specs.Taking.{Passed, Took, passing, passed, lessIf, passW, passesW, tookW, takeW}
 use Rattle.handling.specs.declared.take.Passing.{Passing}
-use Rattle.handling.proofs.Listed.{Coded, FirstEntry, pasted-length, laid-none, count-laid, first-entry, entry-end, entry-reaches, entry-laid}
+use Rattle.handling.proofs.Listed.{FirstEntry, pasted-length, laid-none, count-laid, first-entry, entry-end, entry-reaches, entry-laid}
 use Rattle.handling.proofs.Merged.{without-none}
 
 -- the words of a process stand from..upto
@@ -78,35 +78,35 @@ pub record Passes (ws : List ℕ) (k : ℕ) (there : Bool) (m : Node) (g : Entri
   pub present : there ≡ true → Stands ws (p .state .from) (p .state .upto) m
   pub keyed : there ≡ true → Keyed ws (p .state .from) k
 
-module _ (ws : List ℕ) (near : Near (length ws)) (bound d key : ℕ) (coded : Coded ws bound) where
+module _ (ws : List ℕ) (near : Near (length ws)) (d key : ℕ) where
   module _ {j : ℕ} {q : Node} {behind : List ℕ} (s : Passing) (out : List ℕ) (f : FirstEntry ws (s .at) j q behind)
       (g : Fits (code false) anywhere q) (b : depth q ≤ d) where
     -- it is the one taken out
     pass-here :
         j ≡ key →
-        passW d bound ws key s out ≡ passed (passing (s .at + 1 + length (words q)) (s .to) (s .at + 1) (s .at + 1 + length (words q))) out
+        passW d ws key s out ≡ passed (passing (s .at + 1 + length (words q)) (s .to) (s .at + 1) (s .at + 1 + length (words q))) out
     unfolding passW
     pass-here e =
         let k : j * 512 / 512 ≡ j = omega arith in
-        rw (entry-end ws near f bound coded d g b, f .key, k, eq-eqb j key e, f .next)
+        rw (entry-end ws near f d g b, f .key, k, eq-eqb j key e, f .next)
 
     -- it stays
     pass-other :
         (j ≡ key → ⊥) →
         (room : ℕ) → Near room → s .to + suc (length (words q)) ≤ room →
-        passW d bound ws key s out
+        passW d ws key s out
         ≡ passed (passing (s .at + 1 + length (words q)) (s .to + suc (length (words q))) (s .from) (s .upto))
         (pasted ws (s .at) (s .at + 1 + length (words q)) out (s .to))
     unfolding passW
     pass-other e room n r =
         let k : j * 512 / 512 ≡ j = omega arith in
-        rw (entry-end ws near f bound coded d g b, f .key, k, ne-eqb j key e, entry-reaches ws near f (s .to) room n r)
+        rw (entry-end ws near f d g b, f .key, k, ne-eqb j key e, entry-reaches ws near f (s .to) room n r)
 
   passes-from :
-      (n : ℕ) (s s′ : Passing) (out out′ : List ℕ) → passW d bound ws key s out ≡ passed s′ out′ →
-      passesW d bound ws key (suc n) s out ≡ passesW d bound ws key n s′ out′
+      (n : ℕ) (s s′ : Passing) (out out′ : List ℕ) → passW d ws key s out ≡ passed s′ out′ →
+      passesW d ws key (suc n) s out ≡ passesW d ws key n s′ out′
   unfolding passesW
-  passes-from n s s′ out out′ e = ap (λ (p : Passed). passesW d bound ws key n (p .state) (p .out)) e
+  passes-from n s s′ out out′ e = ap (λ (p : Passed). passesW d ws key n (p .state) (p .out)) e
 
   abbrev Goes : Entries → Passing → List ℕ → Passed → Type 0
   Goes h s out p = Passes ws key (holds key h) (handler key h) (without key h) s out p
@@ -115,7 +115,7 @@ module _ (ws : List ℕ) (near : Near (length ws)) (bound d key : ℕ) (coded : 
   abbrev Behind : Entries → List ℕ → Type 0
   Behind es rest =
       (s : Passing) (out : List ℕ) → drop (s .at) ws ≡ entriesWords es ++ rest → s .to + length (entriesWords es) ≤ length ws →
-      Goes es s out (passesW d bound ws key (count es) s out)
+      Goes es s out (passesW d ws key (count es) s out)
 
   module _
       {j : ℕ} {q : Node} (es : Entries) (rest : List ℕ) (s : Passing) (out : List ℕ)
@@ -123,7 +123,7 @@ module _ (ws : List ℕ) (near : Near (length ws)) (bound d key : ℕ) (coded : 
       (g : Fits (code false) anywhere q) (b : depth q ≤ d) (room : s .to + length (entriesWords (entry j q es)) ≤ length ws)
       (below : Behind es rest)
     where
-      passes-here : FitsEntries true (suc j) es → j ≡ key → Goes (entry j q es) s out (passesW d bound ws key (suc (count es)) s out)
+      passes-here : FitsEntries true (suc j) es → j ≡ key → Goes (entry j q es) s out (passesW d ws key (suc (count es)) s out)
       unfolding words holds handler without
       passes-here v e =
           let l = length-append (words q) (entriesWords es) in
@@ -147,7 +147,7 @@ module _ (ws : List ℕ) (near : Near (length ws)) (bound d key : ℕ) (coded : 
             keyed = λ x. (omega (arith, a .0), ap (λ (i : ℕ). getD ws (i - 1) 0) (a .0) ∙ first);
           }))
 
-      passes-other : (j ≡ key → ⊥) → Goes (entry j q es) s out (passesW d bound ws key (suc (count es)) s out)
+      passes-other : (j ≡ key → ⊥) → Goes (entry j q es) s out (passesW d ws key (suc (count es)) s out)
       unfolding words holds handler without
       passes-other e =
           let l = length-append (words q) (entriesWords es) in
@@ -170,10 +170,10 @@ module _ (ws : List ℕ) (near : Near (length ws)) (bound d key : ℕ) (coded : 
             keyed = r .keyed;
           }))
 
-      passes-entry : FitsEntries true (suc j) es → Goes (entry j q es) s out (passesW d bound ws key (suc (count es)) s out)
+      passes-entry : FitsEntries true (suc j) es → Goes (entry j q es) s out (passesW d ws key (suc (count es)) s out)
       passes-entry v = by (eqb j key) refl
         where
-          by : (t : Bool) → eqb j key ≡ t → Goes (entry j q es) s out (passesW d bound ws key (suc (count es)) s out)
+          by : (t : Bool) → eqb j key ≡ t → Goes (entry j q es) s out (passesW d ws key (suc (count es)) s out)
           by true e = passes-here v (eqb-true j key e)
           by false e = passes-other (eqb-false j key e)
 
@@ -236,11 +236,11 @@ module _ (ws : List ℕ) (k : ℕ) (h : Entries) (at : ℕ) (out : List ℕ) (p 
         keyed = r .keyed;
       }
 
-module _ (ws : List ℕ) (near : Near (length ws)) (bound d : ℕ) (coded : Coded ws bound) where
+module _ (ws : List ℕ) (near : Near (length ws)) (d : ℕ) where
   pub takes :
       (k : ℕ) {h : Entries} → FitsEntries true zero h → entriesDepth h ≤ d → (list : ℕ) (rest : List ℕ) →
       drop list ws ≡ count h ∷ (entriesWords h ++ rest) →
-      (out : List ℕ) → Takes ws k h out (takeW d bound ws list k out)
+      (out : List ℕ) → Takes ws k h out (takeW d ws list k out)
   unfolding takeW
   takes k {h} f b list rest e out =
       let a = at-head ws list (count h) (entriesWords h ++ rest) e in
@@ -248,4 +248,4 @@ module _ (ws : List ℕ) (near : Near (length ws)) (bound d : ℕ) (coded : Code
       let l : length ws - list ≡ suc (length (entriesWords h) + length rest) = sym (length-drop list ws) ∙ ap length e
       ∙ ap suc (length-append (entriesWords h) rest) in
       rw (a .word, onward-near list 1 (length ws) near (omega arith))
-      (took ws k h (list + 1) out _ (passes ws near bound d k coded f b rest (passing (list + 1) 1 0 0) out (a .next) (omega arith)))
+      (took ws k h (list + 1) out _ (passes ws near d k f b rest (passing (list + 1) 1 0 0) out (a .next) (omega arith)))

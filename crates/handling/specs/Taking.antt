@@ -4,7 +4,7 @@ use mathlib.Core.Bool.{cond}
 use mathlib.Core.List.{List}
 use lib.Dec.{eqb}
 use lib.ListN.{getD, set}
-use Rattle.reading.specs.Walk.{processEnd}
+use Rattle.skipping.specs.Skip.{skipEnd}
 use Rattle.moving.specs.Writing.{onward, pasted, pastedEnd}
 use Rattle.handling.specs.declared.take.Passing.{Passing}
 use Rattle.handling.specs.declared.take.Taken.{Taken}
@@ -26,17 +26,17 @@ passed s out = record { state = s; out = out }
 unfoldable pub lessIf : ℕ → ℕ → ℕ
 lessIf n upto = cond (eqb upto 0) n (n - 1)
 
-unfoldable pub passW : ℕ → ℕ → List ℕ → ℕ → Passing → List ℕ → Passed
-passW depth bound ws key s out =
-    let e = processEnd depth ws bound 0 (onward (s .at) 1) in
+unfoldable pub passW : ℕ → List ℕ → ℕ → Passing → List ℕ → Passed
+passW depth ws key s out =
+    let e = skipEnd depth ws (onward (s .at) 1) in
     cond (eqb (getD ws (s .at) 0 / 512) key)
     (passed (passing e (s .to) (onward (s .at) 1) e) out)
     (passed (passing e (pastedEnd ws (s .at) e (s .to)) (s .from) (s .upto)) (pasted ws (s .at) e out (s .to)))
 
-unfoldable pub passesW : ℕ → ℕ → List ℕ → ℕ → ℕ → Passing → List ℕ → Passed
-passesW depth bound ws key zero s out = passed s out
-passesW depth bound ws key (suc n) s out =
-    passesW depth bound ws key n (passW depth bound ws key s out .state) (passW depth bound ws key s out .out)
+unfoldable pub passesW : ℕ → List ℕ → ℕ → ℕ → Passing → List ℕ → Passed
+passesW depth ws key zero s out = passed s out
+passesW depth ws key (suc n) s out =
+    passesW depth ws key n (passW depth ws key s out .state) (passW depth ws key s out .out)
 
 unfoldable pub tookW : ℕ → Passed → Took
 tookW count p =
@@ -45,6 +45,6 @@ tookW count p =
       out = set (p .out) 0 (lessIf count (p .state .upto));
     }
 
-unfoldable pub takeW : ℕ → ℕ → List ℕ → ℕ → ℕ → List ℕ → Took
-takeW depth bound ws list key out =
-    tookW (getD ws list 0) (passesW depth bound ws key (getD ws list 0) (passing (onward list 1) 1 0 0) out)
+unfoldable pub takeW : ℕ → List ℕ → ℕ → ℕ → List ℕ → Took
+takeW depth ws list key out =
+    tookW (getD ws list 0) (passesW depth ws key (getD ws list 0) (passing (onward list 1) 1 0 0) out)

@@ -4,8 +4,8 @@ use crate::update::word;
 use moving::write::copy;
 use moving::write::further;
 use moving::write::put;
-use reading::reader::process;
 use reading::reader::wide;
+use skipping::skip::skip;
 ghost use mathlib.Core.Path.{_≡_};
 ghost use Rattle.handling.specs.Taking.{lessIf, passW, takeW};
 
@@ -34,13 +34,13 @@ fn less_if(n: u16, upto: usize) -> u16
 }
 
 // The next entry stays, or is the one taken out.
-fn pass(ws: &[u16], s: Passing, key: usize, depth: usize, bound: usize, out: &mut [u16]) -> Passing
-    ensures { λ r. ⌜ (r ≡ passW depth bound (now (ws .entry)) key s (now (out .entry)) .state) × (now (out .exit) ≡ passW depth bound (now (ws .entry)) key s (now (out .entry)) .out) ⌝ }
+fn pass(ws: &[u16], s: Passing, key: usize, depth: usize, out: &mut [u16]) -> Passing
+    ensures { λ r. ⌜ (r ≡ passW depth (now (ws .entry)) key s (now (out .entry)) .state) × (now (out .exit) ≡ passW depth (now (ws .entry)) key s (now (out .entry)) .out) ⌝ }
 {
     let at = s.at;
     let to = s.to;
     let from = further(at, 1);
-    let e = process(ws, from, depth, 0, bound);
+    let e = skip(ws, from, depth);
     if wide(word(ws, at)) / 512 == key {
         return Passing {
             at: e,
@@ -59,15 +59,8 @@ fn pass(ws: &[u16], s: Passing, key: usize, depth: usize, bound: usize, out: &mu
 }
 
 // The list whose count is at `list`, from 0 on.
-pub fn take(
-    ws: &[u16],
-    list: usize,
-    key: usize,
-    depth: usize,
-    bound: usize,
-    out: &mut [u16],
-) -> Taken
-    ensures { λ r. ⌜ (r ≡ takeW depth bound (now (ws .entry)) list key (now (out .entry)) .answer) × (now (out .exit) ≡ takeW depth bound (now (ws .entry)) list key (now (out .entry)) .out) ⌝ }
+pub fn take(ws: &[u16], list: usize, key: usize, depth: usize, out: &mut [u16]) -> Taken
+    ensures { λ r. ⌜ (r ≡ takeW depth (now (ws .entry)) list key (now (out .entry)) .answer) × (now (out .exit) ≡ takeW depth (now (ws .entry)) list key (now (out .entry)) .out) ⌝ }
 {
     let count = word(ws, list);
     let mut left = wide(count);
@@ -78,7 +71,7 @@ pub fn take(
         upto: 0,
     };
     while 0 < left {
-        s = pass(ws, s, key, depth, bound, out);
+        s = pass(ws, s, key, depth, out);
         left = left - 1;
     }
     let w = less_if(count, s.upto);

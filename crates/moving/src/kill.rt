@@ -4,9 +4,9 @@ use crate::write::copy;
 use crate::write::down;
 use crate::write::further;
 use crate::write::put;
-use reading::reader::list;
-use reading::reader::process;
 use reading::reader::wide;
+use skipping::skip::skip;
+use skipping::skip::skip_list;
 ghost use mathlib.Core.Path.{_≡_};
 ghost use Rattle.moving.specs.Killing.{stopped, lessOne, ownZombie, plainZombie, headFor, noticeHead, noticeWord, deadWord};
 ghost use Rattle.moving.specs.Killing.{noticeW, waiterW, keptW, vanishedW, killW, seqW, parW, rightW, scopeW, zombieW, liveW, executorW};
@@ -34,11 +34,10 @@ pub fn kill(
     fault: u16,
     hole: usize,
     depth: usize,
-    bound: usize,
     out: &mut [u16],
     to: usize,
 ) -> Moved
-    ensures { λ r. ⌜ (r ≡ killW depth (now (ws .entry)) fault hole bound at (now (out .entry)) to .moved) × (now (out .exit) ≡ killW depth (now (ws .entry)) fault hole bound at (now (out .entry)) to .out) ⌝ }
+    ensures { λ r. ⌜ (r ≡ killW depth (now (ws .entry)) fault hole at (now (out .entry)) to .moved) × (now (out .exit) ≡ killW depth (now (ws .entry)) fault hole at (now (out .entry)) to .out) ⌝ }
 {
     if depth == 0 {
         return stuck();
@@ -47,14 +46,14 @@ pub fn kill(
         return stuck();
     }
     match wide(ws[at]) / 2048 {
-        2 => kill_seq(ws, at + 1, fault, hole, depth - 1, bound, out, to),
-        3 => kill_par(ws, at + 1, fault, hole, depth - 1, bound, out, to),
-        11 => kill_scope(ws, at, fault, hole, depth - 1, bound, out, to),
+        2 => kill_seq(ws, at + 1, fault, hole, depth - 1, out, to),
+        3 => kill_par(ws, at + 1, fault, hole, depth - 1, out, to),
+        11 => kill_scope(ws, at, fault, hole, depth - 1, out, to),
         12 => stuck(),
-        16 => kill_executor(ws, at, fault, hole, depth - 1, bound, out, to),
-        17 => kill_waiter(ws, at, depth, bound, out, to),
+        16 => kill_executor(ws, at, fault, hole, depth - 1, out, to),
+        17 => kill_waiter(ws, at, depth, out, to),
         18 => keep(ws, at, out, to),
-        _ => vanish(ws, at, depth, bound, out, to),
+        _ => vanish(ws, at, depth, out, to),
     }
 }
 
@@ -65,18 +64,17 @@ fn kill_seq(
     fault: u16,
     hole: usize,
     depth: usize,
-    bound: usize,
     out: &mut [u16],
     to: usize,
 ) -> Moved
-    ensures { λ r. ⌜ (r ≡ seqW depth (killW depth (now (ws .entry)) fault hole bound) (now (ws .entry)) bound at (now (out .entry)) to .moved) × (now (out .exit) ≡ seqW depth (killW depth (now (ws .entry)) fault hole bound) (now (ws .entry)) bound at (now (out .entry)) to .out) ⌝ }
+    ensures { λ r. ⌜ (r ≡ seqW depth (killW depth (now (ws .entry)) fault hole) (now (ws .entry)) at (now (out .entry)) to .moved) × (now (out .exit) ≡ seqW depth (killW depth (now (ws .entry)) fault hole) (now (ws .entry)) at (now (out .entry)) to .out) ⌝ }
 {
-    let p = kill(ws, at, fault, hole, depth, bound, out, to);
+    let p = kill(ws, at, fault, hole, depth, out, to);
     if p.end == 0 {
         return stuck();
     }
     Moved {
-        end: process(ws, p.end, depth, 0, bound),
+        end: skip(ws, p.end, depth),
         to: p.to,
         nil: p.nil,
     }
@@ -89,21 +87,20 @@ fn kill_par(
     fault: u16,
     hole: usize,
     depth: usize,
-    bound: usize,
     out: &mut [u16],
     to: usize,
 ) -> Moved
-    ensures { λ r. ⌜ (r ≡ parW (killW depth (now (ws .entry)) fault hole bound) at (now (out .entry)) to .moved) × (now (out .exit) ≡ parW (killW depth (now (ws .entry)) fault hole bound) at (now (out .entry)) to .out) ⌝ }
+    ensures { λ r. ⌜ (r ≡ parW (killW depth (now (ws .entry)) fault hole) at (now (out .entry)) to .moved) × (now (out .exit) ≡ parW (killW depth (now (ws .entry)) fault hole) at (now (out .entry)) to .out) ⌝ }
 {
     let one = put(out, to, 6144);
-    let p = kill(ws, at, fault, hole, depth, bound, out, one);
+    let p = kill(ws, at, fault, hole, depth, out, one);
     if p.end == 0 {
         return stuck();
     }
     if p.nil {
-        return kill(ws, p.end, fault, hole, depth, bound, out, to);
+        return kill(ws, p.end, fault, hole, depth, out, to);
     }
-    kill_right(ws, p.end, fault, hole, depth, bound, out, one, p.to)
+    kill_right(ws, p.end, fault, hole, depth, out, one, p.to)
 }
 
 // The right side of a par whose left stands killed at one..to.
@@ -113,14 +110,13 @@ fn kill_right(
     fault: u16,
     hole: usize,
     depth: usize,
-    bound: usize,
     out: &mut [u16],
     one: usize,
     to: usize,
 ) -> Moved
-    ensures { λ r. ⌜ (r ≡ rightW (killW depth (now (ws .entry)) fault hole bound) at (now (out .entry)) one to .moved) × (now (out .exit) ≡ rightW (killW depth (now (ws .entry)) fault hole bound) at (now (out .entry)) one to .out) ⌝ }
+    ensures { λ r. ⌜ (r ≡ rightW (killW depth (now (ws .entry)) fault hole) at (now (out .entry)) one to .moved) × (now (out .exit) ≡ rightW (killW depth (now (ws .entry)) fault hole) at (now (out .entry)) one to .out) ⌝ }
 {
-    let q = kill(ws, at, fault, hole, depth, bound, out, to);
+    let q = kill(ws, at, fault, hole, depth, out, to);
     if q.end == 0 {
         return stuck();
     }
@@ -154,16 +150,15 @@ fn kill_scope(
     fault: u16,
     hole: usize,
     depth: usize,
-    bound: usize,
     out: &mut [u16],
     to: usize,
 ) -> Moved
-    ensures { λ r. ⌜ (r ≡ scopeW depth (killW depth (now (ws .entry)) fault hole bound) (now (ws .entry)) hole bound at (now (out .entry)) to .moved) × (now (out .exit) ≡ scopeW depth (killW depth (now (ws .entry)) fault hole bound) (now (ws .entry)) hole bound at (now (out .entry)) to .out) ⌝ }
+    ensures { λ r. ⌜ (r ≡ scopeW depth (killW depth (now (ws .entry)) fault hole) (now (ws .entry)) hole at (now (out .entry)) to .moved) × (now (out .exit) ≡ scopeW depth (killW depth (now (ws .entry)) fault hole) (now (ws .entry)) hole at (now (out .entry)) to .out) ⌝ }
 {
     if ws.len() <= at {
         return stuck();
     }
-    let body = list(ws, at + 2, depth, 0, 128, bound);
+    let body = skip_list(ws, at + 2, depth, 128);
     if body == 0 {
         return stuck();
     }
@@ -171,12 +166,12 @@ fn kill_scope(
         return stuck();
     }
     if wide(ws[at]) / 4 % 2 == 1 {
-        return kill_zombie(ws, at, body, fault, hole, depth, bound, out, to);
+        return kill_zombie(ws, at, body, fault, hole, depth, out, to);
     }
     if wide(ws[body]) == 0 {
         return stuck();
     }
-    kill_live(ws, at, body, fault, hole, depth, bound, out, to)
+    kill_live(ws, at, body, fault, hole, depth, out, to)
 }
 
 // A zombie stays as it is, if its body can be killed.
@@ -187,13 +182,12 @@ fn kill_zombie(
     fault: u16,
     hole: usize,
     depth: usize,
-    bound: usize,
     out: &mut [u16],
     to: usize,
 ) -> Moved
-    ensures { λ r. ⌜ (r ≡ zombieW (killW depth (now (ws .entry)) fault hole bound) (now (ws .entry)) at body (now (out .entry)) to .moved) × (now (out .exit) ≡ zombieW (killW depth (now (ws .entry)) fault hole bound) (now (ws .entry)) at body (now (out .entry)) to .out) ⌝ }
+    ensures { λ r. ⌜ (r ≡ zombieW (killW depth (now (ws .entry)) fault hole) (now (ws .entry)) at body (now (out .entry)) to .moved) × (now (out .exit) ≡ zombieW (killW depth (now (ws .entry)) fault hole) (now (ws .entry)) at body (now (out .entry)) to .out) ⌝ }
 {
-    let p = kill(ws, body, fault, hole, depth, bound, out, to);
+    let p = kill(ws, body, fault, hole, depth, out, to);
     if p.end == 0 {
         return stuck();
     }
@@ -212,14 +206,13 @@ fn kill_live(
     fault: u16,
     hole: usize,
     depth: usize,
-    bound: usize,
     out: &mut [u16],
     to: usize,
 ) -> Moved
-    ensures { λ r. ⌜ (r ≡ liveW (killW depth (now (ws .entry)) fault hole bound) (now (ws .entry)) hole at body (now (out .entry)) to .moved) × (now (out .exit) ≡ liveW (killW depth (now (ws .entry)) fault hole bound) (now (ws .entry)) hole at body (now (out .entry)) to .out) ⌝ }
+    ensures { λ r. ⌜ (r ≡ liveW (killW depth (now (ws .entry)) fault hole) (now (ws .entry)) hole at body (now (out .entry)) to .moved) × (now (out .exit) ≡ liveW (killW depth (now (ws .entry)) fault hole) (now (ws .entry)) hole at body (now (out .entry)) to .out) ⌝ }
 {
     let b = copy(ws, at, body, out, to);
-    let p = kill(ws, body, fault, hole, depth, bound, out, b);
+    let p = kill(ws, body, fault, hole, depth, out, b);
     if p.end == 0 {
         return stuck();
     }
@@ -267,17 +260,16 @@ fn kill_executor(
     fault: u16,
     hole: usize,
     depth: usize,
-    bound: usize,
     out: &mut [u16],
     to: usize,
 ) -> Moved
-    ensures { λ r. ⌜ (r ≡ executorW (killW depth (now (ws .entry)) fault hole bound) (now (ws .entry)) fault at (now (out .entry)) to .moved) × (now (out .exit) ≡ executorW (killW depth (now (ws .entry)) fault hole bound) (now (ws .entry)) fault at (now (out .entry)) to .out) ⌝ }
+    ensures { λ r. ⌜ (r ≡ executorW (killW depth (now (ws .entry)) fault hole) (now (ws .entry)) fault at (now (out .entry)) to .moved) × (now (out .exit) ≡ executorW (killW depth (now (ws .entry)) fault hole) (now (ws .entry)) fault at (now (out .entry)) to .out) ⌝ }
 {
     if ws.len() <= at {
         return stuck();
     }
     let one = put(out, to, 6144);
-    let p = kill(ws, at + 3, fault, hole, depth, bound, out, one);
+    let p = kill(ws, at + 3, fault, hole, depth, out, one);
     if p.end == 0 {
         return stuck();
     }
@@ -320,15 +312,8 @@ fn notice_word(fault: u16, client: u16) -> u16
 }
 
 // A waiter turns dead.
-fn kill_waiter(
-    ws: &[u16],
-    at: usize,
-    depth: usize,
-    bound: usize,
-    out: &mut [u16],
-    to: usize,
-) -> Moved
-    ensures { λ r. ⌜ (r ≡ waiterW depth (now (ws .entry)) bound at (now (out .entry)) to .moved) × (now (out .exit) ≡ waiterW depth (now (ws .entry)) bound at (now (out .entry)) to .out) ⌝ }
+fn kill_waiter(ws: &[u16], at: usize, depth: usize, out: &mut [u16], to: usize) -> Moved
+    ensures { λ r. ⌜ (r ≡ waiterW depth (now (ws .entry)) at (now (out .entry)) to .moved) × (now (out .exit) ≡ waiterW depth (now (ws .entry)) at (now (out .entry)) to .out) ⌝ }
 {
     if ws.len() <= at {
         return stuck();
@@ -336,7 +321,7 @@ fn kill_waiter(
     if ws.len() - at < 2 {
         return stuck();
     }
-    let e = process(ws, at, depth, 8, bound);
+    let e = skip(ws, at, depth);
     if e == 0 {
         return stuck();
     }
@@ -370,11 +355,11 @@ fn keep(ws: &[u16], at: usize, out: &mut [u16], to: usize) -> Moved
 }
 
 // All else becomes nil.
-fn vanish(ws: &[u16], at: usize, depth: usize, bound: usize, out: &mut [u16], to: usize) -> Moved
-    ensures { λ r. ⌜ (r ≡ vanishedW depth (now (ws .entry)) bound at (now (out .entry)) to .moved) × (now (out .exit) ≡ vanishedW depth (now (ws .entry)) bound at (now (out .entry)) to .out) ⌝ }
+fn vanish(ws: &[u16], at: usize, depth: usize, out: &mut [u16], to: usize) -> Moved
+    ensures { λ r. ⌜ (r ≡ vanishedW depth (now (ws .entry)) at (now (out .entry)) to .moved) × (now (out .exit) ≡ vanishedW depth (now (ws .entry)) at (now (out .entry)) to .out) ⌝ }
 {
     Moved {
-        end: process(ws, at, depth, 8, bound),
+        end: skip(ws, at, depth),
         to: put(out, to, 0),
         nil: true,
     }

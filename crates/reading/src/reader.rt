@@ -392,7 +392,7 @@ fn key_at(ws: &[u16], at: usize, least: usize) -> usize
     w / 512
 }
 
-fn met_by(met: bool, key: usize, wanted: usize) -> bool
+pub fn met_by(met: bool, key: usize, wanted: usize) -> bool
     ensures { λ r. ⌜ r ≡ (met || eqb key wanted) ⌝ }
 {
     if met {

@@ -15,8 +15,7 @@ use Rattle.sock.specs.Running.{Run, nil, executor, waiter, runWords, runDepth, 
 use Rattle.sock.specs.Configuration.{guarded}
 use Rattle.sock.specs.Rules.{Receiver, offer, followed, Exchange, notified, solicited, replied, faulting, awaited}
 use Rattle.sock.proofs.Fits.{Sound}
-use Rattle.sock.proofs.Fields.{second-below}
-use Rattle.reading.proofs.Combining.{Words}
+use Rattle.sock.proofs.Fields.{turned-round, second-below}
 use Rattle.moving.proofs.Laid.{Near}
 use Rattle.rules.specs.declared.turn.Turn.{Turn}
 use Rattle.rules.specs.declared.pair.Offer.{Offer}
@@ -24,7 +23,7 @@ use Rattle.rules.specs.Turning.{at}
 use Rattle.rules.specs.Offering.{offerW, receivesW, fitsW, hearW, serveW, awaitsW, answerW, failW}
 use Rattle.rules.proofs.Offers.{Offers, silent, hearing, serving, not-kind, offers}
 use Rattle.rules.proofs.Exchanges.{Takes, hear-turns, serve-turns}
-use Rattle.rules.proofs.Waiters.{Awaits, awaiting, elsewhere, awaits, turned-round, fields, answer-turns, fail-turns}
+use Rattle.rules.proofs.Waiters.{Awaits, awaiting, elsewhere, awaits, fields, answer-turns, fail-turns}
 
 -- they meet: the receiver r turns as t says into q, where x takes v; or they don't
 pub data Meets (b : Bool) (r : Run) (t : Turn) (fresh : List ℕ) (v : ℕ) (made : Run → ℕ → Exchange) : Option Exchange → Type 0 where
@@ -109,48 +108,45 @@ module _ (issued : ℕ) (ws rest : List ℕ) (r : Run) (stands : ws ≡ runWords
 
 -- ---- a waiter
 
-module _ (n issued : ℕ) (ws : List ℕ) (ok : Words ws) (few : n ≤ 8) (small : issued < 65536) (rest : List ℕ) (vs : List ℕ) (fresh : List ℕ)
+module _ (n issued : ℕ) (ws : List ℕ) (few : n ≤ 8) (small : issued < 65536) (rest : List ℕ) (vs : List ℕ) (fresh : List ℕ)
     (room : 1 ≤ length fresh)
     (b : Bool) (what : (ℕ → Bool → Entries → Exchange) → Option Exchange) (serial : ℕ) where
   replies-when :
       (v : ℕ) (r : Run) → Sound n issued r → runDepth r ≤ 64 → ws ≡ runWords r ++ rest → Awaits b what r →
-      Meets b r (answerW (n * 65536 + issued) ws v fresh .turn) (answerW (n * 65536 + issued) ws v fresh .fresh) v
+      Meets b r (answerW ws v fresh .turn) (answerW ws v fresh .fresh) v
       (λ q x. record { sender = nil; receiver = q; values = set vs x v; issued = issued; serial = serial; fault = 0 })
       (what (λ x dead l. replied issued serial vs v x l))
   unfolding replied
   replies-when v r s deep stands (awaiting e k) =
-      rw (k _) (meets e (fields s .1) (answer-turns n issued ws ok few small rest s deep stands v fresh room))
+      rw (k _) (meets e (fields s .1) (answer-turns n issued ws few small rest s deep stands v fresh room))
   replies-when v r s deep stands (elsewhere e k) = rw (k _) (misses e)
 
   faults-when :
       (w : ℕ) (r : Run) → Sound n issued r → runDepth r ≤ 64 → ws ≡ runWords r ++ rest → Awaits b what r →
-      Strikes b r (failW (n * 65536 + issued) ws w fresh .turn) (failW (n * 65536 + issued) ws w fresh .fresh)
+      Strikes b r (failW ws w fresh .turn) (failW ws w fresh .fresh)
       (λ q. record { sender = nil; receiver = q; values = vs; issued = issued; serial = serial; fault = 1 })
       (what (λ x dead l. faulting issued serial vs (firstName w) dead))
   unfolding faulting
-  faults-when w r s deep stands (awaiting e k) = rw (k _) (strikes e (fail-turns n issued ws ok few small rest s deep stands w fresh room))
+  faults-when w r s deep stands (awaiting e k) = rw (k _) (strikes e (fail-turns n issued ws few small rest s deep stands w fresh room))
   faults-when w r s deep stands (elsewhere e k) = rw (k _) (spares e)
 
 -- ---- by rule
 
-module _ (n issued : ℕ) (ws : List ℕ) (ok : Words ws) (few : n ≤ 8) (small : issued < 65536) (rest : List ℕ)
+module _ (n issued : ℕ) (ws : List ℕ) (few : n ≤ 8) (small : issued < 65536) (rest : List ℕ)
     (r : Run) (sound : Sound n issued r) (deep : runDepth r ≤ 64) (stands : ws ≡ runWords r ++ rest) (vs : List ℕ) where
-  abbrev bound : ℕ
-  bound = n * 65536 + issued
-
   -- h is the sender's head
   pub notify-meets :
       (i h v : ℕ) (fresh : List ℕ) →
-      Meets (fitsW ws (offerW bound ws i) 7 h) r (hearW ws (offerW bound ws i) v) fresh v
+      Meets (fitsW ws (offerW ws i) 7 h) r (hearW ws (offerW ws i) v) fresh v
       (λ q x. record { sender = nil; receiver = q; values = set vs x v; issued = issued; serial = 0; fault = 0 })
       (notified issued vs (nameOf h) v (offer r i .receives) (offer r i .next))
-  notify-meets i h v fresh = hears-when issued ws rest r stands (offerW bound ws i) h v vs fresh
-      (offers n issued ws ok few small rest r sound deep stands i)
+  notify-meets i h v fresh = hears-when issued ws rest r stands (offerW ws i) h v vs fresh
+      (offers n issued ws few small rest r sound deep stands i)
 
   pub solicit-meets :
       (i h v client server x : ℕ) (l : Entries) (fresh : List ℕ) → Near (length ws) → Near (length fresh) → 4 ≤ length fresh →
-      Meets (fitsW ws (offerW bound ws i) 8 h) r
-      (serveW ws (offerW bound ws i) client (suc issued) v fresh .turn) (serveW ws (offerW bound ws i) client (suc issued) v fresh .fresh) v
+      Meets (fitsW ws (offerW ws i) 8 h) r
+      (serveW ws (offerW ws i) client (suc issued) v fresh .turn) (serveW ws (offerW ws i) client (suc issued) v fresh .fresh) v
       (λ q y.
       record {
         sender = waiter (nameOf h) x false server (suc issued) l;
@@ -162,26 +158,26 @@ module _ (n issued : ℕ) (ws : List ℕ) (ok : Words ws) (few : n ≤ 8) (small
       })
       (solicited issued client server vs (nameOf h) v x l (offer r i .receives) (offer r i .next))
   solicit-meets i h v client server x l fresh close near room =
-      serves-when issued ws rest r stands (offerW bound ws i) h v vs client server x l close fresh near room
-      (offers n issued ws ok few small rest r sound deep stands i)
+      serves-when issued ws rest r stands (offerW ws i) h v vs client server x l close fresh near room
+      (offers n issued ws few small rest r sound deep stands i)
 
   module _ (h serial client sender receiver : ℕ) (fresh : List ℕ) (room : 1 ≤ length fresh) where
     -- h is the executor's head
     pub reply-meets :
         (v : ℕ) →
-        Meets (awaitsW ws h serial client sender receiver) r (answerW bound ws v fresh .turn) (answerW bound ws v fresh .fresh) v
+        Meets (awaitsW ws h serial client sender receiver) r (answerW ws v fresh .turn) (answerW ws v fresh .fresh) v
         (λ q x. record { sender = nil; receiver = q; values = set vs x v; issued = issued; serial = serial; fault = 0 })
         (awaited sender receiver 0 (nameOf h) client serial r (λ x dead l. replied issued serial vs v x l))
     reply-meets v =
-        replies-when n issued ws ok few small rest vs fresh room _ _ serial v r sound deep stands
+        replies-when n issued ws few small rest vs fresh room _ _ serial v r sound deep stands
         (awaits ws rest h serial client sender receiver n issued few r sound stands)
 
     -- h and w are the notice's first words
     pub fault-strikes :
         (w : ℕ) →
-        Strikes (awaitsW ws h serial client sender receiver) r (failW bound ws w fresh .turn) (failW bound ws w fresh .fresh)
+        Strikes (awaitsW ws h serial client sender receiver) r (failW ws w fresh .turn) (failW ws w fresh .fresh)
         (λ q. record { sender = nil; receiver = q; values = vs; issued = issued; serial = serial; fault = 1 })
         (awaited sender receiver 0 (nameOf h) client serial r (λ x dead l. faulting issued serial vs (firstName w) dead))
     fault-strikes w =
-        faults-when n issued ws ok few small rest vs fresh room _ _ serial w r sound deep stands
+        faults-when n issued ws few small rest vs fresh room _ _ serial w r sound deep stands
         (awaits ws rest h serial client sender receiver n issued few r sound stands)

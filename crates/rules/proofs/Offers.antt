@@ -21,10 +21,9 @@ use Rattle.sock.proofs.Fits.{Fits, FitsParts, noPart, onePart, Sound, nilSound,
 use Rattle.sock.proofs.Nodes.{part-fits}
 use Rattle.sock.proofs.ByKind.{runKind, kind-asNode}
 use Rattle.sock.proofs.Measures.{words-act, depth-act}
-use Rattle.reading.proofs.Combining.{Words}
-use Rattle.reading.proofs.Ended.{code-end}
+use Rattle.skipping.proofs.Skips.{code-end}
 use Rattle.rules.specs.declared.pair.Offer.{Offer}
-use Rattle.rules.specs.Turning.{at, codeEnd}
+use Rattle.rules.specs.Turning.{at, partEnd}
 use Rattle.rules.specs.Offering.{offering, noOffer, bareW, branchAt, chosenW, choiceW, offerW, receivesW, fitsW}
 use Rattle.rules.proofs.Shapes.{Shape, assigns, branches, repeats, chooses, hears, serves, notifies, solicits, installs, throws, compensates, shape}
 use Rattle.rules.proofs.Turns.{head-on}
@@ -125,21 +124,18 @@ never-zero i = ne-eqb (suc i) 0 λ e. omega arith
 -- ---- the branches of a choice
 
 -- the branch with j others in front, in the parts that begin at a place
-pub record Branch (bound : ℕ) (ws : List ℕ) (ps : Nodes) (j place : ℕ) : Type 0 where
+pub record Branch (ws : List ℕ) (ps : Nodes) (j place : ℕ) : Type 0 where
   pub before : List ℕ
   pub behind : List ℕ
   pub whole : nodesWords ps ≡ before ++ (words (partAt ps (2 * j)) ++ (words (partAt ps (2 * j + 1)) ++ behind))
-  pub stands : branchAt bound ws j place ≡ place + length before
+  pub stands : branchAt ws j place ≡ place + length before
   pub first-deep : depth (partAt ps (2 * j)) ≤ nodesDepth ps
   pub second-deep : depth (partAt ps (2 * j + 1)) ≤ nodesDepth ps
 
-module _ (n issued : ℕ) (ws : List ℕ) (ok : Words ws) (few : n ≤ 8) (small : issued < 65536) where
-  abbrev bound : ℕ
-  bound = n * 65536 + issued
-
+module _ (n issued : ℕ) (ws : List ℕ) (few : n ≤ 8) (small : issued < 65536) where
   ends-at : (i : ℕ) (m : Node) (more : List ℕ) → Fits (code false) anywhere m → depth m ≤ 64 → drop i ws ≡ words m ++ more →
-      codeEnd bound ws i ≡ i + length (words m)
-  ends-at i m more f deep e = code-end ws ok n issued few small f 64 i deep more e
+      partEnd ws i ≡ i + length (words m)
+  ends-at i m more f deep e = code-end ws f 64 i deep more e
 
   -- what stands further on
   further : (i : ℕ) (a b : List ℕ) → drop i ws ≡ a ++ b → drop (i + length a) ws ≡ b
@@ -148,10 +144,10 @@ module _ (n issued : ℕ) (ws : List ℕ) (ok : Words ws) (few : n ≤ 8) (small
   -- one branch more in front
   passed :
       (p q : Node) (ps : Nodes) (j place : ℕ) →
-      codeEnd bound ws place ≡ place + length (words p) →
-      codeEnd bound ws (place + length (words p)) ≡ place + length (words p) + length (words q) →
-      Branch bound ws ps j (place + length (words p) + length (words q)) →
-      Branch bound ws (p & q & ps) (suc j) place
+      partEnd ws place ≡ place + length (words p) →
+      partEnd ws (place + length (words p)) ≡ place + length (words p) + length (words q) →
+      Branch ws ps j (place + length (words p) + length (words q)) →
+      Branch ws (p & q & ps) (suc j) place
   unfolding nodesWords nodesDepth branchAt
   passed p q ps j place one two b =
       let x : 2 * suc j ≡ suc (suc (2 * j)) = omega arith in
@@ -174,7 +170,7 @@ module _ (n issued : ℕ) (ws : List ℕ) (ok : Words ws) (few : n ≤ 8) (small
   branch :
       (j place : ℕ) (rest : List ℕ) {c : ℕ} {ps : Nodes} → FitsParts (code false) 6 c ps → 2 * j + 1 < c → nodesDepth ps ≤ 64 →
       drop place ws ≡ nodesWords ps ++ rest →
-      Branch bound ws ps j place
+      Branch ws ps j place
   unfolding nodesWords nodesDepth branchAt
   branch zero place rest noPart h deep e = absurd (omega arith)
   branch zero place rest (onePart f noPart) h deep e = absurd (omega arith)
@@ -196,8 +192,8 @@ module _ (n issued : ℕ) (ws : List ℕ) (ok : Words ws) (few : n ≤ 8) (small
       let at-q : drop (place + length (words p)) ws ≡ words q ++ (nodesWords ps ++ rest) = further place (words p) _ at-p in
       let at-ps : drop (place + length (words p) + length (words q)) ws ≡ nodesWords ps ++ rest =
       further (place + length (words p)) (words q) _ at-q in
-      let one : codeEnd bound ws place ≡ place + length (words p) = ends-at place p _ (part-fits all 0) (omega arith) at-p in
-      let two : codeEnd bound ws (place + length (words p)) ≡ place + length (words p) + length (words q) =
+      let one : partEnd ws place ≡ place + length (words p) = ends-at place p _ (part-fits all 0) (omega arith) at-p in
+      let two : partEnd ws (place + length (words p)) ≡ place + length (words p) + length (words q) =
       ends-at (place + length (words p)) q _ (part-fits all 1) (omega arith) at-q in
       passed p q ps j place one two (branch j (place + length (words p) + length (words q)) rest fs (omega arith) (omega arith) at-ps)
 
@@ -210,28 +206,28 @@ module _ (n issued : ℕ) (ws : List ℕ) (ok : Words ws) (few : n ≤ 8) (small
       head-at = head-on ws 0 (asNode r) rest stands
 
       quiet : (i : ℕ) {next : Option Node} → (kind (asNode r) ≡ 6 → ⊥) → (kind (asNode r) ≡ 7 → ⊥) → (kind (asNode r) ≡ 8 → ⊥) →
-          Offers ws r (offerW bound ws i) deaf next
+          Offers ws r (offerW ws i) deaf next
       unfolding offerW bareW
       quiet i {next} a b c = rw (ne-eqb (kindOf (at ws 0)) 6 (rw head-at a)) (by (eqb i 0))
         where
-          by : (z : Bool) → Offers ws r (cond z (offering 0 0 (codeEnd bound ws 0) (codeEnd bound ws 0)) noOffer) deaf next
+          by : (z : Bool) → Offers ws r (cond z (offering 0 0 (partEnd ws 0) (partEnd ws 0)) noOffer) deaf next
           by true =
-              let o = offering 0 0 (codeEnd bound ws 0) (codeEnd bound ws 0) in
+              let o = offering 0 0 (partEnd ws 0) (partEnd ws 0) in
               silent (λ h. not-kind ws r o 7 h (rw head-at b)) (λ h. not-kind ws r o 8 h (rw head-at c))
           by false = nothing-offered ws r noOffer refl
 
     -- a process that is no choice
     bare-offers :
         (m : Node) → Fits (code false) anywhere m → (kind m ≡ 6 → ⊥) → depth m ≤ 64 → ws ≡ words m ++ rest →
-        (i : ℕ) → Offers ws (act m) (offerW bound ws i) (bare m i .receives) (bare m i .next)
+        (i : ℕ) → Offers ws (act m) (offerW ws i) (bare m i .receives) (bare m i .next)
     unfolding offerW bareW bare
     bare-offers m f other deep stands zero =
         let head : at ws 0 ≡ headWord m = head-on ws 0 m rest stands in
-        let end : codeEnd bound ws 0 ≡ length (words m) = ends-at 0 m rest f deep stands
+        let end : partEnd ws 0 ≡ length (words m) = ends-at 0 m rest f deep stands
         ∙ (let z : 0 + length (words m) ≡ length (words m) = omega arith in z) in
         let d : depth m ≤ runDepth (act m) = omega (arith, depth-act m) in
         rw (ne-eqb (kindOf (at ws 0)) 6 (rw head other))
-        (offers-as ws (act m) (offering 0 0 (codeEnd bound ws 0) (codeEnd bound ws 0)) refl head
+        (offers-as ws (act m) (offering 0 0 (partEnd ws 0) (partEnd ws 0)) refl head
         (bareStands (words-act m) d refl refl end end) (heard m f))
     bare-offers m f other deep stands (suc i) =
         let head : at ws 0 ≡ headWord m = head-on ws 0 m rest stands in
@@ -250,19 +246,19 @@ module _ (n issued : ℕ) (ws : List ℕ) (ok : Words ws) (few : n ≤ 8) (small
       choice-head : at ws 0 ≡ h
       choice-head = head-on ws 0 whole rest stands
 
-      choice-end : codeEnd bound ws 0 ≡ length (words whole)
+      choice-end : partEnd ws 0 ≡ length (words whole)
       choice-end = ends-at 0 whole rest f deep stands ∙ (let z : 0 + length (words whole) ≡ length (words whole) = omega arith in z)
 
       parts-stand : drop 1 ws ≡ nodesWords ps ++ rest
       parts-stand = ap (drop 1) (stands ∙ ap (λ l. l ++ rest) choice-words)
 
-      parted : (i : ℕ) → i < countOf h → Branch bound ws ps i 1
+      parted : (i : ℕ) → i < countOf h → Branch ws ps i 1
       unfolding depth
       parted i below = branch i 1 rest pt (omega arith) (omega arith) parts-stand
 
       branch-offers :
-          (i : ℕ) → Branch bound ws ps i 1 →
-          Offers ws (act whole) (chosenW bound ws (branchAt bound ws i 1)) (receiver (partAt ps (2 * i))) (some (partAt ps (2 * i + 1)))
+          (i : ℕ) → Branch ws ps i 1 →
+          Offers ws (act whole) (chosenW ws (branchAt ws i 1)) (receiver (partAt ps (2 * i))) (some (partAt ps (2 * i + 1)))
       unfolding chosenW depth
       branch-offers i b =
           let m = partAt ps (2 * i) in
@@ -278,10 +274,10 @@ module _ (n issued : ℕ) (ws : List ℕ) (ok : Words ws) (few : n ≤ 8) (small
           let guard-stands : drop (1 + length (b .before)) ws ≡ words m ++ (words q ++ (b .behind ++ rest)) = further 1 (b .before) _ all in
           let next-stands : drop (1 + length (b .before) + length (words m)) ws ≡ words q ++ (b .behind ++ rest) =
           further (1 + length (b .before)) (words m) _ guard-stands in
-          let one : codeEnd bound ws (1 + length (b .before)) ≡ 1 + length (b .before) + length (words m) =
+          let one : partEnd ws (1 + length (b .before)) ≡ 1 + length (b .before) + length (words m) =
           ends-at (1 + length (b .before)) m _ fm (omega (arith, b .first-deep)) guard-stands in
           let two :
-          codeEnd bound ws (1 + length (b .before) + length (words m)) ≡ 1 + length (b .before) + length (words m) + length (words q) =
+          partEnd ws (1 + length (b .before) + length (words m)) ≡ 1 + length (b .before) + length (words m) + length (words q) =
           ends-at (1 + length (b .before) + length (words m)) q _ fq (omega (arith, b .second-deep)) next-stands in
           let head : at ws (1 + length (b .before)) ≡ headWord m = head-on ws (1 + length (b .before)) m _ guard-stands in
           let o = offering (1 + length (b .before)) (1 + length (b .before) + length (words m))
@@ -297,7 +293,7 @@ module _ (n issued : ℕ) (ws : List ℕ) (ok : Words ws) (few : n ≤ 8) (small
           (omega (arith, depth-act whole, b .second-deep)) shift (omega arith) refl long in
           rw (b .stands, one, two, choice-end) (offers-as ws (act whole) o refl head s (heard m fm))
 
-      choice-offers : (i : ℕ) → Offers ws (act whole) (offerW bound ws i) (chosen (countOf h) ps i .receives)
+      choice-offers : (i : ℕ) → Offers ws (act whole) (offerW ws i) (chosen (countOf h) ps i .receives)
           (chosen (countOf h) ps i .next)
       unfolding offerW choiceW chosen
       choice-offers zero = rw (choice-head, k) (nothing-offered ws (act whole) noOffer refl)
@@ -305,7 +301,7 @@ module _ (n issued : ℕ) (ws : List ℕ) (ok : Words ws) (few : n ≤ 8) (small
         where
           by :
               (a : Bool) → ltb i (countOf h) ≡ a →
-              Offers ws (act whole) (cond (ltb (countOf h) (suc i)) noOffer (chosenW bound ws (branchAt bound ws (suc i - 1) 1)))
+              Offers ws (act whole) (cond (ltb (countOf h) (suc i)) noOffer (chosenW ws (branchAt ws (suc i - 1) 1)))
               (chosen (countOf h) ps (suc i) .receives) (chosen (countOf h) ps (suc i) .next)
           by true e =
               let below : i < countOf h = ltb-true i (countOf h) e in
@@ -317,7 +313,7 @@ module _ (n issued : ℕ) (ws : List ℕ) (ok : Words ws) (few : n ≤ 8) (small
 
     act-offers :
         (m : Node) → Shape m → Fits (code false) anywhere m → depth m ≤ 64 → ws ≡ words m ++ rest →
-        (i : ℕ) → Offers ws (act m) (offerW bound ws i) (offered m i .receives) (offered m i .next)
+        (i : ℕ) → Offers ws (act m) (offerW ws i) (offered m i .receives) (offered m i .next)
     unfolding offered
     act-offers m (chooses {h} {ps} q c pt) f deep stands i = rw q (choice-offers h ps q pt f deep stands i)
     act-offers m (assigns {h} q g) f deep stands i = rw q (bare-offers m f (λ e. omega arith) deep stands i)
@@ -333,12 +329,12 @@ module _ (n issued : ℕ) (ws : List ℕ) (ok : Words ws) (few : n ≤ 8) (small
 
     calm :
         (r : Run) → Sound n issued r → ws ≡ runWords r ++ rest → (i : ℕ) {next : Option Node} →
-        (runKind r ≡ 6 → ⊥) → (runKind r ≡ 7 → ⊥) → (runKind r ≡ 8 → ⊥) → Offers ws r (offerW bound ws i) deaf next
+        (runKind r ≡ 6 → ⊥) → (runKind r ≡ 7 → ⊥) → (runKind r ≡ 8 → ⊥) → Offers ws r (offerW ws i) deaf next
     calm r s stands i a b c = let k = kind-asNode s in quiet r stands i (λ e. a (sym k ∙ e)) (λ e. b (sym k ∙ e)) (λ e. c (sym k ∙ e))
 
     -- what the process at the words offers a sender, by branch
     pub offers : (r : Run) → Sound n issued r → runDepth r ≤ 64 → ws ≡ runWords r ++ rest → (i : ℕ) →
-        Offers ws r (offerW bound ws i) (offer r i .receives) (offer r i .next)
+        Offers ws r (offerW ws i) (offer r i .receives) (offer r i .next)
     unfolding offer
     offers r nilSound deep stands i = calm r nilSound stands i (λ e. omega arith) (λ e. omega arith) (λ e. omega arith)
     offers r (seqSound a d q) deep stands i = calm r (seqSound a d q) stands i (λ e. omega arith) (λ e. omega arith) (λ e. omega arith)

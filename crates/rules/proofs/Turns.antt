@@ -22,12 +22,12 @@ use Rattle.sock.proofs.Fits.{Fits, FitsExpr, AllBelow}
 use Rattle.sock.proofs.Running.{enable-asNode, enable-done}
 use Rattle.sock.proofs.Measures.{words-act, words-seq, depth-nil, depth-seq, depth-act}
 use Rattle.reading.proofs.Combining.{Words}
-use Rattle.reading.proofs.Ended.{code-end}
+use Rattle.skipping.proofs.Skips.{code-end}
 use Rattle.moving.specs.Evaluating.{evaluated}
 use Rattle.moving.proofs.Evaluates.{evaluates}
 use Rattle.moving.proofs.Laid.{Near, Laid, laid-put, laid-then, laid-copy, copy-end}
 use Rattle.rules.specs.declared.turn.Turn.{Turn}
-use Rattle.rules.specs.Turning.{Turned, turned, vanishing, keeping, refused, at, partW, assignW, codeEnd, branchW, levelsLeft, unrollW, repeatW}
+use Rattle.rules.specs.Turning.{Turned, turned, vanishing, keeping, refused, at, partW, assignW, partEnd, branchW, levelsLeft, unrollW, repeatW}
 use Rattle.rules.proofs.Deep.{code-fits, head-nil}
 
 -- the words of q, which is not nil: fresh ones, then a part of r's own
@@ -157,8 +157,8 @@ module _ (n issued : ℕ) (ws : List ℕ) (ok : Words ws) (few : n ≤ 8) (small
   assign-turns h e g deep stands = rw (expr-value h e noParts g deep stands, expr-head h e noParts g deep stands)
 
   -- code that stands at a position ends there
-  ends-at : (i : ℕ) (m : Node) (more : List ℕ) → Fits (code false) anywhere m → depth m ≤ 64 → drop i ws ≡ words m ++ more → codeEnd bound ws i ≡ i + length (words m)
-  ends-at i m more f deep e = code-end ws ok n issued few small f 64 i deep more e
+  ends-at : (i : ℕ) (m : Node) (more : List ℕ) → Fits (code false) anywhere m → depth m ≤ 64 → drop i ws ≡ words m ++ more → partEnd ws i ≡ i + length (words m)
+  ends-at i m more f deep e = code-end ws f 64 i deep more e
 
   module _ (h : ℕ) (e : Expr) (p q : Node) (g : FitsExpr e) (fp : Fits (code false) anywhere p) (fq : Fits (code false) anywhere q)
       (deep : depth (node h [] (e ∷ []) absent (p & q & noParts)) ≤ 64) (stands : ws ≡ words (node h [] (e ∷ []) absent (p & q & noParts)) ++ rest)
@@ -173,7 +173,7 @@ module _ (n issued : ℕ) (ws : List ℕ) (ok : Words ws) (few : n ≤ 8) (small
     stands-act : ws ≡ runWords (act m) ++ rest
     stands-act = stands ∙ ap (λ l. l ++ rest) (sym (words-act m))
 
-    first-ends : codeEnd bound ws (length (h ∷ exprWords e)) ≡ length (h ∷ exprWords e) + length (words p)
+    first-ends : partEnd ws (length (h ∷ exprWords e)) ≡ length (h ∷ exprWords e) + length (words p)
     unfolding depth
     first-ends =
         ends-at (length (h ∷ exprWords e)) p (words q ++ rest) fp (omega arith)
@@ -185,13 +185,13 @@ module _ (n issued : ℕ) (ws : List ℕ) (ok : Words ws) (few : n ≤ 8) (small
     long : length ((h ∷ exprWords e) ++ words p) ≡ length (h ∷ exprWords e) + length (words p)
     long = length-append (h ∷ exprWords e) (words p)
 
-    second-ends : codeEnd bound ws (length (h ∷ exprWords e) + length (words p)) ≡ length (h ∷ exprWords e) + length (words p) + length (words q)
+    second-ends : partEnd ws (length (h ∷ exprWords e) + length (words p)) ≡ length (h ∷ exprWords e) + length (words p) + length (words q)
     unfolding depth
     second-ends =
         ends-at (length (h ∷ exprWords e) + length (words p)) q rest fq (omega arith)
         (rw (← long) (part-stands ws rest (act m) q fq ((h ∷ exprWords e) ++ words p) [] stands-act again 32 0 fresh))
 
-    pub branch-turns : Becomes (act m) (enable (cond (isTrue (evaluate vs e)) p q)) (branchW bound ws (valuesWords vs)) fresh
+    pub branch-turns : Becomes (act m) (enable (cond (isTrue (evaluate vs e)) p q)) (branchW ws (valuesWords vs)) fresh
     unfolding branchW isTrue
     branch-turns =
         rw (expr-value h e (p & q & noParts) g deep stands, first-ends, second-ends) (by (eqb (evaluate vs e) 0))
@@ -224,7 +224,7 @@ module _ (n issued : ℕ) (ws : List ℕ) (ok : Words ws) (few : n ≤ 8) (small
     body-stands : drop (length (h ∷ exprWords e)) ws ≡ words p ++ rest
     body-stands = part-stands ws rest (act w) p fp (h ∷ exprWords e) [] stands-while one-words 32 0 fresh
 
-    body-ends : codeEnd bound ws (length (h ∷ exprWords e)) ≡ length (h ∷ exprWords e) + length (words p)
+    body-ends : partEnd ws (length (h ∷ exprWords e)) ≡ length (h ∷ exprWords e) + length (words p)
     unfolding depth
     body-ends = ends-at (length (h ∷ exprWords e)) p rest fp (omega arith) body-stands
 

@@ -18,14 +18,13 @@ use Rattle.sock.specs.Frames.{isDone}
 use Rattle.sock.specs.Configuration.{guarded}
 use Rattle.sock.specs.Rules.{Exchange, awaited, instOf, throwOf}
 use Rattle.sock.proofs.Fits.{Fits, Sound, nilSound, seqSound, parSound, scopeSound, executorSound, waiterSound, noticeSound, actSound}
-use Rattle.sock.proofs.Fields.{head-kind, fields-below, name-of, second-of, server-of, end-tests}
+use Rattle.sock.proofs.Fields.{turned-round, head-kind, fields-below, name-of, second-of, server-of, end-tests}
 use Rattle.sock.proofs.ByKind.{runKind, kind-asNode, code-kind}
 use Rattle.sock.proofs.Measures.{words-act, words-waiter, depth-nil, depth-act, depth-waiter}
-use Rattle.reading.proofs.Combining.{Words}
-use Rattle.reading.proofs.Ended.{code-end, run-end}
+use Rattle.skipping.proofs.Skips.{code-end, run-end}
 use Rattle.moving.proofs.Laid.{Near, laid-put}
-use Rattle.rules.specs.Turning.{turned, vanishing, keeping, at, codeEnd}
-use Rattle.rules.specs.Offering.{receivesW, waiterHead, askW, waitsW, awaitsW, runEnd, answerW, throwHead, failW}
+use Rattle.rules.specs.Turning.{turned, vanishing, keeping, at, partEnd}
+use Rattle.rules.specs.Offering.{receivesW, waiterHead, askW, waitsW, awaitsW, answerW, throwHead, failW}
 use Rattle.rules.proofs.Turns.{becomes-nil, head-on}
 use Rattle.rules.proofs.Exchanges.{Takes, keeps, three-to, three-laid, first-place}
 
@@ -46,10 +45,7 @@ pub fields : {n issued o x server serial : ℕ} {dead : Bool} {l : Entries} → 
     (o < 64) × (x < 32) × T (endFits n issued server serial)
 fields (waiterSound a b e f) = (a, b, e)
 
-module _ (n issued : ℕ) (ws : List ℕ) (ok : Words ws) (few : n ≤ 8) (small : issued < 65536) (rest : List ℕ) where
-  abbrev bound : ℕ
-  bound = n * 65536 + issued
-
+module _ (n issued : ℕ) (ws : List ℕ) (few : n ≤ 8) (small : issued < 65536) (rest : List ℕ) where
   -- ---- a solicit
 
   module _ (h w : ℕ) (l : Entries) (f : Fits (code false) anywhere (node h (w ∷ []) [] (list l) noParts))
@@ -61,13 +57,13 @@ module _ (n issued : ℕ) (ws : List ℕ) (ok : Words ws) (few : n ≤ 8) (small
     unfolding words exprsWords
     asks-words = ap (λ a. h ∷ w ∷ count l ∷ a) (append-nil (entriesWords l))
 
-    asks-end : codeEnd bound ws 0 ≡ 2 + length (listed l)
-    asks-end = code-end ws ok n issued few small f 64 0 deep rest stands ∙ omega (arith, ap length asks-words)
+    asks-end : partEnd ws 0 ≡ 2 + length (listed l)
+    asks-end = code-end ws f 64 0 deep rest stands ∙ omega (arith, ap length asks-words)
 
     pub ask-turns :
         (server serial : ℕ) (fresh : List ℕ) → Near (length fresh) → 3 ≤ length fresh →
-        Takes (act m) (waiter (nameOf h) (nextVariable w) false server serial l) (askW bound ws server serial fresh .turn)
-        (askW bound ws server serial fresh .fresh) 32 0
+        Takes (act m) (waiter (nameOf h) (nextVariable w) false server serial l) (askW ws server serial fresh .turn)
+        (askW ws server serial fresh .fresh) 32 0
     unfolding askW isDone depth exprsDepth
     ask-turns server serial fresh near room =
         let full : ws ≡ h ∷ w ∷ (listed l ++ rest) = stands ∙ ap (λ a. a ++ rest) asks-words in
@@ -119,13 +115,13 @@ module _ (n issued : ℕ) (ws : List ℕ) (ok : Words ws) (few : n ≤ 8) (small
     third-word : at ws 2 ≡ serial
     third-word = ap (λ a. at a 2) full
 
-    waits-end : runEnd bound ws ≡ 3 + length (listed l)
+    waits-end : partEnd ws 0 ≡ 3 + length (listed l)
     unfolding size
-    waits-end = run-end ws ok n issued few small s 64 0 deep rest stands ∙ omega (arith, ap length waits-words)
+    waits-end = run-end ws n issued few small s 64 0 deep rest stands ∙ omega (arith, ap length waits-words)
 
     pub answer-turns :
         (v : ℕ) (fresh : List ℕ) → 1 ≤ length fresh →
-        Takes r (act (instOf l)) (answerW bound ws v fresh .turn) (answerW bound ws v fresh .fresh) x v
+        Takes r (act (instOf l)) (answerW ws v fresh .turn) (answerW ws v fresh .fresh) x v
     unfolding answerW isDone words exprsWords depth exprsDepth
     answer-turns v fresh room =
         let mine : runWords r ≡ own ++ (listed l ++ []) = waits-words ∙ ap (λ a. own ++ a) (sym (append-nil (listed l))) in
@@ -151,7 +147,7 @@ module _ (n issued : ℕ) (ws : List ℕ) (ok : Words ws) (few : n ≤ 8) (small
 
     pub fail-turns :
         (w : ℕ) (fresh : List ℕ) → 1 ≤ length fresh →
-        Takes r (cond dead nil (act (throwOf (firstName w)))) (failW bound ws w fresh .turn) (failW bound ws w fresh .fresh) 32 0
+        Takes r (cond dead nil (act (throwOf (firstName w)))) (failW ws w fresh .turn) (failW ws w fresh .fresh) 32 0
     unfolding failW isDone words exprsWords depth exprsDepth
     fail-turns w fresh room = rw (second-word, is-dead, waits-end, first-place) (by dead)
       where
@@ -209,13 +205,6 @@ nested false false true true = refl
 nested false false true false = refl
 nested false false false true = refl
 nested false false false false = refl
-
-pub turned-round : (a b : ℕ) → eqb a b ≡ eqb b a
-turned-round a b = by (eqb b a) refl
-  where
-    by : (t : Bool) → eqb b a ≡ t → eqb a b ≡ t
-    by true e = eq-eqb a b (sym (eqb-true b a e))
-    by false e = ne-eqb a b λ z. eqb-false b a e (sym z)
 
 module _ (ws rest : List ℕ) (h serial client sender receiver : ℕ) where
   -- no waiter

@@ -4,9 +4,8 @@ use mathlib.Core.Bool.{Bool, true, false, cond}
 use mathlib.Core.List.{List}
 use lib.Dec.{leb, ltb, eqb}
 use lib.ListN.{set}
-use Rattle.reading.specs.Walk.{processEnd}
 use Rattle.moving.specs.Writing.{onward}
-use Rattle.rules.specs.Turning.{Turned, turned, vanishing, keeping, at, partW, codeEnd}
+use Rattle.rules.specs.Turning.{Turned, turned, vanishing, keeping, at, partW, partEnd}
 use Rattle.rules.specs.declared.turn.Turn.{Turn}
 use Rattle.rules.specs.declared.pair.Offer.{Offer}
 
@@ -18,21 +17,21 @@ offering guard next upto end = record { some = true; guard = guard; next = next;
 abbrev pub noOffer : Offer
 noOffer = record { some = false; guard = 0; next = 0; upto = 0; end = 0 }
 
-unfoldable pub bareW : ℕ → List ℕ → ℕ → Offer
-bareW bound ws i = cond (eqb i 0) (offering 0 0 (codeEnd bound ws 0) (codeEnd bound ws 0)) noOffer
+unfoldable pub bareW : List ℕ → ℕ → Offer
+bareW ws i = cond (eqb i 0) (offering 0 0 (partEnd ws 0) (partEnd ws 0)) noOffer
 
-unfoldable pub branchAt : ℕ → List ℕ → ℕ → ℕ → ℕ
-branchAt bound ws zero i = i
-branchAt bound ws (suc n) i = branchAt bound ws n (codeEnd bound ws (codeEnd bound ws i))
+unfoldable pub branchAt : List ℕ → ℕ → ℕ → ℕ
+branchAt ws zero i = i
+branchAt ws (suc n) i = branchAt ws n (partEnd ws (partEnd ws i))
 
-unfoldable pub chosenW : ℕ → List ℕ → ℕ → Offer
-chosenW bound ws guard = offering guard (codeEnd bound ws guard) (codeEnd bound ws (codeEnd bound ws guard)) (codeEnd bound ws 0)
+unfoldable pub chosenW : List ℕ → ℕ → Offer
+chosenW ws guard = offering guard (partEnd ws guard) (partEnd ws (partEnd ws guard)) (partEnd ws 0)
 
-unfoldable pub choiceW : ℕ → List ℕ → ℕ → ℕ → Offer
-choiceW bound ws count i = cond (eqb i 0) noOffer (cond (ltb count i) noOffer (chosenW bound ws (branchAt bound ws (i - 1) 1)))
+unfoldable pub choiceW : List ℕ → ℕ → ℕ → Offer
+choiceW ws count i = cond (eqb i 0) noOffer (cond (ltb count i) noOffer (chosenW ws (branchAt ws (i - 1) 1)))
 
-unfoldable pub offerW : ℕ → List ℕ → ℕ → Offer
-offerW bound ws i = cond (eqb (at ws 0 / 2048) 6) (choiceW bound ws (at ws 0 % 2048) i) (bareW bound ws i)
+unfoldable pub offerW : List ℕ → ℕ → Offer
+offerW ws i = cond (eqb (at ws 0 / 2048) 6) (choiceW ws (at ws 0 % 2048) i) (bareW ws i)
 
 unfoldable pub receivesW : ℕ → ℕ → ℕ → Bool
 receivesW g kind h = cond (eqb (g / 2048) kind) (cond (eqb (g / 32 % 64) (h / 32 % 64)) true false) false
@@ -82,9 +81,9 @@ serveW ws o client serial v fresh =
     turned (keeping (threeTo (s .to)) (onward (o .guard) 2) (o .upto) (o .end) (h % 32) v)
     (threeW (s .fresh) (s .to) (executorHead h (at ws (onward (o .guard) 1))) (client * 8192) serial)
 
-unfoldable pub askW : ℕ → List ℕ → ℕ → ℕ → List ℕ → Turned
-askW bound ws server serial fresh =
-    turned (keeping (threeTo 0) 2 (codeEnd bound ws 0) (codeEnd bound ws 0) 32 0)
+unfoldable pub askW : List ℕ → ℕ → ℕ → List ℕ → Turned
+askW ws server serial fresh =
+    turned (keeping (threeTo 0) 2 (partEnd ws 0) (partEnd ws 0) 32 0)
     (threeW fresh 0 (waiterHead (at ws 0) (at ws 1)) (server * 4096) serial)
 
 unfoldable pub waitsW : List ℕ → ℕ → ℕ → Bool
@@ -94,15 +93,11 @@ unfoldable pub awaitsW : List ℕ → ℕ → ℕ → ℕ → ℕ → ℕ → Bo
 awaitsW ws h serial client sender receiver =
     cond (eqb client receiver) (cond (eqb (at ws 1 / 4096 % 8) sender) (waitsW ws h serial) false) false
 
--- where what runs at the start ends
-abbrev pub runEnd : ℕ → List ℕ → ℕ
-runEnd bound ws = processEnd 64 ws bound 8 0
+unfoldable pub answerW : List ℕ → ℕ → List ℕ → Turned
+answerW ws v fresh =
+    turned (keeping (onward 0 1) 3 (partEnd ws 0) (partEnd ws 0) (at ws 0 % 32) v) (set fresh 0 24576)
 
-unfoldable pub answerW : ℕ → List ℕ → ℕ → List ℕ → Turned
-answerW bound ws v fresh =
-    turned (keeping (onward 0 1) 3 (runEnd bound ws) (runEnd bound ws) (at ws 0 % 32) v) (set fresh 0 24576)
-
-unfoldable pub failW : ℕ → List ℕ → ℕ → List ℕ → Turned
-failW bound ws w fresh =
+unfoldable pub failW : List ℕ → ℕ → List ℕ → Turned
+failW ws w fresh =
     cond (leb 32768 (at ws 1)) (turned (vanishing 32 0) fresh)
-    (turned (keeping (onward 0 1) (runEnd bound ws) (runEnd bound ws) (runEnd bound ws) 32 0) (set fresh 0 (throwHead w)))
+    (turned (keeping (onward 0 1) (partEnd ws 0) (partEnd ws 0) (partEnd ws 0) 32 0) (set fresh 0 (throwHead w)))

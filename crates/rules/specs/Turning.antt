@@ -5,6 +5,7 @@ use mathlib.Core.List.{List}
 use lib.Dec.{ltb, eqb}
 use lib.ListN.{getD, set}
 use Rattle.reading.specs.Walk.{processEnd}
+use Rattle.skipping.specs.Skip.{skipEnd}
 use Rattle.moving.specs.Writing.{pasted, pastedEnd}
 use Rattle.moving.specs.Evaluating.{evaluated}
 use Rattle.rules.specs.declared.turn.Turn.{Turn}
@@ -35,15 +36,15 @@ partW ws from upto end x v = cond (eqb (at ws from) 0) (vanishing x v) (keeping 
 unfoldable pub assignW : List ℕ → List ℕ → Turn
 assignW ws vs = vanishing (at ws 0 / 64 % 32) (evaluated 64 ws vs 1 .value)
 
--- where code at a position ends
-abbrev pub codeEnd : ℕ → List ℕ → ℕ → ℕ
-codeEnd bound ws i = processEnd 64 ws bound 0 i
+-- where the process at a position ends
+abbrev pub partEnd : List ℕ → ℕ → ℕ
+partEnd ws i = skipEnd 64 ws i
 
-unfoldable pub branchW : ℕ → List ℕ → List ℕ → Turn
-branchW bound ws vs =
+unfoldable pub branchW : List ℕ → List ℕ → Turn
+branchW ws vs =
     let e = evaluated 64 ws vs 1 in
-    let q = codeEnd bound ws (e .end) in
-    let end = codeEnd bound ws q in
+    let q = partEnd ws (e .end) in
+    let end = partEnd ws q in
     cond (eqb (e .value) 0) (partW ws q end end 32 0) (partW ws (e .end) q end 32 0)
 
 unfoldable pub levelsLeft : ℕ → ℕ
@@ -55,7 +56,7 @@ unrollW ws from end fresh = turned (keeping (pastedEnd ws from end 1) 0 end end 
 unfoldable pub repeatW : ℕ → ℕ → List ℕ → List ℕ → List ℕ → Turned
 repeatW level bound ws vs fresh =
     let e = evaluated 64 ws vs 1 in
-    let end = codeEnd bound ws (e .end) in
+    let end = partEnd ws (e .end) in
     cond (eqb (e .value) 0) (turned (vanishing 32 0) fresh)
     (cond (eqb (at ws (e .end)) 0) (turned (keeping 0 0 end end 32 0) fresh)
     (cond (eqb (processEnd (levelsLeft level) ws bound 0 0) 0) (turned (refused 8) fresh)

@@ -10,6 +10,7 @@ use moving::write::copy;
 use moving::write::put;
 use reading::reader::process;
 use reading::reader::wide;
+use skipping::skip::skip;
 ghost use mathlib.Core.Path.{_≡_};
 ghost use lib.ListN.{length};
 ghost use Rattle.rules.specs.Turning.{assignW, branchW, unrollW, repeatW, levelsLeft};
@@ -24,13 +25,13 @@ pub fn assign(part: &[u16], values: &[u16]) -> Turn
 }
 
 // An if becomes its first process, or its second.
-pub fn branch(part: &[u16], values: &[u16], bound: usize) -> Turn
+pub fn branch(part: &[u16], values: &[u16]) -> Turn
     requires { ⌜ length (now values) ≡ 64 ⌝ }
-    ensures { λ r. ⌜ r ≡ branchW bound (now (part .entry)) (now (values .entry)) ⌝ }
+    ensures { λ r. ⌜ r ≡ branchW (now (part .entry)) (now (values .entry)) ⌝ }
 {
     let e = evaluate(part, values, 1, 64);
-    let q = process(part, e.end, 64, 0, bound);
-    let end = process(part, q, 64, 0, bound);
+    let q = skip(part, e.end, 64);
+    let end = skip(part, q, 64);
     if e.value == 0 {
         return to_part(part, q, end, end, 32, 0);
     }
@@ -59,7 +60,7 @@ pub fn repeat(part: &[u16], values: &[u16], level: usize, bound: usize, fresh: &
 {
     let e = evaluate(part, values, 1, 64);
     let body = e.end;
-    let end = process(part, body, 64, 0, bound);
+    let end = skip(part, body, 64);
     if e.value == 0 {
         return to_nil(32, 0);
     }

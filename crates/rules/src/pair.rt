@@ -6,8 +6,8 @@ use crate::turn::to_part;
 use crate::turn::word;
 use moving::write::further;
 use moving::write::put;
-use reading::reader::process;
 use reading::reader::wide;
+use skipping::skip::skip;
 ghost use mathlib.Core.Path.{_≡_};
 ghost use Prim.Native.Nat.{_<_};
 ghost use Rattle.rules.specs.Offering.{noOffer, bareW, branchAt, choiceW, offerW, receivesW, fitsW, hearW, executorHead, seqFirst, threeTo, threeW, serveW, waiterHead, askW, waitsW, awaitsW, answerW, throwHead, failW};
@@ -34,13 +34,13 @@ fn nothing() -> Offer
 }
 
 // A bare receiver, for branch 0.
-fn bare(part: &[u16], branch: usize, bound: usize) -> Offer
-    ensures { λ r. ⌜ r ≡ bareW bound (now (part .entry)) branch ⌝ }
+fn bare(part: &[u16], branch: usize) -> Offer
+    ensures { λ r. ⌜ r ≡ bareW (now (part .entry)) branch ⌝ }
 {
     if branch != 0 {
         return nothing();
     }
-    let end = process(part, 0, 64, 0, bound);
+    let end = skip(part, 0, 64);
     Offer {
         some: true,
         guard: 0,
@@ -51,22 +51,22 @@ fn bare(part: &[u16], branch: usize, bound: usize) -> Offer
 }
 
 // Where the branch with `before` others in front of it begins.
-fn branch_at(part: &[u16], before: usize, bound: usize) -> usize
-    ensures { λ r. ⌜ r ≡ branchAt bound (now (part .entry)) before 1 ⌝ }
+fn branch_at(part: &[u16], before: usize) -> usize
+    ensures { λ r. ⌜ r ≡ branchAt (now (part .entry)) before 1 ⌝ }
 {
     let mut at = 1;
     let mut left = before;
     while 0 < left {
-        let p = process(part, at, 64, 0, bound);
-        at = process(part, p, 64, 0, bound);
+        let p = skip(part, at, 64);
+        at = skip(part, p, 64);
         left = left - 1;
     }
     at
 }
 
 // A choice's branch, counted from 1.
-fn chosen(part: &[u16], count: usize, branch: usize, bound: usize) -> Offer
-    ensures { λ r. ⌜ r ≡ choiceW bound (now (part .entry)) count branch ⌝ }
+fn chosen(part: &[u16], count: usize, branch: usize) -> Offer
+    ensures { λ r. ⌜ r ≡ choiceW (now (part .entry)) count branch ⌝ }
 {
     if branch == 0 {
         return nothing();
@@ -74,10 +74,10 @@ fn chosen(part: &[u16], count: usize, branch: usize, bound: usize) -> Offer
     if count < branch {
         return nothing();
     }
-    let guard = branch_at(part, branch - 1, bound);
-    let next = process(part, guard, 64, 0, bound);
-    let upto = process(part, next, 64, 0, bound);
-    let end = process(part, 0, 64, 0, bound);
+    let guard = branch_at(part, branch - 1);
+    let next = skip(part, guard, 64);
+    let upto = skip(part, next, 64);
+    let end = skip(part, 0, 64);
     Offer {
         some: true,
         guard,
@@ -87,14 +87,14 @@ fn chosen(part: &[u16], count: usize, branch: usize, bound: usize) -> Offer
     }
 }
 
-pub fn offered(part: &[u16], branch: usize, bound: usize) -> Offer
-    ensures { λ r. ⌜ r ≡ offerW bound (now (part .entry)) branch ⌝ }
+pub fn offered(part: &[u16], branch: usize) -> Offer
+    ensures { λ r. ⌜ r ≡ offerW (now (part .entry)) branch ⌝ }
 {
     let h = wide(word(part, 0));
     if h / 2048 == 6 {
-        return chosen(part, h % 2048, branch, bound);
+        return chosen(part, h % 2048, branch);
     }
-    bare(part, branch, bound)
+    bare(part, branch)
 }
 
 // Whether the head g is of that kind, with the operation of the head h.
@@ -175,9 +175,9 @@ fn waiter_head(h: u16, w: u16) -> u16
 }
 
 // A solicit becomes a waiter.
-pub fn ask(part: &[u16], server: u16, serial: u16, bound: usize, fresh: &mut [u16]) -> Turn
+pub fn ask(part: &[u16], server: u16, serial: u16, fresh: &mut [u16]) -> Turn
     requires { ⌜ server < 8 ⌝ }
-    ensures { λ r. ⌜ (r ≡ askW bound (now (part .entry)) server serial (now (fresh .entry)) .turn) × (now (fresh .exit) ≡ askW bound (now (part .entry)) server serial (now (fresh .entry)) .fresh) ⌝ }
+    ensures { λ r. ⌜ (r ≡ askW (now (part .entry)) server serial (now (fresh .entry)) .turn) × (now (fresh .exit) ≡ askW (now (part .entry)) server serial (now (fresh .entry)) .fresh) ⌝ }
 {
     let g = three(
         fresh,
@@ -186,7 +186,7 @@ pub fn ask(part: &[u16], server: u16, serial: u16, bound: usize, fresh: &mut [u1
         server * 4096,
         serial,
     );
-    let end = process(part, 0, 64, 0, bound);
+    let end = skip(part, 0, 64);
     keep(g, 2, end, end, 32, 0)
 }
 
@@ -221,11 +221,11 @@ pub fn awaits(
 }
 
 // A reply: x takes v, and the waiter becomes inst of its list.
-pub fn answer(part: &[u16], v: u32, bound: usize, fresh: &mut [u16]) -> Turn
-    ensures { λ r. ⌜ (r ≡ answerW bound (now (part .entry)) v (now (fresh .entry)) .turn) × (now (fresh .exit) ≡ answerW bound (now (part .entry)) v (now (fresh .entry)) .fresh) ⌝ }
+pub fn answer(part: &[u16], v: u32, fresh: &mut [u16]) -> Turn
+    ensures { λ r. ⌜ (r ≡ answerW (now (part .entry)) v (now (fresh .entry)) .turn) × (now (fresh .exit) ≡ answerW (now (part .entry)) v (now (fresh .entry)) .fresh) ⌝ }
 {
     let g = put(fresh, 0, 24576);
-    let end = process(part, 0, 64, 8, bound);
+    let end = skip(part, 0, 64);
     keep(g, 3, end, end, wide(word(part, 0)) % 32, v)
 }
 
@@ -236,13 +236,13 @@ fn throw_head(w: u16) -> u16
 }
 
 // A fault, from the word w of its notice: a live waiter becomes throw, a dead one nil.
-pub fn fail(part: &[u16], w: u16, bound: usize, fresh: &mut [u16]) -> Turn
-    ensures { λ r. ⌜ (r ≡ failW bound (now (part .entry)) w (now (fresh .entry)) .turn) × (now (fresh .exit) ≡ failW bound (now (part .entry)) w (now (fresh .entry)) .fresh) ⌝ }
+pub fn fail(part: &[u16], w: u16, fresh: &mut [u16]) -> Turn
+    ensures { λ r. ⌜ (r ≡ failW (now (part .entry)) w (now (fresh .entry)) .turn) × (now (fresh .exit) ≡ failW (now (part .entry)) w (now (fresh .entry)) .fresh) ⌝ }
 {
     if 32768 <= word(part, 1) {
         return to_nil(32, 0);
     }
     let g = put(fresh, 0, throw_head(w));
-    let end = process(part, 0, 64, 8, bound);
+    let end = skip(part, 0, 64);
     keep(g, end, end, end, 32, 0)
 }

@@ -23,7 +23,6 @@ use Rattle.sock.proofs.Running.{enable-asNode, enable-done}
 use Rattle.sock.proofs.Measures.{words-act}
 use Rattle.reading.specs.Walk.{processEnd}
 use Rattle.reading.proofs.Combining.{Words}
-use Rattle.reading.proofs.Ended.{code-end}
 use Rattle.finding.specs.declared.find.Spot.{Spot}
 use Rattle.finding.proofs.Framing.{scoped, region, nearest-self}
 use Rattle.finding.proofs.Spots.{Spotted}
@@ -116,12 +115,12 @@ module _ (f target : ℕ) (r : Run) (start : ℕ) (l : Located) (s : Spot) (ws :
   -- with a scope around it
   module _ (t : T (scoped (l .frames))) where
     abbrev took : Took
-    took = takeW 64 bound ws (s .scope + 2) k fresh
+    took = takeW 64 ws (s .scope + 2) k fresh
 
     taking : Takes ws k es fresh took
     taking =
         let a = list-at f target r start 1 l s ws (drop (start + size r) ws) words-at spotted t in
-        takes ws near bound 64 (λ d i x rest g b e. code-end ws ok n issued few small g d i b rest e) k (nearest-fits frames)
+        takes ws near 64 k (nearest-fits frames)
         (list-deep f target r start l s ws words-at spotted near frames deep t) (s .scope + 2) (a .0) (a .1) fresh
 
     list-short : s .scope + 3 + length (entriesWords es) ≤ length ws
@@ -197,8 +196,8 @@ module _ (f target : ℕ) (r : Run) (start : ℕ) (l : Located) (s : Spot) (ws :
       handler-made : part to (to + length (words m)) (pasted ws from upto (took .out) to) ≡ words m
       handler-made = laid-part (omega (arith, room-enough, taking .keeps)) pasting refl
 
-      moves : Plans ws start (start + size r) (movedW bound ws s (took .answer) (took .out) .plan)
-          (movedW bound ws s (took .answer) (took .out) .fresh)
+      moves : Plans ws start (start + size r) (movedW ws s (took .answer) (took .out) .plan)
+          (movedW ws s (took .answer) (took .out) .fresh)
           (plug changed (enable m))
       unfolding movedW
       moves =
@@ -206,7 +205,7 @@ module _ (f target : ℕ) (r : Run) (start : ℕ) (l : Located) (s : Spot) (ws :
           let before = list-before f target r start l s ws words-at spotted near frames deep t in
           rw (
             to-list f target r start l s ws words-at spotted near frames deep t,
-            list-ends f target r start l s ws words-at spotted near frames deep t ok bound,
+            list-ends f target r start l s ws words-at spotted near frames deep t,
             spotted .at,
             onward-near target 1 (length ws) near (omega (arith, inside, one-inside)),
             pasted-to,
@@ -235,7 +234,7 @@ module _ (f target : ℕ) (r : Run) (start : ℕ) (l : Located) (s : Spot) (ws :
       -- if there are levels left for it
       placed : (b : Bool) → leb (depth m) (levelsAt (s .level)) ≡ b →
           Result (cond (eqb (cond b (from + length (words m)) 0) 0) (planned (refusedPlan 8) (took .out))
-          (movedW bound ws s (took .answer) (took .out)))
+          (movedW ws s (took .answer) (took .out)))
       unfolding movedW
       placed false e =
           let low = level-low f target r start l s ws words-at spotted near frames deep in (
@@ -280,7 +279,7 @@ module _ (f target : ℕ) (r : Run) (start : ℕ) (l : Located) (s : Spot) (ws :
         by : (b : Bool) → holds k es ≡ b →
             Result (cond (eqb (took .answer .upto) 0) (nilW s start start 0 32 0 (took .out))
             (cond (eqb (processEnd (levelsAt (s .level)) ws bound 0 (took .answer .from)) 0) (planned (refusedPlan 8) (took .out))
-            (movedW bound ws s (took .answer) (took .out))))
+            (movedW ws s (took .answer) (took .out))))
         by true e =
             let x : Stands ws (took .answer .from) (took .answer .upto) m = stands e in
             rw (

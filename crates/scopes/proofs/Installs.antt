@@ -21,15 +21,12 @@ use Rattle.sock.proofs.Located.{wrap, size-positive}
 use Rattle.sock.proofs.Measures.{words-act, size-nil, depth-nil, depth-act}
 use Rattle.sock.proofs.Positions.{at-head}
 use Rattle.sock.proofs.Shrinking.{NoLarger, plug-shrinks}
-use Rattle.reading.proofs.Combining.{Words}
-use Rattle.reading.proofs.Ended.{code-end}
 use Rattle.finding.specs.declared.find.Spot.{Spot}
 use Rattle.finding.proofs.Framing.{scoped, region, nearest-self}
 use Rattle.finding.proofs.Within.{within}
 use Rattle.finding.proofs.Stops.{stopped, anyScope, Standing, nowhere, somewhere}
 use Rattle.finding.proofs.Spots.{Spotted}
 use Rattle.finding.proofs.Edits.{process-at, list-at, region-changed, scope-none}
-use Rattle.finding.proofs.Readers.{reader}
 use Rattle.finding.proofs.Search.{found}
 use Rattle.moving.specs.Writing.{onward}
 use Rattle.moving.proofs.Laid.{Near, near-of, onward-near}
@@ -83,16 +80,16 @@ module _ (f target : ℕ) (r : Run) (start : ℕ) (l : Located) (s : Spot) (ws :
     (words-at : drop start ws ≡ runWords r ++ drop (start + size r) ws)
     (spotted : Spotted f target r start 1 l s) (near : Near (length ws)) {n issued : ℕ} (frames : SoundFrames n issued (l .frames))
     (deep : runDepth r ≤ 64)
-    (pos : 0 < start) (ok : Words ws) (few : n ≤ 8) (small : issued < 65536) where
+    (pos : 0 < start) (few : n ≤ 8) (small : issued < 65536) where
   pub scope-level : Sound n issued r → T (scoped (l .frames)) →
-      levelW (n * 65536 + issued) ws start (s .scope) ≡ suc (outside (l .frames))
+      levelW ws start (s .scope) ≡ suc (outside (l .frames))
   unfolding levelW levelOf
   scope-level sound t =
       let x =
       standing-located (spotted .nearest) (λ m e. outside-stopped (l .frames) (l .process) m t e)
       (stopped-some (l .frames) (l .process) t) in
       let y =
-      found n issued (n * 65536 + issued) ws (reader ws ok n issued few small)
+      found n issued few small ws
       (s .scope) sound 64 start 1 (drop (start + size r) ws) pos deep words-at
       (x .0) (x .1 .0) in
       ap levelOf (y .1 .0) ∙ (y .1 .1 .level ∙ omega (arith, x .1 .1))
@@ -103,12 +100,9 @@ module _ (f target : ℕ) (r : Run) (start : ℕ) (l : Located) (s : Spot) (ws :
     (words-at : drop start ws ≡ runWords r ++ drop (start + size r) ws)
     (spotted : Spotted f target r start 1 l s) (near : Near (length ws)) {n issued : ℕ} (frames : SoundFrames n issued (l .frames))
     (deep : runDepth r ≤ 64)
-    (pos : 0 < start) (ok : Words ws) (few : n ≤ 8) (small : issued < 65536) (short : length ws ≤ 8192)
+    (pos : 0 < start) (few : n ≤ 8) (small : issued < 65536) (short : length ws ≤ 8192)
     (fresh : List ℕ) (room : 16384 ≤ length fresh) (big : Near (length fresh)) (sound : Sound n issued r)
     (h : ℕ) (new : Entries) (is : l .process ≡ act (node h [] [] (list new) noParts)) (fit : FitsEntries false zero new) where
-  abbrev bound : ℕ
-  bound = n * 65536 + issued
-
   abbrev es : Entries
   es = nearest (l .frames)
 
@@ -132,7 +126,7 @@ module _ (f target : ℕ) (r : Run) (start : ℕ) (l : Located) (s : Spot) (ws :
   abbrev Result : Planned → Type 0
   Result u = Ruled ws start (start + size r) (u .plan) (u .fresh) (some (plug changed nil)) × (u .plan .x ≡ 32)
 
-  bare : T (not (scoped (l .frames))) → Result (installedW bound ws start s fresh)
+  bare : T (not (scoped (l .frames))) → Result (installedW ws start s fresh)
   unfolding installedW
   bare t =
       let z = scope-none f target r start 1 l s ws (drop (start + size r) ws) words-at spotted t in
@@ -142,7 +136,7 @@ module _ (f target : ℕ) (r : Run) (start : ℕ) (l : Located) (s : Spot) (ws :
   -- with a scope around it
   module _ (t : T (scoped (l .frames))) where
     abbrev made : Update
-    made = updateW 64 bound ws (s .scope + 2) (target + 1) fresh
+    made = updateW 64 ws (s .scope + 2) (target + 1) fresh
 
     own-inside : target + 2 + length (entriesWords new) ≤ length ws
     unfolding size
@@ -176,7 +170,7 @@ module _ (f target : ℕ) (r : Run) (start : ℕ) (l : Located) (s : Spot) (ws :
         let a = list-at f target r start 1 l s ws (drop (start + size r) ws) words-at spotted t in
         let b = process-at f target r start 1 l s ws (drop (start + size r) ws) words-at spotted in
         let c = at-head ws target h (count new ∷ (entriesWords new ++ b .0)) (b .1 ∙ ap (λ w. w ++ b .0) its-words) in
-        updates ws near bound 64 (λ d i x rest g q e. code-end ws ok n issued few small g d i q rest e) (λ old o m c p. replaces ws near)
+        updates ws near 64 (λ old o m c p. replaces ws near)
         (nearest-fits frames) fit (list-deep f target r start l s ws words-at spotted near frames deep t)
         (omega (arith, its-depth, frames-deep f target r start l s ws words-at spotted near frames deep .1))
         (s .scope + 2) (a .0) (a .1) (target + 1) (b .0) (c .next) fresh
@@ -185,8 +179,8 @@ module _ (f target : ℕ) (r : Run) (start : ℕ) (l : Located) (s : Spot) (ws :
     to-own : onward (s .at) 1 ≡ target + 1
     to-own = ap (λ i. onward i 1) (spotted .at) ∙ onward-near target 1 (length ws) near (omega (arith, own-inside))
 
-    level-is : levelW bound ws start (s .scope) ≡ suc (outside (l .frames))
-    level-is = scope-level f target r start l s ws words-at spotted near frames deep pos ok few small sound t
+    level-is : levelW ws start (s .scope) ≡ suc (outside (l .frames))
+    level-is = scope-level f target r start l s ws words-at spotted near frames deep pos few small sound t
 
     level-low : suc (outside (l .frames) + entriesDepth es) ≤ 64
     level-low = omega (arith, nearest-within (l .frames) t, frames-deep f target r start l s ws words-at spotted near frames deep .0)
@@ -216,11 +210,11 @@ module _ (f target : ℕ) (r : Run) (start : ℕ) (l : Located) (s : Spot) (ws :
     -- if there are levels left for it
     placed :
         (b : Bool) → ltb 64 (suc (outside (l .frames)) + made .answer .levels) ≡ b →
-        Result (cond b (planned (refusedPlan 8) (made .out)) (updatedW bound ws s (s .scope + 2) (made .answer .to) (made .out)))
+        Result (cond b (planned (refusedPlan 8) (made .out)) (updatedW ws s (s .scope + 2) (made .answer .to) (made .out)))
     unfolding updatedW nilW
     placed true e = (tooDeep refl (changed-deep (ltb-true 64 (suc (outside (l .frames)) + made .answer .levels) e)), refl)
     placed false e =
-        rw (list-ends f target r start l s ws words-at spotted near frames deep t ok bound) (
+        rw (list-ends f target r start l s ws words-at spotted near frames deep t) (
           ruled refl
               (list-plans f target r start l s ws words-at spotted near frames deep t change (made .answer .to) (made .out)
               (updating .reaches)
@@ -230,7 +224,7 @@ module _ (f target : ℕ) (r : Run) (start : ℕ) (l : Located) (s : Spot) (ws :
           refl,
         )
 
-    under : Result (installedW bound ws start s fresh)
+    under : Result (installedW ws start s fresh)
     unfolding installedW
     under =
         let first = list-first f target r start l s ws words-at spotted near frames deep t in
@@ -244,11 +238,11 @@ module _ (f target : ℕ) (r : Run) (start : ℕ) (l : Located) (s : Spot) (ws :
         (placed (ltb 64 (suc (outside (l .frames)) + made .answer .levels)) refl)
 
   pub installs :
-      (let u = installedW (n * 65536 + issued) ws start s fresh in
+      (let u = installedW ws start s fresh in
       Ruled ws start (start + size r) (u .plan) (u .fresh) (some (plug (onNearest (λ x. update x new) (l .frames)) nil))
       × (u .plan .x ≡ 32))
   installs = by (scoped (l .frames)) refl
     where
-      by : (b : Bool) → scoped (l .frames) ≡ b → Result (installedW bound ws start s fresh)
+      by : (b : Bool) → scoped (l .frames) ≡ b → Result (installedW ws start s fresh)
       by true e = under (rw e tt)
       by false e = bare (rw e tt)

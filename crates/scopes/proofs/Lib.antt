@@ -5,6 +5,7 @@ pub mod Compensates
 pub mod Endings
 pub mod Ends
 pub mod Installs
+pub mod Marks
 pub mod NearestLists
 pub mod NilLists
 pub mod Promotes

@@ -25,8 +25,6 @@ use Rattle.sock.proofs.Frames.{nearest-fits, nearest-sound}
 use Rattle.sock.proofs.Located.{wrap, size-positive}
 use Rattle.sock.proofs.Measures.{size-nil, depth-nil}
 use Rattle.sock.proofs.Shrinking.{NoLarger, plug-shrinks}
-use Rattle.reading.proofs.Combining.{Words}
-use Rattle.reading.proofs.Ended.{code-end}
 use Rattle.finding.specs.declared.find.Spot.{Spot}
 use Rattle.finding.proofs.Framing.{scoped}
 use Rattle.finding.proofs.Spots.{Spotted}
@@ -63,13 +61,10 @@ module _ (f target : ℕ) (r : Run) (start : ℕ) (l : Located) (s : Spot) (ws :
     (words-at : drop start ws ≡ runWords r ++ drop (start + size r) ws)
     (spotted : Spotted f target r start 1 l s) (near : Near (length ws)) {n issued : ℕ} (frames : SoundFrames n issued (l .frames))
     (deep : runDepth r ≤ 64)
-    (ok : Words ws) (few : n ≤ 8) (small : issued < 65536) (short : length ws ≤ 8192)
+    (few : n ≤ 8) (small : issued < 65536) (short : length ws ≤ 8192)
     (fresh : List ℕ) (room : Roomy ws fresh)
     (name : ℕ) (mark : Mark) (zombie : Bool) (h : Entries) (is : l .process ≡ scope name mark zombie h nil)
     (low : name < 64) (fit : FitsEntries true zero h) (t : T (scoped (l .frames))) where
-  abbrev bound : ℕ
-  bound = n * 65536 + issued
-
   abbrev k : ℕ
   k = scopeKey name
 
@@ -142,10 +137,10 @@ module _ (f target : ℕ) (r : Run) (start : ℕ) (l : Located) (s : Spot) (ws :
   -- once the new list stands in the fresh words
   placed :
       (to : ℕ) (out : List ℕ) → to ≡ 1 + length (entriesWords (change es)) → length out ≡ length fresh →
-      (to ≤ 8192 → take to out ≡ count (change es) ∷ entriesWords (change es)) → Result (updatedW bound ws s (s .scope + 2) to out)
+      (to ≤ 8192 → take to out ≡ count (change es) ∷ entriesWords (change es)) → Result (updatedW ws s (s .scope + 2) to out)
   unfolding updatedW nilW
   placed to out reaches keeps laid =
-      rw (list-ends f target r start l s ws words-at spotted near frames deep t ok bound) (
+      rw (list-ends f target r start l s ws words-at spotted near frames deep t) (
         ruled refl
             (list-plans f target r start l s ws words-at spotted near frames deep t change to out reaches
             (near-of (to + 1) (omega (arith, not-huge))) (λ x. omega (arith, not-huge))
@@ -155,25 +150,25 @@ module _ (f target : ℕ) (r : Run) (start : ℕ) (l : Located) (s : Spot) (ws :
       )
 
   abbrev taken : Took
-  taken = takeW 64 bound ws (target + 2) k fresh
+  taken = takeW 64 ws (target + 2) k fresh
 
   taking : Takes ws k h fresh taken
   taking =
       let a = own-list f target r start l s ws words-at spotted near frames deep name mark zombie h is in
-      takes ws near bound 64 (λ d i x rest g b e. code-end ws ok n issued few small g d i b rest e) k fit (omega (arith, own-place))
+      takes ws near 64 k fit (omega (arith, own-place))
       (target + 2) (a .0) (a .1) fresh
 
   -- no handler: the name is dropped
   abbrev dropped : Took
-  dropped = takeW 64 bound ws (s .scope + 2) k (taken .out)
+  dropped = takeW 64 ws (s .scope + 2) k (taken .out)
 
   dropping : Takes ws k es (taken .out) dropped
   dropping =
       let a = list-at f target r start 1 l s ws (drop (start + size r) ws) words-at spotted t in
-      takes ws near bound 64 (λ d i x rest g b e. code-end ws ok n issued few small g d i b rest e) k (nearest-fits frames)
+      takes ws near 64 k (nearest-fits frames)
       (list-deep f target r start l s ws words-at spotted near frames deep t) (s .scope + 2) (a .0) (a .1) (taken .out)
 
-  drops : m ≡ nilNode → Result (updatedW bound ws s (s .scope + 2) (dropped .answer .to) (dropped .out))
+  drops : m ≡ nilNode → Result (updatedW ws s (s .scope + 2) (dropped .answer .to) (dropped .out))
   drops e =
       let same : change es ≡ without k es = ap (λ p. update es (entry k p noEntries)) e ∙ update-nil k es (omega arith) in
       placed (dropped .answer .to) (dropped .out) (rw same (dropping .reaches)) (dropping .keeps ∙ taking .keeps)
@@ -202,25 +197,25 @@ module _ (f target : ℕ) (r : Run) (start : ℕ) (l : Located) (s : Spot) (ws :
         )
 
     abbrev given : Update
-    given = updateByW 64 bound ws (s .scope + 2) (from - 1) 1 (taken .out)
+    given = updateByW 64 ws (s .scope + 2) (from - 1) 1 (taken .out)
 
     giving : Updates 64 es lone (taken .out) given
     unfolding count depth
     giving =
         let a = list-at f target r start 1 l s ws (drop (start + size r) ws) words-at spotted t in
-        updates-by ws near bound 64 (λ d i x rest g q e. code-end ws ok n issued few small g d i q rest e) (λ old o m c p. replaces ws near)
+        updates-by ws near 64 (λ old o m c p. replaces ws near)
         (nearest-fits frames) lone-fits (list-deep f target r start l s ws words-at spotted near frames deep t)
         (omega (arith, handler-shallow k h, own-place))
         (s .scope + 2) (a .0) (a .1) (from - 1) (entry-at .0) (entry-at .1) (taken .out)
         (near-of (1 + length (entriesWords (change es)) + 2 * 64 + 2) (omega (arith, not-huge)))
 
-    gives : Result (updatedW bound ws s (s .scope + 2) (given .answer .to) (given .out))
+    gives : Result (updatedW ws s (s .scope + 2) (given .answer .to) (given .out))
     gives =
         placed (given .answer .to) (given .out) (giving .reaches) (giving .keeps ∙ taking .keeps)
         (λ x. ap (λ i. take i (given .out)) (giving .reaches) ∙ giving .laid (omega (arith, giving .reaches, taking .keeps, not-huge)))
 
   pub promotes :
-      (let u = endingW (n * 65536 + issued) ws s (scopeKey name) fresh in
+      (let u = endingW ws s (scopeKey name) fresh in
       Ruled ws start (start + size r) (u .plan) (u .fresh)
       (some
       (plug (onNearest (λ outer. update outer (entry (scopeKey name) (handler (scopeKey name) h) noEntries)) (l .frames)) nil))
@@ -234,9 +229,9 @@ module _ (f target : ℕ) (r : Run) (start : ℕ) (l : Located) (s : Spot) (ws :
       (by (holds k h) refl)
     where
       by : (b : Bool) → holds k h ≡ b →
-          Result (updatedW bound ws s (s .scope + 2)
-          (promotedTo bound ws (s .scope + 2) (taken .answer) k (taken .out))
-          (promotedW bound ws (s .scope + 2) (taken .answer) k (taken .out)))
+          Result (updatedW ws s (s .scope + 2)
+          (promotedTo ws (s .scope + 2) (taken .answer) k (taken .out))
+          (promotedW ws (s .scope + 2) (taken .answer) k (taken .out)))
       by true e =
           let x : Stands ws (taken .answer .from) (taken .answer .upto) m = taking .present e in
           rw (ne-eqb (taken .answer .upto) 0 (λ z. omega (arith, x .1 .1, node-some m))) (gives e)

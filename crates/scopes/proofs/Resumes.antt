@@ -19,8 +19,6 @@ use Rattle.sock.proofs.Fits.{Fits, FitsEntries, SoundFrames}
 use Rattle.sock.proofs.Handlers.{handler-fits}
 use Rattle.sock.proofs.Running.{enable-asNode}
 use Rattle.sock.proofs.Measures.{words-scope, depth-scope}
-use Rattle.reading.proofs.Combining.{Words}
-use Rattle.reading.proofs.Ended.{code-end}
 use Rattle.finding.specs.declared.find.Spot.{Spot}
 use Rattle.finding.proofs.Spots.{Spotted}
 use Rattle.finding.proofs.Edits.{edited, swap-plain}
@@ -40,15 +38,15 @@ use Rattle.scopes.proofs.Scratch.{Roomy}
 
 -- the list is written behind two words
 behind-two :
-    (bound : ℕ) (ws : List ℕ) (list key : ℕ) (out : List ℕ) → 2 ≤ length out →
-    takeBehindW bound ws list key out
-    ≡ took (takeW 64 bound ws list key (drop 2 out) .answer) (take 2 out ++ takeW 64 bound ws list key (drop 2 out) .out)
+    (ws : List ℕ) (list key : ℕ) (out : List ℕ) → 2 ≤ length out →
+    takeBehindW ws list key out
+    ≡ took (takeW 64 ws list key (drop 2 out) .answer) (take 2 out ++ takeW 64 ws list key (drop 2 out) .out)
 unfolding takeBehindW
-behind-two bound ws list key out h =
+behind-two ws list key out h =
     let n = length-drop 2 out in
     let whole : take (length out - 2) (drop 2 out) ≡ drop 2 out = take-all (length out - 2) (drop 2 out) (omega arith) in
     let none : drop (length out - 2) (drop 2 out) ≡ [] = ap (λ k. drop k (drop 2 out)) (sym n) ∙ drop-length (drop 2 out) in
-    rw (le-ltb (length out) 2 h, whole, none, append-nil (takeW 64 bound ws list key (drop 2 out) .out))
+    rw (le-ltb (length out) 2 h, whole, none, append-nil (takeW 64 ws list key (drop 2 out) .out))
 
 -- what was taken out is written behind
 module _ (ws : List ℕ) (k : ℕ) (h : Entries) (lent : List ℕ) (t : Took) (taking : Takes ws k h lent t) (out : List ℕ) (to : ℕ)
@@ -89,13 +87,10 @@ module _ (f target : ℕ) (r : Run) (start : ℕ) (l : Located) (s : Spot) (ws :
     (words-at : drop start ws ≡ runWords r ++ drop (start + size r) ws)
     (spotted : Spotted f target r start 1 l s) (near : Near (length ws)) {n issued : ℕ} (frames : SoundFrames n issued (l .frames))
     (deep : runDepth r ≤ 64)
-    (ok : Words ws) (few : n ≤ 8) (small : issued < 65536) (short : length ws ≤ 8192)
+    (few : n ≤ 8) (small : issued < 65536) (short : length ws ≤ 8192)
     (fresh : List ℕ) (room : Roomy ws fresh) (big : Near (length fresh))
     (name : ℕ) (mark : Mark) (zombie : Bool) (h : Entries) (is : l .process ≡ scope name mark zombie h nil)
     (low : name < 64) (fit : FitsEntries true zero h) (k : ℕ) where
-  abbrev bound : ℕ
-  bound = n * 65536 + issued
-
   abbrev m : Node
   m = handler k h
 
@@ -118,13 +113,13 @@ module _ (f target : ℕ) (r : Run) (start : ℕ) (l : Located) (s : Spot) (ws :
       (omega (arith, length-set fresh 0 (scopeHead name unmarked zombie)))) .begins
 
   abbrev t : Took
-  t = takeW 64 bound ws (target + 2) k (drop 2 marked)
+  t = takeW 64 ws (target + 2) k (drop 2 marked)
 
   taking : Takes ws k h (drop 2 marked) t
   taking =
       let a = own-list f target r start l s ws words-at spotted near frames deep name mark zombie h is in
       let d = its-place f target r start l s ws words-at spotted near frames deep name mark zombie h is in
-      takes ws near bound 64 (λ d i x rest g b e. code-end ws ok n issued few small g d i b rest e) k fit (omega arith)
+      takes ws near 64 k fit (omega arith)
       (target + 2) (a .0) (a .1) (drop 2 marked)
 
   abbrev made : List ℕ
@@ -173,7 +168,7 @@ module _ (f target : ℕ) (r : Run) (start : ℕ) (l : Located) (s : Spot) (ws :
   end = target + 4 + length (entriesWords h)
 
   plans :
-      Plans ws start (start + size r) (resumedW bound ws start (s .at) k fresh .plan) (resumedW bound ws start (s .at) k fresh .fresh)
+      Plans ws start (start + size r) (resumedW ws start (s .at) k fresh .plan) (resumedW ws start (s .at) k fresh .fresh)
       (plug (l .frames) q)
   unfolding resumedW size isDone
   plans =
@@ -187,9 +182,9 @@ module _ (f target : ℕ) (r : Run) (start : ℕ) (l : Located) (s : Spot) (ws :
         head-at f target r start l s ws words-at spotted near frames deep name mark zombie h is,
         head-cleared name mark zombie low,
         to-own f target r start l s ws words-at spotted near frames deep name mark zombie h is,
-        own-ends f target r start l s ws words-at spotted near frames deep name mark zombie h is fit ok bound,
+        own-ends f target r start l s ws words-at spotted near frames deep name mark zombie h is fit,
         ends-at,
-        behind-two bound ws (target + 2) k marked (omega (arith, marked-length)),
+        behind-two ws (target + 2) k marked (omega (arith, marked-length)),
         to-is,
         handled .1,
         spotted .at,
@@ -233,7 +228,7 @@ module _ (f target : ℕ) (r : Run) (start : ℕ) (l : Located) (s : Spot) (ws :
       ))
 
   pub resumes :
-      (let u = resumedW (n * 65536 + issued) ws start (s .at) k fresh in
+      (let u = resumedW ws start (s .at) k fresh in
       Ruled ws start (start + size r) (u .plan) (u .fresh)
       (some (plug (l .frames) (scope name unmarked zombie (without k h) (enable (handler k h)))))
       × (u .plan .x ≡ 32))

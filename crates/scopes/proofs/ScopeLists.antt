@@ -15,9 +15,8 @@ use Rattle.sock.proofs.Fits.{SoundFrames}
 use Rattle.sock.proofs.Frames.{nearest-fits}
 use Rattle.sock.proofs.Located.{wrap, size-positive}
 use Rattle.sock.proofs.Measures.{depth-nil}
-use Rattle.reading.specs.Walk.{listEnd, processEnd}
-use Rattle.reading.proofs.Combining.{Words}
-use Rattle.reading.proofs.Ended.{list-end}
+use Rattle.skipping.specs.Skip.{skipEnd, skipList}
+use Rattle.skipping.proofs.Skips.{list-end}
 use Rattle.finding.specs.declared.find.Spot.{Spot}
 use Rattle.finding.proofs.Framing.{scoped, region}
 use Rattle.finding.proofs.Pieces.{Swap}
@@ -113,8 +112,8 @@ module _ (f target : ℕ) (r : Run) (start : ℕ) (l : Located) (s : Spot) (ws :
     to-list = onward-near (s .scope) 2 (length ws) near (omega (arith, list-inside))
 
     pub list-ends :
-        Words ws → (bound : ℕ) → listEnd (processEnd 64 ws bound) ws 0 128 (s .scope + 2) ≡ s .scope + 2 + length (region (l .frames))
-    list-ends ok bound =
+        skipList 64 ws 128 (s .scope + 2) ≡ s .scope + 2 + length (region (l .frames))
+    list-ends =
         let a = list-at f target r start 1 l s ws (drop (start + size r) ws) words spotted t in
-        list-end ws ok bound true (nearest-fits frames) 64 (s .scope + 2) list-deep (a .0) (a .1)
+        list-end ws (nearest-fits frames) 64 (s .scope + 2) list-deep (a .0) (a .1)
         ∙ omega (arith, region-length)

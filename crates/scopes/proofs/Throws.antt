@@ -22,8 +22,7 @@ use Rattle.sock.proofs.Fields.{mark-below, bit-below, name-below}
 use Rattle.sock.proofs.Frames.{locate-sound}
 use Rattle.sock.proofs.Located.{wrap, located-wraps, located-before, size-positive}
 use Rattle.sock.proofs.Measures.{words-scope, words-act, size-scope, depth-nil, depth-scope}
-use Rattle.reading.proofs.Combining.{Words}
-use Rattle.reading.proofs.Ended.{list-end, wanted-end}
+use Rattle.skipping.proofs.Skips.{list-end, wanted-end}
 use Rattle.finding.specs.declared.find.Spot.{Spot}
 use Rattle.finding.specs.Find.{faultAt}
 use Rattle.finding.proofs.Within.{within, within-locate}
@@ -31,7 +30,6 @@ use Rattle.finding.proofs.Edits.{edited, swap-plain, process-at}
 use Rattle.finding.proofs.Stops.{catches, Standing, nowhere, somewhere}
 use Rattle.finding.proofs.Spots.{Spotted}
 use Rattle.finding.proofs.Search.{found}
-use Rattle.finding.proofs.Readers.{reader}
 use Rattle.moving.specs.Writing.{onward}
 use Rattle.moving.specs.Killing.{Killed}
 use Rattle.moving.proofs.Laid.{Near, near-of, onward-near, Laid, laid-put, laid-then, laid-copy, copy-end}
@@ -100,7 +98,7 @@ whole-edited ws fr start e =
     let y : e - e ≡ 0 = omega arith in
     rw (x, y)
 
-module _ (ws : List ℕ) (ok : Words ws) (n issued : ℕ) (few : n ≤ 8) (small : issued < 65536) {r : Run} (sound : Sound n issued r)
+module _ (ws : List ℕ) (n issued : ℕ) (few : n ≤ 8) (small : issued < 65536) {r : Run} (sound : Sound n issued r)
     (start : ℕ) (words : drop start ws ≡ runWords r ++ drop (start + size r) ws) (pos : 0 < start)
     (deep : runDepth r ≤ 64) (short : length ws ≤ 8192) (fresh : List ℕ) (large : Roomy ws fresh) (near : Near (length fresh))
     (f : ℕ) (low : f < 64) where
@@ -135,14 +133,14 @@ module _ (ws : List ℕ) (ok : Words ws) (n issued : ℕ) (few : n ≤ 8) (small
         ∙ ap (λ x. take start ws ++ (x ++ drop (start + size r) ws)) begins)
 
     pub uncaught-ruled :
-        (let u = uncaughtW (n * 65536 + issued) ws start f target fresh in
+        (let u = uncaughtW ws start f target fresh in
         Ruled ws start (start + size r) (u .plan) (u .fresh) (climb f (l .frames) nil) × (u .plan .x ≡ 32))
     unfolding uncaughtW
     uncaught-ruled =
         let h : start ≤ target = within-from r start target l place in
         let e : locate r (target - start) [] ≡ some l = sym (within-locate r start target h) ∙ place in
         let z : start + (target - start) ≡ target = omega arith in
-        let g = kill-climb ws ok n issued few small f low sound 64 start deep (drop (start + size r) ws) words fresh 0
+        let g = kill-climb ws n issued few small f low sound 64 start deep (drop (start + size r) ws) words fresh 0
         (omega (arith, inside)) near
         (target - start) l e throws passes in
         uncaught-by (rw z at g) (climb-deep (target - start) l e)
@@ -158,9 +156,6 @@ module _ (ws : List ℕ) (ok : Words ws) (n issued : ℕ) (few : n ≤ 8) (small
 
     abbrev whole : Run
     whole = scope name mark zombie h (wrap inner m)
-
-    abbrev bound : ℕ
-    bound = n * 65536 + issued
 
     abbrev body : ℕ
     body = c + 3 + length (entriesWords h)
@@ -184,7 +179,7 @@ module _ (ws : List ℕ) (ok : Words ws) (n issued : ℕ) (few : n ≤ 8) (small
     -- the scope in the words
     spot : (s : Spot) × Spotted (faultAt ws c) c r start 1 (record { frames = outer; process = whole }) s
     spot =
-        let g = found n issued bound ws (reader ws ok n issued few small) c sound 64 start 1
+        let g = found n issued few small ws c sound 64 start 1
         (drop (start + size r) ws) pos deep words _ stopping in
         (g .0, g .1 .1)
 
@@ -249,19 +244,19 @@ module _ (ws : List ℕ) (ok : Words ws) (n issued : ℕ) (few : n ≤ 8) (small
     one-on : onward c 1 ≡ c + 1
     one-on = onward-near c 1 (length ws) near-words (omega (arith, body-inside))
 
-    body-at : bodyW bound ws c ≡ body
+    body-at : bodyW ws c ≡ body
     unfolding bodyW
     body-at =
         rw two-on
-        (list-end ws ok bound true (parts .1) 64 (c + 2) (parts-deep .0) (runWords a ++ stands .0) list-stands
+        (list-end ws (parts .1) 64 (c + 2) (parts-deep .0) (runWords a ++ stands .0) list-stands
         ∙ (let z : c + 2 + 1 + length (entriesWords h) ≡ body = omega arith in z))
 
-    listed-at : listedW bound ws c f ≡ holds f h
+    listed-at : listedW ws c f ≡ holds f h
     unfolding listedW
     listed-at =
         rw (
           two-on,
-          wanted-end ws ok bound true f (omega arith) (parts .1) 64 (c + 2) (parts-deep .0)
+          wanted-end ws f (omega arith) (parts .1) 64 (c + 2) (parts-deep .0)
               (runWords a ++ stands .0) list-stands,
         ) (by (holds f h))
       where
@@ -275,7 +270,7 @@ module _ (ws : List ℕ) (ok : Words ws) (n issued : ℕ) (few : n ≤ 8) (small
     marked-word : faultedWord f ≡ f * 1024
     marked-word = omega arith
 
-    marked-at : markedW bound ws c f fresh ≡ set (set fresh 0 (scopeHead name marked zombie)) 1 (markedFault marked * 1024)
+    marked-at : markedW ws c f fresh ≡ set (set fresh 0 (scopeHead name marked zombie)) 1 (markedFault marked * 1024)
     unfolding markedW
     marked-at = rw (listed-at, head, one-on, second) (by (holds f h))
       where
@@ -290,19 +285,19 @@ module _ (ws : List ℕ) (ok : Words ws) (n issued : ℕ) (few : n ≤ 8) (small
     small-parts : 3 + length (entriesWords h) + 2 * size a ≤ length fresh
     small-parts = omega (arith, body-inside)
 
-    marked-laid : Laid fresh 0 (scopeHead name marked zombie ∷ (markedFault marked * 1024) ∷ []) (markedW bound ws c f fresh)
+    marked-laid : Laid fresh 0 (scopeHead name marked zombie ∷ (markedFault marked * 1024) ∷ []) (markedW ws c f fresh)
     marked-laid =
         rw marked-at
         (laid-then (laid-put fresh 0 (scopeHead name marked zombie) (omega arith))
         (laid-put (set fresh 0 (scopeHead name marked zombie)) 1 (markedFault marked * 1024)
         (omega (arith, length-set fresh 0 (scopeHead name marked zombie)))))
 
-    opened-laid : Laid fresh 0 (own marked) (openedW bound ws c body f fresh)
+    opened-laid : Laid fresh 0 (own marked) (openedW ws c body f fresh)
     unfolding openedW
     opened-laid =
         rw two-on
         (laid-then marked-laid
-        (laid-copy ws (count h ∷ entriesWords h) (runWords a ++ stands .0) (c + 2) body (markedW bound ws c f fresh) 2 list-stands
+        (laid-copy ws (count h ∷ entriesWords h) (runWords a ++ stands .0) (c + 2) body (markedW ws c f fresh) 2 list-stands
         (omega (arith, body-inside)) (omega arith) (omega (arith, marked-laid .keeps, small-parts))))
 
     opened-to : openedTo ws c body ≡ length (own marked)
@@ -351,13 +346,13 @@ module _ (ws : List ℕ) (ok : Words ws) (n issued : ℕ) (few : n ≤ 8) (small
         ∙ also-same (climb f inner nil) (λ p. climb-stops f name mark zombie h outer p catching)
 
     pub caught-ruled :
-        (let u = caughtW bound ws start c f target fresh in
+        (let u = caughtW ws start c f target fresh in
         Ruled ws start (start + size r) (u .plan) (u .fresh) (climb f (inner ++ scopeFrame name mark zombie h ∷ outer) nil)
         × (u .plan .x ≡ 32))
     unfolding caughtW
     caught-ruled =
-        let g = kill-climb ws ok n issued few small f low (parts .2) 64 body (parts-deep .1) (stands .0) body-stands
-        (openedW bound ws c body f fresh)
+        let g = kill-climb ws n issued few small f low (parts .2) 64 body (parts-deep .1) (stands .0) body-stands
+        (openedW ws c body f fresh)
         (length (own marked)) (omega (arith, opened-laid .keeps, small-parts)) (rw (opened-laid .keeps) near) (offset inner)
         (record { frames = inner; process = m }) (locate-offset inner m) throws passes in
         let b : start ≤ target = within-from r start target _ place in
@@ -370,8 +365,8 @@ module _ (ws : List ℕ) (ok : Words ws) (n issued : ℕ) (few : n ≤ 8) (small
       (throws : Throws (l .process)) where
     thrown-by :
         {o : Option Located} {k : ℕ} → Standing r start o k → Sought f (l .frames) (l .process) o →
-        (let u = cond (eqb k 0) (uncaughtW (n * 65536 + issued) ws start f target fresh)
-        (caughtW (n * 65536 + issued) ws start k f target fresh) in
+        (let u = cond (eqb k 0) (uncaughtW ws start f target fresh)
+        (caughtW ws start k f target fresh) in
         Ruled ws start (start + size r) (u .plan) (u .fresh) (climb f (l .frames) nil) × (u .plan .x ≡ 32))
     thrown-by nowhere (unstopped t) = uncaught-ruled target l place throws t
     thrown-by (somewhere {k = k} h e) (stoppedBy {l = g} w) =
@@ -383,26 +378,26 @@ module _ (ws : List ℕ) (ok : Words ws) (n issued : ℕ) (few : n ≤ 8) (small
 
     pub climb-ruled :
         faultW ws target ≡ f →
-        (let u = thrownW (n * 65536 + issued) ws start s fresh in
+        (let u = thrownW ws start s fresh in
         Ruled ws start (start + size r) (u .plan) (u .fresh) (climb f (l .frames) nil) × (u .plan .x ≡ 32))
     unfolding thrownW
     climb-ruled e = rw (spotted .at, e) (thrown-by (spotted .catcher) (sought f (l .frames) (l .process)))
 
 -- a throw that was found
-module _ (ws : List ℕ) (ok : Words ws) (n issued : ℕ) (few : n ≤ 8) (small : issued < 65536) {r : Run} (sound : Sound n issued r)
+module _ (ws : List ℕ) (n issued : ℕ) (few : n ≤ 8) (small : issued < 65536) {r : Run} (sound : Sound n issued r)
     (start : ℕ) (words : drop start ws ≡ runWords r ++ drop (start + size r) ws) (pos : 0 < start)
     (deep : runDepth r ≤ 64) (short : length ws ≤ 8192) (fresh : List ℕ) (large : Roomy ws fresh) (near : Near (length fresh))
     (target : ℕ) (l : Located) (s : Spot) (place : within r start target ≡ some l)
     (spotted : Spotted (faultAt ws target) target r start 1 l s) where
   pub thrown-ruled :
       (m : Node) → l .process ≡ act m → kind m ≡ 13 →
-      (let u = thrownW (n * 65536 + issued) ws start s fresh in
+      (let u = thrownW ws start s fresh in
       Ruled ws start (start + size r) (u .plan) (u .fresh) (climb (nameOf (headWord m)) (l .frames) nil) × (u .plan .x ≡ 32))
   unfolding faultAt faultW
   thrown-ruled m e k =
       let p = process-at (faultAt ws target) target r start 1 l s ws (drop (start + size r) ws) words spotted in
       let w : getD ws target 0 ≡ headWord m = head-on ws target m (p .0) (p .1 ∙ ap (λ x. x ++ p .0) (ap runWords e ∙ words-act m)) in
       let v : faultAt ws target ≡ nameOf (headWord m) = ap nameOf w in
-      climb-ruled ws ok n issued few small sound start words pos deep short fresh large near (nameOf (headWord m))
+      climb-ruled ws n issued few small sound start words pos deep short fresh large near (nameOf (headWord m))
       (name-below (headWord m)) target l s place
       (rw v at spotted) (rw e k) v

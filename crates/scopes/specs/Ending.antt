@@ -4,7 +4,7 @@ use mathlib.Core.Bool.{cond}
 use mathlib.Core.List.{List, _++_}
 use lib.Dec.{ltb, eqb}
 use lib.ListN.{length, getD, set, take, drop}
-use Rattle.reading.specs.Walk.{listEnd, processEnd}
+use Rattle.skipping.specs.Skip.{skipList}
 use Rattle.moving.specs.Writing.{onward, pasted, pastedEnd}
 use Rattle.finding.specs.declared.find.Spot.{Spot}
 use Rattle.handling.specs.declared.take.Taken.{Taken}
@@ -24,9 +24,9 @@ abbrev pub took : Taken → List ℕ → Took
 took t out = record { answer = t; out = out }
 
 -- the list is written into the fresh words behind the first two
-unfoldable pub takeBehindW : ℕ → List ℕ → ℕ → ℕ → List ℕ → Took
-takeBehindW bound ws list key fresh =
-    let t = takeW 64 bound ws list key (take (length fresh - 2) (drop 2 fresh)) in
+unfoldable pub takeBehindW : List ℕ → ℕ → ℕ → List ℕ → Took
+takeBehindW ws list key fresh =
+    let t = takeW 64 ws list key (take (length fresh - 2) (drop 2 fresh)) in
     cond (ltb (length fresh) 2) (took (record { to = 0; from = 0; upto = 0 }) fresh)
     (took (t .answer) (take 2 fresh ++ (t .out ++ drop (length fresh - 2) (drop 2 fresh))))
 
@@ -36,10 +36,10 @@ takenTo ws t to = cond (eqb (t .upto) 0) (onward to 1) (pastedEnd ws (t .from) (
 unfoldable pub takenW : List ℕ → Taken → List ℕ → ℕ → List ℕ
 takenW ws t fresh to = cond (eqb (t .upto) 0) (set fresh to 0) (pasted ws (t .from) (t .upto) fresh to)
 
-unfoldable pub resumedW : ℕ → List ℕ → ℕ → ℕ → ℕ → List ℕ → Planned
-resumedW bound ws start at key fresh =
-    let t = takeBehindW bound ws (onward at 2) key (set (set fresh 0 (clearedW (getD ws at 0))) 1 0) in
-    let end = onward (listEnd (processEnd 64 ws bound) ws 0 128 (onward at 2)) 1 in
+unfoldable pub resumedW : List ℕ → ℕ → ℕ → ℕ → List ℕ → Planned
+resumedW ws start at key fresh =
+    let t = takeBehindW ws (onward at 2) key (set (set fresh 0 (clearedW (getD ws at 0))) 1 0) in
+    let end = onward (skipList 64 ws 128 (onward at 2)) 1 in
     planned
     (record {
       number = 0;
@@ -56,25 +56,25 @@ resumedW bound ws start at key fresh =
     })
     (takenW ws (t .answer) (t .out) (onward 2 (t .answer .to)))
 
-unfoldable pub promotedTo : ℕ → List ℕ → ℕ → Taken → ℕ → List ℕ → ℕ
-promotedTo bound ws l t key fresh =
-    cond (eqb (t .upto) 0) (takeW 64 bound ws l key fresh .answer .to) (updateByW 64 bound ws l (t .from - 1) 1 fresh .answer .to)
+unfoldable pub promotedTo : List ℕ → ℕ → Taken → ℕ → List ℕ → ℕ
+promotedTo ws l t key fresh =
+    cond (eqb (t .upto) 0) (takeW 64 ws l key fresh .answer .to) (updateByW 64 ws l (t .from - 1) 1 fresh .answer .to)
 
-unfoldable pub promotedW : ℕ → List ℕ → ℕ → Taken → ℕ → List ℕ → List ℕ
-promotedW bound ws l t key fresh =
-    cond (eqb (t .upto) 0) (takeW 64 bound ws l key fresh .out) (updateByW 64 bound ws l (t .from - 1) 1 fresh .out)
+unfoldable pub promotedW : List ℕ → ℕ → Taken → ℕ → List ℕ → List ℕ
+promotedW ws l t key fresh =
+    cond (eqb (t .upto) 0) (takeW 64 ws l key fresh .out) (updateByW 64 ws l (t .from - 1) 1 fresh .out)
 
-unfoldable pub endingW : ℕ → List ℕ → Spot → ℕ → List ℕ → Planned
-endingW bound ws s key fresh =
-    let t = takeW 64 bound ws (onward (s .at) 2) key fresh in
+unfoldable pub endingW : List ℕ → Spot → ℕ → List ℕ → Planned
+endingW ws s key fresh =
+    let t = takeW 64 ws (onward (s .at) 2) key fresh in
     let l = onward (s .scope) 2 in
-    updatedW bound ws s l (promotedTo bound ws l (t .answer) key (t .out)) (promotedW bound ws l (t .answer) key (t .out))
+    updatedW ws s l (promotedTo ws l (t .answer) key (t .out)) (promotedW ws l (t .answer) key (t .out))
 
-unfoldable pub endedW : ℕ → List ℕ → ℕ → Spot → List ℕ → Planned
-endedW bound ws start s fresh =
+unfoldable pub endedW : List ℕ → ℕ → Spot → List ℕ → Planned
+endedW ws start s fresh =
     let h = getD ws (s .at) 0 in
     let key = keyAtW ws (s .at) in
-    cond (ltb 0 (h / 8 % 4)) (resumedW bound ws start (s .at) key fresh)
+    cond (ltb 0 (h / 8 % 4)) (resumedW ws start (s .at) key fresh)
     (cond (eqb (h / 4 % 2) 1) (nilW s start start 0 32 0 fresh)
     (cond (eqb (s .scope) 0) (nilW s start start 0 32 0 fresh)
-    (endingW bound ws s key fresh)))
+    (endingW ws s key fresh)))

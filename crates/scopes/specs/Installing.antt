@@ -3,7 +3,7 @@ use Prim.Native.Nat.{ℕ}
 use mathlib.Core.Bool.{Bool, true, cond}
 use mathlib.Core.List.{List}
 use lib.Dec.{ltb, eqb}
-use Rattle.reading.specs.Walk.{listEnd, processEnd}
+use Rattle.skipping.specs.Skip.{skipList}
 use Rattle.moving.specs.Writing.{onward}
 use Rattle.finding.specs.declared.find.Spot.{Spot}
 use Rattle.handling.specs.Updating.{updateW}
@@ -13,12 +13,12 @@ use Rattle.scopes.specs.Levels.{levelW}
 unfoldable pub tooDeepW : ℕ → ℕ → Bool
 tooDeepW level levels = cond (ltb 64 levels) true (ltb 64 (onward level levels))
 
-unfoldable pub updatedW : ℕ → List ℕ → Spot → ℕ → ℕ → List ℕ → Planned
-updatedW bound ws s l f fresh = nilW s l (listEnd (processEnd 64 ws bound) ws 0 128 l) f 32 0 fresh
+unfoldable pub updatedW : List ℕ → Spot → ℕ → ℕ → List ℕ → Planned
+updatedW ws s l f fresh = nilW s l (skipList 64 ws 128 l) f 32 0 fresh
 
-unfoldable pub installedW : ℕ → List ℕ → ℕ → Spot → List ℕ → Planned
-installedW bound ws start s fresh =
+unfoldable pub installedW : List ℕ → ℕ → Spot → List ℕ → Planned
+installedW ws start s fresh =
     cond (eqb (s .scope) 0) (nilW s start start 0 32 0 fresh)
-    (let u = updateW 64 bound ws (onward (s .scope) 2) (onward (s .at) 1) fresh in
-    cond (tooDeepW (levelW bound ws start (s .scope)) (u .answer .levels)) (planned (refusedPlan 8) (u .out))
-    (updatedW bound ws s (onward (s .scope) 2) (u .answer .to) (u .out)))
+    (let u = updateW 64 ws (onward (s .scope) 2) (onward (s .at) 1) fresh in
+    cond (tooDeepW (levelW ws start (s .scope)) (u .answer .levels)) (planned (refusedPlan 8) (u .out))
+    (updatedW ws s (onward (s .scope) 2) (u .answer .to) (u .out)))

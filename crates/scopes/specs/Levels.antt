@@ -9,5 +9,5 @@ unfoldable pub levelOf : Found → ℕ
 levelOf (Hit s) = s .level
 levelOf (Past e) = 0
 
-unfoldable pub levelW : ℕ → List ℕ → ℕ → ℕ → ℕ
-levelW bound ws start at = levelOf (findW 64 ws bound at 1 start)
+unfoldable pub levelW : List ℕ → ℕ → ℕ → ℕ
+levelW ws start at = levelOf (findW 64 ws at 1 start)

@@ -4,7 +4,7 @@ use mathlib.Core.Bool.{Bool, true, false, cond}
 use mathlib.Core.List.{List}
 use lib.Dec.{eqb}
 use lib.ListN.{getD, set}
-use Rattle.reading.specs.Walk.{processEnd, listEnd}
+use Rattle.skipping.specs.Skip.{skipList}
 use Rattle.finding.specs.declared.find.Spot.{Spot}
 use Rattle.moving.specs.Writing.{onward, pasted, pastedEnd}
 use Rattle.moving.specs.Killing.{Killed, killW}
@@ -24,8 +24,8 @@ clearedW start a k =
 unfoldable pub clearedBy : ℕ → ℕ → Killed → Planned
 clearedBy start a k = planned (clearedW start a (k .moved)) (k .out)
 
-unfoldable pub uncaughtW : ℕ → List ℕ → ℕ → ℕ → ℕ → List ℕ → Planned
-uncaughtW bound ws start fault i fresh = clearedBy start start (killW 64 ws fault i bound start fresh 0)
+unfoldable pub uncaughtW : List ℕ → ℕ → ℕ → ℕ → List ℕ → Planned
+uncaughtW ws start fault i fresh = clearedBy start start (killW 64 ws fault i start fresh 0)
 
 -- a scope's head with mark 1, and the word behind it
 abbrev pub faultedHead : ℕ → ℕ
@@ -35,33 +35,33 @@ abbrev pub faultedWord : ℕ → ℕ
 faultedWord fault = fault % 64 * 1024
 
 -- whether the list of the scope at c has the fault
-unfoldable pub listedW : ℕ → List ℕ → ℕ → ℕ → Bool
-listedW bound ws c fault = cond (eqb (listEnd (processEnd 64 ws bound) ws 0 fault (onward c 2)) 0) false true
+unfoldable pub listedW : List ℕ → ℕ → ℕ → Bool
+listedW ws c fault = cond (eqb (skipList 64 ws fault (onward c 2)) 0) false true
 
 -- the first two words of the scope at c
-unfoldable pub markedW : ℕ → List ℕ → ℕ → ℕ → List ℕ → List ℕ
-markedW bound ws c fault fresh =
-    cond (listedW bound ws c fault)
+unfoldable pub markedW : List ℕ → ℕ → ℕ → List ℕ → List ℕ
+markedW ws c fault fresh =
+    cond (listedW ws c fault)
     (set (set fresh 0 (faultedHead (getD ws c 0))) 1 (faultedWord fault))
     (set (set fresh 0 (getD ws c 0)) 1 (getD ws (onward c 1) 0))
 
 -- where the body of the scope at c begins
-unfoldable pub bodyW : ℕ → List ℕ → ℕ → ℕ
-bodyW bound ws c = listEnd (processEnd 64 ws bound) ws 0 128 (onward c 2)
+unfoldable pub bodyW : List ℕ → ℕ → ℕ
+bodyW ws c = skipList 64 ws 128 (onward c 2)
 
 -- all of it but the body
 unfoldable pub openedTo : List ℕ → ℕ → ℕ → ℕ
 openedTo ws c body = pastedEnd ws (onward c 2) body 2
 
-unfoldable pub openedW : ℕ → List ℕ → ℕ → ℕ → ℕ → List ℕ → List ℕ
-openedW bound ws c body fault fresh = pasted ws (onward c 2) body (markedW bound ws c fault fresh) 2
+unfoldable pub openedW : List ℕ → ℕ → ℕ → ℕ → List ℕ → List ℕ
+openedW ws c body fault fresh = pasted ws (onward c 2) body (markedW ws c fault fresh) 2
 
-unfoldable pub caughtW : ℕ → List ℕ → ℕ → ℕ → ℕ → ℕ → List ℕ → Planned
-caughtW bound ws start c fault i fresh =
-    let body = bodyW bound ws c in
-    clearedBy start c (killW 64 ws fault i bound body (openedW bound ws c body fault fresh) (openedTo ws c body))
+unfoldable pub caughtW : List ℕ → ℕ → ℕ → ℕ → ℕ → List ℕ → Planned
+caughtW ws start c fault i fresh =
+    let body = bodyW ws c in
+    clearedBy start c (killW 64 ws fault i body (openedW ws c body fault fresh) (openedTo ws c body))
 
-unfoldable pub thrownW : ℕ → List ℕ → ℕ → Spot → List ℕ → Planned
-thrownW bound ws start s fresh =
-    cond (eqb (s .catcher) 0) (uncaughtW bound ws start (faultW ws (s .at)) (s .at) fresh)
-    (caughtW bound ws start (s .catcher) (faultW ws (s .at)) (s .at) fresh)
+unfoldable pub thrownW : List ℕ → ℕ → Spot → List ℕ → Planned
+thrownW ws start s fresh =
+    cond (eqb (s .catcher) 0) (uncaughtW ws start (faultW ws (s .at)) (s .at) fresh)
+    (caughtW ws start (s .catcher) (faultW ws (s .at)) (s .at) fresh)

@@ -4,13 +4,13 @@ use handling::take::Taken;
 use handling::take::take;
 use moving::write::copy;
 use moving::write::further;
-use reading::reader::list;
 use reading::reader::process;
 use reading::reader::wide;
 use rules::plan::Plan;
 use rules::plan::become_nil;
 use rules::plan::refuse;
 use rules::turn::word;
+use skipping::skip::skip_list;
 ghost use mathlib.Core.Path.{_≡_};
 ghost use Rattle.scopes.specs.Compensating.{levelsAt, movedW, compensatedW};
 
@@ -22,11 +22,11 @@ fn levels_at(level: usize) -> usize
 }
 
 // What was taken out of the list stands in the place of the process; the list without it is in the first fresh words.
-fn moved(ws: &[u16], s: Spot, t: Taken, bound: usize, fresh: &mut [u16]) -> Plan
-    ensures { λ r. ⌜ (r ≡ movedW bound (now (ws .entry)) s t (now (fresh .entry)) .plan) × (now (fresh .exit) ≡ movedW bound (now (ws .entry)) s t (now (fresh .entry)) .fresh) ⌝ }
+fn moved(ws: &[u16], s: Spot, t: Taken, fresh: &mut [u16]) -> Plan
+    ensures { λ r. ⌜ (r ≡ movedW (now (ws .entry)) s t (now (fresh .entry)) .plan) × (now (fresh .exit) ≡ movedW (now (ws .entry)) s t (now (fresh .entry)) .fresh) ⌝ }
 {
     let l = further(s.scope, 2);
-    let m = list(ws, l, 64, 0, 128, bound);
+    let m = skip_list(ws, l, 64, 128);
     let f = t.to;
     let from = t.from;
     let upto = t.upto;
@@ -56,12 +56,12 @@ pub fn compensated(ws: &[u16], start: usize, s: Spot, bound: usize, fresh: &mut 
         return become_nil(s, start, start, 0, 32, 0, fresh);
     }
     let key = 64 + wide(word(ws, s.at)) / 32 % 64;
-    let t = take(ws, further(s.scope, 2), key, 64, bound, fresh);
+    let t = take(ws, further(s.scope, 2), key, 64, fresh);
     if t.upto == 0 {
         return become_nil(s, start, start, 0, 32, 0, fresh);
     }
     if process(ws, t.from, levels_at(s.level), 0, bound) == 0 {
         return refuse(8);
     }
-    moved(ws, s, t, bound, fresh)
+    moved(ws, s, t, fresh)
 }

@@ -8,11 +8,11 @@ use handling::update::update_by;
 use moving::write::copy;
 use moving::write::further;
 use moving::write::put;
-use reading::reader::list;
 use reading::reader::wide;
 use rules::plan::Plan;
 use rules::plan::become_nil;
 use rules::turn::word;
+use skipping::skip::skip_list;
 ghost use mathlib.Core.Path.{_≡_};
 ghost use Rattle.scopes.specs.Ending.{clearedW, keyAtW, takeBehindW, takenTo, takenW, resumedW, promotedTo, promotedW, endingW, endedW};
 
@@ -35,8 +35,8 @@ fn key_at(ws: &[u16], at: usize) -> usize
 }
 
 // The list without the entry of a key, behind two words.
-fn take_behind(ws: &[u16], list: usize, key: usize, bound: usize, fresh: &mut [u16]) -> Taken
-    ensures { λ r. ⌜ (r ≡ takeBehindW bound (now (ws .entry)) list key (now (fresh .entry)) .answer) × (now (fresh .exit) ≡ takeBehindW bound (now (ws .entry)) list key (now (fresh .entry)) .out) ⌝ }
+fn take_behind(ws: &[u16], list: usize, key: usize, fresh: &mut [u16]) -> Taken
+    ensures { λ r. ⌜ (r ≡ takeBehindW (now (ws .entry)) list key (now (fresh .entry)) .answer) × (now (fresh .exit) ≡ takeBehindW (now (ws .entry)) list key (now (fresh .entry)) .out) ⌝ }
 {
     if fresh.len() < 2 {
         return Taken {
@@ -45,7 +45,7 @@ fn take_behind(ws: &[u16], list: usize, key: usize, bound: usize, fresh: &mut [u
             upto: 0,
         };
     }
-    take(ws, list, key, 64, bound, &mut fresh[2..])
+    take(ws, list, key, 64, &mut fresh[2..])
 }
 
 // What was taken out, or nil where nothing was; the place behind it.
@@ -61,17 +61,17 @@ fn put_taken(ws: &[u16], t: Taken, fresh: &mut [u16], to: usize) -> usize
 }
 
 // The scope at `at` with no mark, without the handler under the key, and that as its body.
-fn resumed(ws: &[u16], start: usize, at: usize, key: usize, bound: usize, fresh: &mut [u16]) -> Plan
-    ensures { λ r. ⌜ (r ≡ resumedW bound (now (ws .entry)) start at key (now (fresh .entry)) .plan) × (now (fresh .exit) ≡ resumedW bound (now (ws .entry)) start at key (now (fresh .entry)) .fresh) ⌝ }
+fn resumed(ws: &[u16], start: usize, at: usize, key: usize, fresh: &mut [u16]) -> Plan
+    ensures { λ r. ⌜ (r ≡ resumedW (now (ws .entry)) start at key (now (fresh .entry)) .plan) × (now (fresh .exit) ≡ resumedW (now (ws .entry)) start at key (now (fresh .entry)) .fresh) ⌝ }
 {
     let h = cleared(word(ws, at));
     put(fresh, 0, h);
     put(fresh, 1, 0);
     let l = further(at, 2);
-    let t = take_behind(ws, l, key, bound, fresh);
+    let t = take_behind(ws, l, key, fresh);
     let to = further(2, t.to);
     let g = put_taken(ws, t, fresh, to);
-    let end = further(list(ws, l, 64, 0, 128, bound), 1);
+    let end = further(skip_list(ws, l, 64, 128), 1);
     Plan {
         number: 0,
         l: start,
@@ -88,36 +88,36 @@ fn resumed(ws: &[u16], start: usize, at: usize, key: usize, bound: usize, fresh:
 }
 
 // The list at `l` updated by what was taken out under the key, from 0 on; the place behind it.
-fn promoted(ws: &[u16], l: usize, t: Taken, key: usize, bound: usize, fresh: &mut [u16]) -> usize
-    ensures { λ r. ⌜ (r ≡ promotedTo bound (now (ws .entry)) l t key (now (fresh .entry))) × (now (fresh .exit) ≡ promotedW bound (now (ws .entry)) l t key (now (fresh .entry))) ⌝ }
+fn promoted(ws: &[u16], l: usize, t: Taken, key: usize, fresh: &mut [u16]) -> usize
+    ensures { λ r. ⌜ (r ≡ promotedTo (now (ws .entry)) l t key (now (fresh .entry))) × (now (fresh .exit) ≡ promotedW (now (ws .entry)) l t key (now (fresh .entry))) ⌝ }
 {
     if t.upto == 0 {
-        let u = take(ws, l, key, 64, bound, fresh);
+        let u = take(ws, l, key, 64, fresh);
         return u.to;
     }
-    let u = update_by(ws, l, less_one(t.from), 1, 64, bound, fresh);
+    let u = update_by(ws, l, less_one(t.from), 1, 64, fresh);
     u.to
 }
 
 // The scope becomes nil, and the nearest is updated by its name and the handler under it.
-fn ending(ws: &[u16], s: Spot, key: usize, bound: usize, fresh: &mut [u16]) -> Plan
-    ensures { λ r. ⌜ (r ≡ endingW bound (now (ws .entry)) s key (now (fresh .entry)) .plan) × (now (fresh .exit) ≡ endingW bound (now (ws .entry)) s key (now (fresh .entry)) .fresh) ⌝ }
+fn ending(ws: &[u16], s: Spot, key: usize, fresh: &mut [u16]) -> Plan
+    ensures { λ r. ⌜ (r ≡ endingW (now (ws .entry)) s key (now (fresh .entry)) .plan) × (now (fresh .exit) ≡ endingW (now (ws .entry)) s key (now (fresh .entry)) .fresh) ⌝ }
 {
-    let t = take(ws, further(s.at, 2), key, 64, bound, fresh);
+    let t = take(ws, further(s.at, 2), key, 64, fresh);
     let l = further(s.scope, 2);
-    let f = promoted(ws, l, t, key, bound, fresh);
-    updated(ws, s, l, f, bound, fresh)
+    let f = promoted(ws, l, t, key, fresh);
+    updated(ws, s, l, f, fresh)
 }
 
 // The scope with nil body at `s`, in the engine's process that begins at `start`.
-pub fn ended(ws: &[u16], start: usize, s: Spot, bound: usize, fresh: &mut [u16]) -> Plan
-    ensures { λ r. ⌜ (r ≡ endedW bound (now (ws .entry)) start s (now (fresh .entry)) .plan) × (now (fresh .exit) ≡ endedW bound (now (ws .entry)) start s (now (fresh .entry)) .fresh) ⌝ }
+pub fn ended(ws: &[u16], start: usize, s: Spot, fresh: &mut [u16]) -> Plan
+    ensures { λ r. ⌜ (r ≡ endedW (now (ws .entry)) start s (now (fresh .entry)) .plan) × (now (fresh .exit) ≡ endedW (now (ws .entry)) start s (now (fresh .entry)) .fresh) ⌝ }
 {
     let at = s.at;
     let h = wide(word(ws, at));
     let key = key_at(ws, at);
     if 0 < h / 8 % 4 {
-        return resumed(ws, start, at, key, bound, fresh);
+        return resumed(ws, start, at, key, fresh);
     }
     if h / 4 % 2 == 1 {
         return become_nil(s, start, start, 0, 32, 0, fresh);
@@ -125,5 +125,5 @@ pub fn ended(ws: &[u16], start: usize, s: Spot, bound: usize, fresh: &mut [u16])
     if s.scope == 0 {
         return become_nil(s, start, start, 0, 32, 0, fresh);
     }
-    ending(ws, s, key, bound, fresh)
+    ending(ws, s, key, fresh)
 }

@@ -3,10 +3,10 @@ use crate::level::level;
 use finding::find::Spot;
 use handling::update::update;
 use moving::write::further;
-use reading::reader::list;
 use rules::plan::Plan;
 use rules::plan::become_nil;
 use rules::plan::refuse;
+use skipping::skip::skip_list;
 ghost use mathlib.Core.Path.{_≡_};
 ghost use Rattle.scopes.specs.Installing.{tooDeepW, updatedW, installedW};
 
@@ -21,26 +21,26 @@ fn too_deep(level: usize, levels: usize) -> bool
 }
 
 // The list at `l` becomes the first `f` fresh words, the process nil.
-pub fn updated(ws: &[u16], s: Spot, l: usize, f: usize, bound: usize, fresh: &mut [u16]) -> Plan
-    ensures { λ r. ⌜ (r ≡ updatedW bound (now (ws .entry)) s l f (now (fresh .entry)) .plan) × (now (fresh .exit) ≡ updatedW bound (now (ws .entry)) s l f (now (fresh .entry)) .fresh) ⌝ }
+pub fn updated(ws: &[u16], s: Spot, l: usize, f: usize, fresh: &mut [u16]) -> Plan
+    ensures { λ r. ⌜ (r ≡ updatedW (now (ws .entry)) s l f (now (fresh .entry)) .plan) × (now (fresh .exit) ≡ updatedW (now (ws .entry)) s l f (now (fresh .entry)) .fresh) ⌝ }
 {
-    let m = list(ws, l, 64, 0, 128, bound);
+    let m = skip_list(ws, l, 64, 128);
     become_nil(s, l, m, f, 32, 0, fresh)
 }
 
 // The inst at `s`, in the engine's process that begins at `start`.
-pub fn installed(ws: &[u16], start: usize, s: Spot, bound: usize, fresh: &mut [u16]) -> Plan
-    ensures { λ r. ⌜ (r ≡ installedW bound (now (ws .entry)) start s (now (fresh .entry)) .plan) × (now (fresh .exit) ≡ installedW bound (now (ws .entry)) start s (now (fresh .entry)) .fresh) ⌝ }
+pub fn installed(ws: &[u16], start: usize, s: Spot, fresh: &mut [u16]) -> Plan
+    ensures { λ r. ⌜ (r ≡ installedW (now (ws .entry)) start s (now (fresh .entry)) .plan) × (now (fresh .exit) ≡ installedW (now (ws .entry)) start s (now (fresh .entry)) .fresh) ⌝ }
 {
     if s.scope == 0 {
         return become_nil(s, start, start, 0, 32, 0, fresh);
     }
     let scope = s.scope;
     let l = further(scope, 2);
-    let u = update(ws, l, further(s.at, 1), 64, bound, fresh);
-    if too_deep(level(ws, start, scope, bound), u.levels) {
+    let u = update(ws, l, further(s.at, 1), 64, fresh);
+    if too_deep(level(ws, start, scope), u.levels) {
         return refuse(8);
     }
     let f = u.to;
-    updated(ws, s, l, f, bound, fresh)
+    updated(ws, s, l, f, fresh)
 }

@@ -5,11 +5,11 @@ use moving::kill::kill;
 use moving::write::copy;
 use moving::write::further;
 use moving::write::put;
-use reading::reader::list;
 use reading::reader::wide;
 use rules::plan::Plan;
 use rules::plan::refuse;
 use rules::turn::word;
+use skipping::skip::skip_list;
 ghost use mathlib.Core.Path.{_≡_};
 ghost use Rattle.scopes.specs.Throwing.{faultW, faultedHead, faultedWord, clearedW, listedW, markedW, bodyW, openedTo, openedW, uncaughtW, caughtW, thrownW};
 
@@ -43,17 +43,10 @@ fn cleared(start: usize, a: usize, k: Moved) -> Plan
 }
 
 // No scope stops the fault.
-fn uncaught(
-    ws: &[u16],
-    start: usize,
-    fault: u16,
-    at: usize,
-    bound: usize,
-    fresh: &mut [u16],
-) -> Plan
-    ensures { λ r. ⌜ (r ≡ uncaughtW bound (now (ws .entry)) start fault at (now (fresh .entry)) .plan) × (now (fresh .exit) ≡ uncaughtW bound (now (ws .entry)) start fault at (now (fresh .entry)) .fresh) ⌝ }
+fn uncaught(ws: &[u16], start: usize, fault: u16, at: usize, fresh: &mut [u16]) -> Plan
+    ensures { λ r. ⌜ (r ≡ uncaughtW (now (ws .entry)) start fault at (now (fresh .entry)) .plan) × (now (fresh .exit) ≡ uncaughtW (now (ws .entry)) start fault at (now (fresh .entry)) .fresh) ⌝ }
 {
-    let k = kill(ws, start, fault, at, 64, bound, fresh, 0);
+    let k = kill(ws, start, fault, at, 64, fresh, 0);
     cleared(start, start, k)
 }
 
@@ -71,20 +64,20 @@ fn faulted_word(fault: u16) -> u16
 }
 
 // Whether the list of the scope at `c` has the fault.
-fn listed(ws: &[u16], c: usize, fault: u16, bound: usize) -> bool
-    ensures { λ r. ⌜ r ≡ listedW bound (now (ws .entry)) c fault ⌝ }
+fn listed(ws: &[u16], c: usize, fault: u16) -> bool
+    ensures { λ r. ⌜ r ≡ listedW (now (ws .entry)) c fault ⌝ }
 {
-    if list(ws, further(c, 2), 64, 0, wide(fault), bound) == 0 {
+    if skip_list(ws, further(c, 2), 64, wide(fault)) == 0 {
         return false;
     }
     true
 }
 
 // The first two words of the scope at `c`, which stops the fault: marked with it, if its list has it.
-fn marked(ws: &[u16], c: usize, fault: u16, bound: usize, fresh: &mut [u16]) -> usize
-    ensures { λ r. ⌜ (r ≡ 2) × (now (fresh .exit) ≡ markedW bound (now (ws .entry)) c fault (now (fresh .entry))) ⌝ }
+fn marked(ws: &[u16], c: usize, fault: u16, fresh: &mut [u16]) -> usize
+    ensures { λ r. ⌜ (r ≡ 2) × (now (fresh .exit) ≡ markedW (now (ws .entry)) c fault (now (fresh .entry))) ⌝ }
 {
-    if listed(ws, c, fault, bound) {
+    if listed(ws, c, fault) {
         put(fresh, 0, faulted_head(word(ws, c)));
         put(fresh, 1, faulted_word(fault));
         return 2;
@@ -95,44 +88,36 @@ fn marked(ws: &[u16], c: usize, fault: u16, bound: usize, fresh: &mut [u16]) -> 
 }
 
 // Where its body begins.
-fn body_at(ws: &[u16], c: usize, bound: usize) -> usize
-    ensures { λ r. ⌜ r ≡ bodyW bound (now (ws .entry)) c ⌝ }
+fn body_at(ws: &[u16], c: usize) -> usize
+    ensures { λ r. ⌜ r ≡ bodyW (now (ws .entry)) c ⌝ }
 {
-    list(ws, further(c, 2), 64, 0, 128, bound)
+    skip_list(ws, further(c, 2), 64, 128)
 }
 
 // All of it but the body.
-fn opened(ws: &[u16], c: usize, body: usize, fault: u16, bound: usize, fresh: &mut [u16]) -> usize
-    ensures { λ r. ⌜ (r ≡ openedTo (now (ws .entry)) c body) × (now (fresh .exit) ≡ openedW bound (now (ws .entry)) c body fault (now (fresh .entry))) ⌝ }
+fn opened(ws: &[u16], c: usize, body: usize, fault: u16, fresh: &mut [u16]) -> usize
+    ensures { λ r. ⌜ (r ≡ openedTo (now (ws .entry)) c body) × (now (fresh .exit) ≡ openedW (now (ws .entry)) c body fault (now (fresh .entry))) ⌝ }
 {
-    marked(ws, c, fault, bound, fresh);
+    marked(ws, c, fault, fresh);
     copy(ws, further(c, 2), body, fresh, 2)
 }
 
 // The scope at `c` stops the fault: its body becomes what climbs out of it.
-fn caught(
-    ws: &[u16],
-    start: usize,
-    c: usize,
-    fault: u16,
-    at: usize,
-    bound: usize,
-    fresh: &mut [u16],
-) -> Plan
-    ensures { λ r. ⌜ (r ≡ caughtW bound (now (ws .entry)) start c fault at (now (fresh .entry)) .plan) × (now (fresh .exit) ≡ caughtW bound (now (ws .entry)) start c fault at (now (fresh .entry)) .fresh) ⌝ }
+fn caught(ws: &[u16], start: usize, c: usize, fault: u16, at: usize, fresh: &mut [u16]) -> Plan
+    ensures { λ r. ⌜ (r ≡ caughtW (now (ws .entry)) start c fault at (now (fresh .entry)) .plan) × (now (fresh .exit) ≡ caughtW (now (ws .entry)) start c fault at (now (fresh .entry)) .fresh) ⌝ }
 {
-    let body = body_at(ws, c, bound);
-    let t = opened(ws, c, body, fault, bound, fresh);
-    let k = kill(ws, body, fault, at, 64, bound, fresh, t);
+    let body = body_at(ws, c);
+    let t = opened(ws, c, body, fault, fresh);
+    let k = kill(ws, body, fault, at, 64, fresh, t);
     cleared(start, c, k)
 }
 
-pub fn thrown(ws: &[u16], start: usize, s: Spot, bound: usize, fresh: &mut [u16]) -> Plan
-    ensures { λ r. ⌜ (r ≡ thrownW bound (now (ws .entry)) start s (now (fresh .entry)) .plan) × (now (fresh .exit) ≡ thrownW bound (now (ws .entry)) start s (now (fresh .entry)) .fresh) ⌝ }
+pub fn thrown(ws: &[u16], start: usize, s: Spot, fresh: &mut [u16]) -> Plan
+    ensures { λ r. ⌜ (r ≡ thrownW (now (ws .entry)) start s (now (fresh .entry)) .plan) × (now (fresh .exit) ≡ thrownW (now (ws .entry)) start s (now (fresh .entry)) .fresh) ⌝ }
 {
     let fault = fault_at(ws, s.at);
     if s.catcher == 0 {
-        return uncaught(ws, start, fault, s.at, bound, fresh);
+        return uncaught(ws, start, fault, s.at, fresh);
     }
-    caught(ws, start, s.catcher, fault, s.at, bound, fresh)
+    caught(ws, start, s.catcher, fault, s.at, fresh)
 }

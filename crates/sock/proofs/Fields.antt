@@ -5,6 +5,7 @@ use native.Mathlib.Omega.{arith}
 use native.Mathlib.Decide.{ℕ-discrete}
 use mathlib.Core.Path.{_≡_, refl, sym, subst}
 use mathlib.Core.Bool.{Bool, true, false, not, _&&_, _||_}
+use borrow.Author.Tests.{eq-eqb, ne-eqb, eqb-true, eqb-false}
 use lib.Dec.{T, eqb, eqb→eq, leb, ltb, leb→le, ltb→lt, le→leb}
 use lib.Ieee.Fits.{and-i, and-l, and-r}
 use Rattle.sock.specs.Words.{kindOf, nameOf, secondOf, markOf, zombieOf, firstName, executorsClient, deadOf, waitersServer, noticesClient, bit, isOne, headOf, nameFields, isWord, clear}
@@ -36,6 +37,13 @@ four false b c d t = absurd t
 
 pub four-pass : (a b c d : Bool) → T a × T b × T c × T d → T (a && b && c && d)
 four-pass a b c d t = and-i (a && b && c) d (and-i (a && b) c (and-i a b (t .0) (t .1)) (t .2)) (t .3)
+
+pub turned-round : (a b : ℕ) → eqb a b ≡ eqb b a
+turned-round a b = by (eqb b a) refl
+  where
+    by : (t : Bool) → eqb b a ≡ t → eqb a b ≡ t
+    by true e = eq-eqb a b (sym (eqb-true b a e))
+    by false e = ne-eqb a b λ z. eqb-false b a e (sym z)
 
 -- a plain kind is not nil, seq, par or scope
 pub plain-kind : (k : ℕ) → T (isPlain k) → (eqb k 0 ≡ false) × (eqb k 2 ≡ false) × (eqb k 3 ≡ false) × (eqb k 11 ≡ false)

@@ -7,10 +7,12 @@ use mathlib.Core.Path.{_≡_, refl, subst, sym, ap}
 use mathlib.Core.Bool.{Bool, true, false, not, _&&_, _||_}
 use mathlib.Core.List.{List, [], _∷_}
 use lib.Dec.{T, leb, ltb, eqb, lit<, ltb→lt, lt→ltb, leb→le, le→leb}
+use lib.ListN.{length}
 use Rattle.sock.specs.Kind
 use Rattle.sock.specs.Kind.{rowOf, rows}
 use Rattle.sock.specs.Words.{isWord, clear, kindOf}
 use Rattle.sock.specs.Term.{Expr, constant, Node, node, Block, absent, list, Entries, noEntries, entry, Nodes, noParts, _&_, kind, isNil, nilNode, partAt, firstExpr, entriesOf, processesOf}
+use Rattle.sock.specs.Layout.{depth}
 use Rattle.sock.specs.Reading.{Stratum, running, code, Place, anywhere, notNil, guard, root, allowed, placed, branched, headFits, nodeFits, entryFits, entryStratum, partStratum, partPlace, fixedAt}
 use Rattle.sock.proofs.Logic.{and-left, and-right, and-both}
 use Rattle.sock.proofs.Fits.{FitsExpr, constantFits, FitsExprs, noExprs, oneExpr, FitsFixed, noFixed, oneFixed, Fits, fits, FitsBlock, noList, aList, FitsEntries, emptyFits, entryFitsOn, FitsParts, noPart, onePart}
@@ -119,3 +121,13 @@ code-more g = more g refl
 pub entries-lower : {o : Bool} {least : ℕ} {l : Entries} (lower : ℕ) → lower ≤ least → FitsEntries o least l → FitsEntries o lower l
 entries-lower lower h emptyFits = emptyFits
 entries-lower lower h (entryFitsOn a b c d e) = entryFitsOn (le-trans h a) b c d e
+
+-- ---- sizes
+
+pub fixed-length : {ms f : List ℕ} → FitsFixed ms f → length f ≡ length ms
+fixed-length noFixed = refl
+fixed-length (oneFixed t h) = ap suc (fixed-length h)
+
+pub depth-some : (m : Node) → 0 < depth m
+unfolding depth
+depth-some (node h f es b ps) = omega arith

@@ -273,7 +273,7 @@ module _
     parts-finds (onePart {n = left} {p} {ps} f fs) shallow rest =
         rw (append-assoc, below left p f (omega arith) (nodesWords ps ++ rest), parts-finds fs (omega arith) rest)
 
-in-order : (a b c d e : List ℕ) → (a ++ (b ++ (c ++ d))) ++ e ≡ a ++ (b ++ (c ++ (d ++ e)))
+pub in-order : (a b c d e : List ℕ) → (a ++ (b ++ (c ++ d))) ++ e ≡ a ++ (b ++ (c ++ (d ++ e)))
 in-order a b c d e = simp append-assoc
 
 node-finds : (d : ℕ) (s : Stratum) (p : Place) → FindsNode d s p (process d s p)

@@ -13,8 +13,8 @@ use Rattle.rules.specs.declared.pair.Offer.{Offer}
 use Rattle.rules.specs.declared.turn.Turn.{Turn}
 use Rattle.finding.specs.declared.find.Spot.{Spot}
 use Rattle.moving.specs.Evaluating.{valueIn}
-use Rattle.rules.specs.Turning.{Turned, turned, vanishing, keeping, partW}
-use Rattle.rules.specs.Offering.{placed, throwHead, runEnd, hearW, seqFirst, threeW, serveW, askW, answerW, failW}
+use Rattle.rules.specs.Turning.{Turned, turned, vanishing, keeping, partW, partEnd}
+use Rattle.rules.specs.Offering.{placed, throwHead, hearW, seqFirst, threeW, serveW, askW, answerW, failW}
 use Rattle.rules.specs.Planning.{planned, hollowW, nilW, plainW}
 use Rattle.rules.proofs.Exchanges.{three-to, first-place}
 use Rattle.stepping.specs.Exchanging.{blank}
@@ -52,11 +52,11 @@ abbrev Few : Turned → List ℕ → Type 0
 Few t fresh = (t .turn .fresh ≤ 4) × (length (t .fresh) ≡ length fresh)
 
 module _ (fresh : List ℕ) (near : Near (length fresh)) (room : 4 ≤ length fresh) where
-  pub send-few : (bound : ℕ) (ws : List ℕ) (kind server serial : ℕ) → Few (sendW bound ws kind server serial fresh) fresh
+  pub send-few : (ws : List ℕ) (kind server serial : ℕ) → Few (sendW ws kind server serial fresh) fresh
   unfolding sendW askW
-  send-few bound ws kind server serial = by (eqb kind 10)
+  send-few ws kind server serial = by (eqb kind 10)
     where
-      by : (b : Bool) → Few (cond b (askW bound ws server serial fresh) (turned (vanishing 32 0) fresh)) fresh
+      by : (b : Bool) → Few (cond b (askW ws server serial fresh) (turned (vanishing 32 0) fresh)) fresh
       by true = (omega (arith, three-to fresh 0 near (omega arith)), three-length fresh 0 _ _ _)
       by false = (omega arith, refl)
 
@@ -77,29 +77,29 @@ module _ (fresh : List ℕ) (near : Near (length fresh)) (room : 4 ≤ length fr
       let n = three-to (seqFirst (o .next) fresh .fresh) (seqFirst (o .next) fresh .to) (rw l near) (omega arith) in
       (omega arith, three-length _ _ _ _ _ ∙ l)
 
-  fail-few : (bound : ℕ) (ws : List ℕ) (w : ℕ) → Few (failW bound ws w fresh) fresh
+  fail-few : (ws : List ℕ) (w : ℕ) → Few (failW ws w fresh) fresh
   unfolding failW
-  fail-few bound ws w = by (leb 32768 (getD ws 1 0))
+  fail-few ws w = by (leb 32768 (getD ws 1 0))
     where
       by :
           (b : Bool) →
-          Few (cond b (turned (vanishing 32 0) fresh) (turned (keeping (onward 0 1) (runEnd bound ws) (runEnd bound ws) (runEnd bound ws) 32 0) (set fresh 0 (throwHead w)))) fresh
+          Few (cond b (turned (vanishing 32 0) fresh) (turned (keeping (onward 0 1) (partEnd ws 0) (partEnd ws 0) (partEnd ws 0) 32 0) (set fresh 0 (throwHead w)))) fresh
       by true = (omega arith, refl)
       by false = (omega (arith, first-place), length-set fresh 0 _)
 
-  pub receive-few : (bound : ℕ) (ws vs other : List ℕ) (o : Offer) (kind client serial : ℕ) → Few (receiveW bound ws vs other o kind client serial fresh) fresh
+  pub receive-few : (ws vs other : List ℕ) (o : Offer) (kind client serial : ℕ) → Few (receiveW ws vs other o kind client serial fresh) fresh
   unfolding receiveW answerW
-  receive-few bound ws vs other o kind client serial = by (eqb kind 9) (eqb kind 10) (eqb kind 16)
+  receive-few ws vs other o kind client serial = by (eqb kind 9) (eqb kind 10) (eqb kind 16)
     where
       by :
           (a b d : Bool) →
           Few (cond a (turned (hearW other o (valueIn vs (getD ws 0 0 % 32))) fresh)
           (cond b (serveW other o client serial (valueIn vs (getD ws 0 0 % 32)) fresh)
-          (cond d (answerW bound other (valueIn vs (getD ws 0 0 % 32)) fresh) (failW bound other (getD ws 1 0) fresh)))) fresh
+          (cond d (answerW other (valueIn vs (getD ws 0 0 % 32)) fresh) (failW other (getD ws 1 0) fresh)))) fresh
       by true b d = (hear-few other o _, refl)
       by false true d = serve-few other o client serial _
       by false false true = (omega (arith, first-place), length-set fresh 0 24576)
-      by false false false = fail-few bound other _
+      by false false false = fail-few other _
 
   -- a plan made of such a turn
   pub plain-few : (s : Spot) (start : ℕ) (t : Turn) → t .fresh ≤ 4 → plainW s start t fresh .plan .g ≤ 8192

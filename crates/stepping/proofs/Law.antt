@@ -54,7 +54,7 @@ looked-up :
     stepW ws e position i place branch out
     ≡ cond (leb n e) (answered (refusing 2) out)
     (foundW ws (s .starts) n e i place branch (n * 65536 + issued) out
-    (findW 64 ws (n * 65536 + issued) (onward (getD (s .starts) e 0) position) 1 (getD (s .starts) e 0)))
+    (findW 64 ws (onward (getD (s .starts) e 0) position) 1 (getD (s .starts) e 0)))
 unfolding stepW
 looked-up ws e position i place branch out s n issued q z more few w = rw (← q, z, ne-eqb n 0 more, le-ltb 8 n few, w)
 
@@ -88,14 +88,14 @@ module _ (ws : List ℕ) (ok : Words ws) (k : Numbers) (position-low : k .positi
 
       receiving-law :
           (m : Message) → moveOf (engineAt c (k .engine) .values) (l .frames) (l .process) ≡ sends m →
-          receivingW ws (s .starts) n (k .engine) sp (kind (asNode (l .process))) (k .second) (k .secondPosition) (k .branch) bound out
+          receivingW ws (s .starts) n (k .engine) sp (kind (asNode (l .process))) (k .second) (k .secondPosition) (k .branch) out
           ≡ given ((noPartner ! enabledAt c (k .second) (k .secondPosition)) >>= λ b. pairOf c k a b m (length out)) out
       unfolding receivingW partnerW _!_ _>>=_
       receiving-law m moves = by (leb n (k .second)) refl
         where
           seek :
               (f : Found) (o : Option Place) → Seeks ws ok s known (k .second) (k .secondPosition) (startOf c (k .second) + k .secondPosition) f o →
-              partnerW ws (s .starts) (k .engine) (k .second) sp (kind (asNode (l .process))) (k .branch) bound out f
+              partnerW ws (s .starts) (k .engine) (k .second) sp (kind (asNode (l .process))) (k .branch) out f
               ≡ given ((noPartner ! o) >>= λ b. pairOf c k a b m (length out)) out
           seek _ _ unseen = sym (given-refused noPartner out)
           seek _ _ (seen {l = lb} {sp = sb} y) = pair-law ws ok s known (k .engine) target l sp found (k .second) _ lb sb y k m moves kind-low out
@@ -103,8 +103,8 @@ module _ (ws : List ℕ) (ok : Words ws) (k : Numbers) (position-low : k .positi
           by :
               (b : Bool) → leb n (k .second) ≡ b →
               cond b (answered (refusing 4) out)
-              (partnerW ws (s .starts) (k .engine) (k .second) sp (kind (asNode (l .process))) (k .branch) bound out
-              (findW 64 ws bound (onward (getD (s .starts) (k .second) 0) (k .secondPosition)) 1 (getD (s .starts) (k .second) 0)))
+              (partnerW ws (s .starts) (k .engine) (k .second) sp (kind (asNode (l .process))) (k .branch) out
+              (findW 64 ws (onward (getD (s .starts) (k .second) 0) (k .secondPosition)) 1 (getD (s .starts) (k .second) 0)))
               ≡ given ((noPartner ! enabledAt c (k .second) (k .secondPosition)) >>= λ b. pairOf c k a b m (length out)) out
           by true q = rw (seeks-none ws ok s known (k .second) (k .secondPosition) (leb-true n (k .second) q)) (sym (given-refused noPartner out))
           by false q =
@@ -116,13 +116,13 @@ module _ (ws : List ℕ) (ok : Words ws) (k : Numbers) (position-low : k .positi
       unfolding movingW
       moving-law =
           rw kind-at
-          (by (moveOf (engineAt c (k .engine) .values) (l .frames) (l .process)) (movesW bound ws (sp .at) (kind (asNode (l .process)))) refl
+          (by (moveOf (engineAt c (k .engine) .values) (l .frames) (l .process)) (movesW ws (sp .at) (kind (asNode (l .process)))) refl
           (known-moving ws ok s known (k .engine) (found .inside) target l sp (found .place) (found .spotted)))
         where
           by :
               (m : Move) (j : ℕ) → moveOf (engineAt c (k .engine) .values) (l .frames) (l .process) ≡ m → Moving m j →
               cond (eqb j 0) (answered (refusing 3) out)
-              (cond (eqb j 2) (receivingW ws (s .starts) n (k .engine) sp (kind (asNode (l .process))) (k .second) (k .secondPosition) (k .branch) bound out)
+              (cond (eqb j 2) (receivingW ws (s .starts) n (k .engine) sp (kind (asNode (l .process))) (k .second) (k .secondPosition) (k .branch) out)
               (cond (noneElse (k .second) (k .secondPosition) (k .branch))
               (aloneW ws (getD (s .starts) (k .engine) 0) (getD (s .starts) (k .engine + 1) 0) sp (kind (asNode (l .process))) bound out)
               (answered (refusing 3) out)))
@@ -140,7 +140,7 @@ module _ (ws : List ℕ) (ok : Words ws) (k : Numbers) (position-low : k .positi
 
     -- the search in the first engine
     known-law : (k .engine < n) → foundW ws (s .starts) n (k .engine) (k .second) (k .secondPosition) (k .branch) bound out
-        (findW 64 ws bound (onward (startOf c (k .engine)) (k .position)) 1 (startOf c (k .engine)))
+        (findW 64 ws (onward (startOf c (k .engine)) (k .position)) 1 (startOf c (k .engine)))
         ≡ given ((nobodyThere ! enabledAt c (k .engine) (k .position)) >>= λ a. after c k a (length out)) out
     unfolding foundW _!_ _>>=_
     known-law h = by _ _ (seeks ws ok s known (k .engine) h (k .position) position-low)
@@ -166,7 +166,7 @@ module _ (ws : List ℕ) (ok : Words ws) (k : Numbers) (position-low : k .positi
             (b : Bool) → leb n (k .engine) ≡ b →
             cond b (answered (refusing 2) out)
             (foundW ws (s .starts) n (k .engine) (k .second) (k .secondPosition) (k .branch) bound out
-            (findW 64 ws bound (onward (getD (s .starts) (k .engine) 0) (k .position)) 1 (getD (s .starts) (k .engine) 0)))
+            (findW 64 ws (onward (getD (s .starts) (k .engine) 0) (k .position)) 1 (getD (s .starts) (k .engine) 0)))
             ≡ given ((nobodyThere ! enabledAt c (k .engine) (k .position)) >>= λ a. after c k a (length out)) out
         by true y = rw (seeks-none ws ok s known (k .engine) (k .position) (leb-true n (k .engine) y)) none-there
           where

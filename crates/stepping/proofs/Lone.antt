@@ -42,7 +42,7 @@ use Rattle.finding.proofs.Within.{within, within-locate}
 use Rattle.finding.proofs.Spots.{Spotted}
 use Rattle.finding.proofs.Edits.{part, process-at}
 use Rattle.rules.specs.declared.turn.Turn.{Turn}
-use Rattle.rules.specs.Turning.{turned, vanishing, keeping, refused, at, partW, assignW, codeEnd, branchW, levelsLeft, unrollW, repeatW}
+use Rattle.rules.specs.Turning.{turned, vanishing, keeping, refused, at, partW, assignW, partEnd, branchW, levelsLeft, unrollW, repeatW}
 use Rattle.rules.specs.Planning.{Planned, plainW}
 use Rattle.rules.proofs.Turns.{Becomes, becomes-nil, Outcome, deepens, becomes, assign-turns, branch-turns, repeat-turns}
 use Rattle.rules.proofs.Plans.{done-nil}
@@ -80,14 +80,14 @@ part-none ws from upto end = by (eqb (at ws from) 0)
     by true = refl
     by false = refl
 
-branch-none : (bound : ℕ) (ws values : List ℕ) → branchW bound ws values .x ≡ 32
+branch-none : (ws values : List ℕ) → branchW ws values .x ≡ 32
 unfolding branchW
-branch-none bound ws values = by (eqb (evaluated 64 ws values 1 .value) 0)
+branch-none ws values = by (eqb (evaluated 64 ws values 1 .value) 0)
   where
     by : (b : Bool) →
         (let e = evaluated 64 ws values 1 in
-        let middle : ℕ = codeEnd bound ws (e .end) in
-        let last : ℕ = codeEnd bound ws middle in
+        let middle : ℕ = partEnd ws (e .end) in
+        let last : ℕ = partEnd ws middle in
         cond b (partW ws middle last last 32 0) (partW ws (e .end) middle last 32 0) .x ≡ 32)
     by true = part-none ws _ _ _
     by false = part-none ws _ _ _
@@ -105,7 +105,7 @@ repeat-keeps level bound ws values fresh =
   where
     by : (a b c : Bool) →
         (let e = evaluated 64 ws values 1 in
-        let end : ℕ = codeEnd bound ws (e .end) in
+        let end : ℕ = partEnd ws (e .end) in
         length
         (cond a (turned (vanishing 32 0) fresh)
         (cond b (turned (keeping 0 0 end end 32 0) fresh)
@@ -186,7 +186,7 @@ module _ (ws : List ℕ) (ok : Words ws) (n issued : ℕ) (few : n ≤ 8) (small
     made-scope name mark zombie h a is false e = tt
     made-scope name mark zombie h a is true e =
         still _ _ (ends (faultAt ws target) target r start l s ws words-at spotted near (standing .frames) deep (omega arith)
-        ok few small short fresh room big sound name mark zombie h (is ∙ ap (scope name mark zombie h) (done-nil a e)))
+        few small short fresh room big sound name mark zombie h (is ∙ ap (scope name mark zombie h) (done-nil a e)))
 
     made-executor : (b : Bool) (u : Planned) (m : Message) → Makes u (cond b (sends m) stuck)
     made-executor true u m = tt
@@ -248,8 +248,8 @@ module _ (ws : List ℕ) (ok : Words ws) (n issued : ℕ) (few : n ≤ 8) (small
         let b = branch-turns n issued (drop (s .at) ws) (words-part ws (s .at) ok) few small vs below rest h e p q g fp fq
         (omega (arith, node-deep m is)) (node-at m is) fresh in
         rw (plain-rule 4 (omega arith))
-        (turns (enable (cond (isTrue (evaluate vs e)) p q)) (branchW bound (drop (s .at) ws) (valuesWords vs)) fresh refl
-        (rw is b) (branch-none bound (drop (s .at) ws) (valuesWords vs)) (by (isTrue (evaluate vs e))))
+        (turns (enable (cond (isTrue (evaluate vs e)) p q)) (branchW (drop (s .at) ws) (valuesWords vs)) fresh refl
+        (rw is b) (branch-none (drop (s .at) ws) (valuesWords vs)) (by (isTrue (evaluate vs e))))
       where
         by : (b : Bool) → s .level + runDepth (enable (cond b p q)) ≤ 65
         by true = omega (arith, enabled-depth fp, node-deep (node h [] (e ∷ []) absent (p & q & noParts)) is)
@@ -287,13 +287,13 @@ module _ (ws : List ℕ) (ok : Words ws) (n issued : ℕ) (few : n ≤ 8) (small
     unfolding ruleW scopedW asNode
     made-install h new k fit is =
         still _ _ (Installs.installs (faultAt ws target) target r start l s ws words-at spotted near (standing .frames) deep (omega arith)
-        ok few small short fresh (wide (ap (λ p. kind (asNode p)) is ∙ k)) big sound h new is fit)
+        few small short fresh (wide (ap (λ p. kind (asNode p)) is ∙ k)) big sound h new is fit)
 
     made-throw : (h : ℕ) → kindOf h ≡ 13 → l .process ≡ act (node h [] [] absent noParts) →
         Makes (ruleW ws start s 13 bound fresh) (alone vs (climb (nameOf h) (l .frames) nil))
     unfolding ruleW scopedW
     made-throw h k is =
-        still _ _ (thrown-ruled ws ok n issued few small sound start words-at (omega arith) deep short fresh room big target l s
+        still _ _ (thrown-ruled ws n issued few small sound start words-at (omega arith) deep short fresh room big target l s
         place spotted (node h [] [] absent noParts) is k)
 
     made-compensate : (h : ℕ) → l .process ≡ act (node h [] [] absent noParts) →

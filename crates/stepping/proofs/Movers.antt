@@ -24,9 +24,9 @@ use Rattle.sock.proofs.Measures.{words-scope, words-executor, size-scope, size-
 use Rattle.sock.proofs.ByKind.{runKind, kind-asNode, done-kind}
 use Rattle.sock.proofs.Positions.{at-head, at-past}
 use Rattle.reading.specs.declared.survey.Starts.{Starts}
-use Rattle.reading.specs.Walk.{processEnd, listEnd}
+use Rattle.skipping.specs.Skip.{skipList}
 use Rattle.reading.proofs.Combining.{Words}
-use Rattle.reading.proofs.Ended.{list-end}
+use Rattle.skipping.proofs.Skips.{list-end}
 use Rattle.reading.proofs.Known.{Known}
 use Rattle.moving.specs.Writing.{onward}
 use Rattle.moving.proofs.Laid.{onward-near}
@@ -82,9 +82,6 @@ module _ (ws : List ℕ) (ok : Words ws) (n issued : ℕ) (few : n ≤ 8) (small
     (start : ℕ) (words-at : drop start ws ≡ runWords r ++ drop (start + size r) ws) (low : 64 ≤ start) (deep : runDepth r ≤ 64)
     (short : length ws ≤ 8192) (target : ℕ) (l : Located) (s : Spot) (place : within r start target ≡ some l)
     (spotted : Spotted (faultAt ws target) target r start 1 l s) (vs : List ℕ) where
-  abbrev bound : ℕ
-  bound = n * 65536 + issued
-
   abbrev more : List ℕ
   more = rest ws ok n issued few small r sound start words-at low deep short target l s place spotted
 
@@ -111,7 +108,7 @@ module _ (ws : List ℕ) (ok : Words ws) (n issued : ℕ) (few : n ≤ 8) (small
   -- a scope's body
   body-done :
       (name : ℕ) (mark : Mark) (zombie : Bool) (h : Entries) (a : Run) → l .process ≡ scope name mark zombie h a →
-      FitsEntries true zero h → Sound n issued a → bodyNil bound ws (s .at) ≡ isDone a
+      FitsEntries true zero h → Sound n issued a → bodyNil ws (s .at) ≡ isDone a
   unfolding bodyNil
   body-done name mark zombie h a is f g =
       let i : ℕ = s .at in
@@ -124,8 +121,8 @@ module _ (ws : List ℕ) (ok : Words ws) (n issued : ℕ) (few : n ≤ 8) (small
       let long : size (l .process) ≡ 3 + length (entriesWords h) + size a = ap size is ∙ size-scope name mark zombie h a in
       let high : runDepth (l .process) ≡ suc (max (entriesDepth h) (runDepth a)) = ap runDepth is ∙ depth-scope name mark zombie h a in
       let two : onward i 2 ≡ i + 1 + 1 = onward-at 2 (omega arith) ∙ (let z : i + 2 ≡ i + 1 + 1 = omega arith in z) in
-      let ends : listEnd (processEnd 64 ws bound) ws 0 128 (i + 1 + 1) ≡ i + 1 + 1 + 1 + length (entriesWords h) =
-      list-end ws ok bound true f 64 (i + 1 + 1) (omega (arith, shallow)) (runWords a ++ more) (second .next) in
+      let ends : skipList 64 ws 128 (i + 1 + 1) ≡ i + 1 + 1 + 1 + length (entriesWords h) =
+      list-end ws f 64 (i + 1 + 1) (omega (arith, shallow)) (runWords a ++ more) (second .next) in
       let third = at-head ws (i + 1 + 1) _ _ (second .next) in
       rw (two, ends) (at-done a (i + 1 + 1 + 1 + length (entriesWords h)) more g
       (at-past ws (entriesWords h) (runWords a ++ more) (i + 1 + 1 + 1) (third .next)))
@@ -145,7 +142,7 @@ module _ (ws : List ℕ) (ok : Words ws) (n issued : ℕ) (few : n ≤ 8) (small
       let on : onward i 3 ≡ i + 1 + 1 + 1 = onward-at 3 (omega arith) ∙ (let z : i + 3 ≡ i + 1 + 1 + 1 = omega arith in z) in
       rw on (at-done a (i + 1 + 1 + 1) more g (third .next))
 
-  act-moves : (m : Node) → Shape m → Moving (acting vs (l .frames) m (action m)) (movesW bound ws (s .at) (kind m))
+  act-moves : (m : Node) → Shape m → Moving (acting vs (l .frames) m (action m)) (movesW ws (s .at) (kind m))
   unfolding action acting movesW byKind
   act-moves m (assigns k g) = rw k goes
   act-moves m (branches k g fp fq) = rw k goes
@@ -159,7 +156,7 @@ module _ (ws : List ℕ) (ok : Words ws) (n issued : ℕ) (few : n ≤ 8) (small
   act-moves m (throws k t) = rw k goes
   act-moves m (compensates k t) = rw k goes
 
-  moves : (p : Run) → l .process ≡ p → Sound n issued p → Moving (moveOf vs (l .frames) p) (movesW bound ws (s .at) (runKind p))
+  moves : (p : Run) → l .process ≡ p → Sound n issued p → Moving (moveOf vs (l .frames) p) (movesW ws (s .at) (runKind p))
   unfolding moveOf onceDone movesW byKind
   moves nil is g = stays
   moves (seq a q) is g = stays
@@ -174,7 +171,7 @@ module _ (ws : List ℕ) (ok : Words ws) (n issued : ℕ) (few : n ≤ 8) (small
   moves (notice o f client serial) is g = asks
   moves (act m) is (actSound i f) = act-moves m (shape i f)
 
-  pub moving : Moving (moveOf vs (l .frames) (l .process)) (movesW (n * 65536 + issued) ws (s .at) (kind (asNode (l .process))))
+  pub moving : Moving (moveOf vs (l .frames) (l .process)) (movesW ws (s .at) (kind (asNode (l .process))))
   moving =
       let g : Sound n issued (l .process) =
       standing ws ok n issued few small r sound start words-at low deep short target l s place spotted .process in
@@ -190,7 +187,7 @@ module _ (ws : List ℕ) (ok : Words ws) (starts : Starts) (known : Known standa
 
   pub known-moving :
       Moving (moveOf (engineAt c e .values) (l .frames) (l .process))
-      (movesW (length (c .engines) * 65536 + c .issued) ws (s .at) (kind (asNode (l .process))))
+      (movesW ws (s .at) (kind (asNode (l .process))))
   known-moving =
       let fit : FitsEngine (length (c .engines)) (c .issued) (engineAt c e) = engine-fits _ (known .readable .fitting .engines) e h in
       moving ws ok (length (c .engines)) (c .issued) (known .readable .fitting .few) (known .readable .fitting .word)

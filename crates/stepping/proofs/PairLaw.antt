@@ -52,9 +52,6 @@ module _ (ws : List ℕ) (ok : Words ws) (s : Starts) (known : Known standard ws
   abbrev c : Config
   c = known .config
 
-  abbrev bound : ℕ
-  bound = length (c .engines) * 65536 + c .issued
-
   abbrev end : ℕ → ℕ
   end e = startOf c e + size (engineAt c e .process)
 
@@ -219,13 +216,13 @@ module _ (ws : List ℕ) (ok : Words ws) (s : Starts) (known : Known standard ws
 
     carry-law :
         (other : e ≡ i → ⊥) (x : Exchange) → spentW ws kd ≡ false →
-        Trades (la .process) (lb .process) (engineAt c i .values) (issuedOf kd (c .issued) (suc (c .issued))) serial (faultOf kd) (sendW bound part kd i serial blank)
-        (receiveW bound part values rest (offerW bound rest (k .branch)) kd e serial blank) x →
-        carryW ws part values rest (offerW bound rest (k .branch)) (s .starts) e i sa sb kd bound out ≡ given (fitted (length out) (exchanged c a b x)) out
+        Trades (la .process) (lb .process) (engineAt c i .values) (issuedOf kd (c .issued) (suc (c .issued))) serial (faultOf kd) (sendW part kd i serial blank)
+        (receiveW part values rest (offerW rest (k .branch)) kd e serial blank) x →
+        carryW ws part values rest (offerW rest (k .branch)) (s .starts) e i sa sb kd out ≡ given (fitted (length out) (exchanged c a b x)) out
     unfolding carryW senderW receiverW
     carry-law other x left t =
-        let few1 = send-few blank blank-near (omega (arith, blank-length)) bound part kd i serial in
-        let few2 = receive-few blank blank-near (omega (arith, blank-length)) bound part values rest (offerW bound rest (k .branch)) kd e serial in
+        let few1 = send-few blank blank-near (omega (arith, blank-length)) part kd i serial in
+        let few2 = receive-few blank blank-near (omega (arith, blank-length)) part values rest (offerW rest (k .branch)) kd e serial in
         let p1 = turned-plans e ta la sa seenA (x .sender) _ _ (few1 .1 ∙ blank-length) (few1 .0) (t .sender .becomes) (t .sender .shallow) in
         let p2 = turned-plans i tb lb sb seenB (x .receiver) _ _ (few2 .1 ∙ blank-length) (few2 .0) (t .receiver) (t .shallow) in
         rw (next-serial part kd left, next-issued part kd left, starts-at e (seenA .inside) .0, starts-at i (seenB .inside) .0)
@@ -252,7 +249,7 @@ module _ (ws : List ℕ) (ok : Words ws) (s : Starts) (known : Known standard ws
 
     meet-law :
         (other : e ≡ i → ⊥) →
-        meetW ws part values rest (s .starts) e i sa sb kd (k .branch) bound out ≡ given (pairOf c k a b m (length out)) out
+        meetW ws part values rest (s .starts) e i sa sb kd (k .branch) out ≡ given (pairOf c k a b m (length out)) out
     unfolding meetW
     meet-law other =
         by (exchange (c .issued) e i (k .branch) (engineAt c i .values) (lb .process) m) refl
@@ -260,9 +257,9 @@ module _ (ws : List ℕ) (ok : Words ws) (s : Starts) (known : Known standard ws
       where
         by :
             (o : Option Exchange) → exchange (c .issued) e i (k .branch) (engineAt c i .values) (lb .process) m ≡ o →
-            Pairs bound (c .issued) e i (k .branch) (la .process) (lb .process) (engineAt c i .values) part values rest kd blank o →
-            cond (fitW part values rest (offerW bound rest (k .branch)) kd (k .branch) e i)
-            (cond (spentW ws kd) (answered (refusing 7) out) (carryW ws part values rest (offerW bound rest (k .branch)) (s .starts) e i sa sb kd bound out))
+            Pairs (c .issued) e i (k .branch) (la .process) (lb .process) (engineAt c i .values) part values rest kd blank o →
+            cond (fitW part values rest (offerW rest (k .branch)) kd (k .branch) e i)
+            (cond (spentW ws kd) (answered (refusing 7) out) (carryW ws part values rest (offerW rest (k .branch)) (s .starts) e i sa sb kd out))
             (answered (refusing 5) out)
             ≡ given (pairOf c k a b m (length out)) out
         by none q (misfit z) = rw (z, pair-none c k a (length out) b m other q) (sym (given-refused noFit out))
@@ -270,20 +267,20 @@ module _ (ws : List ℕ) (ok : Words ws) (s : Starts) (known : Known standard ws
           where
             spend :
                 (y : Bool) → spentW ws kd ≡ y →
-                cond y (answered (refusing 7) out) (carryW ws part values rest (offerW bound rest (k .branch)) (s .starts) e i sa sb kd bound out)
+                cond y (answered (refusing 7) out) (carryW ws part values rest (offerW rest (k .branch)) (s .starts) e i sa sb kd out)
                 ≡ given (fitted (length out) (exchanged c a b x)) out
             spend true f = spent-law x f (t .issues)
             spend false f = carry-law other x f t
 
     -- the answer and the output of a step between two
-    pub pair-law : betweenW ws (s .starts) e i sa sb kd (k .branch) bound out ≡ given (pairOf c k a b m (length out)) out
+    pub pair-law : betweenW ws (s .starts) e i sa sb kd (k .branch) out ≡ given (pairOf c k a b m (length out)) out
     unfolding betweenW
     pair-law = by (ℕ-discrete e i)
       where
         start-low : startOf c e ≤ length ws
         start-low = omega (arith, one-length c (known .readable .fitting) e (seenA .inside) ws (known .same))
 
-        by : Dec (e ≡ i) → betweenW ws (s .starts) e i sa sb kd (k .branch) bound out ≡ given (pairOf c k a b m (length out)) out
+        by : Dec (e ≡ i) → betweenW ws (s .starts) e i sa sb kd (k .branch) out ≡ given (pairOf c k a b m (length out)) out
         by (yes q) = rw (eq-eqb e i q, pair-same c k a (length out) b m q) (sym (given-refused noFit out))
         by (no q) =
             rw (

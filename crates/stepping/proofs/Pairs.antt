@@ -22,7 +22,6 @@ use Rattle.sock.proofs.Fits.{Fits, Sound, nilSound, seqSound, parSound, scopeSo
 use Rattle.sock.proofs.Fields.{name-of, second-of, client-of, noticed-fault, noticed-client, end-tests}
 use Rattle.sock.proofs.ByKind.{kind-asNode}
 use Rattle.sock.proofs.Measures.{words-executor, words-notice, words-act, depth-nil, depth-act}
-use Rattle.reading.proofs.Combining.{Words}
 use Rattle.moving.specs.Evaluating.{valueIn}
 use Rattle.moving.proofs.Evaluates.{value-in}
 use Rattle.moving.proofs.Laid.{Near}
@@ -51,16 +50,16 @@ pub record Trades (a b : Run) (vb : List ℕ) (issued serial fault : ℕ) (t u :
 
 -- whether they fit, and then how they trade
 pub data Pairs
-    (bound issued e i branch : ℕ) (a b : Run) (vb part values other : List ℕ) (kind : ℕ) (fresh : List ℕ) : Option Exchange → Type 0 where
-  misfit : fitW part values other (offerW bound other branch) kind branch e i ≡ false →
-      Pairs bound issued e i branch a b vb part values other kind fresh none
+    (issued e i branch : ℕ) (a b : Run) (vb part values other : List ℕ) (kind : ℕ) (fresh : List ℕ) : Option Exchange → Type 0 where
+  misfit : fitW part values other (offerW other branch) kind branch e i ≡ false →
+      Pairs issued e i branch a b vb part values other kind fresh none
   fit :
       {x : Exchange} →
-      fitW part values other (offerW bound other branch) kind branch e i ≡ true →
+      fitW part values other (offerW other branch) kind branch e i ≡ true →
       Trades a b vb (issuedOf kind issued (suc issued)) (serialW part kind (suc issued)) (faultOf kind)
-      (sendW bound part kind i (serialW part kind (suc issued)) fresh)
-      (receiveW bound part values other (offerW bound other branch) kind e (serialW part kind (suc issued)) fresh) x →
-      Pairs bound issued e i branch a b vb part values other kind fresh (some x)
+      (sendW part kind i (serialW part kind (suc issued)) fresh)
+      (receiveW part values other (offerW other branch) kind e (serialW part kind (suc issued)) fresh) x →
+      Pairs issued e i branch a b vb part values other kind fresh (some x)
 
 taken : (vb : List ℕ) (x v y w : ℕ) → y < 32 → x ≡ y → v ≡ w → set vb y w ≡ valued vb x v
 taken vb x v y w h p q = rw (p, q, lt-leb 32 y h)
@@ -71,21 +70,18 @@ vanishes a fresh =
 
 module _ (n issued : ℕ) (few : n ≤ 8) (small : issued < 65536) (e i branch : ℕ)
     (fresh : List ℕ) (big : Near (length fresh)) (room : 4 ≤ length fresh)
-    (part values : List ℕ) (okPart : Words part) (va : List ℕ) (below : AllBelow 4294967296 va) (laid : values ≡ valuesWords va)
-    (other : List ℕ) (okOther : Words other) (close : Near (length other))
+    (part values : List ℕ) (va : List ℕ) (below : AllBelow 4294967296 va) (laid : values ≡ valuesWords va)
+    (other : List ℕ) (close : Near (length other))
     (b : Run) (soundB : Sound n issued b) (deepB : runDepth b ≤ 64)
     (restB : List ℕ) (standsB : other ≡ runWords b ++ restB) (vb : List ℕ) where
-  abbrev bound : ℕ
-  bound = n * 65536 + issued
-
   abbrev o : Offer
-  o = offerW bound other branch
+  o = offerW other branch
 
   value : (x : ℕ) → valueIn values x ≡ valueAt va x
   value x = ap (λ l. valueIn l x) laid ∙ value-in below x
 
   abbrev PairsOf : Run → ℕ → Option Exchange → Type 0
-  PairsOf a k x = Pairs bound issued e i branch a b vb part values other k fresh x
+  PairsOf a k x = Pairs issued e i branch a b vb part values other k fresh x
 
   -- ---- a notify
 
@@ -94,7 +90,7 @@ module _ (n issued : ℕ) (few : n ≤ 8) (small : issued < 65536) (e i branch :
     unfolding fitW addressedW takerOf
     notify-fits = rw (first, second, value (w / 2048))
 
-    notify-receives : receiveW bound part values other o 9 e 0 fresh ≡ turned (hearW other o (valueAt va (h % 32))) fresh
+    notify-receives : receiveW part values other o 9 e 0 fresh ≡ turned (hearW other o (valueAt va (h % 32))) fresh
     unfolding receiveW
     notify-receives = rw (first, value (h % 32))
 
@@ -132,7 +128,7 @@ module _ (n issued : ℕ) (few : n ≤ 8) (small : issued < 65536) (e i branch :
             PairsOf a 9 (guarded t (notified issued vb (nameOf h) (valueAt va (h % 32)) (offer b branch .receives) (offer b branch .next)))
         by true z =
             notify-found (notify-fits ∙ ap (λ t. cond t (fitsW other o 7 h) false) z)
-            (notify-meets n issued other okOther few small restB b soundB deepB standsB vb branch h (valueAt va (h % 32)) fresh)
+            (notify-meets n issued other few small restB b soundB deepB standsB vb branch h (valueAt va (h % 32)) fresh)
         by false z = misfit (notify-fits ∙ ap (λ t. cond t (fitsW other o 7 h) false) z)
 
   -- ---- a solicit
@@ -148,7 +144,7 @@ module _ (n issued : ℕ) (few : n ≤ 8) (small : issued < 65536) (e i branch :
     solicit-fits = rw (first, second, value (w / 2048))
 
     solicit-receives :
-        receiveW bound part values other o 10 e (suc issued) fresh ≡ serveW other o e (suc issued) (valueAt va (h % 32)) fresh
+        receiveW part values other o 10 e (suc issued) fresh ≡ serveW other o e (suc issued) (valueAt va (h % 32)) fresh
     unfolding receiveW
     solicit-receives = rw (first, value (h % 32))
 
@@ -178,7 +174,7 @@ module _ (n issued : ℕ) (few : n ≤ 8) (small : issued < 65536) (e i branch :
           issues = refl;
           numbers = refl;
           fails = refl;
-          sender = ask-turns n issued part okPart few small rest h w l f deep stands i (suc issued) fresh big (omega arith);
+          sender = ask-turns n issued part few small rest h w l f deep stands i (suc issued) fresh big (omega arith);
           receiver = k .becomes;
           shallow = k .shallow;
           values = taken vb _ _ x _ low (k .takes) (k .value);
@@ -198,7 +194,7 @@ module _ (n issued : ℕ) (few : n ≤ 8) (small : issued < 65536) (e i branch :
             (solicited issued e i vb (nameOf h) (valueAt va (h % 32)) (nextVariable w) l (offer b branch .receives) (offer b branch .next)))
         by true z =
             solicit-found (solicit-fits ∙ ap (λ t. cond t (fitsW other o 8 h) false) z)
-            (solicit-meets n issued other okOther few small restB b soundB deepB standsB vb branch h (valueAt va (h % 32)) e i
+            (solicit-meets n issued other few small restB b soundB deepB standsB vb branch h (valueAt va (h % 32)) e i
             (nextVariable w) l fresh close big room)
         by false z = misfit (solicit-fits ∙ ap (λ t. cond t (fitsW other o 8 h) false) z)
 
@@ -209,7 +205,7 @@ module _ (n issued : ℕ) (few : n ≤ 8) (small : issued < 65536) (e i branch :
     unfolding fitW repliesW
     reply-fits = rw (first, second, third)
 
-    reply-receives : receiveW bound part values other o 16 e serial fresh ≡ answerW bound other (valueAt va (h % 32)) fresh
+    reply-receives : receiveW part values other o 16 e serial fresh ≡ answerW other (valueAt va (h % 32)) fresh
     unfolding receiveW
     reply-receives = rw (first, value (h % 32))
 
@@ -219,8 +215,8 @@ module _ (n issued : ℕ) (few : n ≤ 8) (small : issued < 65536) (e i branch :
 
     reply-found :
         {x : Option Exchange} → fitW part values other o 16 branch e i ≡ awaitsW other h serial client e i →
-        Meets (awaitsW other h serial client e i) b (answerW bound other (valueAt va (h % 32)) fresh .turn)
-        (answerW bound other (valueAt va (h % 32)) fresh .fresh) (valueAt va (h % 32))
+        Meets (awaitsW other h serial client e i) b (answerW other (valueAt va (h % 32)) fresh .turn)
+        (answerW other (valueAt va (h % 32)) fresh .fresh) (valueAt va (h % 32))
         replied-as x →
         PairsOf a 16 x
     unfolding serialW sendW issuedOf faultOf
@@ -250,7 +246,7 @@ module _ (n issued : ℕ) (few : n ≤ 8) (small : issued < 65536) (e i branch :
             (λ j. PairsOf a 16 (awaited e i j (nameOf h) client serial b (λ x dead l. replied issued serial vb (valueAt va (h % 32)) x l)))
             (sym z)
             (reply-found (reply-fits ∙ ap (λ j. cond (eqb j 0) (awaitsW other h serial client e i) false) z)
-            (reply-meets n issued other okOther few small restB b soundB deepB standsB vb h serial client e i fresh (omega arith)
+            (reply-meets n issued other few small restB b soundB deepB standsB vb h serial client e i fresh (omega arith)
             (valueAt va (h % 32))))
         by (suc j) z =
             subst (λ x. PairsOf a 16 x)
@@ -266,7 +262,7 @@ module _ (n issued : ℕ) (few : n ≤ 8) (small : issued < 65536) (e i branch :
     unfolding fitW repliesW
     notice-fits = rw (first, second, named, third)
 
-    notice-receives : receiveW bound part values other o 18 e serial fresh ≡ failW bound other w fresh
+    notice-receives : receiveW part values other o 18 e serial fresh ≡ failW other w fresh
     unfolding receiveW
     notice-receives = rw second
 
@@ -275,7 +271,7 @@ module _ (n issued : ℕ) (few : n ≤ 8) (small : issued < 65536) (e i branch :
 
     notice-found :
         {x : Option Exchange} → fitW part values other o 18 branch e i ≡ awaitsW other h serial client e i →
-        Strikes (awaitsW other h serial client e i) b (failW bound other w fresh .turn) (failW bound other w fresh .fresh)
+        Strikes (awaitsW other h serial client e i) b (failW other w fresh .turn) (failW other w fresh .fresh)
         failed-as x →
         PairsOf a 18 x
     unfolding serialW sendW issuedOf faultOf
@@ -305,7 +301,7 @@ module _ (n issued : ℕ) (few : n ≤ 8) (small : issued < 65536) (e i branch :
             (λ j. PairsOf a 18 (awaited e i j (nameOf h) client serial b (λ x dead l. faulting issued serial vb (firstName w) dead)))
             (sym z)
             (notice-found (notice-fits ∙ ap (λ j. cond (eqb j 0) (awaitsW other h serial client e i) false) z)
-            (fault-strikes n issued other okOther few small restB b soundB deepB standsB vb h serial client e i fresh (omega arith) w))
+            (fault-strikes n issued other few small restB b soundB deepB standsB vb h serial client e i fresh (omega arith) w))
         by (suc j) z =
             subst (λ x. PairsOf a 18 x)
             (sym (ap (λ j. awaited e i j (nameOf h) client serial b (λ x dead l. faulting issued serial vb (firstName w) dead)) z

@@ -77,9 +77,6 @@ module _ (ws : List ℕ) (ok : Words ws) (s : Starts) (known : Known standard ws
   pub lent-on : (k : ℕ) → lent k (length ws) ws ≡ drop k ws
   lent-on k = take-all (length ws - k) (drop k ws) (omega (arith, length-drop k ws))
 
-  pub lent-words : (k : ℕ) → Words (lent k (length ws) ws)
-  lent-words k i = rw (lent-on k, getD-drop k ws i 0) (ok (k + i))
-
   pub lent-near : (k : ℕ) → Near (length (lent k (length ws) ws))
   lent-near k = near-below _ (length ws) near (omega (arith, ap length (lent-on k), length-drop k ws))
 
@@ -138,16 +135,16 @@ module _ (ws : List ℕ) (ok : Words ws) (s : Starts) (known : Known standard ws
       (branch : ℕ) where
     pub partners-trade :
         (m : Message) → moveOf (engineAt c e .values) (la .frames) (la .process) ≡ sends m →
-        Pairs (length (c .engines) * 65536 + c .issued) (c .issued) e i branch (la .process) (lb .process) (engineAt c i .values)
+        Pairs (c .issued) e i branch (la .process) (lb .process) (engineAt c i .values)
         (lent (sa .at) (length ws) ws) (lent (startOf c e - 64) (startOf c e) ws) (lent (sb .at) (length ws) ws)
         (kind (asNode (la .process))) blank
         (exchange (c .issued) e i branch (engineAt c i .values) (lb .process) m)
     partners-trade m moves =
         sender-pairs (length (c .engines)) (c .issued) (known .readable .fitting .few) (known .readable .fitting .word) e i branch blank
         blank-near (omega (arith, blank-length))
-        (lent (sa .at) (length ws) ws) (lent (startOf c e - 64) (startOf c e) ws) (lent-words (sa .at)) (engineAt c e .values)
+        (lent (sa .at) (length ws) ws) (lent (startOf c e - 64) (startOf c e) ws) (engineAt c e .values)
         (engine-fits _ (known .readable .fitting .engines) e he .bounded) (one-values c (known .readable .fitting) e he ws (known .same))
-        (lent (sb .at) (length ws) ws) (lent-words (sb .at)) (lent-near (sb .at))
+        (lent (sb .at) (length ws) ws) (lent-near (sb .at))
         (lb .process) (found-sound i hi targetB lb sb spottedB) (found-shallow i hi targetB lb sb spottedB)
         (behind i hi targetB lb sb spottedB)
         (found-at i hi targetB lb sb spottedB) (engineAt c i .values)

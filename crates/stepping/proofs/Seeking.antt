@@ -27,7 +27,6 @@ use Rattle.finding.specs.Find.{findW, faultAt}
 use Rattle.finding.proofs.Within.{within, within-locate}
 use Rattle.finding.proofs.Spots.{Spotted}
 use Rattle.finding.proofs.Search.{missed, found}
-use Rattle.finding.proofs.Readers.{reader}
 use Rattle.stepping.proofs.Results.{one-stands, one-behind, one-length}
 use Rattle.stepping.proofs.Given.{depth-at}
 
@@ -37,9 +36,6 @@ module _ (ws : List ℕ) (ok : Words ws) (s : Starts) (known : Known standard ws
 
   abbrev n : ℕ
   n = length (c .engines)
-
-  abbrev bound : ℕ
-  bound = n * 65536 + c .issued
 
   -- a process of the engine e, found at a target
   pub record Seen (e target : ℕ) (l : Located) (sp : Spot) : Type 0 where
@@ -82,18 +78,18 @@ module _ (ws : List ℕ) (ok : Words ws) (s : Starts) (known : Known standard ws
     located : within r start (start + p) ≡ locate r p []
     located = within-locate r start (start + p) (omega arith) ∙ ap (λ k. locate r k []) (let z : start + p - start ≡ p = omega arith in z)
 
-    pub seeks : Seeks e p (start + p) (findW 64 ws bound (onward start p) 1 start) (enabledAt c e p)
+    pub seeks : Seeks e p (start + p) (findW 64 ws (onward start p) 1 start) (enabledAt c e p)
     unfolding enabledAt guarded also
     seeks = rw (lt-ltb e n h, target-at) (by (locate r p []) refl)
       where
         by :
             (o : Option Located) → locate r p [] ≡ o →
-            Seeks e p (start + p) (findW 64 ws bound (start + p) 1 start) (also o λ l. some (record { engine = e; values = engineAt c e .values; frames = l .frames; process = l .process }))
+            Seeks e p (start + p) (findW 64 ws (start + p) 1 start) (also o λ l. some (record { engine = e; values = engineAt c e .values; frames = l .frames; process = l .process }))
         by none q =
-            rw (missed n (c .issued) bound ws (reader ws ok n (c .issued) (known .readable .fitting .few) (known .readable .fitting .word)) (start + p) sound 64 start 1 (drop (start + size r) ws) (omega arith) shallow stands (located ∙ q))
+            rw (missed n (c .issued) (known .readable .fitting .few) (known .readable .fitting .word) ws (start + p) sound 64 start 1 (drop (start + size r) ws) (omega arith) shallow stands (located ∙ q))
             unseen
         by (some l) q =
-            let f = found n (c .issued) bound ws (reader ws ok n (c .issued) (known .readable .fitting .few) (known .readable .fitting .word)) (start + p) sound 64 start 1 (drop (start + size r) ws) (omega arith) shallow stands l (located ∙ q) in
+            let f = found n (c .issued) (known .readable .fitting .few) (known .readable .fitting .word) ws (start + p) sound 64 start 1 (drop (start + size r) ws) (omega arith) shallow stands l (located ∙ q) in
             rw (f .1 .0) (seen (record { inside = h; place = located ∙ q; spotted = f .1 .1 }))
 
   pub seeks-none : (e p : ℕ) → n ≤ e → enabledAt c e p ≡ none

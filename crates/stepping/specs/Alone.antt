@@ -17,7 +17,7 @@ use Rattle.stepping.specs.Exchanging.{lent}
 unfoldable pub turnW : List ℕ → List ℕ → ℕ → ℕ → ℕ → List ℕ → Turned
 turnW part vs level kind bound fresh =
     cond (eqb kind 1) (turned (assignW part vs) fresh)
-    (cond (eqb kind 4) (turned (branchW bound part vs) fresh) (repeatW level bound part vs fresh))
+    (cond (eqb kind 4) (turned (branchW part vs) fresh) (repeatW level bound part vs fresh))
 
 unfoldable pub valuedW : List ℕ → ℕ → Spot → ℕ → ℕ → List ℕ → Turned
 valuedW ws start s kind bound fresh =
@@ -28,9 +28,9 @@ valuedW ws start s kind bound fresh =
 
 unfoldable pub scopedW : List ℕ → ℕ → Spot → ℕ → ℕ → List ℕ → Planned
 scopedW ws start s kind bound fresh =
-    cond (eqb kind 11) (endedW bound ws start s fresh)
-    (cond (eqb kind 12) (installedW bound ws start s fresh)
-    (cond (eqb kind 13) (thrownW bound ws start s fresh) (compensatedW bound ws start s fresh)))
+    cond (eqb kind 11) (endedW ws start s fresh)
+    (cond (eqb kind 12) (installedW ws start s fresh)
+    (cond (eqb kind 13) (thrownW ws start s fresh) (compensatedW bound ws start s fresh)))
 
 unfoldable pub ruleW : List ℕ → ℕ → Spot → ℕ → ℕ → List ℕ → Planned
 ruleW ws start s kind bound fresh =

@@ -14,14 +14,14 @@ use Rattle.stepping.specs.declared.answer.Answer.{Answer}
 use Rattle.stepping.specs.Answering.{Answered, answered, refusing, accepting, twoW}
 use Rattle.stepping.specs.Meeting.{fitW, serialW, sendW, receiveW}
 
-unfoldable pub senderW : ℕ → List ℕ → Spot → ℕ → ℕ → ℕ → ℕ → List ℕ → Planned
-senderW bound ws s start kind server serial fresh =
-    let t = sendW bound ws kind server serial fresh in
+unfoldable pub senderW : List ℕ → Spot → ℕ → ℕ → ℕ → ℕ → List ℕ → Planned
+senderW ws s start kind server serial fresh =
+    let t = sendW ws kind server serial fresh in
     plainW s start (t .turn) (t .fresh)
 
-unfoldable pub receiverW : ℕ → List ℕ → List ℕ → List ℕ → Offer → Spot → ℕ → ℕ → ℕ → ℕ → List ℕ → Planned
-receiverW bound ws vs other o s start kind client serial fresh =
-    let t = receiveW bound ws vs other o kind client serial fresh in
+unfoldable pub receiverW : List ℕ → List ℕ → List ℕ → Offer → Spot → ℕ → ℕ → ℕ → ℕ → List ℕ → Planned
+receiverW ws vs other o s start kind client serial fresh =
+    let t = receiveW ws vs other o kind client serial fresh in
     plainW s start (t .turn) (t .fresh)
 
 abbrev startAt : List ℕ → ℕ → ℕ
@@ -46,34 +46,34 @@ faultOf kind = cond (eqb kind 18) 1 0
 abbrev pub blank : List ℕ
 blank = replicate 64 0
 
-unfoldable pub carryW : List ℕ → List ℕ → List ℕ → List ℕ → Offer → List ℕ → ℕ → ℕ → Spot → Spot → ℕ → ℕ → List ℕ → Answered
-carryW ws part vs other o starts e i a b kind bound out =
+unfoldable pub carryW : List ℕ → List ℕ → List ℕ → List ℕ → Offer → List ℕ → ℕ → ℕ → Spot → Spot → ℕ → List ℕ → Answered
+carryW ws part vs other o starts e i a b kind out =
     let next = nextOf (at ws 1) in
     let serial = serialW part kind next in
-    let p = senderW bound part a (startAt starts e) kind i serial blank in
-    let q = receiverW bound part vs other o b (startAt starts i) kind e serial blank in
+    let p = senderW part a (startAt starts e) kind i serial blank in
+    let q = receiverW part vs other o b (startAt starts i) kind e serial blank in
     orderedW ws starts e i (p .plan) (p .fresh) (q .plan) (q .fresh) (issuedOf kind (at ws 1) next) (accepting (kind % 32) serial (faultOf kind) 0) out
 
 unfoldable pub spentW : List ℕ → ℕ → Bool
 spentW ws kind = cond (eqb kind 10) (eqb (at ws 1) 65535) false
 
-unfoldable pub meetW : List ℕ → List ℕ → List ℕ → List ℕ → List ℕ → ℕ → ℕ → Spot → Spot → ℕ → ℕ → ℕ → List ℕ → Answered
-meetW ws part vs other starts e i a b kind branch bound out =
-    let o = offerW bound other branch in
+unfoldable pub meetW : List ℕ → List ℕ → List ℕ → List ℕ → List ℕ → ℕ → ℕ → Spot → Spot → ℕ → ℕ → List ℕ → Answered
+meetW ws part vs other starts e i a b kind branch out =
+    let o = offerW other branch in
     cond (fitW part vs other o kind branch e i)
-    (cond (spentW ws kind) (answered (refusing 7) out) (carryW ws part vs other o starts e i a b kind bound out))
+    (cond (spentW ws kind) (answered (refusing 7) out) (carryW ws part vs other o starts e i a b kind out))
     (answered (refusing 5) out)
 
 -- the words from..upto lent
 abbrev pub lent : ℕ → ℕ → List ℕ → List ℕ
 lent from upto ws = take (upto - from) (drop from ws)
 
-unfoldable pub betweenW : List ℕ → List ℕ → ℕ → ℕ → Spot → Spot → ℕ → ℕ → ℕ → List ℕ → Answered
-betweenW ws starts e i a b kind branch bound out =
+unfoldable pub betweenW : List ℕ → List ℕ → ℕ → ℕ → Spot → Spot → ℕ → ℕ → List ℕ → Answered
+betweenW ws starts e i a b kind branch out =
     let start = startAt starts e in
     cond (eqb e i) (answered (refusing 5) out)
     (cond (ltb start 64) (answered (refusing 5) out)
     (cond (ltb (length ws) start) (answered (refusing 5) out)
     (cond (ltb (length ws) (a .at)) (answered (refusing 5) out)
     (cond (ltb (length ws) (b .at)) (answered (refusing 5) out)
-    (meetW ws (lent (a .at) (length ws) ws) (lent (start - 64) start ws) (lent (b .at) (length ws) ws) starts e i a b kind branch bound out)))))
+    (meetW ws (lent (a .at) (length ws) ws) (lent (start - 64) start ws) (lent (b .at) (length ws) ws) starts e i a b kind branch out)))))

@@ -26,12 +26,12 @@ fitW ws vs other o kind branch sender receiver =
 unfoldable pub serialW : List ℕ → ℕ → ℕ → ℕ
 serialW ws kind next = cond (eqb kind 9) 0 (cond (eqb kind 10) next (at ws 2))
 
-unfoldable pub sendW : ℕ → List ℕ → ℕ → ℕ → ℕ → List ℕ → Turned
-sendW bound ws kind server serial fresh = cond (eqb kind 10) (askW bound ws server serial fresh) (turned (vanishing 32 0) fresh)
+unfoldable pub sendW : List ℕ → ℕ → ℕ → ℕ → List ℕ → Turned
+sendW ws kind server serial fresh = cond (eqb kind 10) (askW ws server serial fresh) (turned (vanishing 32 0) fresh)
 
-unfoldable pub receiveW : ℕ → List ℕ → List ℕ → List ℕ → Offer → ℕ → ℕ → ℕ → List ℕ → Turned
-receiveW bound ws vs other o kind client serial fresh =
+unfoldable pub receiveW : List ℕ → List ℕ → List ℕ → Offer → ℕ → ℕ → ℕ → List ℕ → Turned
+receiveW ws vs other o kind client serial fresh =
     let v = valueIn vs (at ws 0 % 32) in
     cond (eqb kind 9) (turned (hearW other o v) fresh)
     (cond (eqb kind 10) (serveW other o client serial v fresh)
-    (cond (eqb kind 16) (answerW bound other v fresh) (failW bound other (at ws 1) fresh)))
+    (cond (eqb kind 16) (answerW other v fresh) (failW other (at ws 1) fresh)))

@@ -4,7 +4,7 @@ use mathlib.Core.Bool.{Bool, false, cond}
 use mathlib.Core.List.{List}
 use lib.Dec.{leb, ltb, eqb}
 use lib.ListN.{getD}
-use Rattle.reading.specs.Walk.{processEnd, listEnd}
+use Rattle.skipping.specs.Skip.{skipList}
 use Rattle.reading.specs.Survey.{surveyed}
 use Rattle.moving.specs.Writing.{onward}
 use Rattle.finding.specs.declared.find.Spot.{Spot}
@@ -16,8 +16,8 @@ use Rattle.stepping.specs.Answering.{Answered, answered, refusing}
 use Rattle.stepping.specs.Exchanging.{betweenW}
 use Rattle.stepping.specs.Alone.{aloneW}
 
-unfoldable pub bodyNil : ℕ → List ℕ → ℕ → Bool
-bodyNil bound ws i = eqb (at ws (listEnd (processEnd 64 ws bound) ws 0 128 (onward i 2))) 0
+unfoldable pub bodyNil : List ℕ → ℕ → Bool
+bodyNil ws i = eqb (at ws (skipList 64 ws 128 (onward i 2))) 0
 
 unfoldable pub byKind : ℕ → ℕ
 byKind kind =
@@ -29,22 +29,22 @@ byKind kind =
     (cond (eqb kind 18) 2
     (cond (ltb kind 12) 0 (cond (ltb kind 15) 1 0)))))))
 
-unfoldable pub movesW : ℕ → List ℕ → ℕ → ℕ → ℕ
-movesW bound ws i kind =
-    cond (eqb kind 11) (cond (bodyNil bound ws i) 1 0)
+unfoldable pub movesW : List ℕ → ℕ → ℕ → ℕ
+movesW ws i kind =
+    cond (eqb kind 11) (cond (bodyNil ws i) 1 0)
     (cond (eqb kind 16) (cond (eqb (at ws (onward i 3)) 0) 2 0) (byKind kind))
 
 abbrev startAt : List ℕ → ℕ → ℕ
 startAt starts e = getD starts e 0
 
-unfoldable pub partnerW : List ℕ → List ℕ → ℕ → ℕ → Spot → ℕ → ℕ → ℕ → List ℕ → Found → Answered
-partnerW ws starts e i a kind branch bound out (Past p) = answered (refusing 4) out
-partnerW ws starts e i a kind branch bound out (Hit b) = betweenW ws starts e i a b kind branch bound out
+unfoldable pub partnerW : List ℕ → List ℕ → ℕ → ℕ → Spot → ℕ → ℕ → List ℕ → Found → Answered
+partnerW ws starts e i a kind branch out (Past p) = answered (refusing 4) out
+partnerW ws starts e i a kind branch out (Hit b) = betweenW ws starts e i a b kind branch out
 
-unfoldable pub receivingW : List ℕ → List ℕ → ℕ → ℕ → Spot → ℕ → ℕ → ℕ → ℕ → ℕ → List ℕ → Answered
-receivingW ws starts n e a kind i place branch bound out =
+unfoldable pub receivingW : List ℕ → List ℕ → ℕ → ℕ → Spot → ℕ → ℕ → ℕ → ℕ → List ℕ → Answered
+receivingW ws starts n e a kind i place branch out =
     cond (leb n i) (answered (refusing 4) out)
-    (partnerW ws starts e i a kind branch bound out (findW 64 ws bound (onward (startAt starts i) place) 1 (startAt starts i)))
+    (partnerW ws starts e i a kind branch out (findW 64 ws (onward (startAt starts i) place) 1 (startAt starts i)))
 
 unfoldable pub noneElse : ℕ → ℕ → ℕ → Bool
 noneElse i place branch = cond (eqb i 0) (cond (eqb place 0) (eqb branch 0) false) false
@@ -52,9 +52,9 @@ noneElse i place branch = cond (eqb i 0) (cond (eqb place 0) (eqb branch 0) fals
 unfoldable pub movingW : List ℕ → List ℕ → ℕ → ℕ → Spot → ℕ → ℕ → ℕ → ℕ → List ℕ → Answered
 movingW ws starts n e a i place branch bound out =
     let kind = at ws (a .at) / 2048 in
-    let m = movesW bound ws (a .at) kind in
+    let m = movesW ws (a .at) kind in
     cond (eqb m 0) (answered (refusing 3) out)
-    (cond (eqb m 2) (receivingW ws starts n e a kind i place branch bound out)
+    (cond (eqb m 2) (receivingW ws starts n e a kind i place branch out)
     (cond (noneElse i place branch) (aloneW ws (startAt starts e) (startAt starts (e + 1)) a kind bound out) (answered (refusing 3) out)))
 
 unfoldable pub foundW : List ℕ → List ℕ → ℕ → ℕ → ℕ → ℕ → ℕ → ℕ → List ℕ → Found → Answered
@@ -69,4 +69,4 @@ stepW ws e position i place branch out =
     cond (eqb n 0) (answered (refusing 1) out)
     (cond (ltb 8 n) (answered (refusing 1) out)
     (cond (leb n e) (answered (refusing 2) out)
-    (foundW ws (s .starts) n e i place branch bound out (findW 64 ws bound (onward (startAt (s .starts) e) position) 1 (startAt (s .starts) e)))))
+    (foundW ws (s .starts) n e i place branch bound out (findW 64 ws (onward (startAt (s .starts) e) position) 1 (startAt (s .starts) e)))))

@@ -35,7 +35,7 @@ fn turn(
         return assign(part, values);
     }
     if kind == 4 {
-        return branch(part, values, bound);
+        return branch(part, values);
     }
     repeat(part, values, level, bound, fresh)
 }
@@ -63,13 +63,13 @@ fn scoped(ws: &[u16], start: usize, s: Spot, kind: usize, bound: usize, fresh: &
     ensures { λ r. ⌜ (r ≡ scopedW (now (ws .entry)) start s kind bound (now (fresh .entry)) .plan) × (now (fresh .exit) ≡ scopedW (now (ws .entry)) start s kind bound (now (fresh .entry)) .fresh) ⌝ }
 {
     if kind == 11 {
-        return ended(ws, start, s, bound, fresh);
+        return ended(ws, start, s, fresh);
     }
     if kind == 12 {
-        return installed(ws, start, s, bound, fresh);
+        return installed(ws, start, s, fresh);
     }
     if kind == 13 {
-        return thrown(ws, start, s, bound, fresh);
+        return thrown(ws, start, s, fresh);
     }
     compensated(ws, start, s, bound, fresh)
 }

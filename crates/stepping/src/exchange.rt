@@ -26,13 +26,12 @@ fn sender(
     kind: usize,
     server: u16,
     serial: u16,
-    bound: usize,
     fresh: &mut [u16],
 ) -> Plan
     requires { ⌜ server < 8 ⌝ }
-    ensures { λ r. ⌜ (r ≡ senderW bound (now (part .entry)) s start kind server serial (now (fresh .entry)) .plan) × (now (fresh .exit) ≡ senderW bound (now (part .entry)) s start kind server serial (now (fresh .entry)) .fresh) ⌝ }
+    ensures { λ r. ⌜ (r ≡ senderW (now (part .entry)) s start kind server serial (now (fresh .entry)) .plan) × (now (fresh .exit) ≡ senderW (now (part .entry)) s start kind server serial (now (fresh .entry)) .fresh) ⌝ }
 {
-    let t = send(part, kind, server, serial, bound, fresh);
+    let t = send(part, kind, server, serial, fresh);
     plain(s, start, t, fresh)
 }
 
@@ -46,13 +45,12 @@ fn receiver(
     kind: usize,
     client: u16,
     serial: u16,
-    bound: usize,
     fresh: &mut [u16],
 ) -> Plan
     requires { ⌜ (length (now values) ≡ 64) × (client < 8) ⌝ }
-    ensures { λ r. ⌜ (r ≡ receiverW bound (now (part .entry)) (now (values .entry)) (now (other .entry)) o s start kind client serial (now (fresh .entry)) .plan) × (now (fresh .exit) ≡ receiverW bound (now (part .entry)) (now (values .entry)) (now (other .entry)) o s start kind client serial (now (fresh .entry)) .fresh) ⌝ }
+    ensures { λ r. ⌜ (r ≡ receiverW (now (part .entry)) (now (values .entry)) (now (other .entry)) o s start kind client serial (now (fresh .entry)) .plan) × (now (fresh .exit) ≡ receiverW (now (part .entry)) (now (values .entry)) (now (other .entry)) o s start kind client serial (now (fresh .entry)) .fresh) ⌝ }
 {
-    let t = receive(part, values, other, o, kind, client, serial, bound, fresh);
+    let t = receive(part, values, other, o, kind, client, serial, fresh);
     plain(s, start, t, fresh)
 }
 
@@ -122,11 +120,10 @@ fn carry(
     a: Spot,
     b: Spot,
     kind: usize,
-    bound: usize,
     out: &mut [u16],
 ) -> Answer
     requires { ⌜ (length (now values) ≡ 64) × (engine < 8) × (second < 8) ⌝ }
-    ensures { λ r. ⌜ (r ≡ carryW (now (ws .entry)) (now (part .entry)) (now (values .entry)) (now (other .entry)) o starts engine second a b kind bound (now (out .entry)) .answer) × (now (out .exit) ≡ carryW (now (ws .entry)) (now (part .entry)) (now (values .entry)) (now (other .entry)) o starts engine second a b kind bound (now (out .entry)) .out) ⌝ }
+    ensures { λ r. ⌜ (r ≡ carryW (now (ws .entry)) (now (part .entry)) (now (values .entry)) (now (other .entry)) o starts engine second a b kind (now (out .entry)) .answer) × (now (out .exit) ≡ carryW (now (ws .entry)) (now (part .entry)) (now (values .entry)) (now (other .entry)) o starts engine second a b kind (now (out .entry)) .out) ⌝ }
 {
     let e = wide(engine);
     let i = wide(second);
@@ -135,7 +132,7 @@ fn carry(
     let serial = serial_of(part, kind, next);
     let mut fresh = [0u16; 64];
     let mut fresh2 = [0u16; 64];
-    let p = sender(part, a, starts[e], kind, second, serial, bound, &mut fresh);
+    let p = sender(part, a, starts[e], kind, second, serial, &mut fresh);
     let q = receiver(
         part,
         values,
@@ -146,7 +143,6 @@ fn carry(
         kind,
         engine,
         serial,
-        bound,
         &mut fresh2,
     );
     let accepted = accept((kind % 32) as u8, serial, fault_of(kind), 0);
@@ -188,13 +184,12 @@ fn meet(
     b: Spot,
     kind: usize,
     branch: usize,
-    bound: usize,
     out: &mut [u16],
 ) -> Answer
     requires { ⌜ (length (now values) ≡ 64) × (engine < 8) × (second < 8) ⌝ }
-    ensures { λ r. ⌜ (r ≡ meetW (now (ws .entry)) (now (part .entry)) (now (values .entry)) (now (other .entry)) starts engine second a b kind branch bound (now (out .entry)) .answer) × (now (out .exit) ≡ meetW (now (ws .entry)) (now (part .entry)) (now (values .entry)) (now (other .entry)) starts engine second a b kind branch bound (now (out .entry)) .out) ⌝ }
+    ensures { λ r. ⌜ (r ≡ meetW (now (ws .entry)) (now (part .entry)) (now (values .entry)) (now (other .entry)) starts engine second a b kind branch (now (out .entry)) .answer) × (now (out .exit) ≡ meetW (now (ws .entry)) (now (part .entry)) (now (values .entry)) (now (other .entry)) starts engine second a b kind branch (now (out .entry)) .out) ⌝ }
 {
-    let o = offered(other, branch, bound);
+    let o = offered(other, branch);
     if fit(
         part,
         values,
@@ -220,7 +215,6 @@ fn meet(
             a,
             b,
             kind,
-            bound,
             out,
         );
     }
@@ -237,11 +231,10 @@ pub fn between(
     b: Spot,
     kind: usize,
     branch: usize,
-    bound: usize,
     out: &mut [u16],
 ) -> Answer
     requires { ⌜ (engine < 8) × (second < 8) ⌝ }
-    ensures { λ r. ⌜ (r ≡ betweenW (now (ws .entry)) starts engine second a b kind branch bound (now (out .entry)) .answer) × (now (out .exit) ≡ betweenW (now (ws .entry)) starts engine second a b kind branch bound (now (out .entry)) .out) ⌝ }
+    ensures { λ r. ⌜ (r ≡ betweenW (now (ws .entry)) starts engine second a b kind branch (now (out .entry)) .answer) × (now (out .exit) ≡ betweenW (now (ws .entry)) starts engine second a b kind branch (now (out .entry)) .out) ⌝ }
 {
     let e = wide(engine);
     let start = starts[e];
@@ -275,7 +268,6 @@ pub fn between(
         b,
         kind,
         branch,
-        bound,
         out,
     )
 }

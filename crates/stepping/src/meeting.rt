@@ -98,19 +98,12 @@ pub fn serial_of(part: &[u16], kind: usize, next: u16) -> u16
 }
 
 // What the sender turns into.
-pub fn send(
-    part: &[u16],
-    kind: usize,
-    server: u16,
-    serial: u16,
-    bound: usize,
-    fresh: &mut [u16],
-) -> Turn
+pub fn send(part: &[u16], kind: usize, server: u16, serial: u16, fresh: &mut [u16]) -> Turn
     requires { ⌜ server < 8 ⌝ }
-    ensures { λ r. ⌜ (r ≡ sendW bound (now (part .entry)) kind server serial (now (fresh .entry)) .turn) × (now (fresh .exit) ≡ sendW bound (now (part .entry)) kind server serial (now (fresh .entry)) .fresh) ⌝ }
+    ensures { λ r. ⌜ (r ≡ sendW (now (part .entry)) kind server serial (now (fresh .entry)) .turn) × (now (fresh .exit) ≡ sendW (now (part .entry)) kind server serial (now (fresh .entry)) .fresh) ⌝ }
 {
     if kind == 10 {
-        return ask(part, server, serial, bound, fresh);
+        return ask(part, server, serial, fresh);
     }
     to_nil(32, 0)
 }
@@ -124,11 +117,10 @@ pub fn receive(
     kind: usize,
     client: u16,
     serial: u16,
-    bound: usize,
     fresh: &mut [u16],
 ) -> Turn
     requires { ⌜ (length (now values) ≡ 64) × (client < 8) ⌝ }
-    ensures { λ r. ⌜ (r ≡ receiveW bound (now (part .entry)) (now (values .entry)) (now (other .entry)) o kind client serial (now (fresh .entry)) .turn) × (now (fresh .exit) ≡ receiveW bound (now (part .entry)) (now (values .entry)) (now (other .entry)) o kind client serial (now (fresh .entry)) .fresh) ⌝ }
+    ensures { λ r. ⌜ (r ≡ receiveW (now (part .entry)) (now (values .entry)) (now (other .entry)) o kind client serial (now (fresh .entry)) .turn) × (now (fresh .exit) ≡ receiveW (now (part .entry)) (now (values .entry)) (now (other .entry)) o kind client serial (now (fresh .entry)) .fresh) ⌝ }
 {
     let v = variable(values, wide(word(part, 0)) % 32);
     if kind == 9 {
@@ -138,7 +130,7 @@ pub fn receive(
         return serve(other, o, client, serial, v, fresh);
     }
     if kind == 16 {
-        return answer(other, v, bound, fresh);
+        return answer(other, v, fresh);
     }
-    fail(other, word(part, 1), bound, fresh)
+    fail(other, word(part, 1), fresh)
 }

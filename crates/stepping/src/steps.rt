@@ -7,10 +7,10 @@ use finding::find::Found;
 use finding::find::Spot;
 use finding::find::find;
 use moving::write::further;
-use reading::reader::list;
 use reading::reader::wide;
 use reading::survey::survey;
 use rules::turn::word;
+use skipping::skip::skip_list;
 ghost use mathlib.Core.Path.{_≡_};
 ghost use Prim.Native.Nat.{_≤_, _<_};
 ghost use Rattle.sock.specs.Configuration.{standard};
@@ -19,10 +19,10 @@ ghost use Rattle.stepping.specs.Answers.{answerAs, numbers};
 ghost use Rattle.stepping.specs.Stepping.{bodyNil, byKind, movesW, receivingW, noneElse, movingW, stepW};
 
 // Whether the body of the scope at a position is nil.
-fn body_nil(ws: &[u16], at: usize, bound: usize) -> bool
-    ensures { λ r. ⌜ r ≡ bodyNil bound (now (ws .entry)) at ⌝ }
+fn body_nil(ws: &[u16], at: usize) -> bool
+    ensures { λ r. ⌜ r ≡ bodyNil (now (ws .entry)) at ⌝ }
 {
-    let body = list(ws, further(at, 2), 64, 0, 128, bound);
+    let body = skip_list(ws, further(at, 2), 64, 128);
     word(ws, body) == 0
 }
 
@@ -55,11 +55,11 @@ fn by_kind(kind: usize) -> usize
 }
 
 // What the process at a position does: a scope ends, and an executor replies, once its body is nil.
-fn moves(ws: &[u16], at: usize, kind: usize, bound: usize) -> usize
-    ensures { λ r. ⌜ r ≡ movesW bound (now (ws .entry)) at kind ⌝ }
+fn moves(ws: &[u16], at: usize, kind: usize) -> usize
+    ensures { λ r. ⌜ r ≡ movesW (now (ws .entry)) at kind ⌝ }
 {
     if kind == 11 {
-        if body_nil(ws, at, bound) {
+        if body_nil(ws, at) {
             return 1;
         }
         return 0;
@@ -84,31 +84,19 @@ fn receiving(
     second: u16,
     place: u16,
     branch: u16,
-    bound: usize,
     out: &mut [u16],
 ) -> Answer
     requires { ⌜ (n ≤ 8) × (engine < 8) ⌝ }
-    ensures { λ r. ⌜ (r ≡ receivingW (now (ws .entry)) starts n engine a kind second place branch bound (now (out .entry)) .answer) × (now (out .exit) ≡ receivingW (now (ws .entry)) starts n engine a kind second place branch bound (now (out .entry)) .out) ⌝ }
+    ensures { λ r. ⌜ (r ≡ receivingW (now (ws .entry)) starts n engine a kind second place branch (now (out .entry)) .answer) × (now (out .exit) ≡ receivingW (now (ws .entry)) starts n engine a kind second place branch (now (out .entry)) .out) ⌝ }
 {
     let i = wide(second);
     if n <= i {
         return refuse(4);
     }
     let start = starts[i];
-    match find(ws, start, further(start, wide(place)), 64, 1, bound) {
+    match find(ws, start, further(start, wide(place)), 64, 1) {
         Found::Past(e) => refuse(4),
-        Found::Hit(b) => between(
-            ws,
-            starts,
-            engine,
-            second,
-            a,
-            b,
-            kind,
-            wide(branch),
-            bound,
-            out,
-        ),
+        Found::Hit(b) => between(ws, starts, engine, second, a, b, kind, wide(branch), out),
     }
 }
 
@@ -142,24 +130,12 @@ fn moving(
     ensures { λ r. ⌜ (r ≡ movingW (now (ws .entry)) starts n engine a second place branch bound (now (out .entry)) .answer) × (now (out .exit) ≡ movingW (now (ws .entry)) starts n engine a second place branch bound (now (out .entry)) .out) ⌝ }
 {
     let kind = wide(word(ws, a.at)) / 2048;
-    let m = moves(ws, a.at, kind, bound);
+    let m = moves(ws, a.at, kind);
     if m == 0 {
         return refuse(3);
     }
     if m == 2 {
-        return receiving(
-            ws,
-            starts,
-            n,
-            engine,
-            a,
-            kind,
-            second,
-            place,
-            branch,
-            bound,
-            out,
-        );
+        return receiving(ws, starts, n, engine, a, kind, second, place, branch, out);
     }
     if none_else(second, place, branch) {
         let e = wide(engine);
@@ -195,7 +171,7 @@ fn stepped(
     let starts = s.starts;
     let start = starts[e];
     let bound = n * 65536 + wide(word(ws, 1));
-    match find(ws, start, further(start, wide(position)), 64, 1, bound) {
+    match find(ws, start, further(start, wide(position)), 64, 1) {
         Found::Past(p) => refuse(2),
         Found::Hit(a) => moving(ws, starts, n, engine, a, second, place, branch, bound, out),
     }

@@ -19,8 +19,8 @@ use Rattle.finding.proofs.find.in_body.Reads as in-body-reads
 use Rattle.finding.proofs.find.in_scope.Reads as in-scope-reads
 use Rattle.finding.proofs.find.in_seq.Reads as in-seq-reads
 use Rattle.finding.proofs.find.left.Reads as left-reads
-use Rattle.reading.proofs.reader.list.Reads as list-reads
-use Rattle.reading.proofs.reader.process.Reads as process-reads
+use Rattle.skipping.proofs.skip.skip_list.Reads as skip-list-reads
+use Rattle.skipping.proofs.skip.skip.Reads as skip-reads
 use Rattle.reading.proofs.reader.wide.Reads as wide-reads
 use Rattle.finding.proofs.find.+find+in_par.{statement}
 use Rattle.finding.proofs.find.+find+in_par.Tie.{close}
@@ -43,83 +43,83 @@ in-par-at t = and 1 in-par-kinds.ps (is 1 in-par-kinds.ps μ-in-par t) in-par.Pr
 abbrev in-par-below : ℕ → In 1 in-par-kinds.ps
 in-par-below t = and 1 in-par-kinds.ps (falls 1 in-par-kinds.ps _<_ μ-in-par t) in-par.Pre
 
-find-returns : (t : ℕ) → find-lts.Need-returns (here-reads.Asked, here-reads.Learnt, wide-reads.Asked, wide-reads.Learnt, find-below t, find.Post, in-seq-reads.Asked, in-seq-reads.Learnt, in-par-below t, in-par.Post, list-reads.Asked, list-reads.Learnt, in-scope-reads.Asked, in-scope-reads.Learnt, in-body-reads.Asked, in-body-reads.Learnt, process-reads.Asked, process-reads.Learnt) (find-at t) find.Post
+find-returns : (t : ℕ) → find-lts.Need-returns (here-reads.Asked, here-reads.Learnt, wide-reads.Asked, wide-reads.Learnt, find-below t, find.Post, in-seq-reads.Asked, in-seq-reads.Learnt, in-par-below t, in-par.Post, skip-list-reads.Asked, skip-list-reads.Learnt, in-scope-reads.Asked, in-scope-reads.Learnt, in-body-reads.Asked, in-body-reads.Learnt, skip-reads.Asked, skip-reads.Learnt) (find-at t) find.Post
 find-returns t c = search find-none
 
-find-returns-2 : (t : ℕ) → find-lts.Need-returns-2 (here-reads.Asked, here-reads.Learnt, wide-reads.Asked, wide-reads.Learnt, find-below t, find.Post, in-seq-reads.Asked, in-seq-reads.Learnt, in-par-below t, in-par.Post, list-reads.Asked, list-reads.Learnt, in-scope-reads.Asked, in-scope-reads.Learnt, in-body-reads.Asked, in-body-reads.Learnt, process-reads.Asked, process-reads.Learnt) (find-at t) find.Post
+find-returns-2 : (t : ℕ) → find-lts.Need-returns-2 (here-reads.Asked, here-reads.Learnt, wide-reads.Asked, wide-reads.Learnt, find-below t, find.Post, in-seq-reads.Asked, in-seq-reads.Learnt, in-par-below t, in-par.Post, skip-list-reads.Asked, skip-list-reads.Learnt, in-scope-reads.Asked, in-scope-reads.Learnt, in-body-reads.Asked, in-body-reads.Learnt, skip-reads.Asked, skip-reads.Learnt) (find-at t) find.Post
 unfolding nodeW parSides inParW
 find-returns-2 t c =
     let f0 = c .if2 .taken in
     let f1 = c .before .if1 .left in
     simp (tests, find-step, f0, f1)
 
-find-here-requires : (t : ℕ) → find-lts.Need-here-requires (here-reads.Asked, here-reads.Learnt, wide-reads.Asked, wide-reads.Learnt, find-below t, find.Post, in-seq-reads.Asked, in-seq-reads.Learnt, in-par-below t, in-par.Post, list-reads.Asked, list-reads.Learnt, in-scope-reads.Asked, in-scope-reads.Learnt, in-body-reads.Asked, in-body-reads.Learnt, process-reads.Asked, process-reads.Learnt) (find-at t) find.Post
+find-here-requires : (t : ℕ) → find-lts.Need-here-requires (here-reads.Asked, here-reads.Learnt, wide-reads.Asked, wide-reads.Learnt, find-below t, find.Post, in-seq-reads.Asked, in-seq-reads.Learnt, in-par-below t, in-par.Post, skip-list-reads.Asked, skip-list-reads.Learnt, in-scope-reads.Asked, in-scope-reads.Learnt, in-body-reads.Asked, in-body-reads.Learnt, skip-reads.Asked, skip-reads.Learnt) (find-at t) find.Post
 find-here-requires t c κs = search needs
 
-find-returns-3 : (t : ℕ) → find-lts.Need-returns-3 (here-reads.Asked, here-reads.Learnt, wide-reads.Asked, wide-reads.Learnt, find-below t, find.Post, in-seq-reads.Asked, in-seq-reads.Learnt, in-par-below t, in-par.Post, list-reads.Asked, list-reads.Learnt, in-scope-reads.Asked, in-scope-reads.Learnt, in-body-reads.Asked, in-body-reads.Learnt, process-reads.Asked, process-reads.Learnt) (find-at t) find.Post
+find-returns-3 : (t : ℕ) → find-lts.Need-returns-3 (here-reads.Asked, here-reads.Learnt, wide-reads.Asked, wide-reads.Learnt, find-below t, find.Post, in-seq-reads.Asked, in-seq-reads.Learnt, in-par-below t, in-par.Post, skip-list-reads.Asked, skip-list-reads.Learnt, in-scope-reads.Asked, in-scope-reads.Learnt, in-body-reads.Asked, in-body-reads.Learnt, skip-reads.Asked, skip-reads.Learnt) (find-at t) find.Post
 find-returns-3 t c = search find-here
 
-find-sub-d : (t : ℕ) → find-lts.Need-sub-d (here-reads.Asked, here-reads.Learnt, wide-reads.Asked, wide-reads.Learnt, find-below t, find.Post, in-seq-reads.Asked, in-seq-reads.Learnt, in-par-below t, in-par.Post, list-reads.Asked, list-reads.Learnt, in-scope-reads.Asked, in-scope-reads.Learnt, in-body-reads.Asked, in-body-reads.Learnt, process-reads.Asked, process-reads.Learnt) (find-at t) find.Post
+find-sub-d : (t : ℕ) → find-lts.Need-sub-d (here-reads.Asked, here-reads.Learnt, wide-reads.Asked, wide-reads.Learnt, find-below t, find.Post, in-seq-reads.Asked, in-seq-reads.Learnt, in-par-below t, in-par.Post, skip-list-reads.Asked, skip-list-reads.Learnt, in-scope-reads.Asked, in-scope-reads.Learnt, in-body-reads.Asked, in-body-reads.Learnt, skip-reads.Asked, skip-reads.Learnt) (find-at t) find.Post
 find-sub-d t c = search needs
 
-find-mul-wide : (t : ℕ) → find-lts.Need-mul-wide (here-reads.Asked, here-reads.Learnt, wide-reads.Asked, wide-reads.Learnt, find-below t, find.Post, in-seq-reads.Asked, in-seq-reads.Learnt, in-par-below t, in-par.Post, list-reads.Asked, list-reads.Learnt, in-scope-reads.Asked, in-scope-reads.Learnt, in-body-reads.Asked, in-body-reads.Learnt, process-reads.Asked, process-reads.Learnt) (find-at t) find.Post
+find-mul-wide : (t : ℕ) → find-lts.Need-mul-wide (here-reads.Asked, here-reads.Learnt, wide-reads.Asked, wide-reads.Learnt, find-below t, find.Post, in-seq-reads.Asked, in-seq-reads.Learnt, in-par-below t, in-par.Post, skip-list-reads.Asked, skip-list-reads.Learnt, in-scope-reads.Asked, in-scope-reads.Learnt, in-body-reads.Asked, in-body-reads.Learnt, skip-reads.Asked, skip-reads.Learnt) (find-at t) find.Post
 find-mul-wide t c = search needs
 
-find-shared-slice-read-wide : (t : ℕ) → find-lts.Need-shared-slice-read-wide (here-reads.Asked, here-reads.Learnt, wide-reads.Asked, wide-reads.Learnt, find-below t, find.Post, in-seq-reads.Asked, in-seq-reads.Learnt, in-par-below t, in-par.Post, list-reads.Asked, list-reads.Learnt, in-scope-reads.Asked, in-scope-reads.Learnt, in-body-reads.Asked, in-body-reads.Learnt, process-reads.Asked, process-reads.Learnt) (find-at t) find.Post
+find-shared-slice-read-wide : (t : ℕ) → find-lts.Need-shared-slice-read-wide (here-reads.Asked, here-reads.Learnt, wide-reads.Asked, wide-reads.Learnt, find-below t, find.Post, in-seq-reads.Asked, in-seq-reads.Learnt, in-par-below t, in-par.Post, skip-list-reads.Asked, skip-list-reads.Learnt, in-scope-reads.Asked, in-scope-reads.Learnt, in-body-reads.Asked, in-body-reads.Learnt, skip-reads.Asked, skip-reads.Learnt) (find-at t) find.Post
 find-shared-slice-read-wide t c = search needs
 
-find-wide-requires : (t : ℕ) → find-lts.Need-wide-requires (here-reads.Asked, here-reads.Learnt, wide-reads.Asked, wide-reads.Learnt, find-below t, find.Post, in-seq-reads.Asked, in-seq-reads.Learnt, in-par-below t, in-par.Post, list-reads.Asked, list-reads.Learnt, in-scope-reads.Asked, in-scope-reads.Learnt, in-body-reads.Asked, in-body-reads.Learnt, process-reads.Asked, process-reads.Learnt) (find-at t) find.Post
+find-wide-requires : (t : ℕ) → find-lts.Need-wide-requires (here-reads.Asked, here-reads.Learnt, wide-reads.Asked, wide-reads.Learnt, find-below t, find.Post, in-seq-reads.Asked, in-seq-reads.Learnt, in-par-below t, in-par.Post, skip-list-reads.Asked, skip-list-reads.Learnt, in-scope-reads.Asked, in-scope-reads.Learnt, in-body-reads.Asked, in-body-reads.Learnt, skip-reads.Asked, skip-reads.Learnt) (find-at t) find.Post
 find-wide-requires t c κs = search needs
 
-find-add-find : (t : ℕ) → find-lts.Need-add-find (here-reads.Asked, here-reads.Learnt, wide-reads.Asked, wide-reads.Learnt, find-below t, find.Post, in-seq-reads.Asked, in-seq-reads.Learnt, in-par-below t, in-par.Post, list-reads.Asked, list-reads.Learnt, in-scope-reads.Asked, in-scope-reads.Learnt, in-body-reads.Asked, in-body-reads.Learnt, process-reads.Asked, process-reads.Learnt) (find-at t) find.Post
+find-add-find : (t : ℕ) → find-lts.Need-add-find (here-reads.Asked, here-reads.Learnt, wide-reads.Asked, wide-reads.Learnt, find-below t, find.Post, in-seq-reads.Asked, in-seq-reads.Learnt, in-par-below t, in-par.Post, skip-list-reads.Asked, skip-list-reads.Learnt, in-scope-reads.Asked, in-scope-reads.Learnt, in-body-reads.Asked, in-body-reads.Learnt, skip-reads.Asked, skip-reads.Learnt) (find-at t) find.Post
 find-add-find t c = search needs
 
-find-add-find-2 : (t : ℕ) → find-lts.Need-add-find-2 (here-reads.Asked, here-reads.Learnt, wide-reads.Asked, wide-reads.Learnt, find-below t, find.Post, in-seq-reads.Asked, in-seq-reads.Learnt, in-par-below t, in-par.Post, list-reads.Asked, list-reads.Learnt, in-scope-reads.Asked, in-scope-reads.Learnt, in-body-reads.Asked, in-body-reads.Learnt, process-reads.Asked, process-reads.Learnt) (find-at t) find.Post
+find-add-find-2 : (t : ℕ) → find-lts.Need-add-find-2 (here-reads.Asked, here-reads.Learnt, wide-reads.Asked, wide-reads.Learnt, find-below t, find.Post, in-seq-reads.Asked, in-seq-reads.Learnt, in-par-below t, in-par.Post, skip-list-reads.Asked, skip-list-reads.Learnt, in-scope-reads.Asked, in-scope-reads.Learnt, in-body-reads.Asked, in-body-reads.Learnt, skip-reads.Asked, skip-reads.Learnt) (find-at t) find.Post
 find-add-find-2 t c = search needs
 
-find-find-requires : (t : ℕ) → find-lts.Need-find-requires (here-reads.Asked, here-reads.Learnt, wide-reads.Asked, wide-reads.Learnt, find-below t, find.Post, in-seq-reads.Asked, in-seq-reads.Learnt, in-par-below t, in-par.Post, list-reads.Asked, list-reads.Learnt, in-scope-reads.Asked, in-scope-reads.Learnt, in-body-reads.Asked, in-body-reads.Learnt, process-reads.Asked, process-reads.Learnt) (find-at t) find.Post
+find-find-requires : (t : ℕ) → find-lts.Need-find-requires (here-reads.Asked, here-reads.Learnt, wide-reads.Asked, wide-reads.Learnt, find-below t, find.Post, in-seq-reads.Asked, in-seq-reads.Learnt, in-par-below t, in-par.Post, skip-list-reads.Asked, skip-list-reads.Learnt, in-scope-reads.Asked, in-scope-reads.Learnt, in-body-reads.Asked, in-body-reads.Learnt, skip-reads.Asked, skip-reads.Learnt) (find-at t) find.Post
 find-find-requires t c κs = search needs
 
-find-in-seq-requires : (t : ℕ) → find-lts.Need-in-seq-requires (here-reads.Asked, here-reads.Learnt, wide-reads.Asked, wide-reads.Learnt, find-below t, find.Post, in-seq-reads.Asked, in-seq-reads.Learnt, in-par-below t, in-par.Post, list-reads.Asked, list-reads.Learnt, in-scope-reads.Asked, in-scope-reads.Learnt, in-body-reads.Asked, in-body-reads.Learnt, process-reads.Asked, process-reads.Learnt) (find-at t) find.Post
+find-in-seq-requires : (t : ℕ) → find-lts.Need-in-seq-requires (here-reads.Asked, here-reads.Learnt, wide-reads.Asked, wide-reads.Learnt, find-below t, find.Post, in-seq-reads.Asked, in-seq-reads.Learnt, in-par-below t, in-par.Post, skip-list-reads.Asked, skip-list-reads.Learnt, in-scope-reads.Asked, in-scope-reads.Learnt, in-body-reads.Asked, in-body-reads.Learnt, skip-reads.Asked, skip-reads.Learnt) (find-at t) find.Post
 find-in-seq-requires t c κs = search needs
 
-find-add-in-par : (t : ℕ) → find-lts.Need-add-in-par (here-reads.Asked, here-reads.Learnt, wide-reads.Asked, wide-reads.Learnt, find-below t, find.Post, in-seq-reads.Asked, in-seq-reads.Learnt, in-par-below t, in-par.Post, list-reads.Asked, list-reads.Learnt, in-scope-reads.Asked, in-scope-reads.Learnt, in-body-reads.Asked, in-body-reads.Learnt, process-reads.Asked, process-reads.Learnt) (find-at t) find.Post
+find-add-in-par : (t : ℕ) → find-lts.Need-add-in-par (here-reads.Asked, here-reads.Learnt, wide-reads.Asked, wide-reads.Learnt, find-below t, find.Post, in-seq-reads.Asked, in-seq-reads.Learnt, in-par-below t, in-par.Post, skip-list-reads.Asked, skip-list-reads.Learnt, in-scope-reads.Asked, in-scope-reads.Learnt, in-body-reads.Asked, in-body-reads.Learnt, skip-reads.Asked, skip-reads.Learnt) (find-at t) find.Post
 find-add-in-par t c = search needs
 
-find-in-par-requires : (t : ℕ) → find-lts.Need-in-par-requires (here-reads.Asked, here-reads.Learnt, wide-reads.Asked, wide-reads.Learnt, find-below t, find.Post, in-seq-reads.Asked, in-seq-reads.Learnt, in-par-below t, in-par.Post, list-reads.Asked, list-reads.Learnt, in-scope-reads.Asked, in-scope-reads.Learnt, in-body-reads.Asked, in-body-reads.Learnt, process-reads.Asked, process-reads.Learnt) (find-at t) find.Post
+find-in-par-requires : (t : ℕ) → find-lts.Need-in-par-requires (here-reads.Asked, here-reads.Learnt, wide-reads.Asked, wide-reads.Learnt, find-below t, find.Post, in-seq-reads.Asked, in-seq-reads.Learnt, in-par-below t, in-par.Post, skip-list-reads.Asked, skip-list-reads.Learnt, in-scope-reads.Asked, in-scope-reads.Learnt, in-body-reads.Asked, in-body-reads.Learnt, skip-reads.Asked, skip-reads.Learnt) (find-at t) find.Post
 find-in-par-requires t c κs = search needs
 
-find-add-list : (t : ℕ) → find-lts.Need-add-list (here-reads.Asked, here-reads.Learnt, wide-reads.Asked, wide-reads.Learnt, find-below t, find.Post, in-seq-reads.Asked, in-seq-reads.Learnt, in-par-below t, in-par.Post, list-reads.Asked, list-reads.Learnt, in-scope-reads.Asked, in-scope-reads.Learnt, in-body-reads.Asked, in-body-reads.Learnt, process-reads.Asked, process-reads.Learnt) (find-at t) find.Post
-find-add-list t c = search needs
+find-add-skip-list : (t : ℕ) → find-lts.Need-add-skip-list (here-reads.Asked, here-reads.Learnt, wide-reads.Asked, wide-reads.Learnt, find-below t, find.Post, in-seq-reads.Asked, in-seq-reads.Learnt, in-par-below t, in-par.Post, skip-list-reads.Asked, skip-list-reads.Learnt, in-scope-reads.Asked, in-scope-reads.Learnt, in-body-reads.Asked, in-body-reads.Learnt, skip-reads.Asked, skip-reads.Learnt) (find-at t) find.Post
+find-add-skip-list t c = search needs
 
-find-list-requires : (t : ℕ) → find-lts.Need-list-requires (here-reads.Asked, here-reads.Learnt, wide-reads.Asked, wide-reads.Learnt, find-below t, find.Post, in-seq-reads.Asked, in-seq-reads.Learnt, in-par-below t, in-par.Post, list-reads.Asked, list-reads.Learnt, in-scope-reads.Asked, in-scope-reads.Learnt, in-body-reads.Asked, in-body-reads.Learnt, process-reads.Asked, process-reads.Learnt) (find-at t) find.Post
-find-list-requires t c κs = search needs
+find-skip-list-requires : (t : ℕ) → find-lts.Need-skip-list-requires (here-reads.Asked, here-reads.Learnt, wide-reads.Asked, wide-reads.Learnt, find-below t, find.Post, in-seq-reads.Asked, in-seq-reads.Learnt, in-par-below t, in-par.Post, skip-list-reads.Asked, skip-list-reads.Learnt, in-scope-reads.Asked, in-scope-reads.Learnt, in-body-reads.Asked, in-body-reads.Learnt, skip-reads.Asked, skip-reads.Learnt) (find-at t) find.Post
+find-skip-list-requires t c κs = search needs
 
-find-add-find-3 : (t : ℕ) → find-lts.Need-add-find-3 (here-reads.Asked, here-reads.Learnt, wide-reads.Asked, wide-reads.Learnt, find-below t, find.Post, in-seq-reads.Asked, in-seq-reads.Learnt, in-par-below t, in-par.Post, list-reads.Asked, list-reads.Learnt, in-scope-reads.Asked, in-scope-reads.Learnt, in-body-reads.Asked, in-body-reads.Learnt, process-reads.Asked, process-reads.Learnt) (find-at t) find.Post
+find-add-find-3 : (t : ℕ) → find-lts.Need-add-find-3 (here-reads.Asked, here-reads.Learnt, wide-reads.Asked, wide-reads.Learnt, find-below t, find.Post, in-seq-reads.Asked, in-seq-reads.Learnt, in-par-below t, in-par.Post, skip-list-reads.Asked, skip-list-reads.Learnt, in-scope-reads.Asked, in-scope-reads.Learnt, in-body-reads.Asked, in-body-reads.Learnt, skip-reads.Asked, skip-reads.Learnt) (find-at t) find.Post
 find-add-find-3 t c = search needs
 
-find-find-requires-2 : (t : ℕ) → find-lts.Need-find-requires-2 (here-reads.Asked, here-reads.Learnt, wide-reads.Asked, wide-reads.Learnt, find-below t, find.Post, in-seq-reads.Asked, in-seq-reads.Learnt, in-par-below t, in-par.Post, list-reads.Asked, list-reads.Learnt, in-scope-reads.Asked, in-scope-reads.Learnt, in-body-reads.Asked, in-body-reads.Learnt, process-reads.Asked, process-reads.Learnt) (find-at t) find.Post
+find-find-requires-2 : (t : ℕ) → find-lts.Need-find-requires-2 (here-reads.Asked, here-reads.Learnt, wide-reads.Asked, wide-reads.Learnt, find-below t, find.Post, in-seq-reads.Asked, in-seq-reads.Learnt, in-par-below t, in-par.Post, skip-list-reads.Asked, skip-list-reads.Learnt, in-scope-reads.Asked, in-scope-reads.Learnt, in-body-reads.Asked, in-body-reads.Learnt, skip-reads.Asked, skip-reads.Learnt) (find-at t) find.Post
 find-find-requires-2 t c κs = search needs
 
-find-in-scope-requires : (t : ℕ) → find-lts.Need-in-scope-requires (here-reads.Asked, here-reads.Learnt, wide-reads.Asked, wide-reads.Learnt, find-below t, find.Post, in-seq-reads.Asked, in-seq-reads.Learnt, in-par-below t, in-par.Post, list-reads.Asked, list-reads.Learnt, in-scope-reads.Asked, in-scope-reads.Learnt, in-body-reads.Asked, in-body-reads.Learnt, process-reads.Asked, process-reads.Learnt) (find-at t) find.Post
+find-in-scope-requires : (t : ℕ) → find-lts.Need-in-scope-requires (here-reads.Asked, here-reads.Learnt, wide-reads.Asked, wide-reads.Learnt, find-below t, find.Post, in-seq-reads.Asked, in-seq-reads.Learnt, in-par-below t, in-par.Post, skip-list-reads.Asked, skip-list-reads.Learnt, in-scope-reads.Asked, in-scope-reads.Learnt, in-body-reads.Asked, in-body-reads.Learnt, skip-reads.Asked, skip-reads.Learnt) (find-at t) find.Post
 find-in-scope-requires t c κs = search needs
 
-find-add-find-4 : (t : ℕ) → find-lts.Need-add-find-4 (here-reads.Asked, here-reads.Learnt, wide-reads.Asked, wide-reads.Learnt, find-below t, find.Post, in-seq-reads.Asked, in-seq-reads.Learnt, in-par-below t, in-par.Post, list-reads.Asked, list-reads.Learnt, in-scope-reads.Asked, in-scope-reads.Learnt, in-body-reads.Asked, in-body-reads.Learnt, process-reads.Asked, process-reads.Learnt) (find-at t) find.Post
+find-add-find-4 : (t : ℕ) → find-lts.Need-add-find-4 (here-reads.Asked, here-reads.Learnt, wide-reads.Asked, wide-reads.Learnt, find-below t, find.Post, in-seq-reads.Asked, in-seq-reads.Learnt, in-par-below t, in-par.Post, skip-list-reads.Asked, skip-list-reads.Learnt, in-scope-reads.Asked, in-scope-reads.Learnt, in-body-reads.Asked, in-body-reads.Learnt, skip-reads.Asked, skip-reads.Learnt) (find-at t) find.Post
 find-add-find-4 t c = search needs
 
-find-add-find-5 : (t : ℕ) → find-lts.Need-add-find-5 (here-reads.Asked, here-reads.Learnt, wide-reads.Asked, wide-reads.Learnt, find-below t, find.Post, in-seq-reads.Asked, in-seq-reads.Learnt, in-par-below t, in-par.Post, list-reads.Asked, list-reads.Learnt, in-scope-reads.Asked, in-scope-reads.Learnt, in-body-reads.Asked, in-body-reads.Learnt, process-reads.Asked, process-reads.Learnt) (find-at t) find.Post
+find-add-find-5 : (t : ℕ) → find-lts.Need-add-find-5 (here-reads.Asked, here-reads.Learnt, wide-reads.Asked, wide-reads.Learnt, find-below t, find.Post, in-seq-reads.Asked, in-seq-reads.Learnt, in-par-below t, in-par.Post, skip-list-reads.Asked, skip-list-reads.Learnt, in-scope-reads.Asked, in-scope-reads.Learnt, in-body-reads.Asked, in-body-reads.Learnt, skip-reads.Asked, skip-reads.Learnt) (find-at t) find.Post
 find-add-find-5 t c = search needs
 
-find-find-requires-3 : (t : ℕ) → find-lts.Need-find-requires-3 (here-reads.Asked, here-reads.Learnt, wide-reads.Asked, wide-reads.Learnt, find-below t, find.Post, in-seq-reads.Asked, in-seq-reads.Learnt, in-par-below t, in-par.Post, list-reads.Asked, list-reads.Learnt, in-scope-reads.Asked, in-scope-reads.Learnt, in-body-reads.Asked, in-body-reads.Learnt, process-reads.Asked, process-reads.Learnt) (find-at t) find.Post
+find-find-requires-3 : (t : ℕ) → find-lts.Need-find-requires-3 (here-reads.Asked, here-reads.Learnt, wide-reads.Asked, wide-reads.Learnt, find-below t, find.Post, in-seq-reads.Asked, in-seq-reads.Learnt, in-par-below t, in-par.Post, skip-list-reads.Asked, skip-list-reads.Learnt, in-scope-reads.Asked, in-scope-reads.Learnt, in-body-reads.Asked, in-body-reads.Learnt, skip-reads.Asked, skip-reads.Learnt) (find-at t) find.Post
 find-find-requires-3 t c κs = search needs
 
-find-in-body-requires : (t : ℕ) → find-lts.Need-in-body-requires (here-reads.Asked, here-reads.Learnt, wide-reads.Asked, wide-reads.Learnt, find-below t, find.Post, in-seq-reads.Asked, in-seq-reads.Learnt, in-par-below t, in-par.Post, list-reads.Asked, list-reads.Learnt, in-scope-reads.Asked, in-scope-reads.Learnt, in-body-reads.Asked, in-body-reads.Learnt, process-reads.Asked, process-reads.Learnt) (find-at t) find.Post
+find-in-body-requires : (t : ℕ) → find-lts.Need-in-body-requires (here-reads.Asked, here-reads.Learnt, wide-reads.Asked, wide-reads.Learnt, find-below t, find.Post, in-seq-reads.Asked, in-seq-reads.Learnt, in-par-below t, in-par.Post, skip-list-reads.Asked, skip-list-reads.Learnt, in-scope-reads.Asked, in-scope-reads.Learnt, in-body-reads.Asked, in-body-reads.Learnt, skip-reads.Asked, skip-reads.Learnt) (find-at t) find.Post
 find-in-body-requires t c κs = search needs
 
-find-process-requires : (t : ℕ) → find-lts.Need-process-requires (here-reads.Asked, here-reads.Learnt, wide-reads.Asked, wide-reads.Learnt, find-below t, find.Post, in-seq-reads.Asked, in-seq-reads.Learnt, in-par-below t, in-par.Post, list-reads.Asked, list-reads.Learnt, in-scope-reads.Asked, in-scope-reads.Learnt, in-body-reads.Asked, in-body-reads.Learnt, process-reads.Asked, process-reads.Learnt) (find-at t) find.Post
-find-process-requires t c κs = search needs
+find-skip-requires : (t : ℕ) → find-lts.Need-skip-requires (here-reads.Asked, here-reads.Learnt, wide-reads.Asked, wide-reads.Learnt, find-below t, find.Post, in-seq-reads.Asked, in-seq-reads.Learnt, in-par-below t, in-par.Post, skip-list-reads.Asked, skip-list-reads.Learnt, in-scope-reads.Asked, in-scope-reads.Learnt, in-body-reads.Asked, in-body-reads.Learnt, skip-reads.Asked, skip-reads.Learnt) (find-at t) find.Post
+find-skip-requires t c κs = search needs
 
-find-returns-4 : (t : ℕ) → find-lts.Need-returns-4 (here-reads.Asked, here-reads.Learnt, wide-reads.Asked, wide-reads.Learnt, find-below t, find.Post, in-seq-reads.Asked, in-seq-reads.Learnt, in-par-below t, in-par.Post, list-reads.Asked, list-reads.Learnt, in-scope-reads.Asked, in-scope-reads.Learnt, in-body-reads.Asked, in-body-reads.Learnt, process-reads.Asked, process-reads.Learnt) (find-at t) find.Post
+find-returns-4 : (t : ℕ) → find-lts.Need-returns-4 (here-reads.Asked, here-reads.Learnt, wide-reads.Asked, wide-reads.Learnt, find-below t, find.Post, in-seq-reads.Asked, in-seq-reads.Learnt, in-par-below t, in-par.Post, skip-list-reads.Asked, skip-list-reads.Learnt, in-scope-reads.Asked, in-scope-reads.Learnt, in-body-reads.Asked, in-body-reads.Learnt, skip-reads.Asked, skip-reads.Learnt) (find-at t) find.Post
 unfolding nodeW parSides inParW
 find-returns-4 t c =
     let f0 = c .before .before .match .keys1 in
@@ -128,7 +128,7 @@ find-returns-4 t c =
     let f3 = c .before .before .before .before .before .before .before .if1 .left in
     simp (tests, find-step, ← (c .in-seq .ensures), ← (c .before .find .ensures), f0, ← (c .before .before .before .wide .ensures .0), f1, f2, f3)
 
-find-returns-5 : (t : ℕ) → find-lts.Need-returns-5 (here-reads.Asked, here-reads.Learnt, wide-reads.Asked, wide-reads.Learnt, find-below t, find.Post, in-seq-reads.Asked, in-seq-reads.Learnt, in-par-below t, in-par.Post, list-reads.Asked, list-reads.Learnt, in-scope-reads.Asked, in-scope-reads.Learnt, in-body-reads.Asked, in-body-reads.Learnt, process-reads.Asked, process-reads.Learnt) (find-at t) find.Post
+find-returns-5 : (t : ℕ) → find-lts.Need-returns-5 (here-reads.Asked, here-reads.Learnt, wide-reads.Asked, wide-reads.Learnt, find-below t, find.Post, in-seq-reads.Asked, in-seq-reads.Learnt, in-par-below t, in-par.Post, skip-list-reads.Asked, skip-list-reads.Learnt, in-scope-reads.Asked, in-scope-reads.Learnt, in-body-reads.Asked, in-body-reads.Learnt, skip-reads.Asked, skip-reads.Learnt) (find-at t) find.Post
 unfolding nodeW parSides inParW
 find-returns-5 t c =
     let f0 = c .before .match .keys2 in
@@ -137,16 +137,16 @@ find-returns-5 t c =
     let f3 = c .before .before .before .before .before .before .if1 .left in
     simp (tests, find-step, ← (c .in-par .ensures), f0, ← (c .before .before .wide .ensures .0), f1, f2, f3)
 
-find-returns-6 : (t : ℕ) → find-lts.Need-returns-6 (here-reads.Asked, here-reads.Learnt, wide-reads.Asked, wide-reads.Learnt, find-below t, find.Post, in-seq-reads.Asked, in-seq-reads.Learnt, in-par-below t, in-par.Post, list-reads.Asked, list-reads.Learnt, in-scope-reads.Asked, in-scope-reads.Learnt, in-body-reads.Asked, in-body-reads.Learnt, process-reads.Asked, process-reads.Learnt) (find-at t) find.Post
+find-returns-6 : (t : ℕ) → find-lts.Need-returns-6 (here-reads.Asked, here-reads.Learnt, wide-reads.Asked, wide-reads.Learnt, find-below t, find.Post, in-seq-reads.Asked, in-seq-reads.Learnt, in-par-below t, in-par.Post, skip-list-reads.Asked, skip-list-reads.Learnt, in-scope-reads.Asked, in-scope-reads.Learnt, in-body-reads.Asked, in-body-reads.Learnt, skip-reads.Asked, skip-reads.Learnt) (find-at t) find.Post
 unfolding nodeW parSides inParW
 find-returns-6 t c =
     let f0 = c .before .before .before .match .keys3 in
     let f1 = c .before .before .before .before .before .before .if3 .left in
     let f2 = c .before .before .before .before .before .before .before .if2 .left in
     let f3 = c .before .before .before .before .before .before .before .before .if1 .left in
-    simp (tests, find-step, ← (c .in-scope .ensures), ← (c .before .find2 .ensures), ← (c .before .before .list .ensures), f0, ← (c .before .before .before .before .wide .ensures .0), f1, f2, f3)
+    simp (tests, find-step, ← (c .in-scope .ensures), ← (c .before .find2 .ensures), ← (c .before .before .skip-list .ensures), f0, ← (c .before .before .before .before .wide .ensures .0), f1, f2, f3)
 
-find-returns-7 : (t : ℕ) → find-lts.Need-returns-7 (here-reads.Asked, here-reads.Learnt, wide-reads.Asked, wide-reads.Learnt, find-below t, find.Post, in-seq-reads.Asked, in-seq-reads.Learnt, in-par-below t, in-par.Post, list-reads.Asked, list-reads.Learnt, in-scope-reads.Asked, in-scope-reads.Learnt, in-body-reads.Asked, in-body-reads.Learnt, process-reads.Asked, process-reads.Learnt) (find-at t) find.Post
+find-returns-7 : (t : ℕ) → find-lts.Need-returns-7 (here-reads.Asked, here-reads.Learnt, wide-reads.Asked, wide-reads.Learnt, find-below t, find.Post, in-seq-reads.Asked, in-seq-reads.Learnt, in-par-below t, in-par.Post, skip-list-reads.Asked, skip-list-reads.Learnt, in-scope-reads.Asked, in-scope-reads.Learnt, in-body-reads.Asked, in-body-reads.Learnt, skip-reads.Asked, skip-reads.Learnt) (find-at t) find.Post
 unfolding nodeW parSides inParW
 find-returns-7 t c =
     let f0 = c .before .before .match .keys4 in
@@ -155,7 +155,7 @@ find-returns-7 t c =
     let f3 = c .before .before .before .before .before .before .before .if1 .left in
     simp (tests, find-step, ← (c .in-body .ensures), ← (c .before .find3 .ensures), f0, ← (c .before .before .before .wide .ensures .0), f1, f2, f3)
 
-find-returns-8 : (t : ℕ) → find-lts.Need-returns-8 (here-reads.Asked, here-reads.Learnt, wide-reads.Asked, wide-reads.Learnt, find-below t, find.Post, in-seq-reads.Asked, in-seq-reads.Learnt, in-par-below t, in-par.Post, list-reads.Asked, list-reads.Learnt, in-scope-reads.Asked, in-scope-reads.Learnt, in-body-reads.Asked, in-body-reads.Learnt, process-reads.Asked, process-reads.Learnt) (find-at t) find.Post
+find-returns-8 : (t : ℕ) → find-lts.Need-returns-8 (here-reads.Asked, here-reads.Learnt, wide-reads.Asked, wide-reads.Learnt, find-below t, find.Post, in-seq-reads.Asked, in-seq-reads.Learnt, in-par-below t, in-par.Post, skip-list-reads.Asked, skip-list-reads.Learnt, in-scope-reads.Asked, in-scope-reads.Learnt, in-body-reads.Asked, in-body-reads.Learnt, skip-reads.Asked, skip-reads.Learnt) (find-at t) find.Post
 find-returns-8 t c = search find-other
 
 in-par-add-find : (t : ℕ) → in-par-lts.Need-add-find (find-below t, find.Post, left-reads.Asked, left-reads.Learnt, beside-reads.Asked, beside-reads.Learnt) (in-par-at t) in-par.Post
@@ -203,14 +203,14 @@ pub +find+in-par-spec : {M : Type 1} → statement M
   in-seq-reads.Learnt,
   in-par-below t,
   in-par.Post,
-  list-reads.Asked,
-  list-reads.Learnt,
+  skip-list-reads.Asked,
+  skip-list-reads.Learnt,
   in-scope-reads.Asked,
   in-scope-reads.Learnt,
   in-body-reads.Asked,
   in-body-reads.Learnt,
-  process-reads.Asked,
-  process-reads.Learnt,
+  skip-reads.Asked,
+  skip-reads.Learnt,
 )
     (find-at t)
     find.Post
@@ -228,8 +228,8 @@ pub +find+in-par-spec : {M : Type 1} → statement M
     (find-in-seq-requires t)
     (find-add-in-par t)
     (find-in-par-requires t)
-    (find-add-list t)
-    (find-list-requires t)
+    (find-add-skip-list t)
+    (find-skip-list-requires t)
     (find-add-find-3 t)
     (find-find-requires-2 t)
     (find-in-scope-requires t)
@@ -237,7 +237,7 @@ pub +find+in-par-spec : {M : Type 1} → statement M
     (find-add-find-5 t)
     (find-find-requires-3 t)
     (find-in-body-requires t)
-    (find-process-requires t)
+    (find-skip-requires t)
     (find-returns-4 t)
     (find-returns-5 t)
     (find-returns-6 t)

@@ -21,17 +21,17 @@ returns c =
     let f0 = c .if1 .taken in
     simp (tests, f0, ← (c .before .wide .ensures .0))
 
-add-list : tie.Need-add-list
-add-list c = search needs
+add-skip-list : tie.Need-add-skip-list
+add-skip-list c = search needs
 
-list-requires : tie.Need-list-requires
-list-requires c κs = search needs
+skip-list-requires : tie.Need-skip-list-requires
+skip-list-requires c κs = search needs
 
 returns-2 : tie.Need-returns-2
 unfolding catchesW
 returns-2 c =
     let f0 = c .before .if1 .left in
-    simp (tests, ← (c .list .ensures), f0, ← (c .before .before .wide .ensures .0))
+    simp (tests, ← (c .skip-list .ensures), f0, ← (c .before .before .wide .ensures .0))
 
 pub catches-spec : {M : Type 1} → statement M
 catches-spec =
@@ -41,6 +41,6 @@ catches-spec =
     shared-slice-read-wide
     wide-requires
     returns
-    add-list
-    list-requires
+    add-skip-list
+    skip-list-requires
     returns-2)

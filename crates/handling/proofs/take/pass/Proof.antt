@@ -9,8 +9,8 @@ use Rattle.handling.proofs.take.pass.Tie as tie
 further-requires : tie.Need-further-requires
 further-requires c κs = search needs
 
-process-requires : tie.Need-process-requires
-process-requires c κs = search needs
+skip-requires : tie.Need-skip-requires
+skip-requires c κs = search needs
 
 word-requires : tie.Need-word-requires
 word-requires c κs = search needs
@@ -21,7 +21,7 @@ wide-requires c κs = search needs
 returns : tie.Need-returns
 unfolding passW
 returns c =
-    (simp (tests, (c .if1 .taken), ← (c .before .wide .ensures .0), ← (c .before .before .word .ensures), ← (c .before .before .before .process .ensures), ← (c .before .before .before .before .further .ensures)), simp (tests, (c .if1 .taken), ← (c .before .wide .ensures .0), ← (c .before .before .word .ensures)))
+    (simp (tests, (c .if1 .taken), ← (c .before .wide .ensures .0), ← (c .before .before .word .ensures), ← (c .before .before .before .skip .ensures), ← (c .before .before .before .before .further .ensures)), simp (tests, (c .if1 .taken), ← (c .before .wide .ensures .0), ← (c .before .before .word .ensures)))
 
 copy-requires : tie.Need-copy-requires
 copy-requires c κs = search needs
@@ -32,14 +32,14 @@ same-length c = search needs
 returns-2 : tie.Need-returns-2
 unfolding passW
 returns-2 c =
-    (simp (tests, ← (c .before .before .copy .ensures .0), (c .before .before .before .before .if1 .left), ← (c .before .before .before .before .before .wide .ensures .0), ← (c .before .before .before .before .before .before .word .ensures), ← (c .before .before .before .before .before .before .before .process .ensures), ← (c .before .before .before .before .before .before .before .before .further .ensures)), simp (tests, ← (c .before .before .copy .ensures .1), (c .before .before .before .before .if1 .left), ← (c .before .before .before .before .before .wide .ensures .0), ← (c .before .before .before .before .before .before .word .ensures), ← (c .before .before .before .before .before .before .before .process .ensures), ← (c .before .before .before .before .before .before .before .before .further .ensures)))
+    (simp (tests, ← (c .before .before .copy .ensures .0), (c .before .before .before .before .if1 .left), ← (c .before .before .before .before .before .wide .ensures .0), ← (c .before .before .before .before .before .before .word .ensures), ← (c .before .before .before .before .before .before .before .skip .ensures), ← (c .before .before .before .before .before .before .before .before .further .ensures)), simp (tests, ← (c .before .before .copy .ensures .1), (c .before .before .before .before .if1 .left), ← (c .before .before .before .before .before .wide .ensures .0), ← (c .before .before .before .before .before .before .word .ensures), ← (c .before .before .before .before .before .before .before .skip .ensures), ← (c .before .before .before .before .before .before .before .before .further .ensures)))
 
 pub pass-spec : {M : Type 1} → statement M
 pass-spec =
     tie.close
     (tie.spec
     further-requires
-    process-requires
+    skip-requires
     word-requires
     wide-requires
     returns

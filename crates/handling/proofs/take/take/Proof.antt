@@ -9,11 +9,11 @@ use Rattle.handling.proofs.take.take.Statement.{statement}
 use Rattle.handling.proofs.take.take.Tie as tie
 
 abbrev Inv-loop : tie.InvT-loop
-Inv-loop ws list key depth bound out₀ count left₀ s₀ out left s =
-    (passesW depth bound ws key left s out ≡ passesW depth bound ws key left₀ s₀ out₀) × (length out ≡ length out₀)
+Inv-loop ws list key depth out₀ count left₀ s₀ out left s =
+    (passesW depth ws key left s out ≡ passesW depth ws key left₀ s₀ out₀) × (length out ≡ length out₀)
 
 abbrev μ-loop : tie.MeasureT-loop
-μ-loop ws list key depth bound out₀ count left₀ s₀ out left s = left
+μ-loop ws list key depth out₀ count left₀ s₀ out left s = left
 
 word-requires : tie.Need-word-requires Inv-loop μ-loop
 word-requires c κs = search needs
@@ -38,7 +38,7 @@ loop-less c = search needs
 
 loop-again : tie.Need-loop-again Inv-loop μ-loop
 loop-again c = (
-  passes-turn _ _ _ _ _ _ _ _ _ (c .before .before .before .before .loop-test .taken) (c .before .before .pass .ensures .0) (c .before .before .pass .ensures .1)
+  passes-turn _ _ _ _ _ _ _ _ (c .before .before .before .before .loop-test .taken) (c .before .before .pass .ensures .0) (c .before .before .pass .ensures .1)
       ∙ c .before .before .before .before .before .loop .inv .0,
   search needs,
 )
@@ -55,7 +55,7 @@ same-length c = search needs
 returns : tie.Need-returns Inv-loop μ-loop
 unfolding takeW tookW
 returns c =
-    let e = sym (c .before .before .before .before .before .before .loop .inv .0) ∙ passes-end _ _ _ _ _ _ _ (c .before .before .before .before .before .loop-test .left) in
+    let e = sym (c .before .before .before .before .before .before .loop .inv .0) ∙ passes-end _ _ _ _ _ _ (c .before .before .before .before .before .loop-test .left) in
     let x = c .before .before .before .before .before .before .before .further .ensures in
     let y = c .before .before .before .before .before .before .before .before .wide .ensures .0 in
     let z = c .before .before .before .before .before .before .before .before .before .word .ensures in

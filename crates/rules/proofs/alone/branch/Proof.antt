@@ -9,11 +9,11 @@ use Rattle.rules.proofs.alone.branch.Tie as tie
 evaluate-requires : tie.Need-evaluate-requires
 evaluate-requires c κs = search needs
 
-process-requires : tie.Need-process-requires
-process-requires c κs = search needs
+skip-requires : tie.Need-skip-requires
+skip-requires c κs = search needs
 
-process-requires-2 : tie.Need-process-requires-2
-process-requires-2 c κs = search needs
+skip-requires-2 : tie.Need-skip-requires-2
+skip-requires-2 c κs = search needs
 
 to-part-requires : tie.Need-to-part-requires
 to-part-requires c κs = search needs
@@ -22,7 +22,7 @@ returns : tie.Need-returns
 unfolding branchW
 returns c =
     let f0 = c .before .if1 .taken in
-    simp (tests, ← (c .to-part .ensures), f0, ← (c .before .before .before .process2 .ensures), ← (c .before .before .before .before .process .ensures), ← (c .before .before .before .before .before .evaluate .ensures))
+    simp (tests, ← (c .to-part .ensures), f0, ← (c .before .before .before .skip2 .ensures), ← (c .before .before .before .before .skip .ensures), ← (c .before .before .before .before .before .evaluate .ensures))
 
 to-part-requires-2 : tie.Need-to-part-requires-2
 to-part-requires-2 c κs = search needs
@@ -31,15 +31,15 @@ returns-2 : tie.Need-returns-2
 unfolding branchW
 returns-2 c =
     let f0 = c .before .if1 .left in
-    simp (tests, ← (c .to-part2 .ensures), f0, ← (c .before .before .before .process2 .ensures), ← (c .before .before .before .before .process .ensures), ← (c .before .before .before .before .before .evaluate .ensures))
+    simp (tests, ← (c .to-part2 .ensures), f0, ← (c .before .before .before .skip2 .ensures), ← (c .before .before .before .before .skip .ensures), ← (c .before .before .before .before .before .evaluate .ensures))
 
 pub branch-spec : {M : Type 1} → statement M
 branch-spec =
     tie.close
     (tie.spec
     evaluate-requires
-    process-requires
-    process-requires-2
+    skip-requires
+    skip-requires-2
     to-part-requires
     returns
     to-part-requires-2

@@ -9,8 +9,8 @@ use Rattle.rules.proofs.alone.repeat.Tie as tie
 evaluate-requires : tie.Need-evaluate-requires
 evaluate-requires c κs = search needs
 
-process-requires : tie.Need-process-requires
-process-requires c κs = search needs
+skip-requires : tie.Need-skip-requires
+skip-requires c κs = search needs
 
 to-nil-requires : tie.Need-to-nil-requires
 to-nil-requires c κs = search needs
@@ -19,7 +19,7 @@ returns : tie.Need-returns
 unfolding repeatW
 returns c =
     let f0 = c .before .if1 .taken in
-    (simp (tests, ← (c .to-nil .ensures), f0, ← (c .before .before .before .process .ensures), ← (c .before .before .before .before .evaluate .ensures)), simp (tests, ← (c .to-nil .ensures), f0, ← (c .before .before .before .process .ensures), ← (c .before .before .before .before .evaluate .ensures)))
+    (simp (tests, ← (c .to-nil .ensures), f0, ← (c .before .before .before .skip .ensures), ← (c .before .before .before .before .evaluate .ensures)), simp (tests, ← (c .to-nil .ensures), f0, ← (c .before .before .before .skip .ensures), ← (c .before .before .before .before .evaluate .ensures)))
 
 word-requires : tie.Need-word-requires
 word-requires c κs = search needs
@@ -32,13 +32,13 @@ unfolding repeatW
 returns-2 c =
     let f0 = c .before .if2 .taken in
     let f1 = c .before .before .before .if1 .left in
-    (simp (tests, ← (c .keep .ensures), f0, ← (c .before .before .word .ensures), f1, ← (c .before .before .before .before .before .process .ensures), ← (c .before .before .before .before .before .before .evaluate .ensures)), simp (tests, ← (c .keep .ensures), f0, ← (c .before .before .word .ensures), f1, ← (c .before .before .before .before .before .process .ensures), ← (c .before .before .before .before .before .before .evaluate .ensures)))
+    (simp (tests, ← (c .keep .ensures), f0, ← (c .before .before .word .ensures), f1, ← (c .before .before .before .before .before .skip .ensures), ← (c .before .before .before .before .before .before .evaluate .ensures)), simp (tests, ← (c .keep .ensures), f0, ← (c .before .before .word .ensures), f1, ← (c .before .before .before .before .before .skip .ensures), ← (c .before .before .before .before .before .before .evaluate .ensures)))
 
 levels-left-requires : tie.Need-levels-left-requires
 levels-left-requires c κs = search needs
 
-process-requires-2 : tie.Need-process-requires-2
-process-requires-2 c κs = search needs
+process-requires : tie.Need-process-requires
+process-requires c κs = search needs
 
 refusal-requires : tie.Need-refusal-requires
 refusal-requires c κs = search needs
@@ -49,7 +49,7 @@ returns-3 c =
     let f0 = c .before .if3 .taken in
     let f1 = c .before .before .before .before .if2 .left in
     let f2 = c .before .before .before .before .before .before .if1 .left in
-    (simp (tests, ← (c .refusal .ensures), f0, ← (c .before .before .process2 .ensures), ← (c .before .before .before .levels-left .ensures), f1, ← (c .before .before .before .before .before .word .ensures), f2, ← (c .before .before .before .before .before .before .before .before .process .ensures), ← (c .before .before .before .before .before .before .before .before .before .evaluate .ensures)), simp (tests, ← (c .refusal .ensures), f0, ← (c .before .before .process2 .ensures), ← (c .before .before .before .levels-left .ensures), f1, ← (c .before .before .before .before .before .word .ensures), f2, ← (c .before .before .before .before .before .before .before .before .process .ensures), ← (c .before .before .before .before .before .before .before .before .before .evaluate .ensures)))
+    (simp (tests, ← (c .refusal .ensures), f0, ← (c .before .before .process .ensures), ← (c .before .before .before .levels-left .ensures), f1, ← (c .before .before .before .before .before .word .ensures), f2, ← (c .before .before .before .before .before .before .before .before .skip .ensures), ← (c .before .before .before .before .before .before .before .before .before .evaluate .ensures)), simp (tests, ← (c .refusal .ensures), f0, ← (c .before .before .process .ensures), ← (c .before .before .before .levels-left .ensures), f1, ← (c .before .before .before .before .before .word .ensures), f2, ← (c .before .before .before .before .before .before .before .before .skip .ensures), ← (c .before .before .before .before .before .before .before .before .before .evaluate .ensures)))
 
 unroll-requires : tie.Need-unroll-requires
 unroll-requires c κs = search needs
@@ -63,21 +63,21 @@ returns-4 c =
     let f0 = c .before .before .before .before .if3 .left in
     let f1 = c .before .before .before .before .before .before .before .if2 .left in
     let f2 = c .before .before .before .before .before .before .before .before .before .if1 .left in
-    (simp (tests, ← (c .before .before .unroll .ensures .0), ← (c .before .before .unroll .ensures .1), f0, ← (c .before .before .before .before .before .process2 .ensures), ← (c .before .before .before .before .before .before .levels-left .ensures), f1, ← (c .before .before .before .before .before .before .before .before .word .ensures), f2, ← (c .before .before .before .before .before .before .before .before .before .before .before .process .ensures), ← (c .before .before .before .before .before .before .before .before .before .before .before .before .evaluate .ensures)), simp (tests, ← (c .before .before .unroll .ensures .0), ← (c .before .before .unroll .ensures .1), f0, ← (c .before .before .before .before .before .process2 .ensures), ← (c .before .before .before .before .before .before .levels-left .ensures), f1, ← (c .before .before .before .before .before .before .before .before .word .ensures), f2, ← (c .before .before .before .before .before .before .before .before .before .before .before .process .ensures), ← (c .before .before .before .before .before .before .before .before .before .before .before .before .evaluate .ensures)))
+    (simp (tests, ← (c .before .before .unroll .ensures .0), ← (c .before .before .unroll .ensures .1), f0, ← (c .before .before .before .before .before .process .ensures), ← (c .before .before .before .before .before .before .levels-left .ensures), f1, ← (c .before .before .before .before .before .before .before .before .word .ensures), f2, ← (c .before .before .before .before .before .before .before .before .before .before .before .skip .ensures), ← (c .before .before .before .before .before .before .before .before .before .before .before .before .evaluate .ensures)), simp (tests, ← (c .before .before .unroll .ensures .0), ← (c .before .before .unroll .ensures .1), f0, ← (c .before .before .before .before .before .process .ensures), ← (c .before .before .before .before .before .before .levels-left .ensures), f1, ← (c .before .before .before .before .before .before .before .before .word .ensures), f2, ← (c .before .before .before .before .before .before .before .before .before .before .before .skip .ensures), ← (c .before .before .before .before .before .before .before .before .before .before .before .before .evaluate .ensures)))
 
 pub repeat-spec : {M : Type 1} → statement M
 repeat-spec =
     tie.close
     (tie.spec
     evaluate-requires
-    process-requires
+    skip-requires
     to-nil-requires
     returns
     word-requires
     keep-requires
     returns-2
     levels-left-requires
-    process-requires-2
+    process-requires
     refusal-requires
     returns-3
     unroll-requires

@@ -9,8 +9,8 @@ use Rattle.rules.proofs.pair.answer.Tie as tie
 put-requires : tie.Need-put-requires
 put-requires c κs = search needs
 
-process-requires : tie.Need-process-requires
-process-requires c κs = search needs
+skip-requires : tie.Need-skip-requires
+skip-requires c κs = search needs
 
 word-requires : tie.Need-word-requires
 word-requires c κs = search needs
@@ -27,14 +27,14 @@ same-length c = search needs
 returns : tie.Need-returns
 unfolding answerW
 returns c =
-    (simp (tests, ← (c .keep .ensures), ← (c .before .wide .ensures .0), ← (c .before .before .word .ensures), ← (c .before .before .before .process .ensures), ← (c .before .before .before .before .before .before .put .ensures .0), ← (c .before .before .before .before .before .before .put .ensures .1)), simp (tests, ← (c .keep .ensures), ← (c .before .wide .ensures .0), ← (c .before .before .word .ensures), ← (c .before .before .before .process .ensures), ← (c .before .before .before .before .before .before .put .ensures .0), ← (c .before .before .before .before .before .before .put .ensures .1)))
+    (simp (tests, ← (c .keep .ensures), ← (c .before .wide .ensures .0), ← (c .before .before .word .ensures), ← (c .before .before .before .skip .ensures), ← (c .before .before .before .before .before .before .put .ensures .0), ← (c .before .before .before .before .before .before .put .ensures .1)), simp (tests, ← (c .keep .ensures), ← (c .before .wide .ensures .0), ← (c .before .before .word .ensures), ← (c .before .before .before .skip .ensures), ← (c .before .before .before .before .before .before .put .ensures .0), ← (c .before .before .before .before .before .before .put .ensures .1)))
 
 pub answer-spec : {M : Type 1} → statement M
 answer-spec =
     tie.close
     (tie.spec
     put-requires
-    process-requires
+    skip-requires
     word-requires
     wide-requires
     keep-requires

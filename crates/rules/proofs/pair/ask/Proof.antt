@@ -21,8 +21,8 @@ mul-three c = search needs
 three-requires : tie.Need-three-requires
 three-requires c κs = search needs
 
-process-requires : tie.Need-process-requires
-process-requires c κs = search needs
+skip-requires : tie.Need-skip-requires
+skip-requires c κs = search needs
 
 keep-requires : tie.Need-keep-requires
 keep-requires c κs = search needs
@@ -33,7 +33,7 @@ same-length c = search needs
 returns : tie.Need-returns
 unfolding askW
 returns c =
-    (simp (tests, ← (c .keep .ensures), ← (c .before .process .ensures), ← (c .before .before .before .before .three .ensures .0), ← (c .before .before .before .before .three .ensures .1), ← (c .before .before .before .before .before .waiter-head .ensures), ← (c .before .before .before .before .before .before .word2 .ensures), ← (c .before .before .before .before .before .before .before .word .ensures)), simp (tests, ← (c .keep .ensures), ← (c .before .process .ensures), ← (c .before .before .before .before .three .ensures .0), ← (c .before .before .before .before .three .ensures .1), ← (c .before .before .before .before .before .waiter-head .ensures), ← (c .before .before .before .before .before .before .word2 .ensures), ← (c .before .before .before .before .before .before .before .word .ensures)))
+    (simp (tests, ← (c .keep .ensures), ← (c .before .skip .ensures), ← (c .before .before .before .before .three .ensures .0), ← (c .before .before .before .before .three .ensures .1), ← (c .before .before .before .before .before .waiter-head .ensures), ← (c .before .before .before .before .before .before .word2 .ensures), ← (c .before .before .before .before .before .before .before .word .ensures)), simp (tests, ← (c .keep .ensures), ← (c .before .skip .ensures), ← (c .before .before .before .before .three .ensures .0), ← (c .before .before .before .before .three .ensures .1), ← (c .before .before .before .before .before .waiter-head .ensures), ← (c .before .before .before .before .before .before .word2 .ensures), ← (c .before .before .before .before .before .before .before .word .ensures)))
 
 pub ask-spec : {M : Type 1} → statement M
 ask-spec =
@@ -44,7 +44,7 @@ ask-spec =
     waiter-head-requires
     mul-three
     three-requires
-    process-requires
+    skip-requires
     keep-requires
     same-length
     returns)

@@ -15,14 +15,14 @@ returns c =
     let f0 = c .before .if1 .taken in
     simp (tests, ← (c .nothing .ensures), f0)
 
-process-requires : tie.Need-process-requires
-process-requires c κs = search needs
+skip-requires : tie.Need-skip-requires
+skip-requires c κs = search needs
 
 returns-2 : tie.Need-returns-2
 unfolding bareW
 returns-2 c =
     let f0 = c .before .if1 .left in
-    simp (tests, ← (c .process .ensures), f0)
+    simp (tests, ← (c .skip .ensures), f0)
 
 pub bare-spec : {M : Type 1} → statement M
-bare-spec = tie.close (tie.spec nothing-requires returns process-requires returns-2)
+bare-spec = tie.close (tie.spec nothing-requires returns skip-requires returns-2)

@@ -4,26 +4,26 @@ use Prim.Native.Nat.{_-_, _<_}
 use native.Mathlib.Omega.{arith}
 use mathlib.Core.Path.{_≡_, refl, sym, ap, _∙_}
 use borrow.Author.Needs.{needs}
-use Rattle.rules.specs.Turning.{codeEnd}
+use Rattle.rules.specs.Turning.{partEnd}
 use Rattle.rules.specs.Offering.{branchAt}
 use Rattle.rules.proofs.Branches.{branch-step}
 use Rattle.rules.proofs.pair.branch_at.Statement.{statement}
 use Rattle.rules.proofs.pair.branch_at.Tie as tie
 
 abbrev Inv-loop : tie.InvT-loop
-Inv-loop part before bound at₀ left₀ at left = branchAt bound part before 1 ≡ branchAt bound part left at
+Inv-loop part before at₀ left₀ at left = branchAt part before 1 ≡ branchAt part left at
 
 abbrev μ-loop : tie.MeasureT-loop
-μ-loop part before bound at₀ left₀ at left = left
+μ-loop part before at₀ left₀ at left = left
 
 loop-holds : tie.Need-loop-holds Inv-loop μ-loop
 loop-holds c = refl
 
-process-requires : tie.Need-process-requires Inv-loop μ-loop
-process-requires c κs = search needs
+skip-requires : tie.Need-skip-requires Inv-loop μ-loop
+skip-requires c κs = search needs
 
-process-requires-2 : tie.Need-process-requires-2 Inv-loop μ-loop
-process-requires-2 c κs = search needs
+skip-requires-2 : tie.Need-skip-requires-2 Inv-loop μ-loop
+skip-requires-2 c κs = search needs
 
 sub-left : tie.Need-sub-left Inv-loop μ-loop
 sub-left c = search needs
@@ -36,9 +36,9 @@ loop-again c =
     let a = c .before .before .before .before .before .args in
     let l = c .before .before .before .loop in
     l .inv
-    ∙ (branch-step (a .bound) (a .part .now) (l .left) (l .at) (c .before .before .loop-test .taken)
-    ∙ ap (λ n. branchAt (a .bound) (a .part .now) (l .left - 1) n)
-    (sym (c .process2 .ensures ∙ ap (λ i. codeEnd (a .bound) (a .part .now) i) (c .before .process .ensures))))
+    ∙ (branch-step (a .part .now) (l .left) (l .at) (c .before .before .loop-test .taken)
+    ∙ ap (λ n. branchAt (a .part .now) (l .left - 1) n)
+    (sym (c .skip2 .ensures ∙ ap (λ i. partEnd (a .part .now) i) (c .before .skip .ensures))))
 
 returns : tie.Need-returns Inv-loop μ-loop
 unfolding branchAt
@@ -53,8 +53,8 @@ branch-at-spec =
     Inv-loop
     μ-loop
     loop-holds
-    process-requires
-    process-requires-2
+    skip-requires
+    skip-requires-2
     sub-left
     loop-less
     loop-again

@@ -31,21 +31,21 @@ sub-branch-at c = search needs
 branch-at-requires : tie.Need-branch-at-requires
 branch-at-requires c κs = search needs
 
-process-requires : tie.Need-process-requires
-process-requires c κs = search needs
+skip-requires : tie.Need-skip-requires
+skip-requires c κs = search needs
 
-process-requires-2 : tie.Need-process-requires-2
-process-requires-2 c κs = search needs
+skip-requires-2 : tie.Need-skip-requires-2
+skip-requires-2 c κs = search needs
 
-process-requires-3 : tie.Need-process-requires-3
-process-requires-3 c κs = search needs
+skip-requires-3 : tie.Need-skip-requires-3
+skip-requires-3 c κs = search needs
 
 returns-3 : tie.Need-returns-3
 unfolding choiceW chosenW
 returns-3 c =
     let f0 = c .before .before .before .before .if2 .left in
     let f1 = c .before .before .before .before .before .if1 .left in
-    simp (tests, ← (c .process3 .ensures), ← (c .before .process2 .ensures), ← (c .before .before .process .ensures), ← (c .before .before .before .branch-at .ensures), f0, f1)
+    simp (tests, ← (c .skip3 .ensures), ← (c .before .skip2 .ensures), ← (c .before .before .skip .ensures), ← (c .before .before .before .branch-at .ensures), f0, f1)
 
 pub chosen-spec : {M : Type 1} → statement M
 chosen-spec =
@@ -57,7 +57,7 @@ chosen-spec =
     returns-2
     sub-branch-at
     branch-at-requires
-    process-requires
-    process-requires-2
-    process-requires-3
+    skip-requires
+    skip-requires-2
+    skip-requires-3
     returns-3)

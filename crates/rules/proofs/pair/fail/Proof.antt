@@ -24,8 +24,8 @@ throw-head-requires c κs = search needs
 put-requires : tie.Need-put-requires
 put-requires c κs = search needs
 
-process-requires : tie.Need-process-requires
-process-requires c κs = search needs
+skip-requires : tie.Need-skip-requires
+skip-requires c κs = search needs
 
 keep-requires : tie.Need-keep-requires
 keep-requires c κs = search needs
@@ -37,7 +37,7 @@ returns-2 : tie.Need-returns-2
 unfolding failW
 returns-2 c =
     let f0 = c .before .before .before .before .before .before .before .if1 .left in
-    (simp (tests, ← (c .keep .ensures), ← (c .before .process .ensures), ← (c .before .before .before .before .put .ensures .0), ← (c .before .before .before .before .put .ensures .1), ← (c .before .before .before .before .before .throw-head .ensures), f0, ← (c .before .before .before .before .before .before .before .before .word .ensures)), simp (tests, ← (c .keep .ensures), ← (c .before .process .ensures), ← (c .before .before .before .before .put .ensures .0), ← (c .before .before .before .before .put .ensures .1), ← (c .before .before .before .before .before .throw-head .ensures), f0, ← (c .before .before .before .before .before .before .before .before .word .ensures)))
+    (simp (tests, ← (c .keep .ensures), ← (c .before .skip .ensures), ← (c .before .before .before .before .put .ensures .0), ← (c .before .before .before .before .put .ensures .1), ← (c .before .before .before .before .before .throw-head .ensures), f0, ← (c .before .before .before .before .before .before .before .before .word .ensures)), simp (tests, ← (c .keep .ensures), ← (c .before .skip .ensures), ← (c .before .before .before .before .put .ensures .0), ← (c .before .before .before .before .put .ensures .1), ← (c .before .before .before .before .before .throw-head .ensures), f0, ← (c .before .before .before .before .before .before .before .before .word .ensures)))
 
 pub fail-spec : {M : Type 1} → statement M
 fail-spec =
@@ -48,7 +48,7 @@ fail-spec =
     returns
     throw-head-requires
     put-requires
-    process-requires
+    skip-requires
     keep-requires
     same-length
     returns-2)

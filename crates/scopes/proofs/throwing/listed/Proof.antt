@@ -12,20 +12,20 @@ further-requires c κs = search needs
 wide-requires : tie.Need-wide-requires
 wide-requires c κs = search needs
 
-list-requires : tie.Need-list-requires
-list-requires c κs = search needs
+skip-list-requires : tie.Need-skip-list-requires
+skip-list-requires c κs = search needs
 
 returns : tie.Need-returns
 unfolding listedW
 returns c =
     let f0 = c .if1 .taken in
-    simp (tests, f0, ← (c .before .list .ensures), ← (c .before .before .wide .ensures .0), ← (c .before .before .before .further .ensures))
+    simp (tests, f0, ← (c .before .skip-list .ensures), ← (c .before .before .wide .ensures .0), ← (c .before .before .before .further .ensures))
 
 returns-2 : tie.Need-returns-2
 unfolding listedW
 returns-2 c =
     let f0 = c .if1 .left in
-    simp (tests, f0, ← (c .before .list .ensures), ← (c .before .before .wide .ensures .0), ← (c .before .before .before .further .ensures))
+    simp (tests, f0, ← (c .before .skip-list .ensures), ← (c .before .before .wide .ensures .0), ← (c .before .before .before .further .ensures))
 
 pub listed-spec : {M : Type 1} → statement M
-listed-spec = tie.close (tie.spec further-requires wide-requires list-requires returns returns-2)
+listed-spec = tie.close (tie.spec further-requires wide-requires skip-list-requires returns returns-2)

@@ -1,6 +1,7 @@
 -- `marked` of `scopes::throwing` meets its contract: the code is its mirror in specs/.
 -- Assumes nothing.
 use Rattle.scopes.specs.Throwing.{markedW}
+use Rattle.scopes.proofs.Marks.{unmarked-words}
 use mathlib.Core.Path.{refl}
 use Rattle.moving.proofs.Tests.{tests}
 use borrow.Author.Needs.{needs}
@@ -53,10 +54,11 @@ same-length-2 : tie.Need-same-length-2
 same-length-2 c = search needs
 
 returns-2 : tie.Need-returns-2
-unfolding markedW
-returns-2 c =
-    let f0 = c .before .before .before .before .before .before .before .before .before .before .before .if1 .left in
-    (refl, simp (tests, ← (c .before .before .put4 .ensures .0), ← (c .before .before .put4 .ensures .1), ← (c .before .before .before .word3 .ensures), ← (c .before .before .before .before .further .ensures), ← (c .before .before .before .before .before .before .before .before .put3 .ensures .0), ← (c .before .before .before .before .before .before .before .before .put3 .ensures .1), ← (c .before .before .before .before .before .before .before .before .before .word2 .ensures), f0, ← (c .before .before .before .before .before .before .before .before .before .before .before .before .listed .ensures)))
+returns-2 c = (
+  refl,
+  unmarked-words _ _ _ _ _ _ _ _ _ _ (c .before .before .before .before .before .before .before .before .before .before .before .before .listed .ensures) (c .before .before .before .before .before .before .before .before .before .before .before .if1 .left) (c .before .before .before .before .before .before .before .before .before .word2 .ensures) (c .before .before .before .before .before .before .before .before .put3 .ensures .1)
+      (c .before .before .before .before .further .ensures) (c .before .before .before .word3 .ensures) (c .before .before .put4 .ensures .1),
+)
 
 pub marked-spec : {M : Type 1} → statement M
 marked-spec =

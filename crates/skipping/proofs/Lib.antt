@@ -1,0 +1,4 @@
+pub mod Forms
+pub mod Passing
+pub mod Skips
+pub mod Turns

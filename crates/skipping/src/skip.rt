@@ -1,0 +1,139 @@
+// Passing over what the reader has accepted: where a process, a list or an expression ends. Nothing is tested but that words are left, so an
+// answer says something only of words that were read.
+use reading::reader::met_by;
+use reading::reader::wide;
+ghost use mathlib.Core.Path.{_≡_};
+ghost use Prim.Native.Nat.{_<_};
+ghost use Rattle.skipping.specs.Skip.{formOf, exprForm, exprSkip, behindBy, skipEnd, skipList};
+
+// What a process is made of, by kind: its own words, and 8 if an expression follows them, 16 if a list; 32 times its parts, and 128 times
+// those for each branch that its head counts. A match, and no constant array, which every call would lay out anew.
+fn form(kind: usize) -> usize
+    ensures { λ r. ⌜ (r ≡ formOf kind) × (r < 258) ⌝ }
+{
+    match kind {
+        0 => 1,
+        1 => 9,
+        2 => 65,
+        3 => 65,
+        4 => 73,
+        5 => 41,
+        6 => 257,
+        7 => 1,
+        8 => 34,
+        9 => 2,
+        10 => 18,
+        11 => 50,
+        12 => 17,
+        13 => 1,
+        14 => 1,
+        15 => 1,
+        16 => 35,
+        17 => 19,
+        18 => 3,
+        _ => 1,
+    }
+}
+
+// Where the process at `at` ends, with lists at most `depth` deep. `left` processes are still to come from `a` on, behind what `follows` the
+// last one's own words; each has a word of its own, so there are no more turns than words. What follows is passed over in the next turn,
+// since a branch on it right away would make the match a jump by kind.
+pub fn skip(ws: &[u16], at: usize, depth: usize) -> usize
+    ensures { λ r. ⌜ r ≡ skipEnd depth (now (ws .entry)) at ⌝ }
+{
+    if depth == 0 {
+        return 0;
+    }
+    let mut a = at;
+    let mut follows = 0;
+    let mut left = 1;
+    let mut turns = ws.len();
+    while left <= turns {
+        a = behind(ws, a, follows, depth - 1);
+        if left == 0 {
+            return a;
+        }
+        if ws.len() <= a {
+            return 0;
+        }
+        let h = wide(ws[a]);
+        let f = form(h / 2048);
+        a = a + f % 8;
+        follows = f / 8 % 4;
+        left = left - 1 + f / 32 % 4 + h % 2048 * (f / 128);
+        turns = turns - 1;
+    }
+    0
+}
+
+// Behind the expression (1) or the list (2) that follows a process's own words, if one does. Most lists are empty.
+fn behind(ws: &[u16], at: usize, follows: usize, depth: usize) -> usize
+    ensures { λ r. ⌜ r ≡ behindBy (skipEnd depth (now (ws .entry))) (now (ws .entry)) follows at ⌝ }
+{
+    if follows == 0 {
+        return at;
+    }
+    if follows == 1 {
+        return skip_expression(ws, at);
+    }
+    if ws.len() <= at {
+        return 0;
+    }
+    if ws[at] == 0 {
+        return at + 1;
+    }
+    skip_list(ws, at, depth, 128)
+}
+
+// Where the list whose count is at `at` ends; with a key wanted below 128, 0 if no entry has it.
+pub fn skip_list(ws: &[u16], at: usize, depth: usize, wanted: usize) -> usize
+    ensures { λ r. ⌜ r ≡ skipList depth (now (ws .entry)) wanted at ⌝ }
+{
+    if ws.len() <= at {
+        return 0;
+    }
+    let mut left = wide(ws[at]);
+    let mut a = at + 1;
+    let mut met = 128 <= wanted;
+    while 0 < left {
+        if ws.len() <= a {
+            return 0;
+        }
+        met = met_by(met, wide(ws[a]) / 512, wanted);
+        a = skip(ws, a + 1, depth);
+        left = left - 1;
+    }
+    if met { a } else { 0 }
+}
+
+// An expression by the first three bits of its word: its own words, and 4 times its operands.
+fn expression_form(tag: usize) -> usize
+    ensures { λ r. ⌜ (r ≡ exprForm tag) × (r < 10) ⌝ }
+{
+    if tag == 0 {
+        return 3;
+    }
+    if tag == 1 { 1 } else { 9 }
+}
+
+// Where the expression at `at` ends; `left` expressions are still to come from `a` on.
+fn skip_expression(ws: &[u16], at: usize) -> usize
+    ensures { λ r. ⌜ r ≡ exprSkip (now (ws .entry)) at ⌝ }
+{
+    let mut a = at;
+    let mut left = 1;
+    let mut turns = ws.len();
+    while left <= turns {
+        if left == 0 {
+            return a;
+        }
+        if ws.len() <= a {
+            return 0;
+        }
+        let f = expression_form(wide(ws[a]) / 8192);
+        a = a + f % 4;
+        left = left - 1 + f / 4;
+        turns = turns - 1;
+    }
+    0
+}
