@@ -2,6 +2,7 @@
 // printed, and when to stop, is decided by functions without input or output; here bytes are only read, handed over and written.
 mod run;
 mod start;
+mod state;
 mod text;
 
 use run::turn;
@@ -14,11 +15,11 @@ ghost use lib.ListN.{length};
 
 // The lines of the steps and the last one. Each step is read as it comes and its line written at once. The step number never comes to
 // its largest value.
-fn steps(ws: &mut [u16], words: usize)
+fn steps(ws: &mut [u16], words: usize, first: u64)
     requires { ⌜ (length (now ws) ≡ 8192) × (words ≤ 8192) ⌝ }
 {
     let mut n = words;
-    let mut number: u64 = 1;
+    let mut number = first;
     while number < u64::MAX {
         let mut bytes = [0u8; 10];
         let got = io::read_full(0, &mut bytes);
@@ -30,7 +31,7 @@ fn steps(ws: &mut [u16], words: usize)
             return;
         }
         n = t.length;
-        number = number + 1;
+        number = t.number;
     }
 }
 
@@ -54,8 +55,8 @@ fn main() {
     let s = begin(n, &bytes[..have], &mut ws, &mut line);
     let text = s.text;
     io::write_all(1, &line[..text]);
-    if s.number != 0 {
+    if s.last {
         return;
     }
-    steps(&mut ws, s.length);
+    steps(&mut ws, s.length, s.number);
 }

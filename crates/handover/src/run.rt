@@ -1,5 +1,6 @@
 // The run: what a step makes of the words, and the line that it prints.
 use crate::start::word;
+use crate::state::Next;
 use crate::text::cut_line;
 use crate::text::end_line;
 use crate::text::step_line;
@@ -7,7 +8,7 @@ use moving::write::copy;
 use stepping::answer::Answer;
 use stepping::steps::step;
 ghost use mathlib.Core.Path.{_≡_};
-ghost use Prim.Native.Nat.{_≤_};
+ghost use Prim.Native.Nat.{_+_, _≤_, _<_};
 ghost use lib.Dec.{ltb};
 ghost use lib.ListN.{length, take};
 ghost use Rattle.sock.specs.Configuration.{standard};
@@ -69,23 +70,17 @@ fn last_line(n: usize, bytes: &[u8], line: &mut [u8]) -> usize
     }
 }
 
-// How many bytes the line has, how many words the next step reads, and whether the line was the last.
-pub struct Next {
-    pub text: usize,
-    pub length: usize,
-    pub last: bool,
-}
-
 // What the bytes of the i-th step, ten or what is left, print, and the words that the next one reads.
 pub fn turn(ws: &mut [u16], n: usize, i: u64, bytes: &[u8], line: &mut [u8]) -> Next
-    requires { ⌜ (length (now ws) ≡ 8192) × (n ≤ 8192) × (length (now line) ≡ 128) ⌝ }
-    ensures { λ r. ⌜ (r .last ≡ ltb (length (now (bytes .entry))) 10) × (r .length ≤ 8192) × (take (r .length) (now (ws .exit)) ≡ turnWords (take n (now (ws .entry))) (now (bytes .entry))) × (r .text ≤ 128) × (take (r .text) (now (line .exit)) ≡ turnLine i (take n (now (ws .entry))) (now (bytes .entry))) ⌝ }
+    requires { ⌜ (length (now ws) ≡ 8192) × (n ≤ 8192) × (length (now line) ≡ 128) × (i < 18446744073709551615) ⌝ }
+    ensures { λ r. ⌜ (r .last ≡ ltb (length (now (bytes .entry))) 10) × (r .number ≡ i + 1) × (r .length ≤ 8192) × (take (r .length) (now (ws .exit)) ≡ turnWords (take n (now (ws .entry))) (now (bytes .entry))) × (r .text ≤ 128) × (take (r .text) (now (line .exit)) ≡ turnLine i (take n (now (ws .entry))) (now (bytes .entry))) ⌝ }
 {
     if bytes.len() < 10 {
         let text = last_line(n, bytes, line);
         return Next {
             text,
             length: n,
+            number: i + 1,
             last: true,
         };
     }
@@ -94,6 +89,7 @@ pub fn turn(ws: &mut [u16], n: usize, i: u64, bytes: &[u8], line: &mut [u8]) -> 
     Next {
         text,
         length: m.length,
+        number: i + 1,
         last: false,
     }
 }

@@ -1,9 +1,12 @@
 // The start: how many words the configuration has, and what the start check says of them.
+use crate::state::Next;
 use crate::text::start_line;
 use cabinet::words::hold;
 use reading::calls::check_start;
 ghost use mathlib.Core.Path.{_≡_};
 ghost use Prim.Native.Nat.{_+_, _*_, _≤_};
+ghost use mathlib.Core.Bool.{not};
+ghost use lib.Dec.{eqb};
 ghost use lib.ListN.{length, take};
 ghost use Rattle.sock.specs.Configuration.{standard};
 ghost use Rattle.sock.specs.Calls.{checkStart};
@@ -48,25 +51,19 @@ fn words_in(n: usize, bytes: &[u8], ws: &mut [u16]) -> usize
     hold(&bytes[..size], ws)
 }
 
-// The check's number, how many words there are, and how many bytes the line has.
-pub struct Start {
-    pub number: u8,
-    pub length: usize,
-    pub text: usize,
-}
-
-// From the word L and the bytes read behind it to the configuration's words and the first line. No words are not readable, hence the
-// number 1 where words are missing or too many.
-pub fn begin(n: usize, bytes: &[u8], ws: &mut [u16], line: &mut [u8]) -> Start
+// From the word L and the bytes read behind it to the configuration's words and the first line, which is the last unless the check's
+// number is 0. No words are not readable, hence the number 1 where words are missing or too many.
+pub fn begin(n: usize, bytes: &[u8], ws: &mut [u16], line: &mut [u8]) -> Next
     requires { ⌜ (length (now ws) ≡ 8192) × (length (now line) ≡ 128) ⌝ }
-    ensures { λ r. ⌜ (r .number ≡ checkStart standard (startWords n (now (bytes .entry)))) × (r .length ≤ 8192) × (take (r .length) (now (ws .exit)) ≡ startWords n (now (bytes .entry))) × (r .text ≤ 128) × (take (r .text) (now (line .exit)) ≡ startLine (checkStart standard (startWords n (now (bytes .entry))))) ⌝ }
+    ensures { λ r. ⌜ (r .last ≡ not (eqb (checkStart standard (startWords n (now (bytes .entry)))) 0)) × (r .number ≡ 1) × (r .length ≤ 8192) × (take (r .length) (now (ws .exit)) ≡ startWords n (now (bytes .entry))) × (r .text ≤ 128) × (take (r .text) (now (line .exit)) ≡ startLine (checkStart standard (startWords n (now (bytes .entry))))) ⌝ }
 {
     let length = words_in(n, bytes, ws);
     let number = check_start(&ws[..length]);
     let text = start_line(number, line);
-    Start {
-        number,
-        length,
+    Next {
         text,
+        length,
+        number: 1,
+        last: number != 0,
     }
 }

@@ -8,14 +8,12 @@ use lib.Seq.{length-take-le}
 use borrow.Author.Needs.{needs}
 use Rattle.handover.proofs.steps.Statement.{statement}
 use Rattle.handover.proofs.steps.Tie as tie
-use Rattle.handover.proofs.steps.Reads as reads
-use Rattle.handover.proofs.steps.Lts as lts
 
 abbrev Inv-loop : tie.InvT-loop
-Inv-loop ws₀ words n₀ number₀ ws n number = (length ws ≡ 8192) × (n ≤ 8192)
+Inv-loop ws₀ words first n₀ number₀ ws n number = (length ws ≡ 8192) × (n ≤ 8192)
 
 abbrev μ-loop : tie.MeasureT-loop
-μ-loop ws₀ words n₀ number₀ ws n number = 18446744073709551615 - number
+μ-loop ws₀ words first n₀ number₀ ws n number = 18446744073709551615 - number
 
 loop-holds : tie.Need-loop-holds Inv-loop μ-loop
 loop-holds c = search needs
@@ -53,9 +51,6 @@ same-length c = search needs
 returns : tie.Need-returns Inv-loop μ-loop
 returns c = search needs
 
-add-number : tie.Need-add-number Inv-loop μ-loop
-add-number c = search needs
-
 loop-less : tie.Need-loop-less Inv-loop μ-loop
 loop-less c = search needs
 
@@ -86,7 +81,6 @@ steps-spec =
     write-all-requires
     same-length
     returns
-    add-number
     loop-less
     loop-again
     same-length-2

@@ -11,8 +11,6 @@ use Rattle.handover.proofs.Turning.{as-step, refused-keeps, accepted-fi
 use borrow.Author.Needs.{needs}
 use Rattle.handover.proofs.run.advance.Statement.{statement}
 use Rattle.handover.proofs.run.advance.Tie as tie
-use Rattle.handover.proofs.run.advance.Reads as reads
-use Rattle.handover.proofs.run.advance.Lts as lts
 
 slice-reshare-prefix-stepped : tie.Need-slice-reshare-prefix-stepped
 slice-reshare-prefix-stepped c = search needs

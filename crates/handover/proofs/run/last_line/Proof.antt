@@ -5,8 +5,6 @@ use Rattle.handover.proofs.Turning.{line-end, line-cut}
 use borrow.Author.Needs.{needs}
 use Rattle.handover.proofs.run.last_line.Statement.{statement}
 use Rattle.handover.proofs.run.last_line.Tie as tie
-use Rattle.handover.proofs.run.last_line.Reads as reads
-use Rattle.handover.proofs.run.last_line.Lts as lts
 
 end-line-requires : tie.Need-end-line-requires
 end-line-requires c κs = search needs

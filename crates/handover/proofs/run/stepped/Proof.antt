@@ -8,8 +8,6 @@ use Rattle.handover.proofs.Turning.{numbers-as}
 use borrow.Author.Needs.{needs}
 use Rattle.handover.proofs.run.stepped.Statement.{statement}
 use Rattle.handover.proofs.run.stepped.Tie as tie
-use Rattle.handover.proofs.run.stepped.Reads as reads
-use Rattle.handover.proofs.run.stepped.Lts as lts
 
 shared-slice-read-word : tie.Need-shared-slice-read-word
 shared-slice-read-word c = search needs

@@ -1,6 +1,9 @@
 -- `begin` of `handover::start` meets its contract.
 -- Assumes nothing.
-use mathlib.Core.Path.{sym, ap, _∙_}
+use Prim.Native.Nat.{ℕ}
+use mathlib.Core.Path.{refl, sym, ap, _∙_}
+use mathlib.Core.Bool.{not}
+use lib.Dec.{eqb}
 use lib.Seq.{length-take-le}
 use Rattle.sock.specs.Configuration.{standard}
 use Rattle.sock.specs.Calls.{checkStart}
@@ -8,8 +11,6 @@ use Rattle.sock.specs.Bytes.{startLine}
 use borrow.Author.Needs.{needs}
 use Rattle.handover.proofs.start.begin.Statement.{statement}
 use Rattle.handover.proofs.start.begin.Tie as tie
-use Rattle.handover.proofs.start.begin.Reads as reads
-use Rattle.handover.proofs.start.begin.Lts as lts
 
 words-in-requires : tie.Need-words-in-requires
 words-in-requires c κs = search needs
@@ -36,7 +37,7 @@ returns : tie.Need-returns
 returns c =
     let w = (c .before .before .before .before .before .before .before .before .words-in .ensures) in
     let n = (c .before .before .before .before .check-start .ensures) ∙ ap (checkStart standard) (w .1) in
-    (n, w .0, w .1, (c .before .before .start-line .ensures .0), (c .before .before .start-line .ensures .1) ∙ ap startLine n)
+    (ap (λ (m : ℕ). not (eqb m 0)) n, refl, w .0, w .1, (c .before .before .start-line .ensures .0), (c .before .before .start-line .ensures .1) ∙ ap startLine n)
 
 pub begin-spec : {M : Type 1} → statement M
 begin-spec =

@@ -4,8 +4,6 @@ use Rattle.handover.proofs.Starting.{count-missing, count-found}
 use borrow.Author.Needs.{needs}
 use Rattle.handover.proofs.start.count.Statement.{statement}
 use Rattle.handover.proofs.start.count.Tie as tie
-use Rattle.handover.proofs.start.count.Reads as reads
-use Rattle.handover.proofs.start.count.Lts as lts
 
 returns : tie.Need-returns
 returns c = count-missing (c .before .before .args .head .now) (c .if1 .taken)

@@ -5,8 +5,6 @@ use Rattle.handover.proofs.Starting.{none-wanted, some-wanted}
 use borrow.Author.Needs.{needs}
 use Rattle.handover.proofs.start.wanted.Statement.{statement}
 use Rattle.handover.proofs.start.wanted.Tie as tie
-use Rattle.handover.proofs.start.wanted.Reads as reads
-use Rattle.handover.proofs.start.wanted.Lts as lts
 
 mul-result : tie.Need-mul-result
 mul-result c = search needs

@@ -8,8 +8,6 @@ use Rattle.handover.proofs.Starting.{too-many, some-missing, held-there
 use borrow.Author.Needs.{needs}
 use Rattle.handover.proofs.start.words_in.Statement.{statement}
 use Rattle.handover.proofs.start.words_in.Tie as tie
-use Rattle.handover.proofs.start.words_in.Reads as reads
-use Rattle.handover.proofs.start.words_in.Lts as lts
 
 returns : tie.Need-returns
 returns c = (omega arith, too-many (c .before .before .before .args .n) (c .before .before .before .args .bytes .now) (c .if1 .taken))

@@ -5,8 +5,6 @@ use Rattle.sock.specs.Bytes.{cutLine}
 use borrow.Author.Needs.{needs}
 use Rattle.handover.proofs.text.cut_line.Statement.{statement}
 use Rattle.handover.proofs.text.cut_line.Tie as tie
-use Rattle.handover.proofs.text.cut_line.Reads as reads
-use Rattle.handover.proofs.text.cut_line.Lts as lts
 
 slice-aggregate-put : tie.Need-slice-aggregate-put
 slice-aggregate-put c = search needs

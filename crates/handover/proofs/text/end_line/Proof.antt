@@ -8,8 +8,6 @@ use Rattle.sock.specs.Bytes.{decimal, endLine, endText}
 use borrow.Author.Needs.{needs}
 use Rattle.handover.proofs.text.end_line.Statement.{statement}
 use Rattle.handover.proofs.text.end_line.Tie as tie
-use Rattle.handover.proofs.text.end_line.Reads as reads
-use Rattle.handover.proofs.text.end_line.Lts as lts
 
 slice-aggregate-put : tie.Need-slice-aggregate-put
 slice-aggregate-put c = search needs

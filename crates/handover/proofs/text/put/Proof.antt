@@ -9,8 +9,6 @@ use Rattle.handover.proofs.Lines.{put-turn, put-none, put-all}
 use borrow.Author.Needs.{needs}
 use Rattle.handover.proofs.text.put.Statement.{statement}
 use Rattle.handover.proofs.text.put.Tie as tie
-use Rattle.handover.proofs.text.put.Reads as reads
-use Rattle.handover.proofs.text.put.Lts as lts
 
 abbrev Inv-loop : tie.InvT-loop
 Inv-loop text line₀ at i₀ line i = (i ≤ length text) × (length line ≡ length line₀) × (take (at + i) line ≡ take at line₀ ++ take i text)

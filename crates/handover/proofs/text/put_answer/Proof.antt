@@ -9,8 +9,6 @@ use Rattle.handover.specs.Printed.{answered}
 use borrow.Author.Needs.{needs}
 use Rattle.handover.proofs.text.put_answer.Statement.{statement}
 use Rattle.handover.proofs.text.put_answer.Tie as tie
-use Rattle.handover.proofs.text.put_answer.Reads as reads
-use Rattle.handover.proofs.text.put_answer.Lts as lts
 
 cast-put-field : tie.Need-cast-put-field
 cast-put-field c = search needs

@@ -7,8 +7,6 @@ use mathlib.Core.List.{List, _++_}
 use borrow.Author.Needs.{needs}
 use Rattle.handover.proofs.text.put_field.Statement.{statement}
 use Rattle.handover.proofs.text.put_field.Tie as tie
-use Rattle.handover.proofs.text.put_field.Reads as reads
-use Rattle.handover.proofs.text.put_field.Lts as lts
 
 put-number-requires : tie.Need-put-number-requires
 put-number-requires c κs = search needs

@@ -9,8 +9,6 @@ use Rattle.handover.proofs.Decimals.{decimal-is, twenty}
 use borrow.Author.Needs.{needs}
 use Rattle.handover.proofs.text.put_number.Statement.{statement}
 use Rattle.handover.proofs.text.put_number.Tie as tie
-use Rattle.handover.proofs.text.put_number.Reads as reads
-use Rattle.handover.proofs.text.put_number.Lts as lts
 
 decimal-requires : tie.Need-decimal-requires
 decimal-requires c κs = search needs

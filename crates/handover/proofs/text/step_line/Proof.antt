@@ -9,8 +9,6 @@ use Rattle.handover.specs.Printed.{definedAs, answered}
 use borrow.Author.Needs.{needs}
 use Rattle.handover.proofs.text.step_line.Statement.{statement}
 use Rattle.handover.proofs.text.step_line.Tie as tie
-use Rattle.handover.proofs.text.step_line.Reads as reads
-use Rattle.handover.proofs.text.step_line.Lts as lts
 
 slice-aggregate-put-field : tie.Need-slice-aggregate-put-field
 slice-aggregate-put-field c = search needs
