@@ -64,7 +64,8 @@ fn worked() -> (Vec<u16>, Vec<Numbers>) {
     words.extend([0x5800, 0, 0, 0x5020, 0x0880, 0]);
     words.extend([0; 64]);
     words.extend([0x5800, 0, 0, 0x4020, 0, 0]);
-    let numbers = |engine, position, second, place| Numbers::new(engine, position, second, place, 0);
+    let numbers =
+        |engine, position, second, place| Numbers::new(engine, position, second, place, 0);
     let reply = numbers(1, 3, 0, 3);
     (words, vec![numbers(0, 3, 1, 3), reply, reply, numbers(0, 3, 0, 0), numbers(0, 0, 0, 0)])
 }
@@ -186,7 +187,8 @@ fn printed(program: &str, input: &[u8]) -> io::Result<Vec<u8>> {
 }
 
 fn main() -> io::Result<()> {
-    let program = std::env::args().nth(1).unwrap_or_else(|| "../../target/bin/handover".to_string());
+    let program =
+        std::env::args().nth(1).unwrap_or_else(|| "../../target/bin/handover".to_string());
     let count = std::env::args().nth(2).and_then(|c| c.parse().ok()).unwrap_or(2000);
     let mut inputs = refused();
     inputs.extend(accepted());
