@@ -1,4 +1,5 @@
--- The program's way over its input, with the lines and words that the contracts give, prints the definitions' text.
+-- The program's way over its input, with the lines and words that the contracts give, prints the definitions' text. That `main` goes this
+-- way is to be read: reading and writing have no contract. Its turns are 2^64 - 2.
 -- Assumes nothing.
 use Prim.Native.Nat.{ℕ, zero, suc, _+_, _-_, _*_, _≤_, _<_}
 use native.Mathlib.Omega.{arith}
