@@ -104,7 +104,7 @@ large-same bytes ws k = by (step-agrees (roomOf 8192 bytes) (bytes / 2) (room-be
 
 -- ---- what the code makes of an answer
 
-number-positive : (r : Refusal) → 0 < number r
+pub number-positive : (r : Refusal) → 0 < number r
 number-positive unreadable = omega arith
 number-positive nobodyThere = omega arith
 number-positive noMove = omega arith
@@ -122,7 +122,7 @@ pub packed-as : (x : Result Stepped) → packedAs (answerAs (answerOf x)) ≡ pa
 unfolding packed
 packed-as x = refl
 
-fits-room : {room half : ℕ} {x y : Result Stepped} → Agree room half x y → answerOf x .number ≡ 0 → answerOf x .length ≤ room
+pub fits-room : {room half : ℕ} {x y : Result Stepped} → Agree room half x y → answerOf x .number ≡ 0 → answerOf x .length ≤ room
 unfolding answerOf
 fits-room (both-refuse r) e = omega arith
 fits-room (both-do s h) e = h

@@ -1,0 +1,5 @@
+pub mod Decimals
+pub mod Lines
+pub mod Starting
+pub mod Turning
+pub mod Whole
