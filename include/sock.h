@@ -3,7 +3,8 @@
  * A configuration is a row of 16-bit words, each two bytes, the high byte first. It has at most 8,192 words (16,384 bytes). Every call
  * answers for all bytes and numbers: nothing has to be checked before. A configuration of odd length is unreadable. No call keeps a
  * pointer, allocates, or reads or writes outside what it is lent. A length may be 0; the pointer is then not followed, but must not be
- * null. `sock_step` must not be lent an output that overlaps the configuration. A thread that calls needs 128 KiB of stack. Calls on different memory may run at the same time.
+ * null. `sock_step` must not be lent an output that overlaps the configuration. Calls on different memory may run at the same time; a
+ * thread that calls needs 128 KiB of stack.
  *
  * Link with libcabinet.a, which `rt staticlib cabinet` writes to target/staticlib.
  */
