@@ -13,10 +13,10 @@ use lib.Seq.{drop-drop, drop-append-seam, getD-drop}
 use Rattle.sock.specs.Words.{kindOf, zombieOf, isOne}
 use Rattle.sock.specs.Term.{Node, node, Entries, headWord, kind}
 use Rattle.sock.specs.Layout.{words, count, entriesWords, depth, entriesDepth}
-use Rattle.sock.specs.Reading.{code, anywhere, holds}
+use Rattle.sock.specs.Reading.{holds}
 use Rattle.sock.specs.Running.{Mark, Run, scope, markedFault, scopeHead, asNode, runWords, size, runDepth}
 use Rattle.sock.specs.Frames.{Frame, Located}
-use Rattle.sock.proofs.Fits.{Fits, FitsEntries, Sound, nilSound, seqSound, parSound, scopeSound, executorSound, waiterSound, noticeSound, actSound}
+use Rattle.sock.proofs.Fits.{FitsEntries, Sound, nilSound, seqSound, parSound, scopeSound, executorSound, waiterSound, noticeSound, actSound}
 use Rattle.sock.proofs.Fields.{plain-kind, isOne-bit, scope-zombie}
 use Rattle.sock.proofs.ByKind.{code-kind, runKind, kind-asNode}
 use Rattle.sock.proofs.Nodes.{depth-some}

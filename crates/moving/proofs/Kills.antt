@@ -8,7 +8,7 @@ use mathlib.Core.List.{List}
 use lib.Dec.{leb}
 use lib.ListN.{length, getD, set}
 use borrow.Author.Tests.{le-ltb, lt-leb, ne-eqb}
-use Rattle.skipping.specs.Skip.{skipEnd, skipList}
+use Rattle.skipping.specs.Skip.{skipList}
 use Rattle.moving.specs.Writing.{onward, pasted, pastedEnd, lowered}
 use Rattle.moving.specs.Killing.{Killed, Walk, stuckW, made, goes, noticeHead, noticeWord, noticeW, executorOn, executorW, headFor, liveOn, liveW, leftOn, parW, lessOne, rightOn, rightW, scopeAt, scopeW, kindW, killW}
 use Rattle.moving.specs.declared.kill.Moved.{Moved}

@@ -18,7 +18,7 @@ use Rattle.sock.specs.Rules.{also}
 use Rattle.sock.proofs.Fields.{mark-below, scope-zombie}
 use Rattle.sock.proofs.Measures.{words-scope, size-scope}
 use Rattle.sock.proofs.Located.{size-positive}
-use Rattle.skipping.specs.Skip.{skipEnd, skipList}
+use Rattle.skipping.specs.Skip.{skipList}
 use Rattle.moving.specs.Writing.{pasted, pastedEnd}
 use Rattle.moving.specs.Killing.{Killed, Walk, stuckW, ownZombie, plainZombie, headFor, zombieOn, zombieW, liveOn, liveW, scopeAt, scopeW}
 use Rattle.moving.proofs.Laid.{Near, onward-near, Laid, laid-then, laid-again, laid-set, laid-copy, copy-end}

@@ -8,12 +8,10 @@ use mathlib.Core.Bool.{Bool, true, false, not, _&&_, and-assoc, and-true}
 use mathlib.Core.List.{List}
 use lib.Dec.{T, leb, ltb, eqb}
 use lib.ListN.{length, drop}
-use borrow.Author.Tests.{lt-leb}
 use Rattle.sock.specs.Kind
 use Rattle.sock.specs.Kind.{rows, rowOf}
 use Rattle.sock.specs.Words.{clear, kindOf, countOf}
-use Rattle.sock.specs.Term.{entriesOf}
-use Rattle.sock.specs.Reading.{fail, got, andThen, check, Stratum, running, code, Place, anywhere, allowed, placed, branched, headFits, holds, block, expr, process, nodeBy}
+use Rattle.sock.specs.Reading.{fail, check, Stratum, running, code, Place, anywhere, allowed, placed, branched, headFits, block, expr, process, nodeBy}
 use Rattle.sock.proofs.Fields.{From, end, _then_, fact-at}
 use Rattle.sock.proofs.Logic.{and-left, test-false}
 use Rattle.sock.proofs.Reading.{tests}
@@ -22,7 +20,7 @@ use Rattle.reading.specs.Walk.{when, at, exprEnd, choiceEnd, listEnd, no
 use Rattle.reading.proofs.Contexts.{numberOf, context-back, rest-context, spareFor, allowed-kind, head-masked}
 use Rattle.reading.proofs.Combining.{check-and, when-and, Words, at-next}
 use Rattle.reading.proofs.Ending.{Ends, fails, ReadTo, ends-zero, ends-fail, ends-read, ends-check}
-use Rattle.reading.proofs.Lists.{list-end, list-any}
+use Rattle.reading.proofs.Lists.{list-any}
 use Rattle.reading.proofs.Parts.{Bounded, isCode, isRunning, Below}
 use Rattle.reading.proofs.Following.{Follows, nil-follows, assign-follows, seq-follows, par-follows, if-follows, while-follows, choice-follows, one-way-follows, request-follows, notify-follows, solicit-follows, inst-follows, throw-follows, comp-follows, cH-follows}
 use Rattle.reading.proofs.Scopes.{running-follows, resting-follows}
@@ -166,11 +164,3 @@ module _ (ws : List ℕ) (ok : Words ws) (bound d : ℕ) (ofScope : Bool) where
   pub list-ends :
       (i : ℕ) → Ends ws i (block (process d (code (not ofScope)) anywhere) ofScope 1 (drop i ws)) (listEnd (processEnd d ws bound) ws (listContext ofScope) 128 i)
   list-ends i = rw (list-context ofScope) at (list-any ws ok bound d (λ c. read-ends ws ok bound d (code c) isCode) ofScope i i (omega arith))
-
-  -- with a key that has to be there
-  pub list-wanted :
-      (wanted : ℕ) → wanted < 128 → (i : ℕ) →
-      Ends ws i (andThen (block (process d (code (not ofScope)) anywhere) ofScope 1 (drop i ws)) λ l rest. check (holds wanted (entriesOf l)) (got l rest))
-      (listEnd (processEnd d ws bound) ws (listContext ofScope) wanted i)
-  list-wanted wanted h i =
-      rw (list-context ofScope, lt-leb 128 wanted h) at (list-end ws ok bound d (λ c. read-ends ws ok bound d (code c) isCode) ofScope wanted i i (omega arith))

@@ -28,7 +28,7 @@ same-got {a} e = ap of e
     of fail = a
     of (got m rest) = m
 
-module _ (ws : List ℕ) (ok : Words ws) (n issued : ℕ) (few : n ≤ 8) (small : issued < 65536) where
+module _ (ws : List ℕ) (ok : Words ws) (n issued : ℕ) (small : issued < 65536) where
   too-deep :
       {m : Node} → Fits (code false) anywhere m → (d i : ℕ) → d < depth m → (rest : List ℕ) → drop i ws ≡ words m ++ rest →
       process d (code false) anywhere (drop i ws) ≡ fail
@@ -52,7 +52,7 @@ module _ (ws : List ℕ) (ok : Words ws) (n issued : ℕ) (few : n ≤ 8) (small
   code-fits {m} f d i rest e = by (leb (depth m) d) refl
     where
       by : (b : Bool) → leb (depth m) d ≡ b → processEnd d ws (n * 65536 + issued) 0 i ≡ cond b (i + length (words m)) 0
-      by true q = code-end ws ok n issued few small f d i (leb→le (depth m) d (rw q tt)) rest e
+      by true q = code-end ws ok n issued small f d i (leb→le (depth m) d (rw q tt)) rest e
       by false q = process-fail ws ok n issued small d 0 (lit< tt) i (too-deep f d i (leb-false (depth m) d q) rest e)
 
 -- the head of code is 0 only if it is nil

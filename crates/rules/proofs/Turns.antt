@@ -322,7 +322,7 @@ module _ (n issued : ℕ) (ws : List ℕ) (ok : Words ws) (few : n ≤ 8) (small
         Outcome (act w) level (cond (isTrue (evaluate vs e)) (seqOf (enable p) w) nil) (u .turn) (u .fresh))
     unfolding repeatW isTrue seqOf isDone size depth
     repeat-turns low few-levels =
-        rw (expr-value h e (p & noParts) g deep stands, body-ends, body-head, code-fits ws ok n issued few small fm (levelsLeft level) 0 rest stands, enable-done fp)
+        rw (expr-value h e (p & noParts) g deep stands, body-ends, body-head, code-fits ws ok n issued small fm (levelsLeft level) 0 rest stands, enable-done fp)
         (by (eqb (evaluate vs e) 0) (isNil p))
       where
         by :

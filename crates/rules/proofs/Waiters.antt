@@ -6,7 +6,7 @@ use mathlib.Core.Path.{_≡_, refl, sym, ap, _∙_}
 use mathlib.Core.Bool.{Bool, true, false, _&&_, cond}
 use mathlib.Core.Option.{Option, none, some}
 use mathlib.Core.List.{List, [], _∷_, _++_, append-nil}
-use borrow.Author.Tests.{eq-eqb, ne-eqb, le-leb, lt-leb, eqb-true, eqb-false}
+use borrow.Author.Tests.{ne-eqb, le-leb, lt-leb}
 use lib.Dec.{T, eqb, leb}
 use lib.ListN.{length, set}
 use Rattle.sock.specs.Words.{kindOf, nameOf, nextVariable, firstName, bit, headOf, nameFields}

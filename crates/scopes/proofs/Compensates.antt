@@ -284,7 +284,7 @@ module _ (f target : ℕ) (r : Run) (start : ℕ) (l : Located) (s : Spot) (ws :
             let x : Stands ws (took .answer .from) (took .answer .upto) m = stands e in
             rw (
               ne-eqb (took .answer .upto) 0 (λ z. omega (arith, x .1 .1, some-words e)),
-              code-fits ws ok n issued few small fitting (levelsAt (s .level)) (took .answer .from) (x .0) (x .1 .0),
+              code-fits ws ok n issued small fitting (levelsAt (s .level)) (took .answer .from) (x .0) (x .1 .0),
             )
             (placed e (leb (depth m) (levelsAt (s .level))) refl)
         by false e =

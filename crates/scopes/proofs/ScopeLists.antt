@@ -3,7 +3,6 @@
 use Prim.Native.Nat.{ℕ, suc, _+_, _-_, _≤_, _<_, max}
 use native.Mathlib.Omega.{arith}
 use mathlib.Core.Path.{_≡_, sym, ap, _∙_}
-use mathlib.Core.Bool.{true}
 use mathlib.Core.Option.{some}
 use mathlib.Core.List.{List, _++_}
 use lib.Dec.{T}
@@ -15,7 +14,7 @@ use Rattle.sock.proofs.Fits.{SoundFrames}
 use Rattle.sock.proofs.Frames.{nearest-fits}
 use Rattle.sock.proofs.Located.{wrap, size-positive}
 use Rattle.sock.proofs.Measures.{depth-nil}
-use Rattle.skipping.specs.Skip.{skipEnd, skipList}
+use Rattle.skipping.specs.Skip.{skipList}
 use Rattle.skipping.proofs.Skips.{list-end}
 use Rattle.finding.specs.declared.find.Spot.{Spot}
 use Rattle.finding.proofs.Framing.{scoped, region}

@@ -18,7 +18,7 @@ use Rattle.sock.proofs.Fits.{FitsEntries, MarkFits, Sound, seqSound, parSound, 
 use Rattle.sock.proofs.Located.{wrap}
 use Rattle.sock.proofs.Measures.{words-nil, words-scope, depth-nil, depth-scope}
 use Rattle.sock.proofs.Positions.{At, at-head}
-use Rattle.skipping.specs.Skip.{skipEnd, skipList}
+use Rattle.skipping.specs.Skip.{skipList}
 use Rattle.skipping.proofs.Skips.{list-end}
 use Rattle.finding.specs.declared.find.Spot.{Spot}
 use Rattle.finding.proofs.Spots.{Spotted}

@@ -1,16 +1,16 @@
 -- The skip's loops on the words of what fits: each turn passes over one process or expression, and what is left to pass is what the layout
 -- has there.
 -- Assumes nothing.
-use Prim.Native.Nat.{ℕ, zero, suc, _+_, _*_, _/_, _%_, _≤_, _<_, max}
+use Prim.Native.Nat.{ℕ, zero, suc, _+_, _*_, _/_, _%_, _≤_, _<_}
 use native.Mathlib.Omega.{arith}
 use mathlib.Core.Path.{_≡_, refl, sym, ap, _∙_}
-use mathlib.Core.Bool.{Bool, true, false, _||_, cond, or-false, or-assoc}
+use mathlib.Core.Bool.{Bool, true, _||_, cond, or-false, or-assoc}
 use mathlib.Core.List.{List, [], _∷_, _++_, append-assoc}
 use borrow.Author.Tests.{lt-ltb}
 use lib.Dec.{leb, eqb}
-use lib.ListN.{length, getD, drop, length-append}
-use Rattle.sock.specs.Words.{kindOf, keyWord, keyOf}
-use Rattle.sock.specs.Term.{Expr, constant, variable, apply, Operator, sum, difference, less, equal, Node, node, Block, absent, list, Entries, noEntries, entry, Nodes, noParts, _&_, processesOf}
+use lib.ListN.{length, drop, length-append}
+use Rattle.sock.specs.Words.{kindOf, keyWord}
+use Rattle.sock.specs.Term.{Expr, apply, Operator, sum, difference, less, equal, Node, node, Block, Entries, Nodes, processesOf}
 use Rattle.sock.specs.Layout.{operatorTag, exprWords, exprsWords, count, words, blockWords, entriesWords, nodesWords, depth, blockDepth, entriesDepth, nodesDepth}
 use Rattle.sock.specs.Reading.{Stratum, Place, holds}
 use Rattle.sock.proofs.Fits.{FitsExpr, constantFits, variableFits, applyFits, FitsExprs, noExprs, oneExpr, Fits, fits, FitsBlock, noList, aList, FitsEntries, emptyFits, entryFitsOn, FitsParts, noPart, onePart}

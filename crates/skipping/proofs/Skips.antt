@@ -2,8 +2,8 @@
 -- Assumes nothing.
 use Prim.Native.Nat.{ℕ, zero, suc, _+_, _≤_, _<_}
 use native.Mathlib.Omega.{arith}
-use mathlib.Core.Path.{_≡_, refl, ap, _∙_}
-use mathlib.Core.Bool.{Bool, false, _||_, cond}
+use mathlib.Core.Path.{_≡_, ap, _∙_}
+use mathlib.Core.Bool.{Bool, _||_, cond}
 use mathlib.Core.List.{List, _∷_, _++_}
 use borrow.Author.Tests.{lt-leb}
 use lib.Dec.{leb}
@@ -11,12 +11,12 @@ use lib.ListN.{length, drop}
 use Rattle.sock.specs.Term.{Node, Entries}
 use Rattle.sock.specs.Layout.{count, words, entriesWords, depth, entriesDepth}
 use Rattle.sock.specs.Reading.{Stratum, Place, anywhere, holds}
-use Rattle.sock.specs.Running.{Run, asNode, runWords, size, runDepth}
+use Rattle.sock.specs.Running.{Run, runWords, size, runDepth}
 use Rattle.sock.proofs.Fits.{Fits, FitsEntries, Sound}
 use Rattle.sock.proofs.Nodes.{depth-some}
 use Rattle.sock.proofs.Positions.{at-head}
 use Rattle.sock.proofs.Running.{asNode-fits}
-use Rattle.skipping.specs.Skip.{entriesSkip, skipEnd, skipList}
+use Rattle.skipping.specs.Skip.{skipEnd, skipList}
 use Rattle.skipping.proofs.Passing.{node-pass, entries-pass, whole, list-by}
 
 module _ (ws : List ℕ) where

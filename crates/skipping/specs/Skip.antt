@@ -1,7 +1,7 @@
 -- The skip on positions, as the code goes: where what begins at a position ends, for words that the reader has accepted. The proofs show that
 -- it ends where the layout does; no public contract names it.
 use Prim.Native.Nat.{ℕ, zero, suc, _+_, _*_, _/_, _%_}
-use mathlib.Core.Bool.{Bool, true, false, _||_, cond}
+use mathlib.Core.Bool.{Bool, _||_, cond}
 use mathlib.Core.List.{List, [], _∷_}
 use lib.Dec.{leb, ltb, eqb}
 use lib.ListN.{length, getD}

@@ -1,1 +1,2 @@
+// Passing over what was read: where a process or a list ends.
 pub mod skip;

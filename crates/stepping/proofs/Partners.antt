@@ -1,13 +1,13 @@
 -- Two processes found in a configuration's words: where they stand, and what an exchange makes of them.
 -- Assumes nothing.
-use Prim.Native.Nat.{ℕ, zero, suc, _+_, _-_, _*_, _≤_, _<_}
+use Prim.Native.Nat.{ℕ, zero, suc, _+_, _-_, _≤_, _<_}
 use native.Mathlib.Omega.{arith}
 use mathlib.Core.Path.{_≡_, sym, ap, _∙_}
 use mathlib.Core.Bool.{Bool}
 use mathlib.Core.List.{List, [], _∷_, _++_}
 use lib.Dec.{lit<}
 use lib.ListN.{length, getD, drop, length-append, length-drop}
-use lib.Seq.{take-all, getD-drop}
+use lib.Seq.{take-all}
 use Rattle.sock.specs.Term.{Node, Entries, kind}
 use Rattle.sock.specs.Running.{Mark, Run, seq, par, scope, executor, asNode, runWords, size, runDepth}
 use Rattle.sock.specs.Configuration.{standard, Engine, Config, enginesDepth}
