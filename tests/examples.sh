@@ -1,5 +1,5 @@
 #!/bin/sh
-# The examples do what their files say: the program in C, and every .hex file by the command handover, plain and explained. Needs
+# The examples do what their files say: the programs in C, and every .hex file by the command handover, plain and explained. Needs
 # target/staticlib/libcabinet.a and target/bin/handover.
 set -eu
 cd "$(dirname "$0")/.."
@@ -14,8 +14,10 @@ same() {
     fi
 }
 
-gcc -std=c11 -Wall -Wextra -Werror -Iinclude examples/worked.c target/staticlib/libcabinet.a -o "$folder/worked"
-"$folder/worked" | same "worked.c" examples/worked.txt
+for name in worked calls; do
+    gcc -std=c11 -Wall -Wextra -Werror -Iinclude "examples/$name.c" target/staticlib/libcabinet.a -o "$folder/$name"
+    "$folder/$name" | same "$name.c" "examples/$name.txt"
+done
 
 for name in worked lockage bridge compensation dead-waiter choice; do
     bin/handover "examples/$name.hex" | same "$name.hex" "examples/$name.txt"
