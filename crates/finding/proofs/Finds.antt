@@ -194,7 +194,7 @@ module _ (f target : ℕ) (ws : List ℕ) (d i level : ℕ) where
       catchesW d ws i (faultAt ws target) ≡ catches f zombie h →
       {p : Option Located} {x : Found} →
       Agrees f target a (i + (3 + length (entriesWords h))) (level + 1) p x →
-      Agrees f target (scope name mark zombie h a) i level (lifted (scopeFrame name mark zombie h ∷ []) p) (inScopeW d ws target i x)
+      Agrees f target (scope name mark zombie h a) i level (lifted (scopeFrame name mark zombie h ∷ []) p) (inScopeW d ws target level i x)
   unfolding lifted inScopeW catcherOf
   scope-agrees name mark zombie h a positive e (misses q) = misses (q ∙ omega (arith, size-scope name mark zombie h a))
   scope-agrees name mark zombie h a positive e (hits {l = l} {s = s} sub) =

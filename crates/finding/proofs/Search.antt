@@ -54,25 +54,25 @@ node-head (node h f es b ps) rest = (_, refl)
 
 -- ---- the search, one level
 
-module _ (sub : ℕ → Found) (d : ℕ) (ws : List ℕ) (target k i : ℕ) where
-  node-seq : k ≡ 2 → nodeW sub d ws target k i ≡ inSeqW d ws i (sub (i + 1))
+module _ (sub : ℕ → Found) (d : ℕ) (ws : List ℕ) (target level k i : ℕ) where
+  node-seq : k ≡ 2 → nodeW sub d ws target level k i ≡ inSeqW d ws i (sub (i + 1))
   unfolding nodeW
   node-seq e = rw e
 
-  node-par : k ≡ 3 → nodeW sub d ws target k i ≡ inParW sub i
+  node-par : k ≡ 3 → nodeW sub d ws target level k i ≡ inParW sub i
   unfolding nodeW
   node-par e = rw e
 
-  node-scope : k ≡ 11 → nodeW sub d ws target k i ≡ inScopeW d ws target i (sub (skipList d ws 128 (i + 2)))
+  node-scope : k ≡ 11 → nodeW sub d ws target level k i ≡ inScopeW d ws target level i (sub (skipList d ws 128 (i + 2)))
   unfolding nodeW
   node-scope e = rw e
 
-  node-executor : k ≡ 16 → nodeW sub d ws target k i ≡ inBodyW (sub (i + 3))
+  node-executor : k ≡ 16 → nodeW sub d ws target level k i ≡ inBodyW (sub (i + 3))
   unfolding nodeW
   node-executor e = rw e
 
   node-other :
-      eqb k 2 ≡ false → eqb k 3 ≡ false → eqb k 11 ≡ false → eqb k 16 ≡ false → nodeW sub d ws target k i ≡ Past (skipEnd (suc d) ws i)
+      eqb k 2 ≡ false → eqb k 3 ≡ false → eqb k 11 ≡ false → eqb k 16 ≡ false → nodeW sub d ws target level k i ≡ Past (skipEnd (suc d) ws i)
   unfolding nodeW
   node-other p q r s = rw (p, q, r, s)
 
@@ -130,7 +130,7 @@ module _ (n issued : ℕ) (few : n ≤ 8) (small : issued < 65536) (ws : List �
       drop i ws ≡ runWords r ++ rest →
       ((i ≡ target → ⊥) →
       Agrees (faultAt ws target) target r i level (within r i target)
-      (nodeW (findW d ws target (level + 1)) d ws target (getD ws i 0 / 2048) i)) →
+      (nodeW (findW d ws target (level + 1)) d ws target level (getD ws i 0 / 2048) i)) →
       Agrees (faultAt ws target) target r i level (within r i target) (findW (suc d) ws target level i)
   unfolding findW
   opened {r} s d i level rest dp e k = rw (lt-ltb i (length ws) (at-run s i rest e .1)) (by (eqb i target) refl)
@@ -140,7 +140,7 @@ module _ (n issued : ℕ) (few : n ≤ 8) (small : issued < 65536) (ws : List �
           eqb i target ≡ b →
           Agrees (faultAt ws target) target r i level (within r i target)
           (cond b (hereW (suc d) ws level i)
-          (nodeW (findW d ws target (level + 1)) d ws target (getD ws i 0 / 2048) i))
+          (nodeW (findW d ws target (level + 1)) d ws target level (getD ws i 0 / 2048) i))
       by true q = here-agrees (faultAt ws target) target d i level (eqb-true i target q) (run-end ws n issued few small s (suc d) i dp rest e)
       by false q = k (eqb-false i target q)
 
@@ -162,7 +162,7 @@ module _ (n issued : ℕ) (few : n ≤ 8) (small : issued < 65536) (ws : List �
       let kind = at-run s i rest e .0 in
       rw (
         w ne,
-        node-other (findW d ws target (level + 1)) d ws target (getD ws i 0 / 2048) i (ap (λ k. eqb k 2) kind ∙ k2) (ap (λ k. eqb k 3) kind ∙ k3)
+        node-other (findW d ws target (level + 1)) d ws target level (getD ws i 0 / 2048) i (ap (λ k. eqb k 2) kind ∙ k2) (ap (λ k. eqb k 3) kind ∙ k3)
             (ap (λ k. eqb k 11) kind ∙ k11) (ap (λ k. eqb k 16) kind ∙ k16),
       )
       (misses (run-end ws n issued few small s (suc d) i dp rest e))
@@ -212,7 +212,7 @@ module _ (n issued : ℕ) (few : n ≤ 8) (small : issued < 65536) (ws : List �
       let head = at-head q (i + 1 + size a) rest second in
       rw (
         within-seq i target ne a q,
-        node-seq (findW d ws target (level + 1)) d ws target (getD ws i 0 / 2048) i (at-run (seqSound g t coded) i rest e .0),
+        node-seq (findW d ws target (level + 1)) d ws target level (getD ws i 0 / 2048) i (at-run (seqSound g t coded) i rest e .0),
       )
       (seq-agrees (faultAt ws target) target ws d i level a q coded (head .1) (head .0)
       (code-end ws coded d (i + 1 + size a) (omega arith) rest second)
@@ -222,7 +222,7 @@ module _ (n issued : ℕ) (few : n ≤ 8) (small : issued < 65536) (ws : List �
       let deep : suc (max (runDepth a) (runDepth b)) ≤ suc d = rw (depth-par a b) at dp in
       rw (
         within-par i target ne a b,
-        node-par (findW d ws target (level + 1)) d ws target (getD ws i 0 / 2048) i (at-run (parSound g t k u) i rest e .0),
+        node-par (findW d ws target (level + 1)) d ws target level (getD ws i 0 / 2048) i (at-run (parSound g t k u) i rest e .0),
       )
       (par-agrees (faultAt ws target) target ws d i level a b t u (findW d ws target (level + 1))
       (finds g d (i + 1) (level + 1) (runWords b ++ rest) (omega arith) (omega arith) (inner ws rest (around-left a b i u) e))
@@ -237,7 +237,7 @@ module _ (n issued : ℕ) (few : n ≤ 8) (small : issued < 65536) (ws : List �
       list-end ws listed d (i + 2) (omega arith) (runWords a ++ rest) list ∙ omega arith in
       rw (
         within-scope i target ne name mark zombie h a,
-        node-scope (findW d ws target (level + 1)) d ws target (getD ws i 0 / 2048) i
+        node-scope (findW d ws target (level + 1)) d ws target level (getD ws i 0 / 2048) i
             (at-run (scopeSound {mark = mark} {zombie = zombie} named m listed g) i rest e .0),
         end,
       )
@@ -250,7 +250,7 @@ module _ (n issued : ℕ) (few : n ≤ 8) (small : issued < 65536) (ws : List �
       let deep : suc (runDepth a) ≤ suc d = rw (depth-executor o y client serial a) at dp in
       rw (
         within-executor i target ne o y client serial a,
-        node-executor (findW d ws target (level + 1)) d ws target (getD ws i 0 / 2048) i (at-run (executorSound bo by be g) i rest e .0),
+        node-executor (findW d ws target (level + 1)) d ws target level (getD ws i 0 / 2048) i (at-run (executorSound bo by be g) i rest e .0),
       )
       (executor-agrees (faultAt ws target) target ws d i level o y client serial a
       (finds g d (i + 3) (level + 1) rest (omega arith) (omega arith) (inner ws rest (around-executor o y client serial a i) e)))
