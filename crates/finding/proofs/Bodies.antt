@@ -146,7 +146,7 @@ module _ (f target i level name : ℕ) (mark : Mark) (zombie : Bool) (h : Entrie
 
   pub scope-spotted :
       (catcher : ℕ) →
-      catcher ≡ cond (eqb (s .catcher) 0) (cond (catches f zombie h) i 0) (s .catcher) →
+      (f < 64 → catcher ≡ cond (eqb (s .catcher) 0) (cond (catches f zombie h) i 0) (s .catcher)) →
       Spotted f target (scope name mark zombie h a) i level (behind (scopeFrame name mark zombie h ∷ []) l)
       (closedSpot s (scopeOf i (s .scope)) (levelOf level (s .scope) (s .«scope_level»)) catcher)
   unfolding scopeOf
@@ -161,7 +161,7 @@ module _ (f target i level name : ℕ) (mark : Mark) (zombie : Bool) (h : Entrie
         cut = p .cut;
         nearest = stands anyScope (s .scope) (sub .nearest);
         near-level = λ t. p .near-level;
-        catcher = rw e (stands (catches f) (s .catcher) (sub .catcher));
+        catcher = λ low. rw (e low) (stands (catches f) (s .catcher) (sub .catcher low));
         alive = λ t. p .alive;
         ends = λ t. absurd t;
       }

@@ -6,7 +6,7 @@ use mathlib.Core.Path.{_≡_, refl, sym, ap, _∙_}
 use mathlib.Core.Bool.{Bool, true, false, not, cond}
 use mathlib.Core.Option.{none, some}
 use mathlib.Core.List.{List, [], _∷_, _++_, append-assoc}
-use borrow.Author.Tests.{lt-ltb, ne-eqb, eqb-true, eqb-false}
+use borrow.Author.Tests.{lt-ltb, lt-leb, ne-eqb, eqb-true, eqb-false}
 use lib.Dec.{eqb}
 use lib.ListN.{length, getD, drop, length-drop}
 use lib.Seq.{drop-drop, drop-append-seam, getD-drop}
@@ -26,7 +26,7 @@ use Rattle.skipping.proofs.Skips.{run-end, code-end, list-end, wanted-end}
 use Rattle.finding.specs.declared.find.Spot.{Spot}
 use Rattle.finding.specs.declared.find.Found.{Found}
 use Rattle.finding.specs.declared.find.Found.the-variants.{Hit, Past}
-use Rattle.finding.specs.Find.{hereW, inSeqW, inParW, inBodyW, inScopeW, faultAt, catchesW, nodeW, findW}
+use Rattle.finding.specs.Find.{hereW, inSeqW, inParW, inBodyW, inScopeW, faultAt, catchesW, catcherOf, nodeW, findW}
 use Rattle.finding.proofs.Within.{within, within-here, within-seq, within-par, within-scope, within-executor, within-nil, within-waiter, within-notice, within-act}
 use Rattle.finding.proofs.Stops.{catches}
 use Rattle.finding.proofs.Spots.{Spotted, here-spotted, Around}
@@ -184,13 +184,18 @@ module _ (n issued : ℕ) (few : n ≤ 8) (small : issued < 65536) (ws : List �
       ap (λ k. not (eqb k 0)) (wanted-end ws f (omega arith) fits d (i + 2) dp rest e) ∙ catches-test (holds f h) (i + 2 + 1 + length (entriesWords h)) (omega arith) in
       rw (z, l)
 
+  scope-catcher :
+      (d i : ℕ) (zombie : Bool) (h : Entries) →
+      faultAt ws target < 64 →
+      catchesW d ws i (faultAt ws target) ≡ catches (faultAt ws target) zombie h →
+      (k : ℕ) →
+      catcherOf d ws target i k ≡ cond (eqb k 0) (cond (catches (faultAt ws target) zombie h) i 0) k
+  unfolding catcherOf
+  scope-catcher d i zombie h low e k = rw (lt-leb 64 (faultAt ws target) low, e)
+
   behind-run : (a : Run) (i : ℕ) (rest : List ℕ) → drop i ws ≡ runWords a ++ rest → drop (i + size a) ws ≡ rest
   unfolding size
   behind-run a i rest e = drop-on ws i (i + length (runWords a)) (runWords a) rest refl e
-
-  fault-below : faultAt ws target < 64
-  unfolding faultAt
-  fault-below = omega arith
 
   pub finds :
       {r : Run} →
@@ -242,8 +247,10 @@ module _ (n issued : ℕ) (few : n ≤ 8) (small : issued < 65536) (ws : List �
         end,
       )
       (scope-agrees (faultAt ws target) target ws d i level name mark zombie h a pos
-      (scope-catches d i (faultAt ws target) name mark zombie h (runWords a ++ rest) named fault-below listed (omega arith)
-      (head-on ws i (scopeHead name mark zombie) _ (e ∙ whole)) list)
+      (λ low.
+      scope-catcher d i zombie h low
+      (scope-catches d i (faultAt ws target) name mark zombie h (runWords a ++ rest) named low listed (omega arith)
+      (head-on ws i (scopeHead name mark zombie) _ (e ∙ whole)) list))
       (finds g d (i + (3 + length (entriesWords h))) (level + 1) rest (omega arith) (omega arith) body))
   finds (executorSound {o = o} {y = y} {client = client} {serial = serial} {a = a} bo by be g) (suc d) i level rest pos dp e =
       opened (executorSound bo by be g) d i level rest dp e λ ne.

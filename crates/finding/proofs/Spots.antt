@@ -1,6 +1,6 @@
 -- What the search says of a process that it found, and that it says the same with one more frame around it.
 -- Assumes nothing.
-use Prim.Native.Nat.{ℕ, _+_, _≤_}
+use Prim.Native.Nat.{ℕ, _+_, _≤_, _<_}
 use native.Mathlib.Omega.{arith}
 use mathlib.Core.Path.{_≡_, refl, sym, ap, _∙_}
 use mathlib.Core.Bool.{Bool, true, false, not}
@@ -25,7 +25,8 @@ pub record Ended (r : Run) (i : ℕ) (fs : List Frame) (d : ℕ) : Type 0 where
   pub bare : T (not (scoped fs))
   pub till : d ≡ i + size r
 
--- `s` is where the process l stands: at `target`, in r, which begins at i and is `deep` levels deep; `f` is the fault to be caught
+-- `s` is where the process l stands: at `target`, in r, which begins at i and is `deep` levels deep; `f` is the fault to be caught, and
+-- no fault if it is no throw's
 pub record Spotted (f target : ℕ) (r : Run) (i deep : ℕ) (l : Located) (s : Spot) : Type 0 where
   pub at : s .at ≡ target
   pub level : s .level ≡ deep + length (l .frames)
@@ -34,7 +35,7 @@ pub record Spotted (f target : ℕ) (r : Run) (i deep : ℕ) (l : Located) (s : 
   pub cut : Cut r i (l .frames) (s .scope) (s .a) (s .b) (s .c) (s .d) (s .hollow)
   pub nearest : Standing r i (stopped anyScope (l .frames) (l .process)) (s .scope)
   pub near-level : T (scoped (l .frames)) → s .«scope_level» ≡ deep + outside (l .frames)
-  pub catcher : Standing r i (stopped (catches f) (l .frames) (l .process)) (s .catcher)
+  pub catcher : f < 64 → Standing r i (stopped (catches f) (l .frames) (l .process)) (s .catcher)
   pub alive : T (s .closed) → (g : Entries → Entries) → isDone (plug (onNearest g (l .frames)) nil) ≡ false
   pub ends : T (not (s .closed)) → Ended r i (l .frames) (s .d)
 
@@ -80,7 +81,7 @@ here-spotted f r i level e p =
           };
       nearest = nowhere;
       near-level = λ t. absurd t;
-      catcher = nowhere;
+      catcher = λ low. nowhere;
       alive = λ t. absurd t;
       ends = λ t. record { gone = λ g. refl; bare = tt; till = p };
     }
@@ -139,7 +140,7 @@ module _ (f target : ℕ) (r a : Run) (i j level : ℕ) (own more : List ℕ) (o
           near-level = λ t.
               let t' : T (scoped (l .frames)) = rw (outer (l .frames) .same) at t in
               omega (arith, w, sub .near-level t', outside-first (l .frames) (o ∷ []) t');
-          catcher = rw v (stands (catches f) (s .catcher) (sub .catcher));
+          catcher = λ low. rw v (stands (catches f) (s .catcher) (sub .catcher low));
           alive = alive;
           ends = ends;
         }

@@ -3,7 +3,7 @@
 use Prim.Native.Nat.{ℕ, zero, suc, _+_, _/_, _%_}
 use mathlib.Core.Bool.{Bool, true, false, not, _||_, cond}
 use mathlib.Core.List.{List}
-use lib.Dec.{ltb, eqb}
+use lib.Dec.{ltb, leb, eqb}
 use lib.ListN.{length, getD}
 use Rattle.skipping.specs.Skip.{skipEnd, skipList}
 use Rattle.finding.specs.declared.find.Spot.{Spot}
@@ -85,14 +85,17 @@ scopeOf i scope = cond (eqb scope 0) i scope
 unfoldable pub levelOf : ℕ → ℕ → ℕ → ℕ
 levelOf level scope inner = cond (eqb scope 0) level inner
 
+-- the fault that the process at `target` throws; 128 if it is no throw
 unfoldable pub faultAt : List ℕ → ℕ → ℕ
-faultAt ws target = getD ws target 0 / 32 % 64
+faultAt ws target = cond (eqb (getD ws target 0 / 2048) 13) (getD ws target 0 / 32 % 64) 128
 
 unfoldable pub catchesW : ℕ → List ℕ → ℕ → ℕ → Bool
 catchesW d ws i fault = eqb (getD ws i 0 / 4 % 2) 1 || not (eqb (skipList d ws fault (i + 2)) 0)
 
 unfoldable pub catcherOf : ℕ → List ℕ → ℕ → ℕ → ℕ → ℕ
-catcherOf d ws target i catcher = cond (eqb catcher 0) (cond (catchesW d ws i (faultAt ws target)) i 0) catcher
+catcherOf d ws target i catcher =
+    cond (leb 64 (faultAt ws target)) 0
+    (cond (eqb catcher 0) (cond (catchesW d ws i (faultAt ws target)) i 0) catcher)
 
 unfoldable pub inScopeW : ℕ → List ℕ → ℕ → ℕ → ℕ → Found → Found
 inScopeW d ws target level i (Past e) = Past e

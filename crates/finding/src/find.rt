@@ -8,8 +8,8 @@ ghost use lib.ListN.{length};
 ghost use Rattle.finding.specs.Find.{findW, hereW, inSeqW, inParW, leftW, besideW, inBodyW, inScopeW, scopeOf, levelOf, catcherOf, faultAt, catchesW};
 
 // The process at `at`, `level` levels deep. Were it nil, the words a..b and c..d would go; `hollow` tells that a nil would stand at a.
-// `scope` is the head of the nearest scope, `scope_level` its level, `catcher` the head of the innermost scope which has the process's
-// name as a fault or is a zombie; 0 where there is none.
+// `scope` is the head of the nearest scope, `scope_level` its level, `catcher` the head of the scope that stops the fault of a throw; 0
+// where there is none.
 pub struct Spot {
     pub at: usize,
     pub level: usize,
@@ -245,29 +245,30 @@ fn level_of(level: usize, scope: usize, inner: usize) -> usize
     if scope == 0 { level } else { inner }
 }
 
-// The scope that catches, if `catcher` does in the body.
+// The scope that catches, if `catcher` does in the body. Only a throw asks for it, so no list is passed for any other process.
 fn catcher_of(ws: &[u16], at: usize, target: usize, catcher: usize, depth: usize) -> usize
     requires { ⌜ at < length (now ws) ⌝ }
     ensures { λ r. ⌜ r ≡ catcherOf depth (now (ws .entry)) target at catcher ⌝ }
 {
+    let fault = fault_at(ws, target);
+    if 64 <= fault {
+        return 0;
+    }
     if catcher != 0 {
         return catcher;
     }
-    if catches(ws, at, fault_at(ws, target), depth) {
-        at
-    } else {
-        0
-    }
+    if catches(ws, at, fault, depth) { at } else { 0 }
 }
 
-// The name in a head, which is a throw's fault.
+// The fault that the process at `target` throws; 128 if it is no throw.
 fn fault_at(ws: &[u16], target: usize) -> usize
     ensures { λ r. ⌜ r ≡ faultAt (now (ws .entry)) target ⌝ }
 {
     if ws.len() <= target {
-        return 0;
+        return 128;
     }
-    wide(ws[target]) / 32 % 64
+    let w = wide(ws[target]);
+    if w / 2048 == 13 { w / 32 % 64 } else { 128 }
 }
 
 // Whether the scope at `at` stops a fault: its list has it, or the scope is a zombie.

@@ -1,4 +1,4 @@
--- `moving::find::in_scope` meets its contract: the body of a scope.
+-- `finding::find::in_scope` meets its contract: the body of a scope.
 -- Assumes nothing.
 use Rattle.finding.specs.Find.{inScopeW}
 use borrow.Author.Needs.{needs}

@@ -1,4 +1,4 @@
--- `moving::find::level_of` meets its contract: the level of the nearest scope.
+-- `finding::find::level_of` meets its contract: the level of the nearest scope.
 -- Assumes nothing.
 use Rattle.finding.specs.Find.{levelOf}
 use Rattle.reading.proofs.Tests.{tests}
