@@ -185,7 +185,7 @@ module _ (f target : ℕ) (r a : Run) (i j level : ℕ) (own more : List ℕ) (o
       d ≡ c + length dropped →
       Spotted f target r i level (behind (o ∷ []) l) (cut s i b c d false)
   closing x b c d gone middle dropped after p e w whole q u v =
-      under f target r a i j level own more o around outer passes l s sub (cut s i b c d false) refl refl refl refl
+      under f target r a i j level own more o around outer passes l s sub (cut s i b c d false) refl refl refl refl refl
       (bare-cut r i (l .frames ++ o ∷ []) (s .scope) b c d false gone middle dropped after (bare-still (outer (l .frames)) ended) whole
       (λ g. ap runWords (met (outer (l .frames)) ended g ∙ p) ∙ w) q u v)
       (λ t g. ap isDone (met (outer (l .frames)) ended g ∙ p) ∙ e)
@@ -195,7 +195,7 @@ module _ (f target : ℕ) (r a : Run) (i j level : ℕ) (own more : List ℕ) (o
   going-on : (e : ℕ) → plug (o ∷ []) nil ≡ nil → e ≡ i + size r → Spotted f target r i level (behind (o ∷ []) l) (cut s i e e e true)
   unfolding size
   going-on e p q =
-      under f target r a i j level own more o around outer passes l s sub (cut s i e e e true) refl refl refl refl
+      under f target r a i j level own more o around outer passes l s sub (cut s i e e e true) refl refl refl refl refl
       (bare-cut r i (l .frames ++ o ∷ []) (s .scope) e e e true (runWords r) [] [] [] (bare-still (outer (l .frames)) ended)
       (sym (append-nil (runWords r))) (λ g. ap runWords (met (outer (l .frames)) ended g ∙ p) ∙ words-nil) q (omega arith) (omega arith))
       (λ t. absurd t)

@@ -17,17 +17,17 @@ use Rattle.sock.specs.Running.{Mark, Run, nil, scope, executor}
 use Rattle.sock.specs.Frames.{Frame, scopeFrame, executorFrame, Located, isDone, plug, onNearest}
 use Rattle.sock.proofs.Located.{wrap}
 use Rattle.finding.specs.declared.find.Spot.{Spot}
-use Rattle.finding.specs.Find.{scopeOf}
-use Rattle.finding.proofs.Framing.{scoped, plug-append, wrap-append, Outer, outer-executor, outer-scoped}
+use Rattle.finding.specs.Find.{scopeOf, levelOf}
+use Rattle.finding.proofs.Framing.{scoped, outside, plug-append, wrap-append, outside-last, outside-first, Outer, outer-executor, outer-scoped}
 use Rattle.finding.proofs.Within.{behind, lifted, orElse, within-here}
 use Rattle.finding.proofs.Stops.{stopped, anyScope, catches, stopped-append, Standing, standing-scope, standing-none, any-none, any-some}
 use Rattle.finding.proofs.Pieces.{Swap, Cut, swap-under, cut-under, put-back, swap-scope, cut-scope}
 use Rattle.finding.proofs.Spots.{Spotted, Around, under}
 use Rattle.finding.proofs.Arounds.{around-executor, scopeWords, scope-kept, around-scope}
 
--- the spot closed, with another nearest scope and another catcher
-abbrev pub closedSpot : Spot → ℕ → ℕ → Spot
-closedSpot s near catcher =
+-- the spot closed, with another nearest scope at another level, and another catcher
+abbrev pub closedSpot : Spot → ℕ → ℕ → ℕ → Spot
+closedSpot s near near-level catcher =
     record {
       at = s .at;
       level = s .level;
@@ -38,13 +38,14 @@ closedSpot s near catcher =
       hollow = s .hollow;
       closed = true;
       scope = near;
+      «scope_level» = near-level;
       catcher = catcher;
     }
 
 pub executor-spotted :
     (f target i level o y client serial : ℕ) (a : Run) (l : Located) (s : Spot) →
     Spotted f target a (i + 3) (level + 1) l s →
-    Spotted f target (executor o y client serial a) i level (behind (executorFrame o y client serial ∷ []) l) (closedSpot s (s .scope) (s .catcher))
+    Spotted f target (executor o y client serial a) i level (behind (executorFrame o y client serial ∷ []) l) (closedSpot s (s .scope) (s .«scope_level») (s .catcher))
 unfolding plug stopped isDone
 executor-spotted f target i level o y client serial a l s sub =
     let frame : Frame = executorFrame o y client serial in
@@ -52,7 +53,7 @@ executor-spotted f target i level o y client serial a l s sub =
     let around : Around (executor o y client serial a) a i (i + 3) own [] frame = around-executor o y client serial a i in
     let outer : Outer (l .frames) frame = outer-executor (l .frames) o y client serial in
     under f target (executor o y client serial a) a i (i + 3) level own [] frame around (λ fs. outer-executor fs o y client serial) (λ test b. refl) l s sub
-    (closedSpot s (s .scope) (s .catcher)) refl refl refl refl
+    (closedSpot s (s .scope) (s .«scope_level») (s .catcher)) refl refl refl refl refl
     (cut-under (executor o y client serial a) a i (i + 3) own [] (l .frames) frame (around .there) outer (around .words) (s .scope) (s .a) (s .b) (s .c) (s .d)
     (s .hollow) (λ g. around-executor o y client serial (plug (onNearest g (l .frames)) nil) i .words) (sub .cut))
     (λ t g. rw (outer .changed g, plug-append (onNearest g (l .frames)) (frame ∷ []) nil))
@@ -84,6 +85,7 @@ module _ (f target i level name : ℕ) (mark : Mark) (zombie : Bool) (h : Entrie
     swap : Swap (scope name mark zombie h a) i (l .frames ++ scopeFrame name mark zombie h ∷ []) (l .process) (scopeOf i (s .scope)) target
     cut :
         Cut (scope name mark zombie h a) i (l .frames ++ scopeFrame name mark zombie h ∷ []) (scopeOf i (s .scope)) (s .a) (s .b) (s .c) (s .d) (s .hollow)
+    near-level : levelOf level (s .scope) (s .«scope_level») ≡ level + outside (l .frames ++ scopeFrame name mark zombie h ∷ [])
     alive : (g : Entries → Entries) → isDone (plug (onNearest g (l .frames ++ scopeFrame name mark zombie h ∷ [])) nil) ≡ false
 
   scope-first : s .scope ≡ 0 → scopeOf i (s .scope) ≡ i
@@ -94,23 +96,34 @@ module _ (f target i level name : ℕ) (mark : Mark) (zombie : Bool) (h : Entrie
   unfolding scopeOf
   scope-inner le = rw (ne-eqb (s .scope) 0 (λ z. omega arith))
 
+  level-first : s .scope ≡ 0 → levelOf level (s .scope) (s .«scope_level») ≡ level
+  unfolding levelOf
+  level-first e = rw e
+
+  level-inner : i + (3 + length (entriesWords h)) ≤ s .scope → levelOf level (s .scope) (s .«scope_level») ≡ s .«scope_level»
+  unfolding levelOf
+  level-inner le = rw (ne-eqb (s .scope) 0 (λ z. omega arith))
+
   nearest-here : T (not (scoped (l .frames))) → Pieced
-  unfolding isDone
+  unfolding isDone outside
   nearest-here t =
-      let e : scopeOf i (s .scope) ≡ i = scope-first (standing-none (sub .nearest) (any-none (l .frames) (l .process) t)) in
+      let z : s .scope ≡ 0 = standing-none (sub .nearest) (any-none (l .frames) (l .process) t) in
+      let e : scopeOf i (s .scope) ≡ i = scope-first z in
       record {
         swap = rw e (swap-scope name mark zombie h a i (i + (3 + length (entriesWords h))) (l .frames) refl t (s .scope) target (l .process) (sub .swap));
         cut =
             rw e
             (cut-scope name mark zombie h a i (i + (3 + length (entriesWords h))) (l .frames) refl t (s .scope) (s .a) (s .b) (s .c) (s .d) (s .hollow)
             (sub .cut));
+        near-level = omega (arith, level-first z, outside-last (l .frames) (scopeFrame name mark zombie h ∷ []) t);
         alive = λ g. rw (put-back name mark zombie h a i (i + (3 + length (entriesWords h))) (l .frames) refl t g nil);
       }
 
   nearest-inner : T (scoped (l .frames)) → Pieced
   unfolding plug isDone
   nearest-inner t =
-      let e : scopeOf i (s .scope) ≡ s .scope = scope-inner (any-some (l .frames) (l .process) t (sub .nearest)) in
+      let z : i + (3 + length (entriesWords h)) ≤ s .scope = any-some (l .frames) (l .process) t (sub .nearest) in
+      let e : scopeOf i (s .scope) ≡ s .scope = scope-inner z in
       let frame : Frame = scopeFrame name mark zombie h in
       let outer : Outer (l .frames) frame = outer-scoped (l .frames) frame t in
       record {
@@ -123,6 +136,7 @@ module _ (f target i level name : ℕ) (mark : Mark) (zombie : Bool) (h : Entrie
             (cut-under (scope name mark zombie h a) a i (i + (3 + length (entriesWords h))) (scopeWords name mark zombie h) [] (l .frames) frame
             (around .there) outer (around .words) (s .scope) (s .a) (s .b) (s .c) (s .d) (s .hollow)
             (λ g. scope-kept name mark zombie h (plug (onNearest g (l .frames)) nil)) (sub .cut));
+        near-level = omega (arith, level-inner z, sub .near-level t, outside-first (l .frames) (frame ∷ []) t);
         alive = λ g. rw (outer .changed g, plug-append (onNearest g (l .frames)) (frame ∷ []) nil);
       }
 
@@ -132,9 +146,9 @@ module _ (f target i level name : ℕ) (mark : Mark) (zombie : Bool) (h : Entrie
 
   pub scope-spotted :
       (catcher : ℕ) →
-      catcher ≡ cond (eqb (s .catcher) 0) (cond (catches f zombie h) i 0) (s .catcher) →
+      (f < 64 → catcher ≡ cond (eqb (s .catcher) 0) (cond (catches f zombie h) i 0) (s .catcher)) →
       Spotted f target (scope name mark zombie h a) i level (behind (scopeFrame name mark zombie h ∷ []) l)
-      (closedSpot s (scopeOf i (s .scope)) catcher)
+      (closedSpot s (scopeOf i (s .scope)) (levelOf level (s .scope) (s .«scope_level»)) catcher)
   unfolding scopeOf
   scope-spotted catcher e =
       let frame : Frame = scopeFrame name mark zombie h in
@@ -146,7 +160,8 @@ module _ (f target i level name : ℕ) (mark : Mark) (zombie : Bool) (h : Entrie
         swap = p .swap;
         cut = p .cut;
         nearest = stands anyScope (s .scope) (sub .nearest);
-        catcher = rw e (stands (catches f) (s .catcher) (sub .catcher));
+        near-level = λ t. p .near-level;
+        catcher = λ low. rw (e low) (stands (catches f) (s .catcher) (sub .catcher low));
         alive = λ t. p .alive;
         ends = λ t. absurd t;
       }

@@ -32,7 +32,7 @@ pub find-step :
     ≡ cond (ltb i (length ws))
     (cond (eqb i target)
     (hereW d ws level i)
-    (nodeW (findW (d - 1) ws target (level + 1)) (d - 1) ws target (getD ws i 0 / 2048) i))
+    (nodeW (findW (d - 1) ws target (level + 1)) (d - 1) ws target level (getD ws i 0 / 2048) i))
     (Past 0)
 unfolding findW
 find-step zero ws target level i h = absurd (h refl)

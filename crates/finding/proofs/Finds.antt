@@ -23,7 +23,7 @@ use Rattle.skipping.specs.Skip.{skipEnd}
 use Rattle.finding.specs.declared.find.Spot.{Spot}
 use Rattle.finding.specs.declared.find.Found.{Found}
 use Rattle.finding.specs.declared.find.Found.the-variants.{Hit, Past}
-use Rattle.finding.specs.Find.{cut, seqSpot, inSeqW, leftW, besideW, parSides, inBodyW, catchesW, catcherOf, inScopeW, faultAt}
+use Rattle.finding.specs.Find.{cut, seqSpot, inSeqW, leftW, besideW, parSides, inBodyW, catcherOf, inScopeW}
 use Rattle.finding.proofs.Framing.{outer-seq, outer-left, outer-right}
 use Rattle.finding.proofs.Within.{behind, lifted, orElse}
 use Rattle.finding.proofs.Stops.{stopped, catches}
@@ -191,13 +191,13 @@ module _ (f target : ℕ) (ws : List ℕ) (d i level : ℕ) where
   pub scope-agrees :
       (name : ℕ) (mark : Mark) (zombie : Bool) (h : Entries) (a : Run) →
       0 < i →
-      catchesW d ws i (faultAt ws target) ≡ catches f zombie h →
+      (f < 64 → (k : ℕ) → catcherOf d ws target i k ≡ cond (eqb k 0) (cond (catches f zombie h) i 0) k) →
       {p : Option Located} {x : Found} →
       Agrees f target a (i + (3 + length (entriesWords h))) (level + 1) p x →
-      Agrees f target (scope name mark zombie h a) i level (lifted (scopeFrame name mark zombie h ∷ []) p) (inScopeW d ws target i x)
-  unfolding lifted inScopeW catcherOf
+      Agrees f target (scope name mark zombie h a) i level (lifted (scopeFrame name mark zombie h ∷ []) p) (inScopeW d ws target level i x)
+  unfolding lifted inScopeW
   scope-agrees name mark zombie h a positive e (misses q) = misses (q ∙ omega (arith, size-scope name mark zombie h a))
   scope-agrees name mark zombie h a positive e (hits {l = l} {s = s} sub) =
       hits
       (scope-spotted f target i level name mark zombie h a l s positive sub (catcherOf d ws target i (s .catcher))
-      (ap (λ c. cond (eqb (s .catcher) 0) (cond c i 0) (s .catcher)) e))
+      (λ low. e low (s .catcher)))

@@ -1,10 +1,11 @@
--- Frames with one more around them: how they are put back, what their nearest scope is, and its list's words.
+-- Frames with one more around them: how they are put back, what their nearest scope is, how deep it stands, and its list's words.
 -- Assumes nothing.
-use Prim.Native.Nat.{ℕ}
+use Prim.Native.Nat.{ℕ, _+_}
 use mathlib.Core.Path.{_≡_, refl, sym, ap, _∙_}
 use mathlib.Core.Bool.{Bool, true, false, not}
 use mathlib.Core.List.{List, [], _∷_, _++_, append-nil}
 use lib.Dec.{T}
+use lib.ListN.{length, length-append}
 use Rattle.sock.specs.Term.{Node, Entries}
 use Rattle.sock.specs.Layout.{count, entriesWords}
 use Rattle.sock.specs.Running.{Run, seq, par, scope, executor}
@@ -28,6 +29,15 @@ region (leftFrame b ∷ fs) = region fs
 region (rightFrame b ∷ fs) = region fs
 region (scopeFrame name mark zombie h ∷ fs) = count h ∷ entriesWords h
 region (executorFrame o y client serial ∷ fs) = region fs
+
+-- how many frames stand around the nearest scope
+unfoldable pub outside : List Frame → ℕ
+outside [] = 0
+outside (seqFrame q ∷ fs) = outside fs
+outside (leftFrame b ∷ fs) = outside fs
+outside (rightFrame b ∷ fs) = outside fs
+outside (scopeFrame name mark zombie h ∷ fs) = length fs
+outside (executorFrame o y client serial ∷ fs) = outside fs
 
 pub plug-append : (xs ys : List Frame) (a : Run) → plug (xs ++ ys) a ≡ plug ys (plug xs a)
 unfolding plug
@@ -80,6 +90,15 @@ region-last (rightFrame b ∷ xs) ys t = region-last xs ys t
 region-last (scopeFrame name mark zombie h ∷ xs) ys t = absurd t
 region-last (executorFrame o y client serial ∷ xs) ys t = region-last xs ys t
 
+pub outside-last : (xs ys : List Frame) → T (not (scoped xs)) → outside (xs ++ ys) ≡ outside ys
+unfolding outside scoped
+outside-last [] ys t = refl
+outside-last (seqFrame q ∷ xs) ys t = outside-last xs ys t
+outside-last (leftFrame b ∷ xs) ys t = outside-last xs ys t
+outside-last (rightFrame b ∷ xs) ys t = outside-last xs ys t
+outside-last (scopeFrame name mark zombie h ∷ xs) ys t = absurd t
+outside-last (executorFrame o y client serial ∷ xs) ys t = outside-last xs ys t
+
 -- ---- with a scope among them
 
 pub nearest-some : (g : Entries → Entries) (xs ys : List Frame) → T (scoped xs) → onNearest g (xs ++ ys) ≡ onNearest g xs ++ ys
@@ -108,6 +127,15 @@ scoped-first (leftFrame b ∷ xs) ys t = scoped-first xs ys t
 scoped-first (rightFrame b ∷ xs) ys t = scoped-first xs ys t
 scoped-first (scopeFrame name mark zombie h ∷ xs) ys t = refl
 scoped-first (executorFrame o y client serial ∷ xs) ys t = scoped-first xs ys t
+
+pub outside-first : (xs ys : List Frame) → T (scoped xs) → outside (xs ++ ys) ≡ outside xs + length ys
+unfolding outside scoped
+outside-first [] ys t = absurd t
+outside-first (seqFrame q ∷ xs) ys t = outside-first xs ys t
+outside-first (leftFrame b ∷ xs) ys t = outside-first xs ys t
+outside-first (rightFrame b ∷ xs) ys t = outside-first xs ys t
+outside-first (scopeFrame name mark zombie h ∷ xs) ys t = length-append xs ys
+outside-first (executorFrame o y client serial ∷ xs) ys t = outside-first xs ys t
 
 pub scoped-last : (xs ys : List Frame) → T (not (scoped xs)) → scoped (xs ++ ys) ≡ scoped ys
 unfolding scoped

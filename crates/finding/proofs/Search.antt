@@ -6,7 +6,7 @@ use mathlib.Core.Path.{_≡_, refl, sym, ap, _∙_}
 use mathlib.Core.Bool.{Bool, true, false, not, cond}
 use mathlib.Core.Option.{none, some}
 use mathlib.Core.List.{List, [], _∷_, _++_, append-assoc}
-use borrow.Author.Tests.{lt-ltb, ne-eqb, eqb-true, eqb-false}
+use borrow.Author.Tests.{lt-ltb, lt-leb, ne-eqb, eqb-true, eqb-false}
 use lib.Dec.{eqb}
 use lib.ListN.{length, getD, drop, length-drop}
 use lib.Seq.{drop-drop, drop-append-seam, getD-drop}
@@ -26,7 +26,7 @@ use Rattle.skipping.proofs.Skips.{run-end, code-end, list-end, wanted-end}
 use Rattle.finding.specs.declared.find.Spot.{Spot}
 use Rattle.finding.specs.declared.find.Found.{Found}
 use Rattle.finding.specs.declared.find.Found.the-variants.{Hit, Past}
-use Rattle.finding.specs.Find.{hereW, inSeqW, inParW, inBodyW, inScopeW, faultAt, catchesW, nodeW, findW}
+use Rattle.finding.specs.Find.{hereW, inSeqW, inParW, inBodyW, inScopeW, faultAt, catchesW, catcherOf, nodeW, findW}
 use Rattle.finding.proofs.Within.{within, within-here, within-seq, within-par, within-scope, within-executor, within-nil, within-waiter, within-notice, within-act}
 use Rattle.finding.proofs.Stops.{catches}
 use Rattle.finding.proofs.Spots.{Spotted, here-spotted, Around}
@@ -54,25 +54,25 @@ node-head (node h f es b ps) rest = (_, refl)
 
 -- ---- the search, one level
 
-module _ (sub : ℕ → Found) (d : ℕ) (ws : List ℕ) (target k i : ℕ) where
-  node-seq : k ≡ 2 → nodeW sub d ws target k i ≡ inSeqW d ws i (sub (i + 1))
+module _ (sub : ℕ → Found) (d : ℕ) (ws : List ℕ) (target level k i : ℕ) where
+  node-seq : k ≡ 2 → nodeW sub d ws target level k i ≡ inSeqW d ws i (sub (i + 1))
   unfolding nodeW
   node-seq e = rw e
 
-  node-par : k ≡ 3 → nodeW sub d ws target k i ≡ inParW sub i
+  node-par : k ≡ 3 → nodeW sub d ws target level k i ≡ inParW sub i
   unfolding nodeW
   node-par e = rw e
 
-  node-scope : k ≡ 11 → nodeW sub d ws target k i ≡ inScopeW d ws target i (sub (skipList d ws 128 (i + 2)))
+  node-scope : k ≡ 11 → nodeW sub d ws target level k i ≡ inScopeW d ws target level i (sub (skipList d ws 128 (i + 2)))
   unfolding nodeW
   node-scope e = rw e
 
-  node-executor : k ≡ 16 → nodeW sub d ws target k i ≡ inBodyW (sub (i + 3))
+  node-executor : k ≡ 16 → nodeW sub d ws target level k i ≡ inBodyW (sub (i + 3))
   unfolding nodeW
   node-executor e = rw e
 
   node-other :
-      eqb k 2 ≡ false → eqb k 3 ≡ false → eqb k 11 ≡ false → eqb k 16 ≡ false → nodeW sub d ws target k i ≡ Past (skipEnd (suc d) ws i)
+      eqb k 2 ≡ false → eqb k 3 ≡ false → eqb k 11 ≡ false → eqb k 16 ≡ false → nodeW sub d ws target level k i ≡ Past (skipEnd (suc d) ws i)
   unfolding nodeW
   node-other p q r s = rw (p, q, r, s)
 
@@ -130,7 +130,7 @@ module _ (n issued : ℕ) (few : n ≤ 8) (small : issued < 65536) (ws : List �
       drop i ws ≡ runWords r ++ rest →
       ((i ≡ target → ⊥) →
       Agrees (faultAt ws target) target r i level (within r i target)
-      (nodeW (findW d ws target (level + 1)) d ws target (getD ws i 0 / 2048) i)) →
+      (nodeW (findW d ws target (level + 1)) d ws target level (getD ws i 0 / 2048) i)) →
       Agrees (faultAt ws target) target r i level (within r i target) (findW (suc d) ws target level i)
   unfolding findW
   opened {r} s d i level rest dp e k = rw (lt-ltb i (length ws) (at-run s i rest e .1)) (by (eqb i target) refl)
@@ -140,7 +140,7 @@ module _ (n issued : ℕ) (few : n ≤ 8) (small : issued < 65536) (ws : List �
           eqb i target ≡ b →
           Agrees (faultAt ws target) target r i level (within r i target)
           (cond b (hereW (suc d) ws level i)
-          (nodeW (findW d ws target (level + 1)) d ws target (getD ws i 0 / 2048) i))
+          (nodeW (findW d ws target (level + 1)) d ws target level (getD ws i 0 / 2048) i))
       by true q = here-agrees (faultAt ws target) target d i level (eqb-true i target q) (run-end ws n issued few small s (suc d) i dp rest e)
       by false q = k (eqb-false i target q)
 
@@ -162,7 +162,7 @@ module _ (n issued : ℕ) (few : n ≤ 8) (small : issued < 65536) (ws : List �
       let kind = at-run s i rest e .0 in
       rw (
         w ne,
-        node-other (findW d ws target (level + 1)) d ws target (getD ws i 0 / 2048) i (ap (λ k. eqb k 2) kind ∙ k2) (ap (λ k. eqb k 3) kind ∙ k3)
+        node-other (findW d ws target (level + 1)) d ws target level (getD ws i 0 / 2048) i (ap (λ k. eqb k 2) kind ∙ k2) (ap (λ k. eqb k 3) kind ∙ k3)
             (ap (λ k. eqb k 11) kind ∙ k11) (ap (λ k. eqb k 16) kind ∙ k16),
       )
       (misses (run-end ws n issued few small s (suc d) i dp rest e))
@@ -184,13 +184,18 @@ module _ (n issued : ℕ) (few : n ≤ 8) (small : issued < 65536) (ws : List �
       ap (λ k. not (eqb k 0)) (wanted-end ws f (omega arith) fits d (i + 2) dp rest e) ∙ catches-test (holds f h) (i + 2 + 1 + length (entriesWords h)) (omega arith) in
       rw (z, l)
 
+  scope-catcher :
+      (d i : ℕ) (zombie : Bool) (h : Entries) →
+      faultAt ws target < 64 →
+      catchesW d ws i (faultAt ws target) ≡ catches (faultAt ws target) zombie h →
+      (k : ℕ) →
+      catcherOf d ws target i k ≡ cond (eqb k 0) (cond (catches (faultAt ws target) zombie h) i 0) k
+  unfolding catcherOf
+  scope-catcher d i zombie h low e k = rw (lt-leb 64 (faultAt ws target) low, e)
+
   behind-run : (a : Run) (i : ℕ) (rest : List ℕ) → drop i ws ≡ runWords a ++ rest → drop (i + size a) ws ≡ rest
   unfolding size
   behind-run a i rest e = drop-on ws i (i + length (runWords a)) (runWords a) rest refl e
-
-  fault-below : faultAt ws target < 64
-  unfolding faultAt
-  fault-below = omega arith
 
   pub finds :
       {r : Run} →
@@ -212,7 +217,7 @@ module _ (n issued : ℕ) (few : n ≤ 8) (small : issued < 65536) (ws : List �
       let head = at-head q (i + 1 + size a) rest second in
       rw (
         within-seq i target ne a q,
-        node-seq (findW d ws target (level + 1)) d ws target (getD ws i 0 / 2048) i (at-run (seqSound g t coded) i rest e .0),
+        node-seq (findW d ws target (level + 1)) d ws target level (getD ws i 0 / 2048) i (at-run (seqSound g t coded) i rest e .0),
       )
       (seq-agrees (faultAt ws target) target ws d i level a q coded (head .1) (head .0)
       (code-end ws coded d (i + 1 + size a) (omega arith) rest second)
@@ -222,7 +227,7 @@ module _ (n issued : ℕ) (few : n ≤ 8) (small : issued < 65536) (ws : List �
       let deep : suc (max (runDepth a) (runDepth b)) ≤ suc d = rw (depth-par a b) at dp in
       rw (
         within-par i target ne a b,
-        node-par (findW d ws target (level + 1)) d ws target (getD ws i 0 / 2048) i (at-run (parSound g t k u) i rest e .0),
+        node-par (findW d ws target (level + 1)) d ws target level (getD ws i 0 / 2048) i (at-run (parSound g t k u) i rest e .0),
       )
       (par-agrees (faultAt ws target) target ws d i level a b t u (findW d ws target (level + 1))
       (finds g d (i + 1) (level + 1) (runWords b ++ rest) (omega arith) (omega arith) (inner ws rest (around-left a b i u) e))
@@ -237,20 +242,22 @@ module _ (n issued : ℕ) (few : n ≤ 8) (small : issued < 65536) (ws : List �
       list-end ws listed d (i + 2) (omega arith) (runWords a ++ rest) list ∙ omega arith in
       rw (
         within-scope i target ne name mark zombie h a,
-        node-scope (findW d ws target (level + 1)) d ws target (getD ws i 0 / 2048) i
+        node-scope (findW d ws target (level + 1)) d ws target level (getD ws i 0 / 2048) i
             (at-run (scopeSound {mark = mark} {zombie = zombie} named m listed g) i rest e .0),
         end,
       )
       (scope-agrees (faultAt ws target) target ws d i level name mark zombie h a pos
-      (scope-catches d i (faultAt ws target) name mark zombie h (runWords a ++ rest) named fault-below listed (omega arith)
-      (head-on ws i (scopeHead name mark zombie) _ (e ∙ whole)) list)
+      (λ low.
+      scope-catcher d i zombie h low
+      (scope-catches d i (faultAt ws target) name mark zombie h (runWords a ++ rest) named low listed (omega arith)
+      (head-on ws i (scopeHead name mark zombie) _ (e ∙ whole)) list))
       (finds g d (i + (3 + length (entriesWords h))) (level + 1) rest (omega arith) (omega arith) body))
   finds (executorSound {o = o} {y = y} {client = client} {serial = serial} {a = a} bo by be g) (suc d) i level rest pos dp e =
       opened (executorSound bo by be g) d i level rest dp e λ ne.
       let deep : suc (runDepth a) ≤ suc d = rw (depth-executor o y client serial a) at dp in
       rw (
         within-executor i target ne o y client serial a,
-        node-executor (findW d ws target (level + 1)) d ws target (getD ws i 0 / 2048) i (at-run (executorSound bo by be g) i rest e .0),
+        node-executor (findW d ws target (level + 1)) d ws target level (getD ws i 0 / 2048) i (at-run (executorSound bo by be g) i rest e .0),
       )
       (executor-agrees (faultAt ws target) target ws d i level o y client serial a
       (finds g d (i + 3) (level + 1) rest (omega arith) (omega arith) (inner ws rest (around-executor o y client serial a i) e)))

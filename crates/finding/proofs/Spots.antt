@@ -1,6 +1,6 @@
 -- What the search says of a process that it found, and that it says the same with one more frame around it.
 -- Assumes nothing.
-use Prim.Native.Nat.{ℕ, _+_, _≤_}
+use Prim.Native.Nat.{ℕ, _+_, _≤_, _<_}
 use native.Mathlib.Omega.{arith}
 use mathlib.Core.Path.{_≡_, refl, sym, ap, _∙_}
 use mathlib.Core.Bool.{Bool, true, false, not}
@@ -14,7 +14,7 @@ use Rattle.sock.specs.Frames.{Frame, Located, isDone, plug, onNearest}
 use Rattle.sock.proofs.Located.{wrap}
 use Rattle.sock.proofs.Measures.{words-nil}
 use Rattle.finding.specs.declared.find.Spot.{Spot}
-use Rattle.finding.proofs.Framing.{scoped, region, plug-append, wrap-append, Outer}
+use Rattle.finding.proofs.Framing.{scoped, region, outside, plug-append, wrap-append, outside-first, Outer}
 use Rattle.finding.proofs.Within.{behind, lifted, orElse, within}
 use Rattle.finding.proofs.Stops.{stopped, anyScope, catches, stopped-append, Standing, nowhere, standing-under}
 use Rattle.finding.proofs.Pieces.{Swap, Cut, swap-under, cut-under}
@@ -25,7 +25,8 @@ pub record Ended (r : Run) (i : ℕ) (fs : List Frame) (d : ℕ) : Type 0 where
   pub bare : T (not (scoped fs))
   pub till : d ≡ i + size r
 
--- `s` is where the process l stands: at `target`, in r, which begins at i and is `deep` levels deep; `f` is the fault to be caught
+-- `s` is where the process l stands: at `target`, in r, which begins at i and is `deep` levels deep; `f` is the fault to be caught, and
+-- no fault if it is no throw's
 pub record Spotted (f target : ℕ) (r : Run) (i deep : ℕ) (l : Located) (s : Spot) : Type 0 where
   pub at : s .at ≡ target
   pub level : s .level ≡ deep + length (l .frames)
@@ -33,7 +34,8 @@ pub record Spotted (f target : ℕ) (r : Run) (i deep : ℕ) (l : Located) (s : 
   pub swap : Swap r i (l .frames) (l .process) (s .scope) target
   pub cut : Cut r i (l .frames) (s .scope) (s .a) (s .b) (s .c) (s .d) (s .hollow)
   pub nearest : Standing r i (stopped anyScope (l .frames) (l .process)) (s .scope)
-  pub catcher : Standing r i (stopped (catches f) (l .frames) (l .process)) (s .catcher)
+  pub near-level : T (scoped (l .frames)) → s .«scope_level» ≡ deep + outside (l .frames)
+  pub catcher : f < 64 → Standing r i (stopped (catches f) (l .frames) (l .process)) (s .catcher)
   pub alive : T (s .closed) → (g : Entries → Entries) → isDone (plug (onNearest g (l .frames)) nil) ≡ false
   pub ends : T (not (s .closed)) → Ended r i (l .frames) (s .d)
 
@@ -41,7 +43,7 @@ pub record Spotted (f target : ℕ) (r : Run) (i deep : ℕ) (l : Located) (s : 
 
 abbrev pub hereSpot : ℕ → ℕ → ℕ → Spot
 hereSpot i level e =
-    record { at = i; level = level; a = i; b = e; c = e; d = e; hollow = true; closed = false; scope = 0; catcher = 0 }
+    record { at = i; level = level; a = i; b = e; c = e; d = e; hollow = true; closed = false; scope = 0; «scope_level» = 0; catcher = 0 }
 
 pub here-spotted : (f : ℕ) (r : Run) (i level e : ℕ) → e ≡ i + size r → Spotted f i r i level (record { frames = []; process = r }) (hereSpot i level e)
 unfolding wrap plug onNearest scoped region stopped size
@@ -78,7 +80,8 @@ here-spotted f r i level e p =
             till = omega arith;
           };
       nearest = nowhere;
-      catcher = nowhere;
+      near-level = λ t. absurd t;
+      catcher = λ low. nowhere;
       alive = λ t. absurd t;
       ends = λ t. record { gone = λ g. refl; bare = tt; till = p };
     }
@@ -117,12 +120,13 @@ module _ (f target : ℕ) (r a : Run) (i j level : ℕ) (own more : List ℕ) (o
         s' .at ≡ s .at →
         s' .level ≡ s .level →
         s' .scope ≡ s .scope →
+        s' .«scope_level» ≡ s .«scope_level» →
         s' .catcher ≡ s .catcher →
         Cut r i (l .frames ++ o ∷ []) (s .scope) (s' .a) (s' .b) (s' .c) (s' .d) (s' .hollow) →
         (T (s' .closed) → (g : Entries → Entries) → isDone (plug (onNearest g (l .frames ++ o ∷ [])) nil) ≡ false) →
         (T (not (s' .closed)) → Ended r i (l .frames ++ o ∷ []) (s' .d)) →
         Spotted f target r i level (behind (o ∷ []) l) s'
-    under s' p q u v cut alive ends =
+    under s' p q u w v cut alive ends =
         record {
           at = p ∙ sub .at;
           level = omega (arith, q, sub .level, length-append (l .frames) (o ∷ []));
@@ -133,7 +137,10 @@ module _ (f target : ℕ) (r a : Run) (i j level : ℕ) (own more : List ℕ) (o
               (around .lives) (sub .swap));
           cut = rw u cut;
           nearest = rw u (stands anyScope (s .scope) (sub .nearest));
-          catcher = rw v (stands (catches f) (s .catcher) (sub .catcher));
+          near-level = λ t.
+              let t' : T (scoped (l .frames)) = rw (outer (l .frames) .same) at t in
+              omega (arith, w, sub .near-level t', outside-first (l .frames) (o ∷ []) t');
+          catcher = λ low. rw v (stands (catches f) (s .catcher) (sub .catcher low));
           alive = alive;
           ends = ends;
         }
@@ -141,7 +148,7 @@ module _ (f target : ℕ) (r a : Run) (i j level : ℕ) (own more : List ℕ) (o
     -- with the same cut, if that is closed
     pub under-closed : T (s .closed) → Spotted f target r i level (behind (o ∷ []) l) s
     under-closed t =
-        under s refl refl refl refl
+        under s refl refl refl refl refl
         (cut-under r a i j own more (l .frames) o (around .there) (outer (l .frames)) (around .words) (s .scope) (s .a) (s .b) (s .c) (s .d) (s .hollow)
         (λ g. around .kept (plug (onNearest g (l .frames)) nil) (sub .alive t g)) (sub .cut))
         (λ u g.

@@ -3,7 +3,7 @@
 use Prim.Native.Nat.{ℕ, zero, suc, _+_, _/_, _%_}
 use mathlib.Core.Bool.{Bool, true, false, not, _||_, cond}
 use mathlib.Core.List.{List}
-use lib.Dec.{ltb, eqb}
+use lib.Dec.{ltb, leb, eqb}
 use lib.ListN.{length, getD}
 use Rattle.skipping.specs.Skip.{skipEnd, skipList}
 use Rattle.finding.specs.declared.find.Spot.{Spot}
@@ -24,12 +24,13 @@ hereW d ws level i =
       hollow = true;
       closed = false;
       scope = 0;
+      «scope_level» = 0;
       catcher = 0;
     })
 
 abbrev pub cut : Spot → ℕ → ℕ → ℕ → ℕ → Bool → Spot
 cut s a b c d hollow =
-    record { at = s .at; level = s .level; a = a; b = b; c = c; d = d; hollow = hollow; closed = not hollow; scope = s .scope; catcher = s .catcher }
+    record { at = s .at; level = s .level; a = a; b = b; c = c; d = d; hollow = hollow; closed = not hollow; scope = s .scope; «scope_level» = s .«scope_level»; catcher = s .catcher }
 
 -- the first of a seq
 unfoldable pub seqSpot : List ℕ → ℕ → Spot → Found
@@ -74,24 +75,31 @@ inBodyW (Hit s) =
       hollow = s .hollow;
       closed = true;
       scope = s .scope;
+      «scope_level» = s .«scope_level»;
       catcher = s .catcher;
     })
 
 unfoldable pub scopeOf : ℕ → ℕ → ℕ
 scopeOf i scope = cond (eqb scope 0) i scope
 
+unfoldable pub levelOf : ℕ → ℕ → ℕ → ℕ
+levelOf level scope inner = cond (eqb scope 0) level inner
+
+-- the fault that the process at `target` throws; 128 if it is no throw
 unfoldable pub faultAt : List ℕ → ℕ → ℕ
-faultAt ws target = getD ws target 0 / 32 % 64
+faultAt ws target = cond (eqb (getD ws target 0 / 2048) 13) (getD ws target 0 / 32 % 64) 128
 
 unfoldable pub catchesW : ℕ → List ℕ → ℕ → ℕ → Bool
 catchesW d ws i fault = eqb (getD ws i 0 / 4 % 2) 1 || not (eqb (skipList d ws fault (i + 2)) 0)
 
 unfoldable pub catcherOf : ℕ → List ℕ → ℕ → ℕ → ℕ → ℕ
-catcherOf d ws target i catcher = cond (eqb catcher 0) (cond (catchesW d ws i (faultAt ws target)) i 0) catcher
+catcherOf d ws target i catcher =
+    cond (leb 64 (faultAt ws target)) 0
+    (cond (eqb catcher 0) (cond (catchesW d ws i (faultAt ws target)) i 0) catcher)
 
-unfoldable pub inScopeW : ℕ → List ℕ → ℕ → ℕ → Found → Found
-inScopeW d ws target i (Past e) = Past e
-inScopeW d ws target i (Hit s) =
+unfoldable pub inScopeW : ℕ → List ℕ → ℕ → ℕ → ℕ → Found → Found
+inScopeW d ws target level i (Past e) = Past e
+inScopeW d ws target level i (Hit s) =
     Hit
     (record {
       at = s .at;
@@ -103,15 +111,16 @@ inScopeW d ws target i (Hit s) =
       hollow = s .hollow;
       closed = true;
       scope = scopeOf i (s .scope);
+      «scope_level» = levelOf level (s .scope) (s .«scope_level»);
       catcher = catcherOf d ws target i (s .catcher);
     })
 
 -- by kind; `sub` finds one level down, in what begins at a position
-unfoldable pub nodeW : (ℕ → Found) → ℕ → List ℕ → ℕ → ℕ → ℕ → Found
-nodeW sub d ws target k i =
+unfoldable pub nodeW : (ℕ → Found) → ℕ → List ℕ → ℕ → ℕ → ℕ → ℕ → Found
+nodeW sub d ws target level k i =
     cond (eqb k 2) (inSeqW d ws i (sub (i + 1)))
     (cond (eqb k 3) (inParW sub i)
-    (cond (eqb k 11) (inScopeW d ws target i (sub (skipList d ws 128 (i + 2))))
+    (cond (eqb k 11) (inScopeW d ws target level i (sub (skipList d ws 128 (i + 2))))
     (cond (eqb k 16) (inBodyW (sub (i + 3)))
     (Past (skipEnd (suc d) ws i)))))
 
@@ -121,5 +130,5 @@ findW (suc d) ws target level i =
     cond (ltb i (length ws))
     (cond (eqb i target)
     (hereW (suc d) ws level i)
-    (nodeW (findW d ws target (level + 1)) d ws target (getD ws i 0 / 2048) i))
+    (nodeW (findW d ws target (level + 1)) d ws target level (getD ws i 0 / 2048) i))
     (Past 0)

@@ -5,11 +5,11 @@ use skipping::skip::skip_list;
 ghost use mathlib.Core.Path.{_≡_};
 ghost use Prim.Native.Nat.{_+_, _<_};
 ghost use lib.ListN.{length};
-ghost use Rattle.finding.specs.Find.{findW, hereW, inSeqW, inParW, leftW, besideW, inBodyW, inScopeW, scopeOf, catcherOf, faultAt, catchesW};
+ghost use Rattle.finding.specs.Find.{findW, hereW, inSeqW, inParW, leftW, besideW, inBodyW, inScopeW, scopeOf, levelOf, catcherOf, faultAt, catchesW};
 
 // The process at `at`, `level` levels deep. Were it nil, the words a..b and c..d would go; `hollow` tells that a nil would stand at a.
-// `scope` is the head of the nearest scope, `catcher` that of the innermost scope which has the process's name as a fault or is a
-// zombie; 0 where there is none.
+// `scope` is the head of the nearest scope, `scope_level` its level, `catcher` the head of the scope that stops the fault of a throw; 0
+// where there is none.
 pub struct Spot {
     pub at: usize,
     pub level: usize,
@@ -20,6 +20,7 @@ pub struct Spot {
     pub hollow: bool,
     pub closed: bool,
     pub scope: usize,
+    pub scope_level: usize,
     pub catcher: usize,
 }
 
@@ -50,6 +51,7 @@ pub fn find(ws: &[u16], at: usize, target: usize, depth: usize, level: usize) ->
             ws,
             at,
             target,
+            level,
             find(ws, skip_list(ws, at + 2, d, 128), target, d, level + 1),
             d,
         ),
@@ -73,6 +75,7 @@ fn here(ws: &[u16], at: usize, depth: usize, level: usize) -> Found
         hollow: true,
         closed: false,
         scope: 0,
+        scope_level: 0,
         catcher: 0,
     })
 }
@@ -102,6 +105,7 @@ fn in_seq(ws: &[u16], at: usize, f: Found, depth: usize) -> Found
                     hollow: true,
                     closed: false,
                     scope: s.scope,
+                    scope_level: s.scope_level,
                     catcher: s.catcher,
                 });
             }
@@ -115,6 +119,7 @@ fn in_seq(ws: &[u16], at: usize, f: Found, depth: usize) -> Found
                 hollow: false,
                 closed: true,
                 scope: s.scope,
+                scope_level: s.scope_level,
                 catcher: s.catcher,
             })
         }
@@ -149,6 +154,7 @@ fn left(at: usize, s: Spot) -> Found
         hollow: false,
         closed: true,
         scope: s.scope,
+        scope_level: s.scope_level,
         catcher: s.catcher,
     })
 }
@@ -174,6 +180,7 @@ fn beside(at: usize, e: usize, f: Found) -> Found
                 hollow: false,
                 closed: true,
                 scope: s.scope,
+                scope_level: s.scope_level,
                 catcher: s.catcher,
             })
         }
@@ -196,14 +203,15 @@ fn in_body(f: Found) -> Found
             hollow: s.hollow,
             closed: true,
             scope: s.scope,
+            scope_level: s.scope_level,
             catcher: s.catcher,
         }),
     }
 }
 
-fn in_scope(ws: &[u16], at: usize, target: usize, f: Found, depth: usize) -> Found
+fn in_scope(ws: &[u16], at: usize, target: usize, level: usize, f: Found, depth: usize) -> Found
     requires { ⌜ at < length (now ws) ⌝ }
-    ensures { λ r. ⌜ r ≡ inScopeW depth (now (ws .entry)) target at f ⌝ }
+    ensures { λ r. ⌜ r ≡ inScopeW depth (now (ws .entry)) target level at f ⌝ }
 {
     match f {
         Found::Past(e) => Found::Past(e),
@@ -217,6 +225,7 @@ fn in_scope(ws: &[u16], at: usize, target: usize, f: Found, depth: usize) -> Fou
             hollow: s.hollow,
             closed: true,
             scope: scope_of(at, s.scope),
+            scope_level: level_of(level, s.scope, s.scope_level),
             catcher: catcher_of(ws, at, target, s.catcher, depth),
         }),
     }
@@ -229,29 +238,37 @@ fn scope_of(at: usize, scope: usize) -> usize
     if scope == 0 { at } else { scope }
 }
 
-// The scope that catches, if `catcher` does in the body.
+// Its level, if the nearest scope of the body is at `scope` and its level `inner`.
+fn level_of(level: usize, scope: usize, inner: usize) -> usize
+    ensures { λ r. ⌜ r ≡ levelOf level scope inner ⌝ }
+{
+    if scope == 0 { level } else { inner }
+}
+
+// The scope that catches, if `catcher` does in the body. Only a throw asks for it, so no list is passed for any other process.
 fn catcher_of(ws: &[u16], at: usize, target: usize, catcher: usize, depth: usize) -> usize
     requires { ⌜ at < length (now ws) ⌝ }
     ensures { λ r. ⌜ r ≡ catcherOf depth (now (ws .entry)) target at catcher ⌝ }
 {
+    let fault = fault_at(ws, target);
+    if 64 <= fault {
+        return 0;
+    }
     if catcher != 0 {
         return catcher;
     }
-    if catches(ws, at, fault_at(ws, target), depth) {
-        at
-    } else {
-        0
-    }
+    if catches(ws, at, fault, depth) { at } else { 0 }
 }
 
-// The name in a head, which is a throw's fault.
+// The fault that the process at `target` throws; 128 if it is no throw.
 fn fault_at(ws: &[u16], target: usize) -> usize
     ensures { λ r. ⌜ r ≡ faultAt (now (ws .entry)) target ⌝ }
 {
     if ws.len() <= target {
-        return 0;
+        return 128;
     }
-    wide(ws[target]) / 32 % 64
+    let w = wide(ws[target]);
+    if w / 2048 == 13 { w / 32 % 64 } else { 128 }
 }
 
 // Whether the scope at `at` stops a fault: its list has it, or the scope is a zombie.

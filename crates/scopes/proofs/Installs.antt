@@ -5,29 +5,26 @@ use native.Mathlib.Omega.{arith}
 use native.Mathlib.Nat.{le-trans, mul-le-mul-left, mul-le-mul-right}
 use mathlib.Core.Path.{_≡_, refl, sym, ap, _∙_}
 use mathlib.Core.Bool.{Bool, true, false, not, cond}
-use mathlib.Core.Option.{Option, none, some}
+use mathlib.Core.Option.{some}
 use mathlib.Core.List.{List, [], _∷_, _++_, append-nil}
 use borrow.Author.Tests.{eq-eqb, ne-eqb, lt-ltb, ltb-true, ltb-false}
 use lib.Dec.{T, ltb}
 use lib.ListN.{length, take, drop}
 use Rattle.sock.specs.Term.{node, list, Entries, noParts}
 use Rattle.sock.specs.Layout.{count, exprsWords, words, entriesWords, exprsDepth, depth, entriesDepth}
-use Rattle.sock.specs.Running.{Run, nil, seq, par, scope, executor, act, runWords, size, runDepth}
+use Rattle.sock.specs.Running.{Run, nil, act, runWords, size, runDepth}
 use Rattle.sock.specs.Handlers.{update}
-use Rattle.sock.specs.Frames.{Frame, seqFrame, leftFrame, rightFrame, scopeFrame, executorFrame, Located, plug, nearest, onNearest}
-use Rattle.sock.proofs.Fits.{FitsEntries, Sound, SoundFrames}
+use Rattle.sock.specs.Frames.{Frame, Located, plug, nearest, onNearest}
+use Rattle.sock.proofs.Fits.{FitsEntries, SoundFrames}
 use Rattle.sock.proofs.Frames.{nearest-fits, nearest-sound}
 use Rattle.sock.proofs.Located.{wrap, size-positive}
 use Rattle.sock.proofs.Measures.{words-act, size-nil, depth-nil, depth-act}
 use Rattle.sock.proofs.Positions.{at-head}
 use Rattle.sock.proofs.Shrinking.{NoLarger, plug-shrinks}
 use Rattle.finding.specs.declared.find.Spot.{Spot}
-use Rattle.finding.proofs.Framing.{scoped, region, nearest-self}
-use Rattle.finding.proofs.Within.{within}
-use Rattle.finding.proofs.Stops.{stopped, anyScope, Standing, nowhere, somewhere}
+use Rattle.finding.proofs.Framing.{scoped, region, outside, nearest-self}
 use Rattle.finding.proofs.Spots.{Spotted}
 use Rattle.finding.proofs.Edits.{process-at, list-at, region-changed, scope-none}
-use Rattle.finding.proofs.Search.{found}
 use Rattle.moving.specs.Writing.{onward}
 use Rattle.moving.proofs.Laid.{Near, near-of, onward-near}
 use Rattle.handling.specs.Updating.{Update, updateW}
@@ -38,33 +35,10 @@ use Rattle.handling.proofs.Updates.{Updates, updates}
 use Rattle.rules.specs.Planning.{Planned, planned, refusedPlan, nilW}
 use Rattle.rules.proofs.Depths.{wrap-depth, depth-some}
 use Rattle.rules.proofs.Outcomes.{Ruled, tooDeep, ruled}
-use Rattle.scopes.specs.Levels.{levelOf, levelW}
 use Rattle.scopes.specs.Installing.{tooDeepW, updatedW, installedW}
-use Rattle.scopes.proofs.NearestLists.{outside, nearest-length, nearest-spread, nearest-within, nearest-deep, outside-stopped, update-keeps}
+use Rattle.scopes.proofs.NearestLists.{nearest-length, nearest-spread, nearest-within, nearest-deep, update-keeps}
 use Rattle.scopes.proofs.ScopeLists.{whole-inside, frames-deep, nil-ruled, process-inside, list-deep, region-length, list-first, list-inside, to-list, list-ends}
 use Rattle.scopes.proofs.NilLists.{list-plans}
-
--- ---- the level of the nearest scope
-
-stopped-some : (fs : List Frame) (a : Run) → T (scoped fs) → stopped anyScope fs a ≡ none → ⊥
-unfolding stopped scoped
-stopped-some [] a t e = absurd t
-stopped-some (seqFrame q ∷ fs) a t e = stopped-some fs (seq a q) t e
-stopped-some (leftFrame b ∷ fs) a t e = stopped-some fs (par a b) t e
-stopped-some (rightFrame b ∷ fs) a t e = stopped-some fs (par b a) t e
-stopped-some (scopeFrame name mark zombie h ∷ fs) a t e = let z : _≡_ {A = ℕ} 1 0 = ap of e in omega arith
-  where
-    of : Option Located → ℕ
-    of none = 0
-    of (some l) = 1
-stopped-some (executorFrame o y client serial ∷ fs) a t e = stopped-some fs (executor o y client serial a) t e
-
-standing-located :
-    {r : Run} {i k d : ℕ} {x : Option Located} → Standing r i x k → ((l : Located) → x ≡ some l → length (l .frames) ≡ d) →
-    (x ≡ none → ⊥) →
-    (l : Located) × ((within r i k ≡ some l) × (length (l .frames) ≡ d))
-standing-located nowhere p q = absurd (q refl)
-standing-located (somewhere {l = l} h e) p q = (l, (e, p l refl))
 
 too-deep : (level levels : ℕ) → level ≤ 64 → tooDeepW level levels ≡ ltb 64 (level + levels)
 unfolding tooDeepW
@@ -80,28 +54,8 @@ module _ (f target : ℕ) (r : Run) (start : ℕ) (l : Located) (s : Spot) (ws :
     (words-at : drop start ws ≡ runWords r ++ drop (start + size r) ws)
     (spotted : Spotted f target r start 1 l s) (near : Near (length ws)) {n issued : ℕ} (frames : SoundFrames n issued (l .frames))
     (deep : runDepth r ≤ 64)
-    (pos : 0 < start) (few : n ≤ 8) (small : issued < 65536) where
-  pub scope-level : Sound n issued r → T (scoped (l .frames)) →
-      levelW ws start (s .scope) ≡ suc (outside (l .frames))
-  unfolding levelW levelOf
-  scope-level sound t =
-      let x =
-      standing-located (spotted .nearest) (λ m e. outside-stopped (l .frames) (l .process) m t e)
-      (stopped-some (l .frames) (l .process) t) in
-      let y =
-      found n issued few small ws
-      (s .scope) sound 64 start 1 (drop (start + size r) ws) pos deep words-at
-      (x .0) (x .1 .0) in
-      ap levelOf (y .1 .0) ∙ (y .1 .1 .level ∙ omega (arith, x .1 .1))
-
--- ---- the rule
-
-module _ (f target : ℕ) (r : Run) (start : ℕ) (l : Located) (s : Spot) (ws : List ℕ)
-    (words-at : drop start ws ≡ runWords r ++ drop (start + size r) ws)
-    (spotted : Spotted f target r start 1 l s) (near : Near (length ws)) {n issued : ℕ} (frames : SoundFrames n issued (l .frames))
-    (deep : runDepth r ≤ 64)
-    (pos : 0 < start) (few : n ≤ 8) (small : issued < 65536) (short : length ws ≤ 8192)
-    (fresh : List ℕ) (room : 16384 ≤ length fresh) (big : Near (length fresh)) (sound : Sound n issued r)
+    (pos : 0 < start) (short : length ws ≤ 8192)
+    (fresh : List ℕ) (room : 16384 ≤ length fresh) (big : Near (length fresh))
     (h : ℕ) (new : Entries) (is : l .process ≡ act (node h [] [] (list new) noParts)) (fit : FitsEntries false zero new) where
   abbrev es : Entries
   es = nearest (l .frames)
@@ -179,8 +133,8 @@ module _ (f target : ℕ) (r : Run) (start : ℕ) (l : Located) (s : Spot) (ws :
     to-own : onward (s .at) 1 ≡ target + 1
     to-own = ap (λ i. onward i 1) (spotted .at) ∙ onward-near target 1 (length ws) near (omega (arith, own-inside))
 
-    level-is : levelW ws start (s .scope) ≡ suc (outside (l .frames))
-    level-is = scope-level f target r start l s ws words-at spotted near frames deep pos few small sound t
+    level-is : s .«scope_level» ≡ suc (outside (l .frames))
+    level-is = omega (arith, spotted .near-level t)
 
     level-low : suc (outside (l .frames) + entriesDepth es) ≤ 64
     level-low = omega (arith, nearest-within (l .frames) t, frames-deep f target r start l s ws words-at spotted near frames deep .0)
@@ -232,8 +186,8 @@ module _ (f target : ℕ) (r : Run) (start : ℕ) (l : Located) (s : Spot) (ws :
           ne-eqb (s .scope) 0 (λ z. omega arith),
           to-list f target r start l s ws words-at spotted near frames deep t,
           to-own,
-          level-is,
-          too-deep (suc (outside (l .frames))) (made .answer .levels) (omega (arith, level-low)),
+          ap (λ n. tooDeepW n (made .answer .levels)) level-is
+              ∙ too-deep (suc (outside (l .frames))) (made .answer .levels) (omega (arith, level-low)),
         )
         (placed (ltb 64 (suc (outside (l .frames)) + made .answer .levels)) refl)
 

@@ -4,7 +4,6 @@ use Prim.Native.Nat.{ℕ, suc, _+_, _≤_, max}
 use native.Mathlib.Omega.{arith}
 use mathlib.Core.Path.{_≡_, refl, sym, ap, subst}
 use mathlib.Core.Bool.{Bool, true, false, not, _&&_, _||_, cond}
-use mathlib.Core.Option.{Option, none, some}
 use mathlib.Core.List.{List, [], _∷_}
 use borrow.Author.Tests.{le-leb, eqb-true}
 use lib.Dec.{T, eqb, leb}
@@ -13,27 +12,17 @@ use Rattle.sock.specs.Words.{scopeKey}
 use Rattle.sock.specs.Term.{Node, Entries, noEntries, isNil}
 use Rattle.sock.specs.Layout.{entriesDepth}
 use Rattle.sock.specs.Reading.{holds, entryFits}
-use Rattle.sock.specs.Running.{Run, seq, par, scope, executor, runDepth}
+use Rattle.sock.specs.Running.{Run, scope, executor, runDepth}
 use Rattle.sock.specs.Handlers.{handler, without, update}
-use Rattle.sock.specs.Frames.{Frame, seqFrame, leftFrame, rightFrame, scopeFrame, executorFrame, Located, isDone, seqOf, parOf, plug, nearest, onNearest}
+use Rattle.sock.specs.Frames.{Frame, seqFrame, leftFrame, rightFrame, scopeFrame, executorFrame, isDone, seqOf, parOf, plug, nearest, onNearest}
 use Rattle.sock.proofs.Fits.{FitsEntries, emptyFits, entryFitsOn, seqFrameSound, leftFrameSound, rightFrameSound, scopeFrameSound, executorFrameSound, SoundFrames, noFrames, oneFrame}
 use Rattle.sock.proofs.Handlers.{without-fits, holds-without, update-fits, holds-update}
 use Rattle.sock.proofs.Frames.{Keeps}
 use Rattle.sock.proofs.Measures.{depth-scope}
-use Rattle.finding.proofs.Framing.{scoped}
-use Rattle.finding.proofs.Stops.{stopped, anyScope}
+use Rattle.finding.proofs.Framing.{scoped, outside}
 use Rattle.rules.proofs.Depths.{spread, plug-depth}
 
 -- ---- frames
-
--- how many frames stand around the nearest scope
-unfoldable pub outside : List Frame → ℕ
-outside [] = 0
-outside (seqFrame q ∷ fs) = outside fs
-outside (leftFrame b ∷ fs) = outside fs
-outside (rightFrame b ∷ fs) = outside fs
-outside (scopeFrame name mark zombie h ∷ fs) = length fs
-outside (executorFrame o y client serial ∷ fs) = outside fs
 
 pub nearest-empty : (fs : List Frame) → T (not (scoped fs)) → nearest fs ≡ noEntries
 unfolding nearest scoped
@@ -108,24 +97,6 @@ nearest-deep (oneFrame (scopeFrameSound {name} {mark} {zombie} {h} x y z) fs) g 
     let d = depth-scope name mark zombie (g h) a in
     omega arith
 nearest-deep (oneFrame (executorFrameSound {o} {y} {client} {serial} u v w) fs) g t a = nearest-deep fs g t (executor o y client serial a)
-
--- the frames around the nearest scope, where that is located
-some-frames : {l m : Located} → some l ≡ some m → length (l .frames) ≡ length (m .frames)
-some-frames {l} e = ap of e
-  where
-    of : Option Located → ℕ
-    of none = 0
-    of (some m) = length (m .frames)
-
-pub outside-stopped : (fs : List Frame) (a : Run) (l : Located) → T (scoped fs) → stopped anyScope fs a ≡ some l →
-    length (l .frames) ≡ outside fs
-unfolding stopped scoped outside
-outside-stopped [] a l t e = absurd t
-outside-stopped (seqFrame q ∷ fs) a l t e = outside-stopped fs (seq a q) l t e
-outside-stopped (leftFrame b ∷ fs) a l t e = outside-stopped fs (par a b) l t e
-outside-stopped (rightFrame b ∷ fs) a l t e = outside-stopped fs (par b a) l t e
-outside-stopped (scopeFrame name mark zombie h ∷ fs) a l t e = sym (some-frames e)
-outside-stopped (executorFrame o y client serial ∷ fs) a l t e = outside-stopped fs (executor o y client serial a) l t e
 
 -- ---- lists
 

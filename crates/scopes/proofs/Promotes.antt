@@ -26,7 +26,7 @@ use Rattle.sock.proofs.Located.{wrap, size-positive}
 use Rattle.sock.proofs.Measures.{size-nil, depth-nil}
 use Rattle.sock.proofs.Shrinking.{NoLarger, plug-shrinks}
 use Rattle.finding.specs.declared.find.Spot.{Spot}
-use Rattle.finding.proofs.Framing.{scoped}
+use Rattle.finding.proofs.Framing.{scoped, outside}
 use Rattle.finding.proofs.Spots.{Spotted}
 use Rattle.finding.proofs.Edits.{list-at, region-changed}
 use Rattle.moving.proofs.Laid.{Near, near-of}
@@ -41,7 +41,7 @@ use Rattle.rules.proofs.Depths.{wrap-depth, depth-some}
 use Rattle.rules.proofs.Outcomes.{Ruled, ruled}
 use Rattle.scopes.specs.Installing.{updatedW}
 use Rattle.scopes.specs.Ending.{promotedTo, promotedW, endingW}
-use Rattle.scopes.proofs.NearestLists.{outside, nearest-length, nearest-spread, nearest-within, update-keeps}
+use Rattle.scopes.proofs.NearestLists.{nearest-length, nearest-spread, nearest-within, update-keeps}
 use Rattle.scopes.proofs.ScopeLists.{frames-deep, list-deep, region-length, list-before, to-list, list-ends}
 use Rattle.scopes.proofs.NilLists.{list-plans}
 use Rattle.scopes.proofs.ScopeWords.{node-some, handler-shallow, handler-short, its-place, its-inside, to-own, own-list}

@@ -1,15 +1,15 @@
 -- The law of throw: what the plan makes of an engine's process is the climb of the fault.
 -- Assumes nothing.
-use Prim.Native.Nat.{ℕ, zero, _+_, _-_, _*_, _≤_, _<_}
+use Prim.Native.Nat.{ℕ, zero, _+_, _-_, _*_, _/_, _≤_, _<_}
 use native.Mathlib.Omega.{arith}
 use mathlib.Core.Path.{_≡_, refl, sym, ap, _∙_}
 use mathlib.Core.Bool.{Bool, true, false, cond}
 use mathlib.Core.Option.{Option, none, some}
 use mathlib.Core.List.{List, [], _∷_, _++_, append-nil, append-assoc}
-use borrow.Author.Tests.{ne-eqb, leb-true}
+use borrow.Author.Tests.{eq-eqb, ne-eqb, leb-true}
 use lib.Dec.{T, eqb, leb}
 use lib.ListN.{length, getD, take, drop, set, length-append, length-set}
-use Rattle.sock.specs.Words.{nameOf}
+use Rattle.sock.specs.Words.{kindOf, nameOf}
 use Rattle.sock.specs.Term.{Node, Entries, headWord, kind}
 use Rattle.sock.specs.Layout.{count, entriesWords, entriesDepth}
 use Rattle.sock.specs.Reading.{holds}
@@ -381,7 +381,7 @@ module _ (ws : List ℕ) (n issued : ℕ) (few : n ≤ 8) (small : issued < 6553
         (let u = thrownW ws start s fresh in
         Ruled ws start (start + size r) (u .plan) (u .fresh) (climb f (l .frames) nil) × (u .plan .x ≡ 32))
     unfolding thrownW
-    climb-ruled e = rw (spotted .at, e) (thrown-by (spotted .catcher) (sought f (l .frames) (l .process)))
+    climb-ruled e = rw (spotted .at, e) (thrown-by (spotted .catcher low) (sought f (l .frames) (l .process)))
 
 -- a throw that was found
 module _ (ws : List ℕ) (n issued : ℕ) (few : n ≤ 8) (small : issued < 65536) {r : Run} (sound : Sound n issued r)
@@ -397,7 +397,8 @@ module _ (ws : List ℕ) (n issued : ℕ) (few : n ≤ 8) (small : issued < 6553
   thrown-ruled m e k =
       let p = process-at (faultAt ws target) target r start 1 l s ws (drop (start + size r) ws) words spotted in
       let w : getD ws target 0 ≡ headWord m = head-on ws target m (p .0) (p .1 ∙ ap (λ x. x ++ p .0) (ap runWords e ∙ words-act m)) in
-      let v : faultAt ws target ≡ nameOf (headWord m) = ap nameOf w in
+      let v : faultAt ws target ≡ nameOf (headWord m) =
+      (let z : getD ws target 0 / 2048 ≡ 13 = ap kindOf w ∙ k in rw (eq-eqb (getD ws target 0 / 2048) 13 z) (ap nameOf w)) in
       climb-ruled ws n issued few small sound start words pos deep short fresh large near (nameOf (headWord m))
       (name-below (headWord m)) target l s place
-      (rw v at spotted) (rw e k) v
+      (rw v at spotted) (rw e k) (ap nameOf w)

@@ -8,7 +8,6 @@ use Rattle.moving.specs.Writing.{onward}
 use Rattle.finding.specs.declared.find.Spot.{Spot}
 use Rattle.handling.specs.Updating.{updateW}
 use Rattle.rules.specs.Planning.{Planned, planned, refusedPlan, nilW}
-use Rattle.scopes.specs.Levels.{levelW}
 
 unfoldable pub tooDeepW : ℕ → ℕ → Bool
 tooDeepW level levels = cond (ltb 64 levels) true (ltb 64 (onward level levels))
@@ -20,5 +19,5 @@ unfoldable pub installedW : List ℕ → ℕ → Spot → List ℕ → Planned
 installedW ws start s fresh =
     cond (eqb (s .scope) 0) (nilW s start start 0 32 0 fresh)
     (let u = updateW 64 ws (onward (s .scope) 2) (onward (s .at) 1) fresh in
-    cond (tooDeepW (levelW ws start (s .scope)) (u .answer .levels)) (planned (refusedPlan 8) (u .out))
+    cond (tooDeepW (s .«scope_level») (u .answer .levels)) (planned (refusedPlan 8) (u .out))
     (updatedW ws s (onward (s .scope) 2) (u .answer .to) (u .out)))

@@ -1,5 +1,4 @@
 pub mod Compensating
 pub mod Ending
 pub mod Installing
-pub mod Levels
 pub mod Throwing

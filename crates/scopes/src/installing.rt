@@ -1,5 +1,4 @@
 // inst: the nearest scope's list is updated by its own.
-use crate::level::level;
 use finding::find::Spot;
 use handling::update::update;
 use moving::write::further;
@@ -38,7 +37,7 @@ pub fn installed(ws: &[u16], start: usize, s: Spot, fresh: &mut [u16]) -> Plan
     let scope = s.scope;
     let l = further(scope, 2);
     let u = update(ws, l, further(s.at, 1), 64, fresh);
-    if too_deep(level(ws, start, scope), u.levels) {
+    if too_deep(s.scope_level, u.levels) {
         return refuse(8);
     }
     let f = u.to;

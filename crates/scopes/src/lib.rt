@@ -2,5 +2,4 @@
 pub mod compensating;
 pub mod ending;
 pub mod installing;
-pub mod level;
 pub mod throwing;

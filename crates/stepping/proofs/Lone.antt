@@ -287,7 +287,7 @@ module _ (ws : List ℕ) (ok : Words ws) (n issued : ℕ) (few : n ≤ 8) (small
     unfolding ruleW scopedW asNode
     made-install h new k fit is =
         still _ _ (Installs.installs (faultAt ws target) target r start l s ws words-at spotted near (standing .frames) deep (omega arith)
-        few small short fresh (wide (ap (λ p. kind (asNode p)) is ∙ k)) big sound h new is fit)
+        short fresh (wide (ap (λ p. kind (asNode p)) is ∙ k)) big h new is fit)
 
     made-throw : (h : ℕ) → kindOf h ≡ 13 → l .process ≡ act (node h [] [] absent noParts) →
         Makes (ruleW ws start s 13 bound fresh) (alone vs (climb (nameOf h) (l .frames) nil))

@@ -1,4 +1,4 @@
--- `moving::find::in_scope` meets its contract: the body of a scope.
+-- `finding::find::in_scope` meets its contract: the body of a scope.
 -- Assumes nothing.
 use Rattle.finding.specs.Find.{inScopeW}
 use borrow.Author.Needs.{needs}
@@ -14,6 +14,9 @@ enum-known-f-2 c = search needs
 scope-of-requires : tie.Need-scope-of-requires
 scope-of-requires c κs = search needs
 
+level-of-requires : tie.Need-level-of-requires
+level-of-requires c κs = search needs
+
 catcher-of-requires : tie.Need-catcher-of-requires
 catcher-of-requires c κs = search needs
 
@@ -26,10 +29,10 @@ returns c =
 returns-2 : tie.Need-returns-2
 unfolding inScopeW
 returns-2 c =
-    let f0 = c .before .before .before .f2 .given .1 in
-    simp (← (c .catcher-of .ensures), ← (c .before .scope-of .ensures), f0)
+    let f0 = c .before .before .before .before .f2 .given .1 in
+    simp (← (c .catcher-of .ensures), ← (c .before .level-of .ensures), ← (c .before .before .scope-of .ensures), f0)
 
 pub in-scope-spec : {M : Type 1} → statement M
 in-scope-spec =
     tie.close
-    (tie.spec enum-known-f enum-known-f-2 scope-of-requires catcher-of-requires returns returns-2)
+    (tie.spec enum-known-f enum-known-f-2 scope-of-requires level-of-requires catcher-of-requires returns returns-2)

@@ -27,9 +27,6 @@ further-requires-2 c κs = search needs
 update-requires : tie.Need-update-requires
 update-requires c κs = search needs
 
-level-requires : tie.Need-level-requires
-level-requires c κs = search needs
-
 too-deep-requires : tie.Need-too-deep-requires
 too-deep-requires c κs = search needs
 
@@ -43,8 +40,8 @@ returns-2 : tie.Need-returns-2
 unfolding installedW
 returns-2 c =
     let f0 = c .before .if2 .taken in
-    let f1 = c .before .before .before .before .before .before .before .before .before .before .if1 .left in
-    (simp (tests, ← (c .refuse .ensures), f0, ← (c .before .before .too-deep .ensures), ← (c .before .before .before .level .ensures), ← (c .before .before .before .before .before .before .update .ensures .0), ← (c .before .before .before .before .before .before .update .ensures .1), ← (c .before .before .before .before .before .before .before .before .further2 .ensures), ← (c .before .before .before .before .before .before .before .before .before .further .ensures), f1), simp (tests, ← (c .refuse .ensures), f0, ← (c .before .before .too-deep .ensures), ← (c .before .before .before .level .ensures), ← (c .before .before .before .before .before .before .update .ensures .0), ← (c .before .before .before .before .before .before .update .ensures .1), ← (c .before .before .before .before .before .before .before .before .further2 .ensures), ← (c .before .before .before .before .before .before .before .before .before .further .ensures), f1))
+    let f1 = c .before .before .before .before .before .before .before .before .before .if1 .left in
+    (simp (tests, ← (c .refuse .ensures), f0, ← (c .before .before .too-deep .ensures), ← (c .before .before .before .before .before .update .ensures .0), ← (c .before .before .before .before .before .update .ensures .1), ← (c .before .before .before .before .before .before .before .further2 .ensures), ← (c .before .before .before .before .before .before .before .before .further .ensures), f1), simp (tests, ← (c .refuse .ensures), f0, ← (c .before .before .too-deep .ensures), ← (c .before .before .before .before .before .update .ensures .0), ← (c .before .before .before .before .before .update .ensures .1), ← (c .before .before .before .before .before .before .before .further2 .ensures), ← (c .before .before .before .before .before .before .before .before .further .ensures), f1))
 
 updated-requires : tie.Need-updated-requires
 updated-requires c κs = search needs
@@ -56,8 +53,8 @@ returns-3 : tie.Need-returns-3
 unfolding installedW
 returns-3 c =
     let f0 = c .before .before .before .before .if2 .left in
-    let f1 = c .before .before .before .before .before .before .before .before .before .before .before .before .before .if1 .left in
-    (simp (tests, ← (c .before .before .updated .ensures .0), ← (c .before .before .updated .ensures .1), f0, ← (c .before .before .before .before .before .too-deep .ensures), ← (c .before .before .before .before .before .before .level .ensures), ← (c .before .before .before .before .before .before .before .before .before .update .ensures .0), ← (c .before .before .before .before .before .before .before .before .before .update .ensures .1), ← (c .before .before .before .before .before .before .before .before .before .before .before .further2 .ensures), ← (c .before .before .before .before .before .before .before .before .before .before .before .before .further .ensures), f1), simp (tests, ← (c .before .before .updated .ensures .0), ← (c .before .before .updated .ensures .1), f0, ← (c .before .before .before .before .before .too-deep .ensures), ← (c .before .before .before .before .before .before .level .ensures), ← (c .before .before .before .before .before .before .before .before .before .update .ensures .0), ← (c .before .before .before .before .before .before .before .before .before .update .ensures .1), ← (c .before .before .before .before .before .before .before .before .before .before .before .further2 .ensures), ← (c .before .before .before .before .before .before .before .before .before .before .before .before .further .ensures), f1))
+    let f1 = c .before .before .before .before .before .before .before .before .before .before .before .before .if1 .left in
+    (simp (tests, ← (c .before .before .updated .ensures .0), ← (c .before .before .updated .ensures .1), f0, ← (c .before .before .before .before .before .too-deep .ensures), ← (c .before .before .before .before .before .before .before .before .update .ensures .0), ← (c .before .before .before .before .before .before .before .before .update .ensures .1), ← (c .before .before .before .before .before .before .before .before .before .before .further2 .ensures), ← (c .before .before .before .before .before .before .before .before .before .before .before .further .ensures), f1), simp (tests, ← (c .before .before .updated .ensures .0), ← (c .before .before .updated .ensures .1), f0, ← (c .before .before .before .before .before .too-deep .ensures), ← (c .before .before .before .before .before .before .before .before .update .ensures .0), ← (c .before .before .before .before .before .before .before .before .update .ensures .1), ← (c .before .before .before .before .before .before .before .before .before .before .further2 .ensures), ← (c .before .before .before .before .before .before .before .before .before .before .before .further .ensures), f1))
 
 pub installed-spec : {M : Type 1} → statement M
 installed-spec =
@@ -69,7 +66,6 @@ installed-spec =
     further-requires
     further-requires-2
     update-requires
-    level-requires
     too-deep-requires
     refuse-requires
     same-length-2
