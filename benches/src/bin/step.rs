@@ -1,8 +1,9 @@
 //! Times `sock_step`: beside the second implementation, which builds trees, and beside a bare copy of the configuration. Every rule, at
 //! about 200, 2,000 and 8,192 words, and the worst shapes. Prints a table and, given a file's name, draws the times a word there.
 
+use benches::clock;
+use benches::plot::{self, Point};
 use benches::rules::{by_rule, worst, Case, RULES};
-use benches::{clock, plot};
 use reference::Numbers;
 use std::hint::black_box;
 
@@ -73,35 +74,55 @@ fn agree(name: &str, case: &Case, number: u64) {
     assert_eq!(ours, theirs, "{name}");
 }
 
-fn row(name: &str, cases: &[Case], number: u64) -> plot::Point {
+/// Times a step on the cases, which have to answer the number.
+fn measure(name: &str, cases: &[Case], number: u64) -> Point {
     cases.iter().for_each(|case| agree(name, case, number));
     let words =
         cases.iter().map(|case| case.config.len() / 2).sum::<usize>() as f64 / cases.len() as f64;
-    let [ours, trees, copies] = [proved as Step, tree, copy].map(|step| time(cases, step));
-    let [a, b] = [ours, trees].map(|t| t / words);
+    let [proved, tree, copy] = [proved as Step, tree, copy].map(|step| time(cases, step) / words);
+    Point { words, proved, tree, copy }
+}
+
+/// One line: a column for each length.
+fn print(name: &str, points: &[Point]) {
+    let columns =
+        |value: &dyn Fn(&Point) -> String| points.iter().map(value).collect::<Vec<_>>().join(" / ");
     println!(
-        "| {name} | {words:.0} | {ours:.0} | {a:.2} | {b:.1} | {:.1} | {:.0} |",
-        trees / ours,
-        ours / copies
+        "| {name} | {} | {} | {} | {} | {} |",
+        columns(&|p| format!("{:.0}", p.words)),
+        columns(&|p| format!("{:.1}", p.proved)),
+        columns(&|p| format!("{:.1}", p.tree)),
+        columns(&|p| format!("{:.1}", p.tree / p.proved)),
+        columns(&|p| format!("{:.0}", p.proved / p.copy)),
     );
-    plot::Point { words, proved: ours / words, tree: trees / words, copy: copies / words }
+}
+
+fn rules() -> Vec<Point> {
+    let mut all = Vec::new();
+    for rule in &RULES {
+        let cases = |words| (0..20).map(|seed| by_rule(rule, seed, words)).collect::<Vec<_>>();
+        let points = [200, 2_000, 8_192].map(|words| measure(rule.0, &cases(words), 0));
+        print(rule.0, &points);
+        all.extend(points);
+    }
+    all
+}
+
+fn worst_shapes() -> Vec<Point> {
+    let mut all = Vec::new();
+    for ((name, short), (_, long)) in worst(2_000).into_iter().zip(worst(8_192)) {
+        let number = if name.starts_with("refused") { 2 } else { 0 };
+        let points = [short, long].map(|case| measure(name, &[case], number));
+        print(name, &points);
+        all.extend(points);
+    }
+    all
 }
 
 fn main() {
-    println!("| step | words | proved, ns | proved, ns a word | tree, ns a word | times faster | bare copies |");
-    println!("|---|---|---|---|---|---|---|");
-    let mut points = Vec::new();
-    for words in [200, 2_000, 8_192] {
-        for rule in &RULES {
-            let cases = (0..20).map(|seed| by_rule(rule, seed, words)).collect::<Vec<_>>();
-            points.push(row(rule.0, &cases, 0));
-        }
-    }
-    for words in [2_000, 8_192] {
-        for (name, case) in worst(words) {
-            points.push(row(name, &[case], if name.starts_with("refused") { 2 } else { 0 }));
-        }
-    }
+    println!("| step | words | proved, ns a word | tree, ns a word | times faster | bare copies |");
+    println!("|---|---|---|---|---|---|");
+    let points = rules().into_iter().chain(worst_shapes()).collect::<Vec<_>>();
     if let Some(file) = std::env::args().nth(1) {
         std::fs::write(file, plot::draw(&points)).expect("the plot's file can be written");
     }
