@@ -23,6 +23,7 @@ use Rattle.sock.proofs.Positions.{at-head}
 use Rattle.sock.proofs.Shrinking.{NoLarger, plug-shrinks}
 use Rattle.finding.specs.declared.find.Spot.{Spot}
 use Rattle.finding.proofs.Framing.{scoped, region, outside, nearest-self}
+use Rattle.finding.proofs.Pieces.{hole}
 use Rattle.finding.proofs.Spots.{Spotted}
 use Rattle.finding.proofs.Edits.{process-at, list-at, region-changed, scope-none}
 use Rattle.moving.specs.Writing.{onward}
@@ -38,7 +39,8 @@ use Rattle.rules.proofs.Outcomes.{Ruled, tooDeep, ruled}
 use Rattle.scopes.specs.Installing.{tooDeepW, updatedW, installedW}
 use Rattle.scopes.proofs.NearestLists.{nearest-length, nearest-spread, nearest-within, nearest-deep, update-keeps}
 use Rattle.scopes.proofs.ScopeLists.{whole-inside, frames-deep, nil-ruled, process-inside, list-deep, region-length, list-first, list-inside, to-list, list-ends}
-use Rattle.scopes.proofs.NilLists.{list-plans}
+use Rattle.scopes.proofs.NilLists.{hollow-to, list-plans}
+use Rattle.scopes.proofs.Scratch.{Spacious}
 
 too-deep : (level levels : ℕ) → level ≤ 64 → tooDeepW level levels ≡ ltb 64 (level + levels)
 unfolding tooDeepW
@@ -50,12 +52,16 @@ too-deep level levels h = by (ltb 64 levels) refl
         let z : levels ≤ 64 = ltb-false 64 levels e in
         ap (ltb 64) (onward-near level levels 128 (near-of 128 (omega arith)) (omega arith))
 
+hole-short : (b : Bool) → length (hole b) ≤ 1
+hole-short true = omega arith
+hole-short false = omega arith
+
 module _ (f target : ℕ) (r : Run) (start : ℕ) (l : Located) (s : Spot) (ws : List ℕ)
     (words-at : drop start ws ≡ runWords r ++ drop (start + size r) ws)
     (spotted : Spotted f target r start 1 l s) (near : Near (length ws)) {n issued : ℕ} (frames : SoundFrames n issued (l .frames))
     (deep : runDepth r ≤ 64)
     (pos : 0 < start) (short : length ws ≤ 8192)
-    (fresh : List ℕ) (room : 16384 ≤ length fresh) (big : Near (length fresh))
+    (fresh : List ℕ) (room : 0 < length fresh) (big : Near (length fresh))
     (h : ℕ) (new : Entries) (is : l .process ≡ act (node h [] [] (list new) noParts)) (fit : FitsEntries false zero new) where
   abbrev es : Entries
   es = nearest (l .frames)
@@ -78,14 +84,14 @@ module _ (f target : ℕ) (r : Run) (start : ℕ) (l : Located) (s : Spot) (ws :
   its-depth = ap runDepth is ∙ (depth-act (node h [] [] (list new) noParts) ∙ omega arith)
 
   abbrev Result : Planned → Type 0
-  Result u = Ruled ws start (start + size r) (u .plan) (u .fresh) (some (plug changed nil)) × (u .plan .x ≡ 32)
+  Result u = Spacious u fresh → Ruled ws start (start + size r) (u .plan) (u .fresh) (some (plug changed nil)) × (u .plan .x ≡ 32)
 
   bare : T (not (scoped (l .frames))) → Result (installedW ws start s fresh)
   unfolding installedW
   bare t =
       let z = scope-none f target r start 1 l s ws (drop (start + size r) ws) words-at spotted t in
       rw (eq-eqb (s .scope) 0 z, nearest-self change (l .frames) t)
-      (nil-ruled f target r start l s ws words-at spotted near frames deep fresh (omega arith) big)
+      (λ w. nil-ruled f target r start l s ws words-at spotted near frames deep fresh room big)
 
   -- with a scope around it
   module _ (t : T (scoped (l .frames))) where
@@ -156,24 +162,37 @@ module _ (f target : ℕ) (r : Run) (start : ℕ) (l : Located) (s : Spot) (ws :
     changed-deep : 64 < suc (outside (l .frames)) + made .answer .levels → 64 < runDepth (plug changed nil)
     changed-deep high = omega (arith, nearest-deep frames change t nil, updating .shallow)
 
-    list-laid : made .answer .to ≤ 8192 → take (made .answer .to) (made .out) ≡ region changed
+    list-laid : made .answer .to + 130 ≤ length fresh → take (made .answer .to) (made .out) ≡ region changed
     list-laid low =
         ap (λ i. take i (made .out)) (updating .reaches)
         ∙ (updating .laid (omega (arith, updating .reaches)) ∙ sym (region-changed change (l .frames) t))
+
+    to-near : Near (made .answer .to + 1)
+    to-near = near-of (made .answer .to + 1) (omega (arith, updating .reaches, not-huge))
+
+    spared :
+        Spacious (updatedW ws s (s .scope + 2) (made .answer .to) (made .out)) fresh → made .answer .to ≤ 8192 →
+        made .answer .to + 130 ≤ length fresh
+    unfolding updatedW nilW
+    spared w low =
+        let e = hollow-to (s .hollow) (made .answer .to) (made .out) to-near in
+        let z = hole-short (s .hollow) in
+        let x = w (omega arith) in
+        omega arith
 
     -- if there are levels left for it
     placed :
         (b : Bool) → ltb 64 (suc (outside (l .frames)) + made .answer .levels) ≡ b →
         Result (cond b (planned (refusedPlan 8) (made .out)) (updatedW ws s (s .scope + 2) (made .answer .to) (made .out)))
     unfolding updatedW nilW
-    placed true e = (tooDeep refl (changed-deep (ltb-true 64 (suc (outside (l .frames)) + made .answer .levels) e)), refl)
-    placed false e =
+    placed true e = λ w. (tooDeep refl (changed-deep (ltb-true 64 (suc (outside (l .frames)) + made .answer .levels) e)), refl)
+    placed false e = λ w.
         rw (list-ends f target r start l s ws words-at spotted near frames deep t) (
           ruled refl
               (list-plans f target r start l s ws words-at spotted near frames deep t change (made .answer .to) (made .out)
               (updating .reaches)
-              (near-of (made .answer .to + 1) (omega (arith, updating .reaches, not-huge)))
-              (λ x. omega (arith, updating .keeps)) list-laid 32 0)
+              to-near
+              (λ x. omega (arith, updating .keeps, spared w x)) (λ x. list-laid (spared w x)) 32 0)
               (changed-fits (ltb-false 64 (suc (outside (l .frames)) + made .answer .levels) e)),
           refl,
         )
@@ -193,6 +212,7 @@ module _ (f target : ℕ) (r : Run) (start : ℕ) (l : Located) (s : Spot) (ws :
 
   pub installs :
       (let u = installedW ws start s fresh in
+      Spacious u fresh →
       Ruled ws start (start + size r) (u .plan) (u .fresh) (some (plug (onNearest (λ x. update x new) (l .frames)) nil))
       × (u .plan .x ≡ 32))
   installs = by (scoped (l .frames)) refl

@@ -36,7 +36,7 @@ laid-part {out} {to} {upto} {new} {last} h x e =
     ∙ (sym (drop-at (take to last) (take (length new) (drop to last)) (length (take to last)) refl)
     ∙ (ap (drop (length (take to last))) whole ∙ drop-at (take to last) new (length (take to last)) refl))
 
-hollow-to : (hollow : Bool) (f : ℕ) (out : List ℕ) → Near (f + 1) → hollowW hollow f out .to ≡ f + length (hole hollow)
+pub hollow-to : (hollow : Bool) (f : ℕ) (out : List ℕ) → Near (f + 1) → hollowW hollow f out .to ≡ f + length (hole hollow)
 unfolding hollowW
 hollow-to true f out near = onward-near f 1 (f + 1) near (omega arith)
 hollow-to false f out near = omega arith

@@ -53,7 +53,7 @@ use Rattle.scopes.proofs.Compensates
 use Rattle.scopes.proofs.Installs
 use Rattle.scopes.proofs.Throws.{thrown-ruled}
 use Rattle.scopes.proofs.Ends.{ends}
-use Rattle.scopes.proofs.Scratch.{Roomy}
+use Rattle.scopes.proofs.Scratch.{Roomy, Spacious}
 use Rattle.stepping.specs.Exchanging.{lent}
 use Rattle.stepping.specs.Alone.{turnW, valuedW, scopedW, ruleW}
 use Rattle.stepping.proofs.Writes.{valued}
@@ -166,7 +166,8 @@ module _ (ws : List ℕ) (ok : Words ws) (n issued : ℕ) (few : n ≤ 8) (small
   bound = n * 65536 + issued
 
   module _ (vs : List ℕ) (below : AllBelow 4294967296 vs) (values : part (start - 64) start ws ≡ valuesWords vs)
-      (fresh : List ℕ) (room : Roomy ws fresh) (wide : kind (asNode (l .process)) ≡ 12 → 16384 ≤ length fresh) (big : Near (length fresh)) where
+      (fresh : List ℕ) (room : Roomy ws fresh)
+      (wide : Spacious (ruleW ws start s (kind (asNode (l .process))) bound fresh) fresh) (big : Near (length fresh)) where
     -- what the rule makes, if it moves alone
     abbrev Makes : Planned → Move → Type 0
     Makes u stuck = Unit {0}
@@ -287,7 +288,8 @@ module _ (ws : List ℕ) (ok : Words ws) (n issued : ℕ) (few : n ≤ 8) (small
     unfolding ruleW scopedW asNode
     made-install h new k fit is =
         still _ _ (Installs.installs (faultAt ws target) target r start l s ws words-at spotted near (standing .frames) deep (omega arith)
-        short fresh (wide (ap (λ p. kind (asNode p)) is ∙ k)) big h new is fit)
+        short fresh (omega (arith, room .few)) big h new is fit
+        (let e : kind (asNode (l .process)) ≡ 12 = ap (λ p. kind (asNode p)) is ∙ k in rw e at wide))
 
     made-throw : (h : ℕ) → kindOf h ≡ 13 → l .process ≡ act (node h [] [] absent noParts) →
         Makes (ruleW ws start s 13 bound fresh) (alone vs (climb (nameOf h) (l .frames) nil))
@@ -373,7 +375,9 @@ module _ (ws : List ℕ) (ok : Words ws) (starts : Starts) (known : Known standa
         (startOf c e) run-stands (omega arith) run-deep run-short target l s place spotted
 
     pub known-lone :
-        (fresh : List ℕ) → Roomy ws fresh → (kind (asNode (l .process)) ≡ 12 → 16384 ≤ length fresh) → Near (length fresh) →
+        (fresh : List ℕ) → Roomy ws fresh →
+        Spacious (ruleW ws (startOf c e) s (kind (asNode (l .process))) (length (c .engines) * 65536 + c .issued) fresh) fresh →
+        Near (length fresh) →
         (vs' : List ℕ) (q : Option Run) → moveOf (engineAt c e .values) (l .frames) (l .process) ≡ alone vs' q →
         (let u = ruleW ws (startOf c e) s (kind (asNode (l .process))) (length (c .engines) * 65536 + c .issued) fresh in
         Ruled ws (startOf c e) (startOf c e + size run) (u .plan) (u .fresh) q

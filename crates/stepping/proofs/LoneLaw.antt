@@ -6,8 +6,8 @@ use mathlib.Core.Path.{_≡_, refl, sym, ap, _∙_}
 use mathlib.Core.Bool.{Bool, true, false, cond}
 use mathlib.Core.Option.{Option, none, some}
 use mathlib.Core.List.{List}
-use borrow.Author.Tests.{ltb-false, eqb-false}
-use lib.Dec.{ltb, eqb, lit<}
+use borrow.Author.Tests.{ltb-false}
+use lib.Dec.{ltb, lit<}
 use lib.ListN.{length, getD, length-replicate}
 use Rattle.sock.specs.Term.{kind}
 use Rattle.sock.specs.Running.{Run, asNode, size}
@@ -24,9 +24,9 @@ use Rattle.finding.specs.declared.find.Spot.{Spot}
 use Rattle.rules.specs.Planning.{Planned}
 use Rattle.moving.proofs.Laid.{Near, near-of}
 use Rattle.rules.proofs.Outcomes.{Ruled, unkillable, tooDeep, ruled}
-use Rattle.scopes.proofs.Scratch.{Roomy}
+use Rattle.scopes.proofs.Scratch.{Roomy, Spacious}
 use Rattle.stepping.specs.Answering.{answered, refusing, oneW}
-use Rattle.stepping.specs.Alone.{ruleW, loneW, large, small, aloneW}
+use Rattle.stepping.specs.Alone.{ruleW, loneW, large, small, shortW, aloneW}
 use Rattle.stepping.proofs.Goal.{given, given-refused}
 use Rattle.stepping.proofs.Given.{one-refused, one-deep, one-given}
 use Rattle.stepping.proofs.Writes.{valued}
@@ -82,16 +82,18 @@ module _ (ws : List ℕ) (ok : Words ws) (s : Starts) (known : Known standard ws
   pub lone-law :
       (vs' : List ℕ) (q : Option Run) → moveOf (engineAt c e .values) (l .frames) (l .process) ≡ alone vs' q → k < 32 → (out : List ℕ) →
       aloneW ws (getD (s .starts) e 0) (getD (s .starts) (e + 1) 0) sp k bound out ≡ given (loneOf c a vs' q (length out)) out
-  unfolding aloneW loneW
-  lone-law vs' q m low out = by (eqb k 12) (ltb 512 (length ws)) refl refl
+  unfolding aloneW shortW loneW
+  lone-law vs' q m low out = by (ltb 512 (length ws)) (ltb 800 (ruleW ws (getD (s .starts) e 0) sp k bound small .plan .g)) refl refl
     where
+      first : getD (s .starts) e 0 ≡ start
+      first = known .starts e (omega (arith, seen .inside))
+
       -- whatever the scratch is, if it has room
       scratched :
-          (fresh : List ℕ) → Roomy ws fresh → (k ≡ 12 → 16384 ≤ length fresh) → Near (length fresh) →
+          (fresh : List ℕ) → Roomy ws fresh → Spacious (ruleW ws start sp k bound fresh) fresh → Near (length fresh) →
           loneW ws (getD (s .starts) e 0) (getD (s .starts) (e + 1) 0) sp k bound fresh out ≡ given (loneOf c a vs' q (length out)) out
       scratched fresh room wide big =
           let r = known-lone ws ok s known e (seen .inside) target l sp (seen .place) (seen .spotted) fresh room wide big vs' q m in
-          let first : getD (s .starts) e 0 ≡ start = known .starts e (omega (arith, seen .inside)) in
           let last : getD (s .starts) (e + 1) 0 - 64 ≡ end =
           (let y : getD (s .starts) (e + 1) 0 ≡ startOf c (e + 1) = known .starts (e + 1) (omega (arith, seen .inside)) in
           let z = start-next c (known .readable .fitting) e (seen .inside) in
@@ -101,10 +103,10 @@ module _ (ws : List ℕ) (ok : Words ws) (s : Starts) (known : Known standard ws
       in-large : loneW ws (getD (s .starts) e 0) (getD (s .starts) (e + 1) 0) sp k bound large out ≡ given (loneOf c a vs' q (length out)) out
       in-large =
           scratched large (record { twice = omega (arith, large-length, short); few = omega (arith, large-length) })
-          (λ i. omega (arith, large-length)) (rw large-length (near-of 16384 (lit< tt)))
+          (λ h. omega (arith, large-length)) (rw large-length (near-of 16384 (lit< tt)))
 
       by :
-          (b d : Bool) → eqb k 12 ≡ b → ltb 512 (length ws) ≡ d →
+          (b d : Bool) → ltb 512 (length ws) ≡ b → ltb 800 (ruleW ws (getD (s .starts) e 0) sp k bound small .plan .g) ≡ d →
           cond b (loneW ws (getD (s .starts) e 0) (getD (s .starts) (e + 1) 0) sp k bound large out)
           (cond d (loneW ws (getD (s .starts) e 0) (getD (s .starts) (e + 1) 0) sp k bound large out)
           (loneW ws (getD (s .starts) e 0) (getD (s .starts) (e + 1) 0) sp k bound small out))
@@ -112,6 +114,8 @@ module _ (ws : List ℕ) (ok : Words ws) (s : Starts) (known : Known standard ws
       by true d p r = in-large
       by false true p r = in-large
       by false false p r =
-          let few : length ws ≤ 512 = omega (arith, ltb-false 512 (length ws) r) in
+          let few : length ws ≤ 512 = ltb-false 512 (length ws) p in
+          let spare : ruleW ws start sp k bound small .plan .g ≤ 800 =
+          rw first at (ltb-false 800 (ruleW ws (getD (s .starts) e 0) sp k bound small .plan .g) r) in
           scratched small (record { twice = omega (arith, small-length, few); few = omega (arith, small-length) })
-          (λ i. absurd (eqb-false k 12 p i)) (rw small-length (near-of 1024 (lit< tt)))
+          (λ h. omega (arith, spare, small-length)) (rw small-length (near-of 1024 (lit< tt)))

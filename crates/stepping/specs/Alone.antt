@@ -49,7 +49,12 @@ large = replicate 16384 0
 abbrev pub small : List ℕ
 small = replicate 1024 0
 
+-- again with the long scratch, if there may have been too little room
+unfoldable pub shortW : List ℕ → ℕ → ℕ → Spot → ℕ → ℕ → List ℕ → List ℕ → Answered
+shortW ws start next s kind bound fresh out =
+    cond (ltb 800 (ruleW ws start s kind bound fresh .plan .g)) (loneW ws start next s kind bound large out)
+    (loneW ws start next s kind bound fresh out)
+
 unfoldable pub aloneW : List ℕ → ℕ → ℕ → Spot → ℕ → ℕ → List ℕ → Answered
 aloneW ws start next s kind bound out =
-    cond (eqb kind 12) (loneW ws start next s kind bound large out)
-    (cond (ltb 512 (length ws)) (loneW ws start next s kind bound large out) (loneW ws start next s kind bound small out))
+    cond (ltb 512 (length ws)) (loneW ws start next s kind bound large out) (shortW ws start next s kind bound small out)

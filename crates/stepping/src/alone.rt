@@ -17,7 +17,7 @@ use scopes::throwing::thrown;
 ghost use mathlib.Core.Path.{_≡_};
 ghost use Prim.Native.Nat.{_<_};
 ghost use lib.ListN.{length};
-ghost use Rattle.stepping.specs.Alone.{turnW, valuedW, scopedW, ruleW, loneW, large, aloneW};
+ghost use Rattle.stepping.specs.Alone.{turnW, valuedW, scopedW, ruleW, loneW, large, shortW, aloneW};
 
 // Assign, if or while, handed the words from its position on and the engine's values.
 fn turn(
@@ -126,7 +126,36 @@ fn roomy(
     lone(ws, start, next, s, kind, bound, &mut fresh, out)
 }
 
-// Only inst writes more than twice the words that it reads. For a short configuration a long scratch would take more time than the step.
+// With the short scratch. Inst can make more words than that holds, counts also those that find no room, and wants 130 places to spare:
+// where it may have had too few, the plan is made again.
+fn short(
+    ws: &[u16],
+    start: usize,
+    next: usize,
+    s: Spot,
+    kind: usize,
+    bound: usize,
+    fresh: &mut [u16],
+    out: &mut [u16],
+) -> Answer
+    ensures { λ r. ⌜ (r ≡ shortW (now (ws .entry)) start next s kind bound (now (fresh .entry)) (now (out .entry)) .answer) × (now (out .exit) ≡ shortW (now (ws .entry)) start next s kind bound (now (fresh .entry)) (now (out .entry)) .out) ⌝ }
+{
+    let p = rule(ws, start, s, kind, bound, fresh);
+    if 800 < p.g {
+        return roomy(ws, start, next, s, kind, bound, out);
+    }
+    one(
+        ws,
+        start,
+        end_before(next),
+        p,
+        (kind % 32) as u8,
+        fresh,
+        out,
+    )
+}
+
+// To clear the long scratch would take more time than the step of a short configuration.
 pub fn alone(
     ws: &[u16],
     start: usize,
@@ -138,12 +167,9 @@ pub fn alone(
 ) -> Answer
     ensures { λ r. ⌜ (r ≡ aloneW (now (ws .entry)) start next s kind bound (now (out .entry)) .answer) × (now (out .exit) ≡ aloneW (now (ws .entry)) start next s kind bound (now (out .entry)) .out) ⌝ }
 {
-    if kind == 12 {
-        return roomy(ws, start, next, s, kind, bound, out);
-    }
     if 512 < ws.len() {
         return roomy(ws, start, next, s, kind, bound, out);
     }
     let mut fresh = [0u16; 1024];
-    lone(ws, start, next, s, kind, bound, &mut fresh, out)
+    short(ws, start, next, s, kind, bound, &mut fresh, out)
 }
