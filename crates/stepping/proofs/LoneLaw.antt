@@ -26,7 +26,7 @@ use Rattle.moving.proofs.Laid.{Near, near-of}
 use Rattle.rules.proofs.Outcomes.{Ruled, unkillable, tooDeep, ruled}
 use Rattle.scopes.proofs.Scratch.{Roomy, Spacious}
 use Rattle.stepping.specs.Answering.{answered, refusing, oneW}
-use Rattle.stepping.specs.Alone.{ruleW, loneW, large, small, shortW, aloneW}
+use Rattle.stepping.specs.Alone.{ruleW, loneW, large, small, shortW, aloneW, surely}
 use Rattle.stepping.proofs.Goal.{given, given-refused}
 use Rattle.stepping.proofs.Given.{one-refused, one-deep, one-given}
 use Rattle.stepping.proofs.Writes.{valued}
@@ -83,7 +83,7 @@ module _ (ws : List ℕ) (ok : Words ws) (s : Starts) (known : Known standard ws
       (vs' : List ℕ) (q : Option Run) → moveOf (engineAt c e .values) (l .frames) (l .process) ≡ alone vs' q → k < 32 → (out : List ℕ) →
       aloneW ws (getD (s .starts) e 0) (getD (s .starts) (e + 1) 0) sp k bound out ≡ given (loneOf c a vs' q (length out)) out
   unfolding aloneW shortW loneW
-  lone-law vs' q m low out = by (ltb 512 (length ws)) (ltb 800 (ruleW ws (getD (s .starts) e 0) sp k bound small .plan .g)) refl refl
+  lone-law vs' q m low out = by (ltb 512 (length ws)) (ltb surely (ruleW ws (getD (s .starts) e 0) sp k bound small .plan .g)) refl refl
     where
       first : getD (s .starts) e 0 ≡ start
       first = known .starts e (omega (arith, seen .inside))
@@ -106,7 +106,7 @@ module _ (ws : List ℕ) (ok : Words ws) (s : Starts) (known : Known standard ws
           (λ h. omega (arith, large-length)) (rw large-length (near-of 16384 (lit< tt)))
 
       by :
-          (b d : Bool) → ltb 512 (length ws) ≡ b → ltb 800 (ruleW ws (getD (s .starts) e 0) sp k bound small .plan .g) ≡ d →
+          (b d : Bool) → ltb 512 (length ws) ≡ b → ltb surely (ruleW ws (getD (s .starts) e 0) sp k bound small .plan .g) ≡ d →
           cond b (loneW ws (getD (s .starts) e 0) (getD (s .starts) (e + 1) 0) sp k bound large out)
           (cond d (loneW ws (getD (s .starts) e 0) (getD (s .starts) (e + 1) 0) sp k bound large out)
           (loneW ws (getD (s .starts) e 0) (getD (s .starts) (e + 1) 0) sp k bound small out))
@@ -115,7 +115,7 @@ module _ (ws : List ℕ) (ok : Words ws) (s : Starts) (known : Known standard ws
       by false true p r = in-large
       by false false p r =
           let few : length ws ≤ 512 = ltb-false 512 (length ws) p in
-          let spare : ruleW ws start sp k bound small .plan .g ≤ 800 =
-          rw first at (ltb-false 800 (ruleW ws (getD (s .starts) e 0) sp k bound small .plan .g) r) in
+          let spare : ruleW ws start sp k bound small .plan .g ≤ surely =
+          rw first at (ltb-false surely (ruleW ws (getD (s .starts) e 0) sp k bound small .plan .g) r) in
           scratched small (record { twice = omega (arith, small-length, few); few = omega (arith, small-length) })
           (λ h. omega (arith, spare, small-length)) (rw small-length (near-of 1024 (lit< tt)))

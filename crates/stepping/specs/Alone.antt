@@ -49,10 +49,14 @@ large = replicate 16384 0
 abbrev pub small : List ℕ
 small = replicate 1024 0
 
+-- so many fresh words find room in the short scratch, with 130 to spare
+abbrev pub surely : ℕ
+surely = 800
+
 -- again with the long scratch, if there may have been too little room
 unfoldable pub shortW : List ℕ → ℕ → ℕ → Spot → ℕ → ℕ → List ℕ → List ℕ → Answered
 shortW ws start next s kind bound fresh out =
-    cond (ltb 800 (ruleW ws start s kind bound fresh .plan .g)) (loneW ws start next s kind bound large out)
+    cond (ltb surely (ruleW ws start s kind bound fresh .plan .g)) (loneW ws start next s kind bound large out)
     (loneW ws start next s kind bound fresh out)
 
 unfoldable pub aloneW : List ℕ → ℕ → ℕ → Spot → ℕ → ℕ → List ℕ → Answered

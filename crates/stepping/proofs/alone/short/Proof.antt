@@ -9,7 +9,7 @@ use lib.Dec.{ltb}
 use Rattle.finding.specs.declared.find.Spot.{Spot}
 use Rattle.rules.specs.declared.plan.Plan.{Plan}
 use Rattle.stepping.specs.Answering.{oneW}
-use Rattle.stepping.specs.Alone.{ruleW, loneW, shortW}
+use Rattle.stepping.specs.Alone.{ruleW, loneW, shortW, surely}
 use Rattle.moving.proofs.Tests.{tests}
 use borrow.Author.Needs.{needs}
 use Rattle.stepping.proofs.alone.short.Statement.{statement}
@@ -21,11 +21,11 @@ kept :
     p ≡ ruleW ws start s kind bound fresh .plan →
     made ≡ ruleW ws start s kind bound fresh .fresh →
     end ≡ next - 64 →
-    p .g ≤ 800 →
+    p .g ≤ surely →
     oneW ws start end p (kind % 32) made out ≡ shortW ws start next s kind bound fresh out
 unfolding shortW loneW
 kept ws start next s kind bound fresh out p made end e f h low =
-    let z : ltb 800 (ruleW ws start s kind bound fresh .plan .g) ≡ false = le-ltb _ _ (rw e at low) in
+    let z : ltb surely (ruleW ws start s kind bound fresh .plan .g) ≡ false = le-ltb _ _ (rw e at low) in
     rw (z, e, f, h)
 
 rule-requires : tie.Need-rule-requires
