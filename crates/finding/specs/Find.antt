@@ -5,22 +5,23 @@ use mathlib.Core.Bool.{Bool, true, false, not, _||_, cond}
 use mathlib.Core.List.{List}
 use lib.Dec.{ltb, leb, eqb}
 use lib.ListN.{length, getD}
-use Rattle.skipping.specs.Skip.{skipEnd, skipList}
+use Rattle.skipping.specs.Skip.{skipList}
+use Rattle.skipping.specs.Pass.{markAt, passEnd, passList}
 use Rattle.finding.specs.declared.find.Spot.{Spot}
 use Rattle.finding.specs.declared.find.Found.{Found}
 use Rattle.finding.specs.declared.find.Found.the-variants.{Hit, Past}
 
 -- a spot where a nil stands or goes: at the process itself, and as it goes on outwards
-unfoldable pub hereW : ℕ → List ℕ → ℕ → ℕ → Found
-hereW d ws level i =
+unfoldable pub hereW : ℕ → List ℕ → List ℕ → ℕ → ℕ → Found
+hereW d ws marks level i =
     Hit
     (record {
       at = i;
       level = level;
       a = i;
-      b = skipEnd d ws i;
-      c = skipEnd d ws i;
-      d = skipEnd d ws i;
+      b = passEnd d ws marks i;
+      c = passEnd d ws marks i;
+      d = passEnd d ws marks i;
       hollow = true;
       closed = false;
       scope = 0;
@@ -41,9 +42,9 @@ seqSpot ws i s =
     (Hit (cut s i (s .d) (s .d) (s .d) false)))
     (Past 0)
 
-unfoldable pub inSeqW : ℕ → List ℕ → ℕ → Found → Found
-inSeqW d ws i (Past e) = Past (skipEnd d ws e)
-inSeqW d ws i (Hit s) = cond (s .closed) (Hit s) (seqSpot ws i s)
+unfoldable pub inSeqW : ℕ → List ℕ → List ℕ → ℕ → Found → Found
+inSeqW d ws marks i (Past e) = Past (passEnd d ws marks e)
+inSeqW d ws marks i (Hit s) = cond (s .closed) (Hit s) (seqSpot ws i s)
 
 -- a side of a par
 unfoldable pub leftW : ℕ → Spot → Found
@@ -116,19 +117,25 @@ inScopeW d ws target level i (Hit s) =
     })
 
 -- by kind; `sub` finds one level down, in what begins at a position
-unfoldable pub nodeW : (ℕ → Found) → ℕ → List ℕ → ℕ → ℕ → ℕ → ℕ → Found
-nodeW sub d ws target level k i =
-    cond (eqb k 2) (inSeqW d ws i (sub (i + 1)))
+unfoldable pub nodeW : (ℕ → Found) → ℕ → List ℕ → List ℕ → ℕ → ℕ → ℕ → ℕ → Found
+nodeW sub d ws marks target level k i =
+    cond (eqb k 2) (inSeqW d ws marks i (sub (i + 1)))
     (cond (eqb k 3) (inParW sub i)
-    (cond (eqb k 11) (inScopeW d ws target level i (sub (skipList d ws 128 (i + 2))))
+    (cond (eqb k 11) (inScopeW d ws target level i (sub (passList d ws marks (i + 2))))
     (cond (eqb k 16) (inBodyW (sub (i + 3)))
-    (Past (skipEnd (suc d) ws i)))))
+    (Past (passEnd (suc d) ws marks i)))))
 
-unfoldable pub findW : ℕ → List ℕ → ℕ → ℕ → ℕ → Found
-findW zero ws target level i = Past 0
-findW (suc d) ws target level i =
+-- whether `target` is outside i..e; no, if e is 0: the end is not known
+unfoldable pub outsideW : ℕ → ℕ → ℕ → Bool
+outsideW i target e = cond (eqb e 0) false (cond (ltb target i) true (leb e target))
+
+unfoldable pub findW : ℕ → List ℕ → List ℕ → ℕ → ℕ → ℕ → Found
+findW zero ws marks target level i = Past 0
+findW (suc d) ws marks target level i =
     cond (ltb i (length ws))
     (cond (eqb i target)
-    (hereW (suc d) ws level i)
-    (nodeW (findW d ws target (level + 1)) d ws target level (getD ws i 0 / 2048) i))
+    (hereW (suc d) ws marks level i)
+    (cond (outsideW i target (markAt marks i))
+    (Past (markAt marks i))
+    (nodeW (findW d ws marks target (level + 1)) d ws marks target level (getD ws i 0 / 2048) i)))
     (Past 0)

@@ -1,11 +1,13 @@
 // Finding an enabled process by its position: the cut that its end would make, the nearest scope, and the scope that catches its fault.
 use reading::reader::wide;
-use skipping::skip::skip;
+use skipping::pass::mark_at;
+use skipping::pass::pass;
+use skipping::pass::pass_list;
 use skipping::skip::skip_list;
 ghost use mathlib.Core.Path.{_≡_};
-ghost use Prim.Native.Nat.{_+_, _<_};
-ghost use lib.ListN.{length};
-ghost use Rattle.finding.specs.Find.{findW, hereW, inSeqW, inParW, leftW, besideW, inBodyW, inScopeW, scopeOf, levelOf, catcherOf, faultAt, catchesW};
+ghost use Prim.Native.Nat.{_+_, _/_, _<_};
+ghost use lib.ListN.{length, getD};
+ghost use Rattle.finding.specs.Find.{findW, nodeW, outsideW, hereW, inSeqW, inParW, leftW, besideW, inBodyW, inScopeW, scopeOf, levelOf, catcherOf, faultAt, catchesW};
 
 // The process at `at`, `level` levels deep. Were it nil, the words a..b and c..d would go; `hollow` tells that a nil would stand at a.
 // `scope` is the head of the nearest scope, `scope_level` its level, `catcher` the head of the scope that stops the fault of a throw; 0
@@ -29,10 +31,18 @@ pub enum Found {
     Past(usize),
 }
 
-// The enabled process whose head is at `target`, in the process at `at`, `level` levels deep; or where that process ends.
-pub fn find(ws: &[u16], at: usize, target: usize, depth: usize, level: usize) -> Found
+// The enabled process whose head is at `target`, in the process at `at`, `level` levels deep; or where that process ends. A process whose
+// end is marked and that does not have the target is passed at once: where all are marked, the search goes down one way only.
+pub fn find(
+    ws: &[u16],
+    marks: &[u16],
+    at: usize,
+    target: usize,
+    depth: usize,
+    level: usize,
+) -> Found
     requires { ⌜ level + depth < 65536 ⌝ }
-    ensures { λ r. ⌜ r ≡ findW depth (now (ws .entry)) target level at ⌝ }
+    ensures { λ r. ⌜ r ≡ findW depth (now (ws .entry)) (now (marks .entry)) target level at ⌝ }
 {
     if depth == 0 {
         return Found::Past(0);
@@ -41,30 +51,54 @@ pub fn find(ws: &[u16], at: usize, target: usize, depth: usize, level: usize) ->
         return Found::Past(0);
     }
     if at == target {
-        return here(ws, at, depth, level);
+        return here(ws, marks, at, depth, level);
     }
-    let d = depth - 1;
+    let e = mark_at(marks, at);
+    if outside(at, target, e) {
+        return Found::Past(e);
+    }
+    node(ws, marks, at, target, depth - 1, level)
+}
+
+// By the kind of the process at `at`, whose parts are `depth` levels deep at most; the target is not its head.
+fn node(ws: &[u16], marks: &[u16], at: usize, target: usize, depth: usize, level: usize) -> Found
+    requires { ⌜ (level + 1 + depth < 65536) × (at < length (now ws)) ⌝ }
+    ensures { λ r. ⌜ r ≡ nodeW (findW depth (now (ws .entry)) (now (marks .entry)) target (level + 1)) depth (now (ws .entry)) (now (marks .entry)) target level (getD (now (ws .entry)) at 0 / 2048) at ⌝ }
+{
     match wide(ws[at]) / 2048 {
-        2 => in_seq(ws, at, find(ws, at + 1, target, d, level + 1), d),
-        3 => in_par(ws, at, target, d, level + 1),
-        11 => in_scope(
-            ws,
-            at,
-            target,
-            level,
-            find(ws, skip_list(ws, at + 2, d, 128), target, d, level + 1),
-            d,
-        ),
-        16 => in_body(find(ws, at + 3, target, d, level + 1)),
-        _ => Found::Past(skip(ws, at, depth)),
+        2 => {
+            let f = find(ws, marks, at + 1, target, depth, level + 1);
+            in_seq(ws, marks, at, f, depth)
+        }
+        3 => in_par(ws, marks, at, target, depth, level + 1),
+        11 => {
+            let body = pass_list(ws, marks, at + 2, depth);
+            let f = find(ws, marks, body, target, depth, level + 1);
+            in_scope(ws, at, target, level, f, depth)
+        }
+        16 => in_body(find(ws, marks, at + 3, target, depth, level + 1)),
+        _ => Found::Past(pass(ws, marks, at, depth + 1)),
     }
 }
 
-// The process itself.
-fn here(ws: &[u16], at: usize, depth: usize, level: usize) -> Found
-    ensures { λ r. ⌜ r ≡ hereW depth (now (ws .entry)) level at ⌝ }
+// Whether `target` is outside at..end; no, if the end is 0: it is not known.
+fn outside(at: usize, target: usize, end: usize) -> bool
+    ensures { λ r. ⌜ r ≡ outsideW at target end ⌝ }
 {
-    let e = skip(ws, at, depth);
+    if end == 0 {
+        return false;
+    }
+    if target < at {
+        return true;
+    }
+    end <= target
+}
+
+// The process itself.
+fn here(ws: &[u16], marks: &[u16], at: usize, depth: usize, level: usize) -> Found
+    ensures { λ r. ⌜ r ≡ hereW depth (now (ws .entry)) (now (marks .entry)) level at ⌝ }
+{
+    let e = pass(ws, marks, at, depth);
     Found::Hit(Spot {
         at,
         level,
@@ -81,11 +115,11 @@ fn here(ws: &[u16], at: usize, depth: usize, level: usize) -> Found
 }
 
 // The first of a seq becoming nil, the second takes the seq's place; a nil second goes on.
-fn in_seq(ws: &[u16], at: usize, f: Found, depth: usize) -> Found
-    ensures { λ r. ⌜ r ≡ inSeqW depth (now (ws .entry)) at f ⌝ }
+fn in_seq(ws: &[u16], marks: &[u16], at: usize, f: Found, depth: usize) -> Found
+    ensures { λ r. ⌜ r ≡ inSeqW depth (now (ws .entry)) (now (marks .entry)) at f ⌝ }
 {
     match f {
-        Found::Past(e) => Found::Past(skip(ws, e, depth)),
+        Found::Past(e) => Found::Past(pass(ws, marks, e, depth)),
         Found::Hit(s) => {
             if s.closed {
                 return Found::Hit(s);
@@ -127,13 +161,13 @@ fn in_seq(ws: &[u16], at: usize, f: Found, depth: usize) -> Found
 }
 
 // A side of a par becoming nil, the other takes the par's place.
-fn in_par(ws: &[u16], at: usize, target: usize, depth: usize, level: usize) -> Found
+fn in_par(ws: &[u16], marks: &[u16], at: usize, target: usize, depth: usize, level: usize) -> Found
     requires { ⌜ (level + depth < 65536) × (at < length (now ws)) ⌝ }
-    ensures { λ r. ⌜ r ≡ inParW (findW depth (now (ws .entry)) target level) at ⌝ }
+    ensures { λ r. ⌜ r ≡ inParW (findW depth (now (ws .entry)) (now (marks .entry)) target level) at ⌝ }
 {
-    match find(ws, at + 1, target, depth, level) {
+    match find(ws, marks, at + 1, target, depth, level) {
         Found::Hit(s) => left(at, s),
-        Found::Past(e) => beside(at, e, find(ws, e, target, depth, level)),
+        Found::Past(e) => beside(at, e, find(ws, marks, e, target, depth, level)),
     }
 }
 

@@ -15,7 +15,7 @@ use Rattle.sock.specs.Running.{Run, nil, seq, par, runWords, size}
 use Rattle.sock.specs.Frames.{isDone, parOf}
 use Rattle.sock.specs.Rules.{also}
 use Rattle.sock.proofs.Measures.{words-par, size-seq, size-par}
-use Rattle.skipping.specs.Skip.{skipEnd}
+use Rattle.skipping.specs.Pass.{passEnd}
 use Rattle.moving.specs.Writing.{lowered}
 use Rattle.moving.specs.Killing.{Killed, Walk, made, goes, seqOn, seqW, lessOne, rightOn, rightW, leftOn, parW}
 use Rattle.moving.proofs.Laid.{Near, onward-near, Laid, laid-put, laid-then, laid-again, laid-less, laid-down}
@@ -66,22 +66,22 @@ goes-on k next e q h = rw (q, ne-eqb e 0 (λ z. omega arith))
 -- ---- seq: the first of it, up to the end of the second
 
 pub seq-gives :
-    {a : Run} {q : Node} {o : Option Run} (d : ℕ) (sub : Walk) (ws : List ℕ) (at : ℕ) →
+    {a : Run} {q : Node} {o : Option Run} (d : ℕ) (sub : Walk) (ws marks : List ℕ) (at : ℕ) →
     Does sub (at + 1) a o →
-    skipEnd d ws (at + 1 + size a) ≡ at + 1 + size a + length (words q) →
+    passEnd d ws marks (at + 1 + size a) ≡ at + 1 + size a + length (words q) →
     (out : List ℕ) (to : ℕ) → to + 2 * size (seq a q) ≤ length out → Near (length out) →
-    Gives (seq a q) out to (at + size (seq a q)) (seqW d sub ws (at + 1) out to) o
+    Gives (seq a q) out to (at + size (seq a q)) (seqW d sub ws marks (at + 1) out to) o
 unfolding seqW seqOn
-seq-gives {a} {q} d sub ws at f c out to room near =
+seq-gives {a} {q} d sub ws marks at f c out to room near =
     let z = size-seq a q in
     by (f out to (omega arith) near)
   where
-    by : {o : Option Run} {k : Killed} → Gives a out to (at + 1 + size a) k o → Gives (seq a q) out to (at + size (seq a q)) (seqOn d ws k) o
+    by : {o : Option Run} {k : Killed} → Gives a out to (at + 1 + size a) k o → Gives (seq a q) out to (at + size (seq a q)) (seqOn d ws marks k) o
     by {k = k} (stops e) = stops (goes-stops k _ e)
     by {k = k} (gives {s} g) =
-        rw (goes-on k (made (skipEnd d ws (k .moved .end)) (k .moved .to) (k .moved .nil) (k .out)) (at + 1 + size a) (g .ends) (omega arith))
+        rw (goes-on k (made (passEnd d ws marks (k .moved .end)) (k .moved .to) (k .moved .nil) (k .out)) (at + 1 + size a) (g .ends) (omega arith))
         (gives (record {
-          ends = ap (skipEnd d ws) (g .ends) ∙ c ∙ (let z = size-seq a q in let e : at + 1 + size a + length (words q) ≡ at + size (seq a q) = omega arith in e);
+          ends = ap (passEnd d ws marks) (g .ends) ∙ c ∙ (let z = size-seq a q in let e : at + 1 + size a + length (words q) ≡ at + size (seq a q) = omega arith in e);
           done = g .done;
           reaches = g .reaches;
           laid = g .laid;

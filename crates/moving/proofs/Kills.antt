@@ -8,7 +8,7 @@ use mathlib.Core.List.{List}
 use lib.Dec.{leb}
 use lib.ListN.{length, getD, set}
 use borrow.Author.Tests.{le-ltb, lt-leb, ne-eqb}
-use Rattle.skipping.specs.Skip.{skipList}
+use Rattle.skipping.specs.Pass.{passList}
 use Rattle.moving.specs.Writing.{onward, pasted, pastedEnd, lowered}
 use Rattle.moving.specs.Killing.{Killed, Walk, stuckW, made, goes, noticeHead, noticeWord, noticeW, executorOn, executorW, headFor, liveOn, liveW, leftOn, parW, lessOne, rightOn, rightW, scopeAt, scopeW, kindW, killW}
 use Rattle.moving.specs.declared.kill.Moved.{Moved}
@@ -17,13 +17,13 @@ pred-suc : (d : ℕ) → suc d - 1 ≡ d
 pred-suc d = omega arith
 
 pub kill-step :
-    (d : ℕ) (ws : List ℕ) (fault hole i : ℕ) (out : List ℕ) (to : ℕ) →
+    (d : ℕ) (ws marks : List ℕ) (fault hole i : ℕ) (out : List ℕ) (to : ℕ) →
     (d ≡ 0 → ⊥) →
-    killW d ws fault hole i out to
-    ≡ cond (leb (length ws) i) (stuckW out) (kindW d (d - 1) (killW (d - 1) ws fault hole) ws fault hole (getD ws i 0 / 2048) i out to)
+    killW d ws marks fault hole i out to
+    ≡ cond (leb (length ws) i) (stuckW out) (kindW d (d - 1) (killW (d - 1) ws marks fault hole) ws marks fault hole (getD ws i 0 / 2048) i out to)
 unfolding killW
-kill-step zero ws fault hole i out to h = absurd (h refl)
-kill-step (suc d) ws fault hole i out to h = rw (pred-suc d)
+kill-step zero ws marks fault hole i out to h = absurd (h refl)
+kill-step (suc d) ws marks fault hole i out to h = rw (pred-suc d)
 
 -- a notice's three words one after the other
 pub notice-made :
@@ -121,17 +121,17 @@ module _
 
 -- a live scope with nil body
 pub scope-stuck :
-    (d : ℕ) (sub : Walk) (ws : List ℕ) (hole i : ℕ) (out : List ℕ) (to body h w : ℕ) →
+    (d : ℕ) (sub : Walk) (ws marks : List ℕ) (hole i : ℕ) (out : List ℕ) (to body h w : ℕ) →
     i < length ws →
-    body ≡ skipList d ws 128 (i + 2) →
+    body ≡ passList d ws marks (i + 2) →
     (body ≡ 0 → ⊥) →
     body < length ws →
     h ≡ getD ws i 0 →
     (h / 4 % 2 ≡ 1 → ⊥) →
     w ≡ getD ws body 0 →
     w ≡ 0 →
-    stuckW out ≡ scopeW d sub ws hole i out to
+    stuckW out ≡ scopeW d sub ws marks hole i out to
 unfolding scopeW scopeAt
-scope-stuck d sub ws hole i out to body h w e1 e2 e3 e4 e5 e6 e7 e8 =
+scope-stuck d sub ws marks hole i out to body h w e1 e2 e3 e4 e5 e6 e7 e8 =
     rw
     (lt-leb (length ws) i e1, ← e2, ne-eqb body 0 e3, lt-leb (length ws) body e4, ← e5, ne-eqb (h / 4 % 2) 1 e6, ← e7, e8)

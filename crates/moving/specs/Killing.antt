@@ -5,7 +5,7 @@ use mathlib.Core.Bool.{Bool, true, false, cond}
 use mathlib.Core.List.{List}
 use lib.Dec.{ltb, leb, eqb}
 use lib.ListN.{length, getD, set}
-use Rattle.skipping.specs.Skip.{skipEnd, skipList}
+use Rattle.skipping.specs.Pass.{passEnd, passList}
 use Rattle.moving.specs.Writing.{onward, pasted, pastedEnd, lowered}
 use Rattle.moving.specs.declared.kill.Moved.{Moved}
 
@@ -57,27 +57,27 @@ deadWord w = 32768 + w % 32768
 
 -- ---- those without parts that are killed
 
-unfoldable pub waiterW : ℕ → List ℕ → Walk
-waiterW d ws i out to =
+unfoldable pub waiterW : ℕ → List ℕ → List ℕ → Walk
+waiterW d ws marks i out to =
     cond (leb (length ws) i) (stuckW out)
     (cond (ltb (length ws - i) 2) (stuckW out)
-    (cond (eqb (skipEnd d ws i) 0) (stuckW out)
-    (made (skipEnd d ws i) (pastedEnd ws i (skipEnd d ws i) to) false
-    (set (pasted ws i (skipEnd d ws i) out to) (onward to 1) (deadWord (at ws (i + 1)))))))
+    (cond (eqb (passEnd d ws marks i) 0) (stuckW out)
+    (made (passEnd d ws marks i) (pastedEnd ws i (passEnd d ws marks i) to) false
+    (set (pasted ws i (passEnd d ws marks i) out to) (onward to 1) (deadWord (at ws (i + 1)))))))
 
 unfoldable pub keptW : List ℕ → Walk
 keptW ws i out to = cond (leb (length ws) i) (stuckW out) (made (i + 3) (pastedEnd ws i (i + 3) to) false (pasted ws i (i + 3) out to))
 
-unfoldable pub vanishedW : ℕ → List ℕ → Walk
-vanishedW d ws i out to = made (skipEnd d ws i) (onward to 1) true (set out to 0)
+unfoldable pub vanishedW : ℕ → List ℕ → List ℕ → Walk
+vanishedW d ws marks i out to = made (passEnd d ws marks i) (onward to 1) true (set out to 0)
 
 -- ---- seq and par
 
-unfoldable pub seqOn : ℕ → List ℕ → Killed → Killed
-seqOn d ws k = goes k (made (skipEnd d ws (k .moved .end)) (k .moved .to) (k .moved .nil) (k .out))
+unfoldable pub seqOn : ℕ → List ℕ → List ℕ → Killed → Killed
+seqOn d ws marks k = goes k (made (passEnd d ws marks (k .moved .end)) (k .moved .to) (k .moved .nil) (k .out))
 
-unfoldable pub seqW : ℕ → Walk → List ℕ → Walk
-seqW d sub ws i out to = seqOn d ws (sub i out to)
+unfoldable pub seqW : ℕ → Walk → List ℕ → List ℕ → Walk
+seqW d sub ws marks i out to = seqOn d ws marks (sub i out to)
 
 unfoldable pub lessOne : ℕ → ℕ
 lessOne n = cond (eqb n 0) 0 (n - 1)
@@ -130,9 +130,9 @@ scopeAt sub ws hole i body out to =
     (cond (eqb (at ws i / 4 % 2) 1) (zombieW sub ws i body out to)
     (cond (eqb (at ws body) 0) (stuckW out) (liveW sub ws hole i body out to))))
 
-unfoldable pub scopeW : ℕ → Walk → List ℕ → ℕ → Walk
-scopeW d sub ws hole i out to =
-    cond (leb (length ws) i) (stuckW out) (scopeAt sub ws hole i (skipList d ws 128 (i + 2)) out to)
+unfoldable pub scopeW : ℕ → Walk → List ℕ → List ℕ → ℕ → Walk
+scopeW d sub ws marks hole i out to =
+    cond (leb (length ws) i) (stuckW out) (scopeAt sub ws hole i (passList d ws marks (i + 2)) out to)
 
 -- ---- executor
 
@@ -155,17 +155,17 @@ executorW sub ws fault i out to =
 -- ---- by kind
 
 -- `d` levels, `sub` one less
-unfoldable pub kindW : ℕ → ℕ → Walk → List ℕ → ℕ → ℕ → ℕ → Walk
-kindW d below sub ws fault hole kind i out to =
-    cond (eqb kind 2) (seqW below sub ws (i + 1) out to)
+unfoldable pub kindW : ℕ → ℕ → Walk → List ℕ → List ℕ → ℕ → ℕ → ℕ → Walk
+kindW d below sub ws marks fault hole kind i out to =
+    cond (eqb kind 2) (seqW below sub ws marks (i + 1) out to)
     (cond (eqb kind 3) (parW sub (i + 1) out to)
-    (cond (eqb kind 11) (scopeW below sub ws hole i out to)
+    (cond (eqb kind 11) (scopeW below sub ws marks hole i out to)
     (cond (eqb kind 12) (stuckW out)
     (cond (eqb kind 16) (executorW sub ws fault i out to)
-    (cond (eqb kind 17) (waiterW d ws i out to)
-    (cond (eqb kind 18) (keptW ws i out to) (vanishedW d ws i out to)))))))
+    (cond (eqb kind 17) (waiterW d ws marks i out to)
+    (cond (eqb kind 18) (keptW ws i out to) (vanishedW d ws marks i out to)))))))
 
-unfoldable pub killW : ℕ → List ℕ → ℕ → ℕ → Walk
-killW zero ws fault hole i out to = stuckW out
-killW (suc d) ws fault hole i out to =
-    cond (leb (length ws) i) (stuckW out) (kindW (suc d) d (killW d ws fault hole) ws fault hole (at ws i / 2048) i out to)
+unfoldable pub killW : ℕ → List ℕ → List ℕ → ℕ → ℕ → Walk
+killW zero ws marks fault hole i out to = stuckW out
+killW (suc d) ws marks fault hole i out to =
+    cond (leb (length ws) i) (stuckW out) (kindW (suc d) d (killW d ws marks fault hole) ws marks fault hole (at ws i / 2048) i out to)

@@ -1,12 +1,13 @@
 // Killing with a fault, into scratch. A scope around the position `hole`, from which a fault climbs, turns zombie with mark 0, any other
-// one with mark 2; but for that the climb does what killing does. Total: what does not fit can't be killed.
+// one with mark 2; but for that the climb does what killing does. What it need not look into it passes over by the marks noted of it, not
+// word by word. Total: what does not fit can't be killed.
 use crate::write::copy;
 use crate::write::down;
 use crate::write::further;
 use crate::write::put;
 use reading::reader::wide;
-use skipping::skip::skip;
-use skipping::skip::skip_list;
+use skipping::pass::pass;
+use skipping::pass::pass_list;
 ghost use mathlib.Core.Path.{_≡_};
 ghost use Rattle.moving.specs.Killing.{stopped, lessOne, ownZombie, plainZombie, headFor, noticeHead, noticeWord, deadWord};
 ghost use Rattle.moving.specs.Killing.{noticeW, waiterW, keptW, vanishedW, killW, seqW, parW, rightW, scopeW, zombieW, liveW, executorW};
@@ -30,6 +31,7 @@ fn stuck() -> Moved
 
 pub fn kill(
     ws: &[u16],
+    marks: &[u16],
     at: usize,
     fault: u16,
     hole: usize,
@@ -37,7 +39,7 @@ pub fn kill(
     out: &mut [u16],
     to: usize,
 ) -> Moved
-    ensures { λ r. ⌜ (r ≡ killW depth (now (ws .entry)) fault hole at (now (out .entry)) to .moved) × (now (out .exit) ≡ killW depth (now (ws .entry)) fault hole at (now (out .entry)) to .out) ⌝ }
+    ensures { λ r. ⌜ (r ≡ killW depth (now (ws .entry)) (now (marks .entry)) fault hole at (now (out .entry)) to .moved) × (now (out .exit) ≡ killW depth (now (ws .entry)) (now (marks .entry)) fault hole at (now (out .entry)) to .out) ⌝ }
 {
     if depth == 0 {
         return stuck();
@@ -46,20 +48,21 @@ pub fn kill(
         return stuck();
     }
     match wide(ws[at]) / 2048 {
-        2 => kill_seq(ws, at + 1, fault, hole, depth - 1, out, to),
-        3 => kill_par(ws, at + 1, fault, hole, depth - 1, out, to),
-        11 => kill_scope(ws, at, fault, hole, depth - 1, out, to),
+        2 => kill_seq(ws, marks, at + 1, fault, hole, depth - 1, out, to),
+        3 => kill_par(ws, marks, at + 1, fault, hole, depth - 1, out, to),
+        11 => kill_scope(ws, marks, at, fault, hole, depth - 1, out, to),
         12 => stuck(),
-        16 => kill_executor(ws, at, fault, hole, depth - 1, out, to),
-        17 => kill_waiter(ws, at, depth, out, to),
+        16 => kill_executor(ws, marks, at, fault, hole, depth - 1, out, to),
+        17 => kill_waiter(ws, marks, at, depth, out, to),
         18 => keep(ws, at, out, to),
-        _ => vanish(ws, at, depth, out, to),
+        _ => vanish(ws, marks, at, depth, out, to),
     }
 }
 
 // A seq keeps its first, killed.
 fn kill_seq(
     ws: &[u16],
+    marks: &[u16],
     at: usize,
     fault: u16,
     hole: usize,
@@ -67,14 +70,14 @@ fn kill_seq(
     out: &mut [u16],
     to: usize,
 ) -> Moved
-    ensures { λ r. ⌜ (r ≡ seqW depth (killW depth (now (ws .entry)) fault hole) (now (ws .entry)) at (now (out .entry)) to .moved) × (now (out .exit) ≡ seqW depth (killW depth (now (ws .entry)) fault hole) (now (ws .entry)) at (now (out .entry)) to .out) ⌝ }
+    ensures { λ r. ⌜ (r ≡ seqW depth (killW depth (now (ws .entry)) (now (marks .entry)) fault hole) (now (ws .entry)) (now (marks .entry)) at (now (out .entry)) to .moved) × (now (out .exit) ≡ seqW depth (killW depth (now (ws .entry)) (now (marks .entry)) fault hole) (now (ws .entry)) (now (marks .entry)) at (now (out .entry)) to .out) ⌝ }
 {
-    let p = kill(ws, at, fault, hole, depth, out, to);
+    let p = kill(ws, marks, at, fault, hole, depth, out, to);
     if p.end == 0 {
         return stuck();
     }
     Moved {
-        end: skip(ws, p.end, depth),
+        end: pass(ws, marks, p.end, depth),
         to: p.to,
         nil: p.nil,
     }
@@ -83,6 +86,7 @@ fn kill_seq(
 // A par without its sides that are nil.
 fn kill_par(
     ws: &[u16],
+    marks: &[u16],
     at: usize,
     fault: u16,
     hole: usize,
@@ -90,22 +94,23 @@ fn kill_par(
     out: &mut [u16],
     to: usize,
 ) -> Moved
-    ensures { λ r. ⌜ (r ≡ parW (killW depth (now (ws .entry)) fault hole) at (now (out .entry)) to .moved) × (now (out .exit) ≡ parW (killW depth (now (ws .entry)) fault hole) at (now (out .entry)) to .out) ⌝ }
+    ensures { λ r. ⌜ (r ≡ parW (killW depth (now (ws .entry)) (now (marks .entry)) fault hole) at (now (out .entry)) to .moved) × (now (out .exit) ≡ parW (killW depth (now (ws .entry)) (now (marks .entry)) fault hole) at (now (out .entry)) to .out) ⌝ }
 {
     let one = put(out, to, 6144);
-    let p = kill(ws, at, fault, hole, depth, out, one);
+    let p = kill(ws, marks, at, fault, hole, depth, out, one);
     if p.end == 0 {
         return stuck();
     }
     if p.nil {
-        return kill(ws, p.end, fault, hole, depth, out, to);
+        return kill(ws, marks, p.end, fault, hole, depth, out, to);
     }
-    kill_right(ws, p.end, fault, hole, depth, out, one, p.to)
+    kill_right(ws, marks, p.end, fault, hole, depth, out, one, p.to)
 }
 
 // The right side of a par whose left stands killed at one..to.
 fn kill_right(
     ws: &[u16],
+    marks: &[u16],
     at: usize,
     fault: u16,
     hole: usize,
@@ -114,9 +119,9 @@ fn kill_right(
     one: usize,
     to: usize,
 ) -> Moved
-    ensures { λ r. ⌜ (r ≡ rightW (killW depth (now (ws .entry)) fault hole) at (now (out .entry)) one to .moved) × (now (out .exit) ≡ rightW (killW depth (now (ws .entry)) fault hole) at (now (out .entry)) one to .out) ⌝ }
+    ensures { λ r. ⌜ (r ≡ rightW (killW depth (now (ws .entry)) (now (marks .entry)) fault hole) at (now (out .entry)) one to .moved) × (now (out .exit) ≡ rightW (killW depth (now (ws .entry)) (now (marks .entry)) fault hole) at (now (out .entry)) one to .out) ⌝ }
 {
-    let q = kill(ws, at, fault, hole, depth, out, to);
+    let q = kill(ws, marks, at, fault, hole, depth, out, to);
     if q.end == 0 {
         return stuck();
     }
@@ -146,6 +151,7 @@ fn less_one(n: usize) -> usize
 
 fn kill_scope(
     ws: &[u16],
+    marks: &[u16],
     at: usize,
     fault: u16,
     hole: usize,
@@ -153,12 +159,12 @@ fn kill_scope(
     out: &mut [u16],
     to: usize,
 ) -> Moved
-    ensures { λ r. ⌜ (r ≡ scopeW depth (killW depth (now (ws .entry)) fault hole) (now (ws .entry)) hole at (now (out .entry)) to .moved) × (now (out .exit) ≡ scopeW depth (killW depth (now (ws .entry)) fault hole) (now (ws .entry)) hole at (now (out .entry)) to .out) ⌝ }
+    ensures { λ r. ⌜ (r ≡ scopeW depth (killW depth (now (ws .entry)) (now (marks .entry)) fault hole) (now (ws .entry)) (now (marks .entry)) hole at (now (out .entry)) to .moved) × (now (out .exit) ≡ scopeW depth (killW depth (now (ws .entry)) (now (marks .entry)) fault hole) (now (ws .entry)) (now (marks .entry)) hole at (now (out .entry)) to .out) ⌝ }
 {
     if ws.len() <= at {
         return stuck();
     }
-    let body = skip_list(ws, at + 2, depth, 128);
+    let body = pass_list(ws, marks, at + 2, depth);
     if body == 0 {
         return stuck();
     }
@@ -166,17 +172,18 @@ fn kill_scope(
         return stuck();
     }
     if wide(ws[at]) / 4 % 2 == 1 {
-        return kill_zombie(ws, at, body, fault, hole, depth, out, to);
+        return kill_zombie(ws, marks, at, body, fault, hole, depth, out, to);
     }
     if wide(ws[body]) == 0 {
         return stuck();
     }
-    kill_live(ws, at, body, fault, hole, depth, out, to)
+    kill_live(ws, marks, at, body, fault, hole, depth, out, to)
 }
 
 // A zombie stays as it is, if its body can be killed.
 fn kill_zombie(
     ws: &[u16],
+    marks: &[u16],
     at: usize,
     body: usize,
     fault: u16,
@@ -185,9 +192,9 @@ fn kill_zombie(
     out: &mut [u16],
     to: usize,
 ) -> Moved
-    ensures { λ r. ⌜ (r ≡ zombieW (killW depth (now (ws .entry)) fault hole) (now (ws .entry)) at body (now (out .entry)) to .moved) × (now (out .exit) ≡ zombieW (killW depth (now (ws .entry)) fault hole) (now (ws .entry)) at body (now (out .entry)) to .out) ⌝ }
+    ensures { λ r. ⌜ (r ≡ zombieW (killW depth (now (ws .entry)) (now (marks .entry)) fault hole) (now (ws .entry)) at body (now (out .entry)) to .moved) × (now (out .exit) ≡ zombieW (killW depth (now (ws .entry)) (now (marks .entry)) fault hole) (now (ws .entry)) at body (now (out .entry)) to .out) ⌝ }
 {
-    let p = kill(ws, body, fault, hole, depth, out, to);
+    let p = kill(ws, marks, body, fault, hole, depth, out, to);
     if p.end == 0 {
         return stuck();
     }
@@ -201,6 +208,7 @@ fn kill_zombie(
 // A live scope turns zombie, with no marked fault, its list as it is and its body killed.
 fn kill_live(
     ws: &[u16],
+    marks: &[u16],
     at: usize,
     body: usize,
     fault: u16,
@@ -209,10 +217,10 @@ fn kill_live(
     out: &mut [u16],
     to: usize,
 ) -> Moved
-    ensures { λ r. ⌜ (r ≡ liveW (killW depth (now (ws .entry)) fault hole) (now (ws .entry)) hole at body (now (out .entry)) to .moved) × (now (out .exit) ≡ liveW (killW depth (now (ws .entry)) fault hole) (now (ws .entry)) hole at body (now (out .entry)) to .out) ⌝ }
+    ensures { λ r. ⌜ (r ≡ liveW (killW depth (now (ws .entry)) (now (marks .entry)) fault hole) (now (ws .entry)) hole at body (now (out .entry)) to .moved) × (now (out .exit) ≡ liveW (killW depth (now (ws .entry)) (now (marks .entry)) fault hole) (now (ws .entry)) hole at body (now (out .entry)) to .out) ⌝ }
 {
     let b = copy(ws, at, body, out, to);
-    let p = kill(ws, body, fault, hole, depth, out, b);
+    let p = kill(ws, marks, body, fault, hole, depth, out, b);
     if p.end == 0 {
         return stuck();
     }
@@ -256,6 +264,7 @@ fn plain_zombie(h: u16) -> u16
 // An executor becomes its killed body par a notice.
 fn kill_executor(
     ws: &[u16],
+    marks: &[u16],
     at: usize,
     fault: u16,
     hole: usize,
@@ -263,13 +272,13 @@ fn kill_executor(
     out: &mut [u16],
     to: usize,
 ) -> Moved
-    ensures { λ r. ⌜ (r ≡ executorW (killW depth (now (ws .entry)) fault hole) (now (ws .entry)) fault at (now (out .entry)) to .moved) × (now (out .exit) ≡ executorW (killW depth (now (ws .entry)) fault hole) (now (ws .entry)) fault at (now (out .entry)) to .out) ⌝ }
+    ensures { λ r. ⌜ (r ≡ executorW (killW depth (now (ws .entry)) (now (marks .entry)) fault hole) (now (ws .entry)) fault at (now (out .entry)) to .moved) × (now (out .exit) ≡ executorW (killW depth (now (ws .entry)) (now (marks .entry)) fault hole) (now (ws .entry)) fault at (now (out .entry)) to .out) ⌝ }
 {
     if ws.len() <= at {
         return stuck();
     }
     let one = put(out, to, 6144);
-    let p = kill(ws, at + 3, fault, hole, depth, out, one);
+    let p = kill(ws, marks, at + 3, fault, hole, depth, out, one);
     if p.end == 0 {
         return stuck();
     }
@@ -312,8 +321,15 @@ fn notice_word(fault: u16, client: u16) -> u16
 }
 
 // A waiter turns dead.
-fn kill_waiter(ws: &[u16], at: usize, depth: usize, out: &mut [u16], to: usize) -> Moved
-    ensures { λ r. ⌜ (r ≡ waiterW depth (now (ws .entry)) at (now (out .entry)) to .moved) × (now (out .exit) ≡ waiterW depth (now (ws .entry)) at (now (out .entry)) to .out) ⌝ }
+fn kill_waiter(
+    ws: &[u16],
+    marks: &[u16],
+    at: usize,
+    depth: usize,
+    out: &mut [u16],
+    to: usize,
+) -> Moved
+    ensures { λ r. ⌜ (r ≡ waiterW depth (now (ws .entry)) (now (marks .entry)) at (now (out .entry)) to .moved) × (now (out .exit) ≡ waiterW depth (now (ws .entry)) (now (marks .entry)) at (now (out .entry)) to .out) ⌝ }
 {
     if ws.len() <= at {
         return stuck();
@@ -321,7 +337,7 @@ fn kill_waiter(ws: &[u16], at: usize, depth: usize, out: &mut [u16], to: usize) 
     if ws.len() - at < 2 {
         return stuck();
     }
-    let e = skip(ws, at, depth);
+    let e = pass(ws, marks, at, depth);
     if e == 0 {
         return stuck();
     }
@@ -355,11 +371,11 @@ fn keep(ws: &[u16], at: usize, out: &mut [u16], to: usize) -> Moved
 }
 
 // All else becomes nil.
-fn vanish(ws: &[u16], at: usize, depth: usize, out: &mut [u16], to: usize) -> Moved
-    ensures { λ r. ⌜ (r ≡ vanishedW depth (now (ws .entry)) at (now (out .entry)) to .moved) × (now (out .exit) ≡ vanishedW depth (now (ws .entry)) at (now (out .entry)) to .out) ⌝ }
+fn vanish(ws: &[u16], marks: &[u16], at: usize, depth: usize, out: &mut [u16], to: usize) -> Moved
+    ensures { λ r. ⌜ (r ≡ vanishedW depth (now (ws .entry)) (now (marks .entry)) at (now (out .entry)) to .moved) × (now (out .exit) ≡ vanishedW depth (now (ws .entry)) (now (marks .entry)) at (now (out .entry)) to .out) ⌝ }
 {
     Moved {
-        end: skip(ws, at, depth),
+        end: pass(ws, marks, at, depth),
         to: put(out, to, 0),
         nil: true,
     }

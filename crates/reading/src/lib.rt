@@ -3,4 +3,4 @@ pub mod calls;
 pub mod ends;
 pub mod reader;
 pub mod survey;
-mod tables;
+pub mod tables;

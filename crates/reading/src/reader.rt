@@ -446,7 +446,7 @@ fn resting(ws: &[u16], at: usize, depth: usize, context: usize, fault: usize, bo
 }
 
 // The list of a scope that runs, by its mark.
-fn marked(ws: &[u16], at: usize, depth: usize, h: usize, fault: usize, bound: usize) -> usize
+pub fn marked(ws: &[u16], at: usize, depth: usize, h: usize, fault: usize, bound: usize) -> usize
     ensures { λ r. ⌜ r ≡ markedEnd (processEnd depth (now (ws .entry)) bound) (now (ws .entry)) h fault at ⌝ }
 {
     match h / 8 % 4 {
@@ -479,7 +479,7 @@ fn marked(ws: &[u16], at: usize, depth: usize, h: usize, fault: usize, bound: us
 }
 
 // The fixed words of an end: the first clear below `spare` and from there up an engine below n, then a serial of 1 to issued.
-fn end(ws: &[u16], at: usize, spare: usize, bound: usize) -> bool
+pub fn end(ws: &[u16], at: usize, spare: usize, bound: usize) -> bool
     requires { ⌜ (at < length (now ws)) × (0 < spare) ⌝ }
     ensures { λ r. ⌜ r ≡ endAfter (now (ws .entry)) at spare bound ⌝ }
 {

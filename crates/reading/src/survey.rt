@@ -13,7 +13,7 @@ pub struct Starts {
     pub starts: [usize; 9],
 }
 
-fn unreadable() -> Starts
+pub fn unreadable() -> Starts
     ensures { λ r. ⌜ r ≡ noStarts ⌝ }
 {
     Starts {

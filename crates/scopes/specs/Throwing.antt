@@ -5,6 +5,7 @@ use mathlib.Core.List.{List}
 use lib.Dec.{eqb}
 use lib.ListN.{getD, set}
 use Rattle.skipping.specs.Skip.{skipList}
+use Rattle.skipping.specs.Pass.{passList}
 use Rattle.finding.specs.declared.find.Spot.{Spot}
 use Rattle.moving.specs.Writing.{onward, pasted, pastedEnd}
 use Rattle.moving.specs.Killing.{Killed, killW}
@@ -24,8 +25,8 @@ clearedW start a k =
 unfoldable pub clearedBy : ℕ → ℕ → Killed → Planned
 clearedBy start a k = planned (clearedW start a (k .moved)) (k .out)
 
-unfoldable pub uncaughtW : List ℕ → ℕ → ℕ → ℕ → List ℕ → Planned
-uncaughtW ws start fault i fresh = clearedBy start start (killW 64 ws fault i start fresh 0)
+unfoldable pub uncaughtW : List ℕ → List ℕ → ℕ → ℕ → ℕ → List ℕ → Planned
+uncaughtW ws marks start fault i fresh = clearedBy start start (killW 64 ws marks fault i start fresh 0)
 
 -- a scope's head with mark 1, and the word behind it
 abbrev pub faultedHead : ℕ → ℕ
@@ -46,8 +47,8 @@ markedW ws c fault fresh =
     (set (set fresh 0 (getD ws c 0)) 1 (getD ws (onward c 1) 0))
 
 -- where the body of the scope at c begins
-unfoldable pub bodyW : List ℕ → ℕ → ℕ
-bodyW ws c = skipList 64 ws 128 (onward c 2)
+unfoldable pub bodyW : List ℕ → List ℕ → ℕ → ℕ
+bodyW ws marks c = passList 64 ws marks (onward c 2)
 
 -- all of it but the body
 unfoldable pub openedTo : List ℕ → ℕ → ℕ → ℕ
@@ -56,12 +57,12 @@ openedTo ws c body = pastedEnd ws (onward c 2) body 2
 unfoldable pub openedW : List ℕ → ℕ → ℕ → ℕ → List ℕ → List ℕ
 openedW ws c body fault fresh = pasted ws (onward c 2) body (markedW ws c fault fresh) 2
 
-unfoldable pub caughtW : List ℕ → ℕ → ℕ → ℕ → ℕ → List ℕ → Planned
-caughtW ws start c fault i fresh =
-    let body = bodyW ws c in
-    clearedBy start c (killW 64 ws fault i body (openedW ws c body fault fresh) (openedTo ws c body))
+unfoldable pub caughtW : List ℕ → List ℕ → ℕ → ℕ → ℕ → ℕ → List ℕ → Planned
+caughtW ws marks start c fault i fresh =
+    let body = bodyW ws marks c in
+    clearedBy start c (killW 64 ws marks fault i body (openedW ws c body fault fresh) (openedTo ws c body))
 
-unfoldable pub thrownW : List ℕ → ℕ → Spot → List ℕ → Planned
-thrownW ws start s fresh =
-    cond (eqb (s .catcher) 0) (uncaughtW ws start (faultW ws (s .at)) (s .at) fresh)
-    (caughtW ws start (s .catcher) (faultW ws (s .at)) (s .at) fresh)
+unfoldable pub thrownW : List ℕ → List ℕ → ℕ → Spot → List ℕ → Planned
+thrownW ws marks start s fresh =
+    cond (eqb (s .catcher) 0) (uncaughtW ws marks start (faultW ws (s .at)) (s .at) fresh)
+    (caughtW ws marks start (s .catcher) (faultW ws (s .at)) (s .at) fresh)

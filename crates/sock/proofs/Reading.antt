@@ -63,7 +63,7 @@ passes false t e = absurd t
 -- ---- what is read
 
 -- the words of `a` come first, and `a` is good
-abbrev Takes : {A : Type 0} → (A → List ℕ) → (A → Type 0) → List ℕ → A → List ℕ → Type 0
+abbrev pub Takes : {A : Type 0} → (A → List ℕ) → (A → Type 0) → List ℕ → A → List ℕ → Type 0
 Takes laid Good ws a rest = (ws ≡ laid a ++ rest) × Good a
 
 fixed-found : (ms ws : List ℕ) → Holds (Takes (λ f. f) (FitsFixed ms) ws) (fixedWords ms ws)
@@ -194,6 +194,12 @@ found (suc d) s p (h ∷ ws) =
 
 pub read-found : {d : ℕ} {s : Stratum} {p : Place} {ws : List ℕ} {n : Node} {rest : List ℕ} → process d s p ws ≡ got n rest → Found d s p ws n rest
 read-found {d} {s} {p} {ws} e = holding (rw e at (found d s p ws))
+
+-- a list is at the front of the words, fits and is not too deep
+pub list-found :
+    (d : ℕ) (ofScope : Bool) (ws : List ℕ) →
+    Holds (Takes blockWords (λ b. FitsBlock ofScope 1 b × (blockDepth b ≤ d)) ws) (block (process d (entryStratum ofScope) anywhere) ofScope 1 ws)
+list-found d ofScope ws = block-found d ofScope _ (λ l. found d (entryStratum ofScope) anywhere l) 1 ws
 
 -- ---- what is laid out is read back
 

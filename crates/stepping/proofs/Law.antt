@@ -8,7 +8,7 @@ use mathlib.Core.Bool.{Bool, true, false, cond}
 use mathlib.Core.Option.{Option, none}
 use mathlib.Core.List.{List}
 use borrow.Author.Tests.{eq-eqb, ne-eqb, le-ltb, leb-true, leb-false}
-use lib.Dec.{leb, eqb}
+use lib.Dec.{leb, eqb, lit<}
 use lib.ListN.{length, getD}
 use Rattle.sock.specs.Words.{kindOf}
 use Rattle.sock.specs.Term.{kind}
@@ -22,6 +22,9 @@ use Rattle.reading.specs.declared.survey.Starts.{Starts}
 use Rattle.reading.specs.Survey.{surveyed}
 use Rattle.reading.proofs.Combining.{Words}
 use Rattle.reading.proofs.Known.{Known, survey-known, survey-unknown, few-engines, known-issued}
+use Rattle.skipping.proofs.Marks.{Right}
+use Rattle.marking.specs.Marking.{surveyMarks}
+use Rattle.marking.proofs.Marked.{survey-right}
 use Rattle.moving.specs.Writing.{onward}
 use Rattle.finding.specs.declared.find.Spot.{Spot}
 use Rattle.finding.specs.declared.find.Found.{Found}
@@ -42,23 +45,29 @@ use Rattle.stepping.proofs.Partners as partners
 
 -- no engine, nothing read
 refused-at :
-    (ws : List ℕ) (e position i place branch : ℕ) (out : List ℕ) (s : Starts) → s ≡ surveyed 64 8192 11 ws → s .engines ≡ 0 →
-    stepW ws e position i place branch out ≡ answered (refusing 1) out
+    (ws blank : List ℕ) (e position i place branch : ℕ) (out : List ℕ) (s : Starts) → s ≡ surveyed 64 8192 11 ws → s .engines ≡ 0 →
+    stepW ws blank e position i place branch out ≡ answered (refusing 1) out
 unfolding stepW
-refused-at ws e position i place branch out s q z = rw (← q, eq-eqb (s .engines) 0 z)
+refused-at ws blank e position i place branch out s q z = rw (← q, eq-eqb (s .engines) 0 z)
 
 -- the first engine looked up
 looked-up :
-    (ws : List ℕ) (e position i place branch : ℕ) (out : List ℕ) (s : Starts) (n issued : ℕ) → s ≡ surveyed 64 8192 11 ws → s .engines ≡ n → (n ≡ 0 → ⊥) → n ≤ 8 →
+    (ws blank : List ℕ) (e position i place branch : ℕ) (out : List ℕ) (s : Starts) (n issued : ℕ) → s ≡ surveyed 64 8192 11 ws → s .engines ≡ n → (n ≡ 0 → ⊥) → n ≤ 8 →
     at ws 1 ≡ issued →
-    stepW ws e position i place branch out
+    stepW ws blank e position i place branch out
     ≡ cond (leb n e) (answered (refusing 2) out)
-    (foundW ws (s .starts) n e i place branch (n * 65536 + issued) out
-    (findW 64 ws (onward (getD (s .starts) e 0) position) 1 (getD (s .starts) e 0)))
+    (foundW ws (surveyMarks 64 8192 ws blank) (s .starts) n e i place branch (n * 65536 + issued) out
+    (findW 64 ws (surveyMarks 64 8192 ws blank) (onward (getD (s .starts) e 0) position) 1 (getD (s .starts) e 0)))
 unfolding stepW
-looked-up ws e position i place branch out s n issued q z more few w = rw (← q, z, ne-eqb n 0 more, le-ltb 8 n few, w)
+looked-up ws blank e position i place branch out s n issued q z more few w = rw (← q, z, ne-eqb n 0 more, le-ltb 8 n few, w)
 
-module _ (ws : List ℕ) (ok : Words ws) (k : Numbers) (position-low : k .position < 65536) (place-low : k .secondPosition < 65536) (out : List ℕ) where
+module _ (ws : List ℕ) (ok : Words ws) (k : Numbers) (position-low : k .position < 65536) (place-low : k .secondPosition < 65536) (out : List ℕ) (blank : List ℕ) (blank-right : Right ws blank) where
+  abbrev marks : List ℕ
+  marks = surveyMarks 64 8192 ws blank
+
+  right : Right ws marks
+  right = survey-right 64 8192 (lit< tt) ws ok blank blank-right
+
   -- ---- a configuration that is known
 
   module _ (s : Starts) (known : Known standard ws s) where
@@ -88,7 +97,7 @@ module _ (ws : List ℕ) (ok : Words ws) (k : Numbers) (position-low : k .positi
 
       receiving-law :
           (m : Message) → moveOf (engineAt c (k .engine) .values) (l .frames) (l .process) ≡ sends m →
-          receivingW ws (s .starts) n (k .engine) sp (kind (asNode (l .process))) (k .second) (k .secondPosition) (k .branch) out
+          receivingW ws marks (s .starts) n (k .engine) sp (kind (asNode (l .process))) (k .second) (k .secondPosition) (k .branch) out
           ≡ given ((noPartner ! enabledAt c (k .second) (k .secondPosition)) >>= λ b. pairOf c k a b m (length out)) out
       unfolding receivingW partnerW _!_ _>>=_
       receiving-law m moves = by (leb n (k .second)) refl
@@ -104,15 +113,15 @@ module _ (ws : List ℕ) (ok : Words ws) (k : Numbers) (position-low : k .positi
               (b : Bool) → leb n (k .second) ≡ b →
               cond b (answered (refusing 4) out)
               (partnerW ws (s .starts) (k .engine) (k .second) sp (kind (asNode (l .process))) (k .branch) out
-              (findW 64 ws (onward (getD (s .starts) (k .second) 0) (k .secondPosition)) 1 (getD (s .starts) (k .second) 0)))
+              (findW 64 ws marks (onward (getD (s .starts) (k .second) 0) (k .secondPosition)) 1 (getD (s .starts) (k .second) 0)))
               ≡ given ((noPartner ! enabledAt c (k .second) (k .secondPosition)) >>= λ b. pairOf c k a b m (length out)) out
           by true q = rw (seeks-none ws ok s known (k .second) (k .secondPosition) (leb-true n (k .second) q)) (sym (given-refused noPartner out))
           by false q =
               let h : k .second < n = leb-false n (k .second) q in
               let first : getD (s .starts) (k .second) 0 ≡ startOf c (k .second) = known .starts (k .second) (omega arith) in
-              rw first (seek _ _ (seeks ws ok s known (k .second) h (k .secondPosition) place-low))
+              rw first (seek _ _ (seeks ws ok s known (k .second) h (k .secondPosition) place-low marks right))
 
-      moving-law : movingW ws (s .starts) n (k .engine) sp (k .second) (k .secondPosition) (k .branch) bound out ≡ given (after c k a (length out)) out
+      moving-law : movingW ws marks (s .starts) n (k .engine) sp (k .second) (k .secondPosition) (k .branch) bound out ≡ given (after c k a (length out)) out
       unfolding movingW
       moving-law =
           rw kind-at
@@ -122,9 +131,9 @@ module _ (ws : List ℕ) (ok : Words ws) (k : Numbers) (position-low : k .positi
           by :
               (m : Move) (j : ℕ) → moveOf (engineAt c (k .engine) .values) (l .frames) (l .process) ≡ m → Moving m j →
               cond (eqb j 0) (answered (refusing 3) out)
-              (cond (eqb j 2) (receivingW ws (s .starts) n (k .engine) sp (kind (asNode (l .process))) (k .second) (k .secondPosition) (k .branch) out)
+              (cond (eqb j 2) (receivingW ws marks (s .starts) n (k .engine) sp (kind (asNode (l .process))) (k .second) (k .secondPosition) (k .branch) out)
               (cond (noneElse (k .second) (k .secondPosition) (k .branch))
-              (aloneW ws (getD (s .starts) (k .engine) 0) (getD (s .starts) (k .engine + 1) 0) sp (kind (asNode (l .process))) bound out)
+              (aloneW ws marks (getD (s .starts) (k .engine) 0) (getD (s .starts) (k .engine + 1) 0) sp (kind (asNode (l .process))) bound out)
               (answered (refusing 3) out)))
               ≡ given (after c k a (length out)) out
           by _ _ q stays = rw (after-stuck c k a (length out) q) (sym (given-refused noMove out))
@@ -132,41 +141,41 @@ module _ (ws : List ℕ) (ok : Words ws) (k : Numbers) (position-low : k .positi
             where
               go :
                   (b : Bool) →
-                  cond b (aloneW ws (getD (s .starts) (k .engine) 0) (getD (s .starts) (k .engine + 1) 0) sp (kind (asNode (l .process))) bound out) (answered (refusing 3) out)
+                  cond b (aloneW ws marks (getD (s .starts) (k .engine) 0) (getD (s .starts) (k .engine + 1) 0) sp (kind (asNode (l .process))) bound out) (answered (refusing 3) out)
                   ≡ given (cond b (loneOf c a vs o (length out)) (refused noMove)) out
-              go true = lone-law ws ok s known (k .engine) target l sp found vs o q kind-low out
+              go true = lone-law ws ok s known (k .engine) target l sp found marks right vs o q kind-low out
               go false = sym (given-refused noMove out)
           by _ _ q (asks {m = m}) = rw (after-sends c k a (length out) m q) (receiving-law m q)
 
     -- the search in the first engine
-    known-law : (k .engine < n) → foundW ws (s .starts) n (k .engine) (k .second) (k .secondPosition) (k .branch) bound out
-        (findW 64 ws (onward (startOf c (k .engine)) (k .position)) 1 (startOf c (k .engine)))
+    known-law : (k .engine < n) → foundW ws marks (s .starts) n (k .engine) (k .second) (k .secondPosition) (k .branch) bound out
+        (findW 64 ws marks (onward (startOf c (k .engine)) (k .position)) 1 (startOf c (k .engine)))
         ≡ given ((nobodyThere ! enabledAt c (k .engine) (k .position)) >>= λ a. after c k a (length out)) out
     unfolding foundW _!_ _>>=_
-    known-law h = by _ _ (seeks ws ok s known (k .engine) h (k .position) position-low)
+    known-law h = by _ _ (seeks ws ok s known (k .engine) h (k .position) position-low marks right)
       where
         by :
             (f : Found) (o : Option Place) → Seeks ws ok s known (k .engine) (k .position) (startOf c (k .engine) + k .position) f o →
-            foundW ws (s .starts) n (k .engine) (k .second) (k .secondPosition) (k .branch) bound out f
+            foundW ws marks (s .starts) n (k .engine) (k .second) (k .secondPosition) (k .branch) bound out f
             ≡ given ((nobodyThere ! o) >>= λ a. after c k a (length out)) out
         by _ _ unseen = sym (given-refused nobodyThere out)
         by _ _ (seen {l = l} {sp = sp} y) = moving-law _ l sp y
 
     read-law :
         (s .engines ≡ 0 → ⊥) → s ≡ surveyed 64 8192 11 ws →
-        stepW ws (k .engine) (k .position) (k .second) (k .secondPosition) (k .branch) out
+        stepW ws blank (k .engine) (k .position) (k .second) (k .secondPosition) (k .branch) out
         ≡ given ((nobodyThere ! enabledAt c (k .engine) (k .position)) >>= λ a. after c k a (length out)) out
     unfolding _!_ _>>=_
     read-law more q =
-        looked-up ws (k .engine) (k .position) (k .second) (k .secondPosition) (k .branch) out s n (c .issued) q (known .engines) (λ z. more (known .engines ∙ z))
+        looked-up ws blank (k .engine) (k .position) (k .second) (k .secondPosition) (k .branch) out s n (c .issued) q (known .engines) (λ z. more (known .engines ∙ z))
         (omega (arith, few-engines known, known .engines)) (known-issued known)
         ∙ by (leb n (k .engine)) refl
       where
         by :
             (b : Bool) → leb n (k .engine) ≡ b →
             cond b (answered (refusing 2) out)
-            (foundW ws (s .starts) n (k .engine) (k .second) (k .secondPosition) (k .branch) bound out
-            (findW 64 ws (onward (getD (s .starts) (k .engine) 0) (k .position)) 1 (getD (s .starts) (k .engine) 0)))
+            (foundW ws marks (s .starts) n (k .engine) (k .second) (k .secondPosition) (k .branch) bound out
+            (findW 64 ws marks (onward (getD (s .starts) (k .engine) 0) (k .position)) 1 (getD (s .starts) (k .engine) 0)))
             ≡ given ((nobodyThere ! enabledAt c (k .engine) (k .position)) >>= λ a. after c k a (length out)) out
         by true y = rw (seeks-none ws ok s known (k .engine) (k .position) (leb-true n (k .engine) y)) none-there
           where
@@ -180,19 +189,19 @@ module _ (ws : List ℕ) (ok : Words ws) (k : Numbers) (position-low : k .positi
   -- ---- all words
 
   pub step-law :
-      stepW ws (k .engine) (k .position) (k .second) (k .secondPosition) (k .branch) out ≡ given (step standard ws k (length out)) out
+      stepW ws blank (k .engine) (k .position) (k .second) (k .secondPosition) (k .branch) out ≡ given (step standard ws k (length out)) out
   unfolding _!_ _>>=_
   step-law = by (surveyed 64 8192 11 ws) refl
     where
-      refuses : (s : Starts) → s ≡ surveyed 64 8192 11 ws → s .engines ≡ 0 → stepW ws (k .engine) (k .position) (k .second) (k .secondPosition) (k .branch) out ≡ answered (refusing 1) out
-      refuses s q z = refused-at ws (k .engine) (k .position) (k .second) (k .secondPosition) (k .branch) out s q z
+      refuses : (s : Starts) → s ≡ surveyed 64 8192 11 ws → s .engines ≡ 0 → stepW ws blank (k .engine) (k .position) (k .second) (k .secondPosition) (k .branch) out ≡ answered (refusing 1) out
+      refuses s q z = refused-at ws blank (k .engine) (k .position) (k .second) (k .secondPosition) (k .branch) out s q z
 
       by :
           (s : Starts) → s ≡ surveyed 64 8192 11 ws →
-          stepW ws (k .engine) (k .position) (k .second) (k .secondPosition) (k .branch) out ≡ given (step standard ws k (length out)) out
+          stepW ws blank (k .engine) (k .position) (k .second) (k .secondPosition) (k .branch) out ≡ given (step standard ws k (length out)) out
       by s q = decide (ℕ-discrete (s .engines) 0)
         where
-          decide : Dec (s .engines ≡ 0) → stepW ws (k .engine) (k .position) (k .second) (k .secondPosition) (k .branch) out ≡ given (step standard ws k (length out)) out
+          decide : Dec (s .engines ≡ 0) → stepW ws blank (k .engine) (k .position) (k .second) (k .secondPosition) (k .branch) out ≡ given (step standard ws k (length out)) out
           decide (yes z) =
               refuses s q z
               ∙ (sym (given-refused unreadable out)
@@ -203,10 +212,10 @@ module _ (ws : List ℕ) (ok : Words ws) (k : Numbers) (position-low : k .positi
               ∙ ap (λ r. given r out) (sym (step-read ws k (length out) ∙ ap (λ o. (unreadable ! o) >>= λ c. (nobodyThere ! enabledAt c (k .engine) (k .position)) >>= λ a. after c k a (length out)) (known .reads)))
 
   -- the answer and the output
-  pub answer-law : stepW ws (k .engine) (k .position) (k .second) (k .secondPosition) (k .branch) out .answer ≡ answerAs (stepAnswer standard ws k out)
+  pub answer-law : stepW ws blank (k .engine) (k .position) (k .second) (k .secondPosition) (k .branch) out .answer ≡ answerAs (stepAnswer standard ws k out)
   unfolding stepAnswer
   answer-law = ap (λ (x : Answered). x .answer) step-law
 
-  pub output-law : stepW ws (k .engine) (k .position) (k .second) (k .secondPosition) (k .branch) out .out ≡ stepOutput standard ws k out
+  pub output-law : stepW ws blank (k .engine) (k .position) (k .second) (k .secondPosition) (k .branch) out .out ≡ stepOutput standard ws k out
   unfolding stepOutput
   output-law = ap (λ (x : Answered). x .out) step-law

@@ -26,20 +26,20 @@ valuedW ws start s kind bound fresh =
     (cond (ltb (length ws) (s .at)) (turned (refused 1) fresh)
     (turnW (lent (s .at) (length ws) ws) (lent (start - 64) start ws) (s .level) kind bound fresh)))
 
-unfoldable pub scopedW : List ℕ → ℕ → Spot → ℕ → ℕ → List ℕ → Planned
-scopedW ws start s kind bound fresh =
+unfoldable pub scopedW : List ℕ → List ℕ → ℕ → Spot → ℕ → ℕ → List ℕ → Planned
+scopedW ws marks start s kind bound fresh =
     cond (eqb kind 11) (endedW ws start s fresh)
     (cond (eqb kind 12) (installedW ws start s fresh)
-    (cond (eqb kind 13) (thrownW ws start s fresh) (compensatedW bound ws start s fresh)))
+    (cond (eqb kind 13) (thrownW ws marks start s fresh) (compensatedW bound ws start s fresh)))
 
-unfoldable pub ruleW : List ℕ → ℕ → Spot → ℕ → ℕ → List ℕ → Planned
-ruleW ws start s kind bound fresh =
+unfoldable pub ruleW : List ℕ → List ℕ → ℕ → Spot → ℕ → ℕ → List ℕ → Planned
+ruleW ws marks start s kind bound fresh =
     let t = valuedW ws start s kind bound fresh in
-    cond (ltb 6 kind) (scopedW ws start s kind bound fresh) (plainW s start (t .turn) (t .fresh))
+    cond (ltb 6 kind) (scopedW ws marks start s kind bound fresh) (plainW s start (t .turn) (t .fresh))
 
-unfoldable pub loneW : List ℕ → ℕ → ℕ → Spot → ℕ → ℕ → List ℕ → List ℕ → Answered
-loneW ws start next s kind bound fresh out =
-    let p = ruleW ws start s kind bound fresh in
+unfoldable pub loneW : List ℕ → List ℕ → ℕ → ℕ → Spot → ℕ → ℕ → List ℕ → List ℕ → Answered
+loneW ws marks start next s kind bound fresh out =
+    let p = ruleW ws marks start s kind bound fresh in
     oneW ws start (next - 64) (p .plan) (kind % 32) (p .fresh) out
 
 -- scratch for all, and for short configurations
@@ -54,11 +54,11 @@ abbrev pub surely : ℕ
 surely = 800
 
 -- again with the long scratch, if there may have been too little room
-unfoldable pub shortW : List ℕ → ℕ → ℕ → Spot → ℕ → ℕ → List ℕ → List ℕ → Answered
-shortW ws start next s kind bound fresh out =
-    cond (ltb surely (ruleW ws start s kind bound fresh .plan .g)) (loneW ws start next s kind bound large out)
-    (loneW ws start next s kind bound fresh out)
+unfoldable pub shortW : List ℕ → List ℕ → ℕ → ℕ → Spot → ℕ → ℕ → List ℕ → List ℕ → Answered
+shortW ws marks start next s kind bound fresh out =
+    cond (ltb surely (ruleW ws marks start s kind bound fresh .plan .g)) (loneW ws marks start next s kind bound large out)
+    (loneW ws marks start next s kind bound fresh out)
 
-unfoldable pub aloneW : List ℕ → ℕ → ℕ → Spot → ℕ → ℕ → List ℕ → Answered
-aloneW ws start next s kind bound out =
-    cond (ltb 512 (length ws)) (loneW ws start next s kind bound large out) (shortW ws start next s kind bound small out)
+unfoldable pub aloneW : List ℕ → List ℕ → ℕ → ℕ → Spot → ℕ → ℕ → List ℕ → Answered
+aloneW ws marks start next s kind bound out =
+    cond (ltb 512 (length ws)) (loneW ws marks start next s kind bound large out) (shortW ws marks start next s kind bound small out)

@@ -59,8 +59,16 @@ fn valued(ws: &[u16], start: usize, s: Spot, kind: usize, bound: usize, fresh: &
 }
 
 // The rules that look at scopes.
-fn scoped(ws: &[u16], start: usize, s: Spot, kind: usize, bound: usize, fresh: &mut [u16]) -> Plan
-    ensures { λ r. ⌜ (r ≡ scopedW (now (ws .entry)) start s kind bound (now (fresh .entry)) .plan) × (now (fresh .exit) ≡ scopedW (now (ws .entry)) start s kind bound (now (fresh .entry)) .fresh) ⌝ }
+fn scoped(
+    ws: &[u16],
+    marks: &[u16],
+    start: usize,
+    s: Spot,
+    kind: usize,
+    bound: usize,
+    fresh: &mut [u16],
+) -> Plan
+    ensures { λ r. ⌜ (r ≡ scopedW (now (ws .entry)) (now (marks .entry)) start s kind bound (now (fresh .entry)) .plan) × (now (fresh .exit) ≡ scopedW (now (ws .entry)) (now (marks .entry)) start s kind bound (now (fresh .entry)) .fresh) ⌝ }
 {
     if kind == 11 {
         return ended(ws, start, s, fresh);
@@ -69,17 +77,25 @@ fn scoped(ws: &[u16], start: usize, s: Spot, kind: usize, bound: usize, fresh: &
         return installed(ws, start, s, fresh);
     }
     if kind == 13 {
-        return thrown(ws, start, s, fresh);
+        return thrown(ws, marks, start, s, fresh);
     }
     compensated(ws, start, s, bound, fresh)
 }
 
 // The rule of the kind given.
-fn rule(ws: &[u16], start: usize, s: Spot, kind: usize, bound: usize, fresh: &mut [u16]) -> Plan
-    ensures { λ r. ⌜ (r ≡ ruleW (now (ws .entry)) start s kind bound (now (fresh .entry)) .plan) × (now (fresh .exit) ≡ ruleW (now (ws .entry)) start s kind bound (now (fresh .entry)) .fresh) ⌝ }
+fn rule(
+    ws: &[u16],
+    marks: &[u16],
+    start: usize,
+    s: Spot,
+    kind: usize,
+    bound: usize,
+    fresh: &mut [u16],
+) -> Plan
+    ensures { λ r. ⌜ (r ≡ ruleW (now (ws .entry)) (now (marks .entry)) start s kind bound (now (fresh .entry)) .plan) × (now (fresh .exit) ≡ ruleW (now (ws .entry)) (now (marks .entry)) start s kind bound (now (fresh .entry)) .fresh) ⌝ }
 {
     if 6 < kind {
-        return scoped(ws, start, s, kind, bound, fresh);
+        return scoped(ws, marks, start, s, kind, bound, fresh);
     }
     let t = valued(ws, start, s, kind, bound, fresh);
     plain(s, start, t, fresh)
@@ -88,6 +104,7 @@ fn rule(ws: &[u16], start: usize, s: Spot, kind: usize, bound: usize, fresh: &mu
 // The rule worked out in scratch, then the answer. The engine's process begins at `start`, the next one's at `next`.
 fn lone(
     ws: &[u16],
+    marks: &[u16],
     start: usize,
     next: usize,
     s: Spot,
@@ -96,9 +113,9 @@ fn lone(
     fresh: &mut [u16],
     out: &mut [u16],
 ) -> Answer
-    ensures { λ r. ⌜ (r ≡ loneW (now (ws .entry)) start next s kind bound (now (fresh .entry)) (now (out .entry)) .answer) × (now (out .exit) ≡ loneW (now (ws .entry)) start next s kind bound (now (fresh .entry)) (now (out .entry)) .out) ⌝ }
+    ensures { λ r. ⌜ (r ≡ loneW (now (ws .entry)) (now (marks .entry)) start next s kind bound (now (fresh .entry)) (now (out .entry)) .answer) × (now (out .exit) ≡ loneW (now (ws .entry)) (now (marks .entry)) start next s kind bound (now (fresh .entry)) (now (out .entry)) .out) ⌝ }
 {
-    let p = rule(ws, start, s, kind, bound, fresh);
+    let p = rule(ws, marks, start, s, kind, bound, fresh);
     one(
         ws,
         start,
@@ -113,6 +130,7 @@ fn lone(
 // With scratch for every result.
 fn roomy(
     ws: &[u16],
+    marks: &[u16],
     start: usize,
     next: usize,
     s: Spot,
@@ -120,16 +138,17 @@ fn roomy(
     bound: usize,
     out: &mut [u16],
 ) -> Answer
-    ensures { λ r. ⌜ (r ≡ loneW (now (ws .entry)) start next s kind bound large (now (out .entry)) .answer) × (now (out .exit) ≡ loneW (now (ws .entry)) start next s kind bound large (now (out .entry)) .out) ⌝ }
+    ensures { λ r. ⌜ (r ≡ loneW (now (ws .entry)) (now (marks .entry)) start next s kind bound large (now (out .entry)) .answer) × (now (out .exit) ≡ loneW (now (ws .entry)) (now (marks .entry)) start next s kind bound large (now (out .entry)) .out) ⌝ }
 {
     let mut fresh = [0u16; 16384];
-    lone(ws, start, next, s, kind, bound, &mut fresh, out)
+    lone(ws, marks, start, next, s, kind, bound, &mut fresh, out)
 }
 
 // With the short scratch. Inst can make more words than that holds, counts also those that find no room, and wants 130 places to spare:
 // where it may have had too few, the plan is made again.
 fn short(
     ws: &[u16],
+    marks: &[u16],
     start: usize,
     next: usize,
     s: Spot,
@@ -138,11 +157,11 @@ fn short(
     fresh: &mut [u16],
     out: &mut [u16],
 ) -> Answer
-    ensures { λ r. ⌜ (r ≡ shortW (now (ws .entry)) start next s kind bound (now (fresh .entry)) (now (out .entry)) .answer) × (now (out .exit) ≡ shortW (now (ws .entry)) start next s kind bound (now (fresh .entry)) (now (out .entry)) .out) ⌝ }
+    ensures { λ r. ⌜ (r ≡ shortW (now (ws .entry)) (now (marks .entry)) start next s kind bound (now (fresh .entry)) (now (out .entry)) .answer) × (now (out .exit) ≡ shortW (now (ws .entry)) (now (marks .entry)) start next s kind bound (now (fresh .entry)) (now (out .entry)) .out) ⌝ }
 {
-    let p = rule(ws, start, s, kind, bound, fresh);
+    let p = rule(ws, marks, start, s, kind, bound, fresh);
     if 800 < p.g {
-        return roomy(ws, start, next, s, kind, bound, out);
+        return roomy(ws, marks, start, next, s, kind, bound, out);
     }
     one(
         ws,
@@ -158,6 +177,7 @@ fn short(
 // To clear the long scratch would take more time than the step of a short configuration.
 pub fn alone(
     ws: &[u16],
+    marks: &[u16],
     start: usize,
     next: usize,
     s: Spot,
@@ -165,11 +185,11 @@ pub fn alone(
     bound: usize,
     out: &mut [u16],
 ) -> Answer
-    ensures { λ r. ⌜ (r ≡ aloneW (now (ws .entry)) start next s kind bound (now (out .entry)) .answer) × (now (out .exit) ≡ aloneW (now (ws .entry)) start next s kind bound (now (out .entry)) .out) ⌝ }
+    ensures { λ r. ⌜ (r ≡ aloneW (now (ws .entry)) (now (marks .entry)) start next s kind bound (now (out .entry)) .answer) × (now (out .exit) ≡ aloneW (now (ws .entry)) (now (marks .entry)) start next s kind bound (now (out .entry)) .out) ⌝ }
 {
     if 512 < ws.len() {
-        return roomy(ws, start, next, s, kind, bound, out);
+        return roomy(ws, marks, start, next, s, kind, bound, out);
     }
     let mut fresh = [0u16; 1024];
-    short(ws, start, next, s, kind, bound, &mut fresh, out)
+    short(ws, marks, start, next, s, kind, bound, &mut fresh, out)
 }

@@ -6,9 +6,9 @@ use crate::exchange::between;
 use finding::find::Found;
 use finding::find::Spot;
 use finding::find::find;
+use marking::survey::survey;
 use moving::write::further;
 use reading::reader::wide;
-use reading::survey::survey;
 use rules::turn::word;
 use skipping::skip::skip_list;
 ghost use mathlib.Core.Path.{_≡_};
@@ -16,7 +16,7 @@ ghost use Prim.Native.Nat.{_≤_, _<_};
 ghost use Rattle.sock.specs.Configuration.{standard};
 ghost use Rattle.sock.specs.Calls.{stepAnswer, stepOutput};
 ghost use Rattle.stepping.specs.Answers.{answerAs, numbers};
-ghost use Rattle.stepping.specs.Stepping.{bodyNil, byKind, movesW, receivingW, noneElse, movingW, stepW};
+ghost use Rattle.stepping.specs.Stepping.{bodyNil, byKind, movesW, receivingW, noneElse, movingW, manyMarks, stepW};
 
 // Whether the body of the scope at a position is nil.
 fn body_nil(ws: &[u16], at: usize) -> bool
@@ -76,6 +76,7 @@ fn moves(ws: &[u16], at: usize, kind: usize) -> usize
 // The process found sends; the receiver is sought in the second engine.
 fn receiving(
     ws: &[u16],
+    marks: &[u16],
     starts: [usize; 9],
     n: usize,
     engine: u16,
@@ -87,14 +88,14 @@ fn receiving(
     out: &mut [u16],
 ) -> Answer
     requires { ⌜ (n ≤ 8) × (engine < 8) ⌝ }
-    ensures { λ r. ⌜ (r ≡ receivingW (now (ws .entry)) starts n engine a kind second place branch (now (out .entry)) .answer) × (now (out .exit) ≡ receivingW (now (ws .entry)) starts n engine a kind second place branch (now (out .entry)) .out) ⌝ }
+    ensures { λ r. ⌜ (r ≡ receivingW (now (ws .entry)) (now (marks .entry)) starts n engine a kind second place branch (now (out .entry)) .answer) × (now (out .exit) ≡ receivingW (now (ws .entry)) (now (marks .entry)) starts n engine a kind second place branch (now (out .entry)) .out) ⌝ }
 {
     let i = wide(second);
     if n <= i {
         return refuse(4);
     }
     let start = starts[i];
-    match find(ws, start, further(start, wide(place)), 64, 1) {
+    match find(ws, marks, start, further(start, wide(place)), 64, 1) {
         Found::Past(e) => refuse(4),
         Found::Hit(b) => between(ws, starts, engine, second, a, b, kind, wide(branch), out),
     }
@@ -116,6 +117,7 @@ fn none_else(second: u16, place: u16, branch: u16) -> bool
 // The process a was found in `engine`.
 fn moving(
     ws: &[u16],
+    marks: &[u16],
     starts: [usize; 9],
     n: usize,
     engine: u16,
@@ -127,7 +129,7 @@ fn moving(
     out: &mut [u16],
 ) -> Answer
     requires { ⌜ (n ≤ 8) × (engine < 8) ⌝ }
-    ensures { λ r. ⌜ (r ≡ movingW (now (ws .entry)) starts n engine a second place branch bound (now (out .entry)) .answer) × (now (out .exit) ≡ movingW (now (ws .entry)) starts n engine a second place branch bound (now (out .entry)) .out) ⌝ }
+    ensures { λ r. ⌜ (r ≡ movingW (now (ws .entry)) (now (marks .entry)) starts n engine a second place branch bound (now (out .entry)) .answer) × (now (out .exit) ≡ movingW (now (ws .entry)) (now (marks .entry)) starts n engine a second place branch bound (now (out .entry)) .out) ⌝ }
 {
     let kind = wide(word(ws, a.at)) / 2048;
     let m = moves(ws, a.at, kind);
@@ -135,18 +137,31 @@ fn moving(
         return refuse(3);
     }
     if m == 2 {
-        return receiving(ws, starts, n, engine, a, kind, second, place, branch, out);
+        return receiving(
+            ws,
+            marks,
+            starts,
+            n,
+            engine,
+            a,
+            kind,
+            second,
+            place,
+            branch,
+            out,
+        );
     }
     if none_else(second, place, branch) {
         let e = wide(engine);
-        return alone(ws, starts[e], starts[e + 1], a, kind, bound, out);
+        return alone(ws, marks, starts[e], starts[e + 1], a, kind, bound, out);
     }
     refuse(3)
 }
 
-// The numbers: an engine, a position in its process, and a second engine, a position there and a branch.
+// The numbers: an engine, a position in its process, and a second engine, a position there and a branch. The marks are all 0 before.
 fn stepped(
     ws: &[u16],
+    marks: &mut [u16],
     engine: u16,
     position: u16,
     second: u16,
@@ -154,9 +169,9 @@ fn stepped(
     branch: u16,
     out: &mut [u16],
 ) -> Answer
-    ensures { λ r. ⌜ (r ≡ stepW (now (ws .entry)) engine position second place branch (now (out .entry)) .answer) × (now (out .exit) ≡ stepW (now (ws .entry)) engine position second place branch (now (out .entry)) .out) ⌝ }
+    ensures { λ r. ⌜ (r ≡ stepW (now (ws .entry)) (now (marks .entry)) engine position second place branch (now (out .entry)) .answer) × (now (out .exit) ≡ stepW (now (ws .entry)) (now (marks .entry)) engine position second place branch (now (out .entry)) .out) ⌝ }
 {
-    let s = survey(ws, 64, 8192, 11);
+    let s = survey(ws, 64, 8192, marks);
     let n = s.engines;
     let e = wide(engine);
     if n == 0 {
@@ -171,14 +186,43 @@ fn stepped(
     let starts = s.starts;
     let start = starts[e];
     let bound = n * 65536 + wide(word(ws, 1));
-    match find(ws, start, further(start, wide(position)), 64, 1) {
+    match find(ws, marks, start, further(start, wide(position)), 64, 1) {
         Found::Past(p) => refuse(2),
-        Found::Hit(a) => moving(ws, starts, n, engine, a, second, place, branch, bound, out),
+        Found::Hit(a) => moving(
+            ws,
+            marks,
+            starts,
+            n,
+            engine,
+            a,
+            second,
+            place,
+            branch,
+            bound,
+            out,
+        ),
     }
 }
 
+// With marks for every configuration.
+fn marked(
+    ws: &[u16],
+    engine: u16,
+    position: u16,
+    second: u16,
+    place: u16,
+    branch: u16,
+    out: &mut [u16],
+) -> Answer
+    ensures { λ r. ⌜ (r ≡ stepW (now (ws .entry)) manyMarks engine position second place branch (now (out .entry)) .answer) × (now (out .exit) ≡ stepW (now (ws .entry)) manyMarks engine position second place branch (now (out .entry)) .out) ⌝ }
+{
+    let mut marks = [0u16; 16384];
+    stepped(ws, &mut marks, engine, position, second, place, branch, out)
+}
+
 // The call step: from a configuration's words and the five numbers to the answer and, where it is accepted, the next configuration's
-// words in the output. A refusal changes no word of the output, and words behind the result stay.
+// words in the output. A refusal changes no word of the output, and words behind the result stay. To clear marks for every configuration
+// would take more time than the step of a short one.
 pub fn step(
     ws: &[u16],
     engine: u16,
@@ -190,5 +234,9 @@ pub fn step(
 ) -> Answer
     ensures { λ r. ⌜ (r ≡ answerAs (stepAnswer standard (now (ws .entry)) (numbers engine position second place branch) (now (out .entry)))) × (now (out .exit) ≡ stepOutput standard (now (ws .entry)) (numbers engine position second place branch) (now (out .entry))) ⌝ }
 {
-    stepped(ws, engine, position, second, place, branch, out)
+    if 512 < ws.len() {
+        return marked(ws, engine, position, second, place, branch, out);
+    }
+    let mut marks = [0u16; 1024];
+    stepped(ws, &mut marks, engine, position, second, place, branch, out)
 }

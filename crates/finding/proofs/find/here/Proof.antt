@@ -5,13 +5,13 @@ use borrow.Author.Needs.{needs}
 use Rattle.finding.proofs.find.here.Statement.{statement}
 use Rattle.finding.proofs.find.here.Tie as tie
 
-skip-requires : tie.Need-skip-requires
-skip-requires c κs = search needs
+pass-requires : tie.Need-pass-requires
+pass-requires c κs = search needs
 
 returns : tie.Need-returns
 unfolding hereW
 returns c =
-    simp (← (c .skip .ensures))
+    simp (← (c .pass .ensures))
 
 pub here-spec : {M : Type 1} → statement M
-here-spec = tie.close (tie.spec skip-requires returns)
+here-spec = tie.close (tie.spec pass-requires returns)

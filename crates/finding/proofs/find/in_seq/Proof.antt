@@ -10,8 +10,8 @@ use Rattle.finding.proofs.find.in_seq.Tie as tie
 enum-known-f : tie.Need-enum-known-f
 enum-known-f c = search needs
 
-skip-requires : tie.Need-skip-requires
-skip-requires c κs = search needs
+pass-requires : tie.Need-pass-requires
+pass-requires c κs = search needs
 
 enum-known-f-2 : tie.Need-enum-known-f-2
 enum-known-f-2 c = search needs
@@ -37,14 +37,14 @@ mul-if3 c = search needs
 shared-slice-read-if3 : tie.Need-shared-slice-read-if3
 shared-slice-read-if3 c = search needs
 
-add-t14 : tie.Need-add-t14
-add-t14 c = search needs
-
 add-t15 : tie.Need-add-t15
 add-t15 c = search needs
 
 add-t16 : tie.Need-add-t16
 add-t16 c = search needs
+
+add-t17 : tie.Need-add-t17
+add-t17 c = search needs
 
 returns-3 : tie.Need-returns-3
 returns-3 c = search seq-hollow
@@ -53,7 +53,7 @@ returns-4 : tie.Need-returns-4
 unfolding inSeqW seqSpot
 returns-4 c =
     let f0 = c .before .before .f .given .1 in
-    simp (← (c .skip .ensures), f0)
+    simp (← (c .pass .ensures), f0)
 
 returns-5 : tie.Need-returns-5
 returns-5 c = search seq-shut
@@ -63,15 +63,15 @@ in-seq-spec =
     tie.close
     (tie.spec
     enum-known-f
-    skip-requires
+    pass-requires
     enum-known-f-2
     returns
     returns-2
     mul-if3
     shared-slice-read-if3
-    add-t14
     add-t15
     add-t16
+    add-t17
     returns-3
     returns-4
     returns-5)

@@ -44,8 +44,8 @@ use Rattle.moving.proofs.kill.zombie_head.Reads as zombie-head-reads
 use Rattle.moving.proofs.write.copy.Reads as copy-reads
 use Rattle.moving.proofs.write.down.Reads as down-reads
 use Rattle.moving.proofs.write.put.Reads as put-reads
-use Rattle.skipping.proofs.skip.skip_list.Reads as skip-list-reads
-use Rattle.skipping.proofs.skip.skip.Reads as skip-reads
+use Rattle.skipping.proofs.pass.pass_list.Reads as pass-list-reads
+use Rattle.skipping.proofs.pass.pass.Reads as pass-reads
 use Rattle.reading.proofs.reader.wide.Reads as wide-reads
 use Rattle.moving.proofs.kill.+kill+kill_executor+kill_live+kill_par+kill_right+kill_scope+kill_seq+kill_zombie.{statement}
 use Rattle.moving.proofs.kill.+kill+kill_executor+kill_live+kill_par+kill_right+kill_scope+kill_seq+kill_zombie.Tie.{close}
@@ -56,92 +56,92 @@ moved k = k .moved
 abbrev output : Killed → List ℕ
 output k = k .out
 
-abbrev μ-kill : Measures 2 kill-kinds.ps ℕ
-μ-kill κs a = a .1 .1 .1 .1 .0 * 4
+abbrev μ-kill : Measures 3 kill-kinds.ps ℕ
+μ-kill κs a = a .1 .1 .1 .1 .1 .0 * 4
 
-abbrev μ-kill-executor : Measures 2 kill-executor-kinds.ps ℕ
-μ-kill-executor κs a = a .1 .1 .1 .1 .0 * 4 + 1
+abbrev μ-kill-executor : Measures 3 kill-executor-kinds.ps ℕ
+μ-kill-executor κs a = a .1 .1 .1 .1 .1 .0 * 4 + 1
 
-abbrev μ-kill-live : Measures 2 kill-live-kinds.ps ℕ
-μ-kill-live κs a = a .1 .1 .1 .1 .1 .0 * 4 + 1
+abbrev μ-kill-live : Measures 3 kill-live-kinds.ps ℕ
+μ-kill-live κs a = a .1 .1 .1 .1 .1 .1 .0 * 4 + 1
 
-abbrev μ-kill-par : Measures 2 kill-par-kinds.ps ℕ
-μ-kill-par κs a = a .1 .1 .1 .1 .0 * 4 + 2
+abbrev μ-kill-par : Measures 3 kill-par-kinds.ps ℕ
+μ-kill-par κs a = a .1 .1 .1 .1 .1 .0 * 4 + 2
 
-abbrev μ-kill-right : Measures 2 kill-right-kinds.ps ℕ
-μ-kill-right κs a = a .1 .1 .1 .1 .0 * 4 + 1
+abbrev μ-kill-right : Measures 3 kill-right-kinds.ps ℕ
+μ-kill-right κs a = a .1 .1 .1 .1 .1 .0 * 4 + 1
 
-abbrev μ-kill-scope : Measures 2 kill-scope-kinds.ps ℕ
-μ-kill-scope κs a = a .1 .1 .1 .1 .0 * 4 + 2
+abbrev μ-kill-scope : Measures 3 kill-scope-kinds.ps ℕ
+μ-kill-scope κs a = a .1 .1 .1 .1 .1 .0 * 4 + 2
 
-abbrev μ-kill-seq : Measures 2 kill-seq-kinds.ps ℕ
-μ-kill-seq κs a = a .1 .1 .1 .1 .0 * 4 + 1
+abbrev μ-kill-seq : Measures 3 kill-seq-kinds.ps ℕ
+μ-kill-seq κs a = a .1 .1 .1 .1 .1 .0 * 4 + 1
 
-abbrev μ-kill-zombie : Measures 2 kill-zombie-kinds.ps ℕ
-μ-kill-zombie κs a = a .1 .1 .1 .1 .1 .0 * 4 + 1
+abbrev μ-kill-zombie : Measures 3 kill-zombie-kinds.ps ℕ
+μ-kill-zombie κs a = a .1 .1 .1 .1 .1 .1 .0 * 4 + 1
 
-abbrev kill-at : ℕ → In 2 kill-kinds.ps
-kill-at t = and 2 kill-kinds.ps (is 2 kill-kinds.ps μ-kill t) kill.Pre
+abbrev kill-at : ℕ → In 3 kill-kinds.ps
+kill-at t = and 3 kill-kinds.ps (is 3 kill-kinds.ps μ-kill t) kill.Pre
 
-abbrev kill-below : ℕ → In 2 kill-kinds.ps
-kill-below t = and 2 kill-kinds.ps (falls 2 kill-kinds.ps _<_ μ-kill t) kill.Pre
+abbrev kill-below : ℕ → In 3 kill-kinds.ps
+kill-below t = and 3 kill-kinds.ps (falls 3 kill-kinds.ps _<_ μ-kill t) kill.Pre
 
-abbrev kill-executor-at : ℕ → In 2 kill-executor-kinds.ps
+abbrev kill-executor-at : ℕ → In 3 kill-executor-kinds.ps
 kill-executor-at t =
-    and 2 kill-executor-kinds.ps (is 2 kill-executor-kinds.ps μ-kill-executor t) kill-executor.Pre
+    and 3 kill-executor-kinds.ps (is 3 kill-executor-kinds.ps μ-kill-executor t) kill-executor.Pre
 
-abbrev kill-executor-below : ℕ → In 2 kill-executor-kinds.ps
+abbrev kill-executor-below : ℕ → In 3 kill-executor-kinds.ps
 kill-executor-below t =
     and
-    2
+    3
     kill-executor-kinds.ps
-    (falls 2 kill-executor-kinds.ps _<_ μ-kill-executor t)
+    (falls 3 kill-executor-kinds.ps _<_ μ-kill-executor t)
     kill-executor.Pre
 
-abbrev kill-live-at : ℕ → In 2 kill-live-kinds.ps
-kill-live-at t = and 2 kill-live-kinds.ps (is 2 kill-live-kinds.ps μ-kill-live t) kill-live.Pre
+abbrev kill-live-at : ℕ → In 3 kill-live-kinds.ps
+kill-live-at t = and 3 kill-live-kinds.ps (is 3 kill-live-kinds.ps μ-kill-live t) kill-live.Pre
 
-abbrev kill-live-below : ℕ → In 2 kill-live-kinds.ps
+abbrev kill-live-below : ℕ → In 3 kill-live-kinds.ps
 kill-live-below t =
-    and 2 kill-live-kinds.ps (falls 2 kill-live-kinds.ps _<_ μ-kill-live t) kill-live.Pre
+    and 3 kill-live-kinds.ps (falls 3 kill-live-kinds.ps _<_ μ-kill-live t) kill-live.Pre
 
-abbrev kill-par-at : ℕ → In 2 kill-par-kinds.ps
-kill-par-at t = and 2 kill-par-kinds.ps (is 2 kill-par-kinds.ps μ-kill-par t) kill-par.Pre
+abbrev kill-par-at : ℕ → In 3 kill-par-kinds.ps
+kill-par-at t = and 3 kill-par-kinds.ps (is 3 kill-par-kinds.ps μ-kill-par t) kill-par.Pre
 
-abbrev kill-par-below : ℕ → In 2 kill-par-kinds.ps
+abbrev kill-par-below : ℕ → In 3 kill-par-kinds.ps
 kill-par-below t =
-    and 2 kill-par-kinds.ps (falls 2 kill-par-kinds.ps _<_ μ-kill-par t) kill-par.Pre
+    and 3 kill-par-kinds.ps (falls 3 kill-par-kinds.ps _<_ μ-kill-par t) kill-par.Pre
 
-abbrev kill-right-at : ℕ → In 2 kill-right-kinds.ps
+abbrev kill-right-at : ℕ → In 3 kill-right-kinds.ps
 kill-right-at t =
-    and 2 kill-right-kinds.ps (is 2 kill-right-kinds.ps μ-kill-right t) kill-right.Pre
+    and 3 kill-right-kinds.ps (is 3 kill-right-kinds.ps μ-kill-right t) kill-right.Pre
 
-abbrev kill-right-below : ℕ → In 2 kill-right-kinds.ps
+abbrev kill-right-below : ℕ → In 3 kill-right-kinds.ps
 kill-right-below t =
-    and 2 kill-right-kinds.ps (falls 2 kill-right-kinds.ps _<_ μ-kill-right t) kill-right.Pre
+    and 3 kill-right-kinds.ps (falls 3 kill-right-kinds.ps _<_ μ-kill-right t) kill-right.Pre
 
-abbrev kill-scope-at : ℕ → In 2 kill-scope-kinds.ps
+abbrev kill-scope-at : ℕ → In 3 kill-scope-kinds.ps
 kill-scope-at t =
-    and 2 kill-scope-kinds.ps (is 2 kill-scope-kinds.ps μ-kill-scope t) kill-scope.Pre
+    and 3 kill-scope-kinds.ps (is 3 kill-scope-kinds.ps μ-kill-scope t) kill-scope.Pre
 
-abbrev kill-scope-below : ℕ → In 2 kill-scope-kinds.ps
+abbrev kill-scope-below : ℕ → In 3 kill-scope-kinds.ps
 kill-scope-below t =
-    and 2 kill-scope-kinds.ps (falls 2 kill-scope-kinds.ps _<_ μ-kill-scope t) kill-scope.Pre
+    and 3 kill-scope-kinds.ps (falls 3 kill-scope-kinds.ps _<_ μ-kill-scope t) kill-scope.Pre
 
-abbrev kill-seq-at : ℕ → In 2 kill-seq-kinds.ps
-kill-seq-at t = and 2 kill-seq-kinds.ps (is 2 kill-seq-kinds.ps μ-kill-seq t) kill-seq.Pre
+abbrev kill-seq-at : ℕ → In 3 kill-seq-kinds.ps
+kill-seq-at t = and 3 kill-seq-kinds.ps (is 3 kill-seq-kinds.ps μ-kill-seq t) kill-seq.Pre
 
-abbrev kill-seq-below : ℕ → In 2 kill-seq-kinds.ps
+abbrev kill-seq-below : ℕ → In 3 kill-seq-kinds.ps
 kill-seq-below t =
-    and 2 kill-seq-kinds.ps (falls 2 kill-seq-kinds.ps _<_ μ-kill-seq t) kill-seq.Pre
+    and 3 kill-seq-kinds.ps (falls 3 kill-seq-kinds.ps _<_ μ-kill-seq t) kill-seq.Pre
 
-abbrev kill-zombie-at : ℕ → In 2 kill-zombie-kinds.ps
+abbrev kill-zombie-at : ℕ → In 3 kill-zombie-kinds.ps
 kill-zombie-at t =
-    and 2 kill-zombie-kinds.ps (is 2 kill-zombie-kinds.ps μ-kill-zombie t) kill-zombie.Pre
+    and 3 kill-zombie-kinds.ps (is 3 kill-zombie-kinds.ps μ-kill-zombie t) kill-zombie.Pre
 
-abbrev kill-zombie-below : ℕ → In 2 kill-zombie-kinds.ps
+abbrev kill-zombie-below : ℕ → In 3 kill-zombie-kinds.ps
 kill-zombie-below t =
-    and 2 kill-zombie-kinds.ps (falls 2 kill-zombie-kinds.ps _<_ μ-kill-zombie t) kill-zombie.Pre
+    and 3 kill-zombie-kinds.ps (falls 3 kill-zombie-kinds.ps _<_ μ-kill-zombie t) kill-zombie.Pre
 
 kill-stuck-requires : (t : ℕ) → kill-lts.Need-stuck-requires (stuck-reads.Asked, stuck-reads.Learnt, wide-reads.Asked, wide-reads.Learnt, kill-seq-below t, kill-seq.Post, kill-par-below t, kill-par.Post, kill-scope-below t, kill-scope.Post, kill-executor-below t, kill-executor.Post, kill-waiter-reads.Asked, kill-waiter-reads.Learnt, keep-reads.Asked, keep-reads.Learnt, vanish-reads.Asked, vanish-reads.Learnt) (kill-at t) kill.Post
 kill-stuck-requires t c κs = search needs
@@ -343,7 +343,7 @@ kill-executor-same-length-2 t c = search needs
 
 kill-executor-returns-3 : (t : ℕ) → kill-executor-lts.Need-returns-3 (stuck-reads.Asked, stuck-reads.Learnt, put-reads.Asked, put-reads.Learnt, kill-below t, kill.Post, notice-reads.Asked, notice-reads.Learnt) (kill-executor-at t) kill-executor.Post
 kill-executor-returns-3 t c =
-    let e = executor-alone (killW ((c .before .before .before .before .before .before .before .before .before .before .before .before .before .before .before .before .before .before .args .depth)) ((c .before .before .before .before .before .before .before .before .before .before .before .before .before .before .before .before .before .before .args .ws .now)) ((c .before .before .before .before .before .before .before .before .before .before .before .before .before .before .before .before .before .before .args .fault)) ((c .before .before .before .before .before .before .before .before .before .before .before .before .before .before .before .before .before .before .args .hole))) ((c .before .before .before .before .before .before .before .before .before .before .before .before .before .before .before .before .before .before .args .ws .now)) ((c .before .before .before .before .before .before .before .before .before .before .before .before .before .before .before .before .before .before .args .fault)) ((c .before .before .before .before .before .before .before .before .before .before .before .before .before .before .before .before .before .before .args .at)) ((c .before .before .before .before .before .before .before .before .before .before .before .before .before .before .before .before .before .before .args .out .now)) ((c .before .before .before .before .before .before .before .before .before .before .before .before .before .before .before .before .before .before .args .to)) _ _ _ _ _ _ (c .before .before .before .before .before .before .before .before .before .before .before .before .before .before .before .if1 .left) (c .before .before .before .before .before .before .before .before .before .before .before .before .before .put .ensures .0) (c .before .before .before .before .before .before .before .before .before .before .before .before .before .put .ensures .1) (c .before .before .before .before .before .before .before .before .before .kill .ensures .0) (c .before .before .before .before .before .before .before .before .before .kill .ensures .1) (c .before .before .before .before .before .if2 .left) (c .before .before .before .before .if3 .taken) (c .before .before .notice .ensures .0) (c .before .before .notice .ensures .1) in
+    let e = executor-alone (killW ((c .before .before .before .before .before .before .before .before .before .before .before .before .before .before .before .before .before .before .before .args .depth)) ((c .before .before .before .before .before .before .before .before .before .before .before .before .before .before .before .before .before .before .before .args .ws .now)) ((c .before .before .before .before .before .before .before .before .before .before .before .before .before .before .before .before .before .before .before .args .marks .now)) ((c .before .before .before .before .before .before .before .before .before .before .before .before .before .before .before .before .before .before .before .args .fault)) ((c .before .before .before .before .before .before .before .before .before .before .before .before .before .before .before .before .before .before .before .args .hole))) ((c .before .before .before .before .before .before .before .before .before .before .before .before .before .before .before .before .before .before .before .args .ws .now)) ((c .before .before .before .before .before .before .before .before .before .before .before .before .before .before .before .before .before .before .before .args .fault)) ((c .before .before .before .before .before .before .before .before .before .before .before .before .before .before .before .before .before .before .before .args .at)) ((c .before .before .before .before .before .before .before .before .before .before .before .before .before .before .before .before .before .before .before .args .out .now)) ((c .before .before .before .before .before .before .before .before .before .before .before .before .before .before .before .before .before .before .before .args .to)) _ _ _ _ _ _ (c .before .before .before .before .before .before .before .before .before .before .before .before .before .before .before .if1 .left) (c .before .before .before .before .before .before .before .before .before .before .before .before .before .put .ensures .0) (c .before .before .before .before .before .before .before .before .before .before .before .before .before .put .ensures .1) (c .before .before .before .before .before .before .before .before .before .kill .ensures .0) (c .before .before .before .before .before .before .before .before .before .kill .ensures .1) (c .before .before .before .before .before .if2 .left) (c .before .before .before .before .if3 .taken) (c .before .before .notice .ensures .0) (c .before .before .notice .ensures .1) in
     (ap moved e, ap output e)
 
 kill-executor-notice-requires-2 : (t : ℕ) → kill-executor-lts.Need-notice-requires-2 (stuck-reads.Asked, stuck-reads.Learnt, put-reads.Asked, put-reads.Learnt, kill-below t, kill.Post, notice-reads.Asked, notice-reads.Learnt) (kill-executor-at t) kill-executor.Post
@@ -354,7 +354,7 @@ kill-executor-same-length-3 t c = search needs
 
 kill-executor-returns-4 : (t : ℕ) → kill-executor-lts.Need-returns-4 (stuck-reads.Asked, stuck-reads.Learnt, put-reads.Asked, put-reads.Learnt, kill-below t, kill.Post, notice-reads.Asked, notice-reads.Learnt) (kill-executor-at t) kill-executor.Post
 kill-executor-returns-4 t c =
-    let e = executor-beside (killW ((c .before .before .before .before .before .before .before .before .before .before .before .before .before .before .before .before .before .before .args .depth)) ((c .before .before .before .before .before .before .before .before .before .before .before .before .before .before .before .before .before .before .args .ws .now)) ((c .before .before .before .before .before .before .before .before .before .before .before .before .before .before .before .before .before .before .args .fault)) ((c .before .before .before .before .before .before .before .before .before .before .before .before .before .before .before .before .before .before .args .hole))) ((c .before .before .before .before .before .before .before .before .before .before .before .before .before .before .before .before .before .before .args .ws .now)) ((c .before .before .before .before .before .before .before .before .before .before .before .before .before .before .before .before .before .before .args .fault)) ((c .before .before .before .before .before .before .before .before .before .before .before .before .before .before .before .before .before .before .args .at)) ((c .before .before .before .before .before .before .before .before .before .before .before .before .before .before .before .before .before .before .args .out .now)) ((c .before .before .before .before .before .before .before .before .before .before .before .before .before .before .before .before .before .before .args .to)) _ _ _ _ _ _ (c .before .before .before .before .before .before .before .before .before .before .before .before .before .before .before .if1 .left) (c .before .before .before .before .before .before .before .before .before .before .before .before .before .put .ensures .0) (c .before .before .before .before .before .before .before .before .before .before .before .before .before .put .ensures .1) (c .before .before .before .before .before .before .before .before .before .kill .ensures .0) (c .before .before .before .before .before .before .before .before .before .kill .ensures .1) (c .before .before .before .before .before .if2 .left) (c .before .before .before .before .if3 .left) (c .before .before .notice2 .ensures .0) (c .before .before .notice2 .ensures .1) in
+    let e = executor-beside (killW ((c .before .before .before .before .before .before .before .before .before .before .before .before .before .before .before .before .before .before .before .args .depth)) ((c .before .before .before .before .before .before .before .before .before .before .before .before .before .before .before .before .before .before .before .args .ws .now)) ((c .before .before .before .before .before .before .before .before .before .before .before .before .before .before .before .before .before .before .before .args .marks .now)) ((c .before .before .before .before .before .before .before .before .before .before .before .before .before .before .before .before .before .before .before .args .fault)) ((c .before .before .before .before .before .before .before .before .before .before .before .before .before .before .before .before .before .before .before .args .hole))) ((c .before .before .before .before .before .before .before .before .before .before .before .before .before .before .before .before .before .before .before .args .ws .now)) ((c .before .before .before .before .before .before .before .before .before .before .before .before .before .before .before .before .before .before .before .args .fault)) ((c .before .before .before .before .before .before .before .before .before .before .before .before .before .before .before .before .before .before .before .args .at)) ((c .before .before .before .before .before .before .before .before .before .before .before .before .before .before .before .before .before .before .before .args .out .now)) ((c .before .before .before .before .before .before .before .before .before .before .before .before .before .before .before .before .before .before .before .args .to)) _ _ _ _ _ _ (c .before .before .before .before .before .before .before .before .before .before .before .before .before .before .before .if1 .left) (c .before .before .before .before .before .before .before .before .before .before .before .before .before .put .ensures .0) (c .before .before .before .before .before .before .before .before .before .before .before .before .before .put .ensures .1) (c .before .before .before .before .before .before .before .before .before .kill .ensures .0) (c .before .before .before .before .before .before .before .before .before .kill .ensures .1) (c .before .before .before .before .before .if2 .left) (c .before .before .before .before .if3 .left) (c .before .before .notice2 .ensures .0) (c .before .before .notice2 .ensures .1) in
     (ap moved e, ap output e)
 
 kill-live-copy-requires : (t : ℕ) → kill-live-lts.Need-copy-requires (copy-reads.Asked, copy-reads.Learnt, kill-below t, kill.Post, stuck-reads.Asked, stuck-reads.Learnt, zombie-head-reads.Asked, zombie-head-reads.Learnt, put-reads.Asked, put-reads.Learnt) (kill-live-at t) kill-live.Post
@@ -389,7 +389,7 @@ kill-live-same-length-2 t c = search needs
 
 kill-live-returns-2 : (t : ℕ) → kill-live-lts.Need-returns-2 (copy-reads.Asked, copy-reads.Learnt, kill-below t, kill.Post, stuck-reads.Asked, stuck-reads.Learnt, zombie-head-reads.Asked, zombie-head-reads.Learnt, put-reads.Asked, put-reads.Learnt) (kill-live-at t) kill-live.Post
 kill-live-returns-2 t c =
-    let e = live-made (killW ((c .before .before .before .before .before .before .before .before .before .before .before .before .before .before .before .before .before .before .before .before .before .args .depth)) ((c .before .before .before .before .before .before .before .before .before .before .before .before .before .before .before .before .before .before .before .before .before .args .ws .now)) ((c .before .before .before .before .before .before .before .before .before .before .before .before .before .before .before .before .before .before .before .before .before .args .fault)) ((c .before .before .before .before .before .before .before .before .before .before .before .before .before .before .before .before .before .before .before .before .before .args .hole))) ((c .before .before .before .before .before .before .before .before .before .before .before .before .before .before .before .before .before .before .before .before .before .args .ws .now)) ((c .before .before .before .before .before .before .before .before .before .before .before .before .before .before .before .before .before .before .before .before .before .args .hole)) ((c .before .before .before .before .before .before .before .before .before .before .before .before .before .before .before .before .before .before .before .before .before .args .at)) ((c .before .before .before .before .before .before .before .before .before .before .before .before .before .before .before .before .before .before .before .before .before .args .body)) ((c .before .before .before .before .before .before .before .before .before .before .before .before .before .before .before .before .before .before .before .before .before .args .out .now)) ((c .before .before .before .before .before .before .before .before .before .before .before .before .before .before .before .before .before .before .before .before .before .args .to)) _ _ _ _ _ _ _ _ (c .before .before .before .before .before .before .before .before .before .before .before .before .before .before .before .before .before .copy .ensures .0) (c .before .before .before .before .before .before .before .before .before .before .before .before .before .before .before .before .before .copy .ensures .1) (c .before .before .before .before .before .before .before .before .before .before .before .before .before .kill .ensures .0) (c .before .before .before .before .before .before .before .before .before .before .before .before .before .kill .ensures .1) (c .before .before .before .before .before .before .before .before .before .if1 .left) (c .before .before .before .before .before .before .before .zombie-head .ensures) (c .before .before .before .before .before .before .put .ensures .0) (c .before .before .before .before .before .before .put .ensures .1) (c .before .before .put2 .ensures .1) in
+    let e = live-made (killW ((c .before .before .before .before .before .before .before .before .before .before .before .before .before .before .before .before .before .before .before .before .before .before .args .depth)) ((c .before .before .before .before .before .before .before .before .before .before .before .before .before .before .before .before .before .before .before .before .before .before .args .ws .now)) ((c .before .before .before .before .before .before .before .before .before .before .before .before .before .before .before .before .before .before .before .before .before .before .args .marks .now)) ((c .before .before .before .before .before .before .before .before .before .before .before .before .before .before .before .before .before .before .before .before .before .before .args .fault)) ((c .before .before .before .before .before .before .before .before .before .before .before .before .before .before .before .before .before .before .before .before .before .before .args .hole))) ((c .before .before .before .before .before .before .before .before .before .before .before .before .before .before .before .before .before .before .before .before .before .before .args .ws .now)) ((c .before .before .before .before .before .before .before .before .before .before .before .before .before .before .before .before .before .before .before .before .before .before .args .hole)) ((c .before .before .before .before .before .before .before .before .before .before .before .before .before .before .before .before .before .before .before .before .before .before .args .at)) ((c .before .before .before .before .before .before .before .before .before .before .before .before .before .before .before .before .before .before .before .before .before .before .args .body)) ((c .before .before .before .before .before .before .before .before .before .before .before .before .before .before .before .before .before .before .before .before .before .before .args .out .now)) ((c .before .before .before .before .before .before .before .before .before .before .before .before .before .before .before .before .before .before .before .before .before .before .args .to)) _ _ _ _ _ _ _ _ (c .before .before .before .before .before .before .before .before .before .before .before .before .before .before .before .before .before .copy .ensures .0) (c .before .before .before .before .before .before .before .before .before .before .before .before .before .before .before .before .before .copy .ensures .1) (c .before .before .before .before .before .before .before .before .before .before .before .before .before .kill .ensures .0) (c .before .before .before .before .before .before .before .before .before .before .before .before .before .kill .ensures .1) (c .before .before .before .before .before .before .before .before .before .if1 .left) (c .before .before .before .before .before .before .before .zombie-head .ensures) (c .before .before .before .before .before .before .put .ensures .0) (c .before .before .before .before .before .before .put .ensures .1) (c .before .before .put2 .ensures .1) in
     (ap moved e, ap output e)
 
 kill-par-put-requires : (t : ℕ) → kill-par-lts.Need-put-requires (put-reads.Asked, put-reads.Learnt, kill-below t, kill.Post, stuck-reads.Asked, stuck-reads.Learnt, kill-right-below t, kill-right.Post) (kill-par-at t) kill-par.Post
@@ -418,7 +418,7 @@ kill-par-same-length-2 t c = search needs
 
 kill-par-returns-2 : (t : ℕ) → kill-par-lts.Need-returns-2 (put-reads.Asked, put-reads.Learnt, kill-below t, kill.Post, stuck-reads.Asked, stuck-reads.Learnt, kill-right-below t, kill-right.Post) (kill-par-at t) kill-par.Post
 kill-par-returns-2 t c =
-    let e = par-right (killW ((c .before .before .before .before .before .before .before .before .before .before .before .before .before .before .before .before .before .args .depth)) ((c .before .before .before .before .before .before .before .before .before .before .before .before .before .before .before .before .before .args .ws .now)) ((c .before .before .before .before .before .before .before .before .before .before .before .before .before .before .before .before .before .args .fault)) ((c .before .before .before .before .before .before .before .before .before .before .before .before .before .before .before .before .before .args .hole))) ((c .before .before .before .before .before .before .before .before .before .before .before .before .before .before .before .before .before .args .at)) ((c .before .before .before .before .before .before .before .before .before .before .before .before .before .before .before .before .before .args .out .now)) ((c .before .before .before .before .before .before .before .before .before .before .before .before .before .before .before .before .before .args .to)) _ _ _ _ _ _ (c .before .before .before .before .before .before .before .before .before .before .before .before .before .put .ensures .0) (c .before .before .before .before .before .before .before .before .before .before .before .before .before .put .ensures .1) (c .before .before .before .before .before .before .before .before .before .kill .ensures .0) (c .before .before .before .before .before .before .before .before .before .kill .ensures .1) (c .before .before .before .before .before .if1 .left) (c .before .before .before .before .if2 .taken) (c .before .before .kill2 .ensures .0) (c .before .before .kill2 .ensures .1) in
+    let e = par-right (killW ((c .before .before .before .before .before .before .before .before .before .before .before .before .before .before .before .before .before .before .args .depth)) ((c .before .before .before .before .before .before .before .before .before .before .before .before .before .before .before .before .before .before .args .ws .now)) ((c .before .before .before .before .before .before .before .before .before .before .before .before .before .before .before .before .before .before .args .marks .now)) ((c .before .before .before .before .before .before .before .before .before .before .before .before .before .before .before .before .before .before .args .fault)) ((c .before .before .before .before .before .before .before .before .before .before .before .before .before .before .before .before .before .before .args .hole))) ((c .before .before .before .before .before .before .before .before .before .before .before .before .before .before .before .before .before .before .args .at)) ((c .before .before .before .before .before .before .before .before .before .before .before .before .before .before .before .before .before .before .args .out .now)) ((c .before .before .before .before .before .before .before .before .before .before .before .before .before .before .before .before .before .before .args .to)) _ _ _ _ _ _ (c .before .before .before .before .before .before .before .before .before .before .before .before .before .put .ensures .0) (c .before .before .before .before .before .before .before .before .before .before .before .before .before .put .ensures .1) (c .before .before .before .before .before .before .before .before .before .kill .ensures .0) (c .before .before .before .before .before .before .before .before .before .kill .ensures .1) (c .before .before .before .before .before .if1 .left) (c .before .before .before .before .if2 .taken) (c .before .before .kill2 .ensures .0) (c .before .before .kill2 .ensures .1) in
     (ap moved e, ap output e)
 
 kill-par-kill-right-requires : (t : ℕ) → kill-par-lts.Need-kill-right-requires (put-reads.Asked, put-reads.Learnt, kill-below t, kill.Post, stuck-reads.Asked, stuck-reads.Learnt, kill-right-below t, kill-right.Post) (kill-par-at t) kill-par.Post
@@ -429,7 +429,7 @@ kill-par-same-length-3 t c = search needs
 
 kill-par-returns-3 : (t : ℕ) → kill-par-lts.Need-returns-3 (put-reads.Asked, put-reads.Learnt, kill-below t, kill.Post, stuck-reads.Asked, stuck-reads.Learnt, kill-right-below t, kill-right.Post) (kill-par-at t) kill-par.Post
 kill-par-returns-3 t c =
-    let e = par-both (killW ((c .before .before .before .before .before .before .before .before .before .before .before .before .before .before .before .before .before .args .depth)) ((c .before .before .before .before .before .before .before .before .before .before .before .before .before .before .before .before .before .args .ws .now)) ((c .before .before .before .before .before .before .before .before .before .before .before .before .before .before .before .before .before .args .fault)) ((c .before .before .before .before .before .before .before .before .before .before .before .before .before .before .before .before .before .args .hole))) ((c .before .before .before .before .before .before .before .before .before .before .before .before .before .before .before .before .before .args .at)) ((c .before .before .before .before .before .before .before .before .before .before .before .before .before .before .before .before .before .args .out .now)) ((c .before .before .before .before .before .before .before .before .before .before .before .before .before .before .before .before .before .args .to)) _ _ _ _ _ _ (c .before .before .before .before .before .before .before .before .before .before .before .before .before .put .ensures .0) (c .before .before .before .before .before .before .before .before .before .before .before .before .before .put .ensures .1) (c .before .before .before .before .before .before .before .before .before .kill .ensures .0) (c .before .before .before .before .before .before .before .before .before .kill .ensures .1) (c .before .before .before .before .before .if1 .left) (c .before .before .before .before .if2 .left) (c .before .before .kill-right .ensures .0) (c .before .before .kill-right .ensures .1) in
+    let e = par-both (killW ((c .before .before .before .before .before .before .before .before .before .before .before .before .before .before .before .before .before .before .args .depth)) ((c .before .before .before .before .before .before .before .before .before .before .before .before .before .before .before .before .before .before .args .ws .now)) ((c .before .before .before .before .before .before .before .before .before .before .before .before .before .before .before .before .before .before .args .marks .now)) ((c .before .before .before .before .before .before .before .before .before .before .before .before .before .before .before .before .before .before .args .fault)) ((c .before .before .before .before .before .before .before .before .before .before .before .before .before .before .before .before .before .before .args .hole))) ((c .before .before .before .before .before .before .before .before .before .before .before .before .before .before .before .before .before .before .args .at)) ((c .before .before .before .before .before .before .before .before .before .before .before .before .before .before .before .before .before .before .args .out .now)) ((c .before .before .before .before .before .before .before .before .before .before .before .before .before .before .before .before .before .before .args .to)) _ _ _ _ _ _ (c .before .before .before .before .before .before .before .before .before .before .before .before .before .put .ensures .0) (c .before .before .before .before .before .before .before .before .before .before .before .before .before .put .ensures .1) (c .before .before .before .before .before .before .before .before .before .kill .ensures .0) (c .before .before .before .before .before .before .before .before .before .kill .ensures .1) (c .before .before .before .before .before .if1 .left) (c .before .before .before .before .if2 .left) (c .before .before .kill-right .ensures .0) (c .before .before .kill-right .ensures .1) in
     (ap moved e, ap output e)
 
 kill-right-kill-requires : (t : ℕ) → kill-right-lts.Need-kill-requires (kill-below t, kill.Post, stuck-reads.Asked, stuck-reads.Learnt, down-reads.Asked, down-reads.Learnt, less-one-reads.Asked, less-one-reads.Learnt) (kill-right-at t) kill-right.Post
@@ -458,7 +458,7 @@ kill-right-same-length-2 t c = search needs
 
 kill-right-returns-2 : (t : ℕ) → kill-right-lts.Need-returns-2 (kill-below t, kill.Post, stuck-reads.Asked, stuck-reads.Learnt, down-reads.Asked, down-reads.Learnt, less-one-reads.Asked, less-one-reads.Learnt) (kill-right-at t) kill-right.Post
 kill-right-returns-2 t c =
-    let e = right-nil (killW ((c .before .before .before .before .before .before .before .before .before .before .before .before .before .before .args .depth)) ((c .before .before .before .before .before .before .before .before .before .before .before .before .before .before .args .ws .now)) ((c .before .before .before .before .before .before .before .before .before .before .before .before .before .before .args .fault)) ((c .before .before .before .before .before .before .before .before .before .before .before .before .before .before .args .hole))) ((c .before .before .before .before .before .before .before .before .before .before .before .before .before .before .args .at)) ((c .before .before .before .before .before .before .before .before .before .before .before .before .before .before .args .out .now)) ((c .before .before .before .before .before .before .before .before .before .before .before .before .before .before .args .one)) ((c .before .before .before .before .before .before .before .before .before .before .before .before .before .before .args .to)) _ _ (c .before .before .before .before .before .before .before .before .before .before .kill .ensures .0) (c .before .before .before .before .before .before .before .before .before .before .kill .ensures .1) (c .before .before .before .before .before .before .if1 .left) _ _ (c .before .before .before .before .before .if2 .taken) (c .less-one .ensures) (c .before .before .before .down .ensures .1) in
+    let e = right-nil (killW ((c .before .before .before .before .before .before .before .before .before .before .before .before .before .before .before .args .depth)) ((c .before .before .before .before .before .before .before .before .before .before .before .before .before .before .before .args .ws .now)) ((c .before .before .before .before .before .before .before .before .before .before .before .before .before .before .before .args .marks .now)) ((c .before .before .before .before .before .before .before .before .before .before .before .before .before .before .before .args .fault)) ((c .before .before .before .before .before .before .before .before .before .before .before .before .before .before .before .args .hole))) ((c .before .before .before .before .before .before .before .before .before .before .before .before .before .before .before .args .at)) ((c .before .before .before .before .before .before .before .before .before .before .before .before .before .before .before .args .out .now)) ((c .before .before .before .before .before .before .before .before .before .before .before .before .before .before .before .args .one)) ((c .before .before .before .before .before .before .before .before .before .before .before .before .before .before .before .args .to)) _ _ (c .before .before .before .before .before .before .before .before .before .before .kill .ensures .0) (c .before .before .before .before .before .before .before .before .before .before .kill .ensures .1) (c .before .before .before .before .before .before .if1 .left) _ _ (c .before .before .before .before .before .if2 .taken) (c .less-one .ensures) (c .before .before .before .down .ensures .1) in
     (ap moved e, ap output e)
 
 kill-right-same-length-3 : (t : ℕ) → kill-right-lts.Need-same-length-3 (kill-below t, kill.Post, stuck-reads.Asked, stuck-reads.Learnt, down-reads.Asked, down-reads.Learnt, less-one-reads.Asked, less-one-reads.Learnt) (kill-right-at t) kill-right.Post
@@ -466,93 +466,93 @@ kill-right-same-length-3 t c = search needs
 
 kill-right-returns-3 : (t : ℕ) → kill-right-lts.Need-returns-3 (kill-below t, kill.Post, stuck-reads.Asked, stuck-reads.Learnt, down-reads.Asked, down-reads.Learnt, less-one-reads.Asked, less-one-reads.Learnt) (kill-right-at t) kill-right.Post
 kill-right-returns-3 t c =
-    let e = right-stays (killW ((c .before .before .before .before .before .before .before .before .before .args .depth)) ((c .before .before .before .before .before .before .before .before .before .args .ws .now)) ((c .before .before .before .before .before .before .before .before .before .args .fault)) ((c .before .before .before .before .before .before .before .before .before .args .hole))) ((c .before .before .before .before .before .before .before .before .before .args .at)) ((c .before .before .before .before .before .before .before .before .before .args .out .now)) ((c .before .before .before .before .before .before .before .before .before .args .one)) ((c .before .before .before .before .before .before .before .before .before .args .to)) _ _ (c .before .before .before .before .before .kill .ensures .0) (c .before .before .before .before .before .kill .ensures .1) (c .before .if1 .left) (c .if2 .left) in
+    let e = right-stays (killW ((c .before .before .before .before .before .before .before .before .before .before .args .depth)) ((c .before .before .before .before .before .before .before .before .before .before .args .ws .now)) ((c .before .before .before .before .before .before .before .before .before .before .args .marks .now)) ((c .before .before .before .before .before .before .before .before .before .before .args .fault)) ((c .before .before .before .before .before .before .before .before .before .before .args .hole))) ((c .before .before .before .before .before .before .before .before .before .before .args .at)) ((c .before .before .before .before .before .before .before .before .before .before .args .out .now)) ((c .before .before .before .before .before .before .before .before .before .before .args .one)) ((c .before .before .before .before .before .before .before .before .before .before .args .to)) _ _ (c .before .before .before .before .before .kill .ensures .0) (c .before .before .before .before .before .kill .ensures .1) (c .before .if1 .left) (c .if2 .left) in
     (ap moved e, ap output e)
 
-kill-scope-stuck-requires : (t : ℕ) → kill-scope-lts.Need-stuck-requires (stuck-reads.Asked, stuck-reads.Learnt, skip-list-reads.Asked, skip-list-reads.Learnt, wide-reads.Asked, wide-reads.Learnt, kill-zombie-below t, kill-zombie.Post, kill-live-below t, kill-live.Post) (kill-scope-at t) kill-scope.Post
+kill-scope-stuck-requires : (t : ℕ) → kill-scope-lts.Need-stuck-requires (stuck-reads.Asked, stuck-reads.Learnt, pass-list-reads.Asked, pass-list-reads.Learnt, wide-reads.Asked, wide-reads.Learnt, kill-zombie-below t, kill-zombie.Post, kill-live-below t, kill-live.Post) (kill-scope-at t) kill-scope.Post
 kill-scope-stuck-requires t c κs = search needs
 
-kill-scope-returns : (t : ℕ) → kill-scope-lts.Need-returns (stuck-reads.Asked, stuck-reads.Learnt, skip-list-reads.Asked, skip-list-reads.Learnt, wide-reads.Asked, wide-reads.Learnt, kill-zombie-below t, kill-zombie.Post, kill-live-below t, kill-live.Post) (kill-scope-at t) kill-scope.Post
+kill-scope-returns : (t : ℕ) → kill-scope-lts.Need-returns (stuck-reads.Asked, stuck-reads.Learnt, pass-list-reads.Asked, pass-list-reads.Learnt, wide-reads.Asked, wide-reads.Learnt, kill-zombie-below t, kill-zombie.Post, kill-live-below t, kill-live.Post) (kill-scope-at t) kill-scope.Post
 unfolding scopeAt scopeW
 kill-scope-returns t c =
     let f0 = c .before .if1 .taken in
     (simp (tests, kill-step, ← (c .stuck .ensures), f0), simp (tests, kill-step, ← (c .stuck .ensures), f0))
 
-kill-scope-add-skip-list : (t : ℕ) → kill-scope-lts.Need-add-skip-list (stuck-reads.Asked, stuck-reads.Learnt, skip-list-reads.Asked, skip-list-reads.Learnt, wide-reads.Asked, wide-reads.Learnt, kill-zombie-below t, kill-zombie.Post, kill-live-below t, kill-live.Post) (kill-scope-at t) kill-scope.Post
-kill-scope-add-skip-list t c = search needs
+kill-scope-add-pass-list : (t : ℕ) → kill-scope-lts.Need-add-pass-list (stuck-reads.Asked, stuck-reads.Learnt, pass-list-reads.Asked, pass-list-reads.Learnt, wide-reads.Asked, wide-reads.Learnt, kill-zombie-below t, kill-zombie.Post, kill-live-below t, kill-live.Post) (kill-scope-at t) kill-scope.Post
+kill-scope-add-pass-list t c = search needs
 
-kill-scope-skip-list-requires : (t : ℕ) → kill-scope-lts.Need-skip-list-requires (stuck-reads.Asked, stuck-reads.Learnt, skip-list-reads.Asked, skip-list-reads.Learnt, wide-reads.Asked, wide-reads.Learnt, kill-zombie-below t, kill-zombie.Post, kill-live-below t, kill-live.Post) (kill-scope-at t) kill-scope.Post
-kill-scope-skip-list-requires t c κs = search needs
+kill-scope-pass-list-requires : (t : ℕ) → kill-scope-lts.Need-pass-list-requires (stuck-reads.Asked, stuck-reads.Learnt, pass-list-reads.Asked, pass-list-reads.Learnt, wide-reads.Asked, wide-reads.Learnt, kill-zombie-below t, kill-zombie.Post, kill-live-below t, kill-live.Post) (kill-scope-at t) kill-scope.Post
+kill-scope-pass-list-requires t c κs = search needs
 
-kill-scope-stuck-requires-2 : (t : ℕ) → kill-scope-lts.Need-stuck-requires-2 (stuck-reads.Asked, stuck-reads.Learnt, skip-list-reads.Asked, skip-list-reads.Learnt, wide-reads.Asked, wide-reads.Learnt, kill-zombie-below t, kill-zombie.Post, kill-live-below t, kill-live.Post) (kill-scope-at t) kill-scope.Post
+kill-scope-stuck-requires-2 : (t : ℕ) → kill-scope-lts.Need-stuck-requires-2 (stuck-reads.Asked, stuck-reads.Learnt, pass-list-reads.Asked, pass-list-reads.Learnt, wide-reads.Asked, wide-reads.Learnt, kill-zombie-below t, kill-zombie.Post, kill-live-below t, kill-live.Post) (kill-scope-at t) kill-scope.Post
 kill-scope-stuck-requires-2 t c κs = search needs
 
-kill-scope-returns-2 : (t : ℕ) → kill-scope-lts.Need-returns-2 (stuck-reads.Asked, stuck-reads.Learnt, skip-list-reads.Asked, skip-list-reads.Learnt, wide-reads.Asked, wide-reads.Learnt, kill-zombie-below t, kill-zombie.Post, kill-live-below t, kill-live.Post) (kill-scope-at t) kill-scope.Post
+kill-scope-returns-2 : (t : ℕ) → kill-scope-lts.Need-returns-2 (stuck-reads.Asked, stuck-reads.Learnt, pass-list-reads.Asked, pass-list-reads.Learnt, wide-reads.Asked, wide-reads.Learnt, kill-zombie-below t, kill-zombie.Post, kill-live-below t, kill-live.Post) (kill-scope-at t) kill-scope.Post
 unfolding scopeAt scopeW
 kill-scope-returns-2 t c =
     let f0 = c .before .if2 .taken in
     let f1 = c .before .before .before .if1 .left in
-    (simp (tests, kill-step, ← (c .stuck2 .ensures), f0, ← (c .before .before .skip-list .ensures), f1), simp (tests, kill-step, ← (c .stuck2 .ensures), f0, ← (c .before .before .skip-list .ensures), f1))
+    (simp (tests, kill-step, ← (c .stuck2 .ensures), f0, ← (c .before .before .pass-list .ensures), f1), simp (tests, kill-step, ← (c .stuck2 .ensures), f0, ← (c .before .before .pass-list .ensures), f1))
 
-kill-scope-stuck-requires-3 : (t : ℕ) → kill-scope-lts.Need-stuck-requires-3 (stuck-reads.Asked, stuck-reads.Learnt, skip-list-reads.Asked, skip-list-reads.Learnt, wide-reads.Asked, wide-reads.Learnt, kill-zombie-below t, kill-zombie.Post, kill-live-below t, kill-live.Post) (kill-scope-at t) kill-scope.Post
+kill-scope-stuck-requires-3 : (t : ℕ) → kill-scope-lts.Need-stuck-requires-3 (stuck-reads.Asked, stuck-reads.Learnt, pass-list-reads.Asked, pass-list-reads.Learnt, wide-reads.Asked, wide-reads.Learnt, kill-zombie-below t, kill-zombie.Post, kill-live-below t, kill-live.Post) (kill-scope-at t) kill-scope.Post
 kill-scope-stuck-requires-3 t c κs = search needs
 
-kill-scope-returns-3 : (t : ℕ) → kill-scope-lts.Need-returns-3 (stuck-reads.Asked, stuck-reads.Learnt, skip-list-reads.Asked, skip-list-reads.Learnt, wide-reads.Asked, wide-reads.Learnt, kill-zombie-below t, kill-zombie.Post, kill-live-below t, kill-live.Post) (kill-scope-at t) kill-scope.Post
+kill-scope-returns-3 : (t : ℕ) → kill-scope-lts.Need-returns-3 (stuck-reads.Asked, stuck-reads.Learnt, pass-list-reads.Asked, pass-list-reads.Learnt, wide-reads.Asked, wide-reads.Learnt, kill-zombie-below t, kill-zombie.Post, kill-live-below t, kill-live.Post) (kill-scope-at t) kill-scope.Post
 unfolding scopeAt scopeW
 kill-scope-returns-3 t c =
     let f0 = c .before .if3 .taken in
     let f1 = c .before .before .if2 .left in
     let f2 = c .before .before .before .before .if1 .left in
-    (simp (tests, kill-step, ← (c .stuck3 .ensures), f0, f1, ← (c .before .before .before .skip-list .ensures), f2), simp (tests, kill-step, ← (c .stuck3 .ensures), f0, f1, ← (c .before .before .before .skip-list .ensures), f2))
+    (simp (tests, kill-step, ← (c .stuck3 .ensures), f0, f1, ← (c .before .before .before .pass-list .ensures), f2), simp (tests, kill-step, ← (c .stuck3 .ensures), f0, f1, ← (c .before .before .before .pass-list .ensures), f2))
 
-kill-scope-mul-wide : (t : ℕ) → kill-scope-lts.Need-mul-wide (stuck-reads.Asked, stuck-reads.Learnt, skip-list-reads.Asked, skip-list-reads.Learnt, wide-reads.Asked, wide-reads.Learnt, kill-zombie-below t, kill-zombie.Post, kill-live-below t, kill-live.Post) (kill-scope-at t) kill-scope.Post
+kill-scope-mul-wide : (t : ℕ) → kill-scope-lts.Need-mul-wide (stuck-reads.Asked, stuck-reads.Learnt, pass-list-reads.Asked, pass-list-reads.Learnt, wide-reads.Asked, wide-reads.Learnt, kill-zombie-below t, kill-zombie.Post, kill-live-below t, kill-live.Post) (kill-scope-at t) kill-scope.Post
 kill-scope-mul-wide t c = search needs
 
-kill-scope-shared-slice-read-wide : (t : ℕ) → kill-scope-lts.Need-shared-slice-read-wide (stuck-reads.Asked, stuck-reads.Learnt, skip-list-reads.Asked, skip-list-reads.Learnt, wide-reads.Asked, wide-reads.Learnt, kill-zombie-below t, kill-zombie.Post, kill-live-below t, kill-live.Post) (kill-scope-at t) kill-scope.Post
+kill-scope-shared-slice-read-wide : (t : ℕ) → kill-scope-lts.Need-shared-slice-read-wide (stuck-reads.Asked, stuck-reads.Learnt, pass-list-reads.Asked, pass-list-reads.Learnt, wide-reads.Asked, wide-reads.Learnt, kill-zombie-below t, kill-zombie.Post, kill-live-below t, kill-live.Post) (kill-scope-at t) kill-scope.Post
 kill-scope-shared-slice-read-wide t c = search needs
 
-kill-scope-wide-requires : (t : ℕ) → kill-scope-lts.Need-wide-requires (stuck-reads.Asked, stuck-reads.Learnt, skip-list-reads.Asked, skip-list-reads.Learnt, wide-reads.Asked, wide-reads.Learnt, kill-zombie-below t, kill-zombie.Post, kill-live-below t, kill-live.Post) (kill-scope-at t) kill-scope.Post
+kill-scope-wide-requires : (t : ℕ) → kill-scope-lts.Need-wide-requires (stuck-reads.Asked, stuck-reads.Learnt, pass-list-reads.Asked, pass-list-reads.Learnt, wide-reads.Asked, wide-reads.Learnt, kill-zombie-below t, kill-zombie.Post, kill-live-below t, kill-live.Post) (kill-scope-at t) kill-scope.Post
 kill-scope-wide-requires t c κs = search needs
 
-kill-scope-kill-zombie-requires : (t : ℕ) → kill-scope-lts.Need-kill-zombie-requires (stuck-reads.Asked, stuck-reads.Learnt, skip-list-reads.Asked, skip-list-reads.Learnt, wide-reads.Asked, wide-reads.Learnt, kill-zombie-below t, kill-zombie.Post, kill-live-below t, kill-live.Post) (kill-scope-at t) kill-scope.Post
+kill-scope-kill-zombie-requires : (t : ℕ) → kill-scope-lts.Need-kill-zombie-requires (stuck-reads.Asked, stuck-reads.Learnt, pass-list-reads.Asked, pass-list-reads.Learnt, wide-reads.Asked, wide-reads.Learnt, kill-zombie-below t, kill-zombie.Post, kill-live-below t, kill-live.Post) (kill-scope-at t) kill-scope.Post
 kill-scope-kill-zombie-requires t c κs = search needs
 
-kill-scope-same-length : (t : ℕ) → kill-scope-lts.Need-same-length (stuck-reads.Asked, stuck-reads.Learnt, skip-list-reads.Asked, skip-list-reads.Learnt, wide-reads.Asked, wide-reads.Learnt, kill-zombie-below t, kill-zombie.Post, kill-live-below t, kill-live.Post) (kill-scope-at t) kill-scope.Post
+kill-scope-same-length : (t : ℕ) → kill-scope-lts.Need-same-length (stuck-reads.Asked, stuck-reads.Learnt, pass-list-reads.Asked, pass-list-reads.Learnt, wide-reads.Asked, wide-reads.Learnt, kill-zombie-below t, kill-zombie.Post, kill-live-below t, kill-live.Post) (kill-scope-at t) kill-scope.Post
 kill-scope-same-length t c = search needs
 
-kill-scope-returns-4 : (t : ℕ) → kill-scope-lts.Need-returns-4 (stuck-reads.Asked, stuck-reads.Learnt, skip-list-reads.Asked, skip-list-reads.Learnt, wide-reads.Asked, wide-reads.Learnt, kill-zombie-below t, kill-zombie.Post, kill-live-below t, kill-live.Post) (kill-scope-at t) kill-scope.Post
+kill-scope-returns-4 : (t : ℕ) → kill-scope-lts.Need-returns-4 (stuck-reads.Asked, stuck-reads.Learnt, pass-list-reads.Asked, pass-list-reads.Learnt, wide-reads.Asked, wide-reads.Learnt, kill-zombie-below t, kill-zombie.Post, kill-live-below t, kill-live.Post) (kill-scope-at t) kill-scope.Post
 unfolding scopeAt scopeW
 kill-scope-returns-4 t c =
     let f0 = c .before .before .before .before .if4 .taken in
     let f1 = c .before .before .before .before .before .before .before .if3 .left in
     let f2 = c .before .before .before .before .before .before .before .before .if2 .left in
     let f3 = c .before .before .before .before .before .before .before .before .before .before .if1 .left in
-    (simp (tests, kill-step, ← (c .before .before .kill-zombie .ensures .0), ← (c .before .before .kill-zombie .ensures .1), f0, ← (c .before .before .before .before .before .wide .ensures .0), f1, f2, ← (c .before .before .before .before .before .before .before .before .before .skip-list .ensures), f3), simp (tests, kill-step, ← (c .before .before .kill-zombie .ensures .0), ← (c .before .before .kill-zombie .ensures .1), f0, ← (c .before .before .before .before .before .wide .ensures .0), f1, f2, ← (c .before .before .before .before .before .before .before .before .before .skip-list .ensures), f3))
+    (simp (tests, kill-step, ← (c .before .before .kill-zombie .ensures .0), ← (c .before .before .kill-zombie .ensures .1), f0, ← (c .before .before .before .before .before .wide .ensures .0), f1, f2, ← (c .before .before .before .before .before .before .before .before .before .pass-list .ensures), f3), simp (tests, kill-step, ← (c .before .before .kill-zombie .ensures .0), ← (c .before .before .kill-zombie .ensures .1), f0, ← (c .before .before .before .before .before .wide .ensures .0), f1, f2, ← (c .before .before .before .before .before .before .before .before .before .pass-list .ensures), f3))
 
-kill-scope-mul-wide-2 : (t : ℕ) → kill-scope-lts.Need-mul-wide-2 (stuck-reads.Asked, stuck-reads.Learnt, skip-list-reads.Asked, skip-list-reads.Learnt, wide-reads.Asked, wide-reads.Learnt, kill-zombie-below t, kill-zombie.Post, kill-live-below t, kill-live.Post) (kill-scope-at t) kill-scope.Post
+kill-scope-mul-wide-2 : (t : ℕ) → kill-scope-lts.Need-mul-wide-2 (stuck-reads.Asked, stuck-reads.Learnt, pass-list-reads.Asked, pass-list-reads.Learnt, wide-reads.Asked, wide-reads.Learnt, kill-zombie-below t, kill-zombie.Post, kill-live-below t, kill-live.Post) (kill-scope-at t) kill-scope.Post
 kill-scope-mul-wide-2 t c = search needs
 
-kill-scope-shared-slice-read-wide-2 : (t : ℕ) → kill-scope-lts.Need-shared-slice-read-wide-2 (stuck-reads.Asked, stuck-reads.Learnt, skip-list-reads.Asked, skip-list-reads.Learnt, wide-reads.Asked, wide-reads.Learnt, kill-zombie-below t, kill-zombie.Post, kill-live-below t, kill-live.Post) (kill-scope-at t) kill-scope.Post
+kill-scope-shared-slice-read-wide-2 : (t : ℕ) → kill-scope-lts.Need-shared-slice-read-wide-2 (stuck-reads.Asked, stuck-reads.Learnt, pass-list-reads.Asked, pass-list-reads.Learnt, wide-reads.Asked, wide-reads.Learnt, kill-zombie-below t, kill-zombie.Post, kill-live-below t, kill-live.Post) (kill-scope-at t) kill-scope.Post
 kill-scope-shared-slice-read-wide-2 t c = search needs
 
-kill-scope-wide-requires-2 : (t : ℕ) → kill-scope-lts.Need-wide-requires-2 (stuck-reads.Asked, stuck-reads.Learnt, skip-list-reads.Asked, skip-list-reads.Learnt, wide-reads.Asked, wide-reads.Learnt, kill-zombie-below t, kill-zombie.Post, kill-live-below t, kill-live.Post) (kill-scope-at t) kill-scope.Post
+kill-scope-wide-requires-2 : (t : ℕ) → kill-scope-lts.Need-wide-requires-2 (stuck-reads.Asked, stuck-reads.Learnt, pass-list-reads.Asked, pass-list-reads.Learnt, wide-reads.Asked, wide-reads.Learnt, kill-zombie-below t, kill-zombie.Post, kill-live-below t, kill-live.Post) (kill-scope-at t) kill-scope.Post
 kill-scope-wide-requires-2 t c κs = search needs
 
-kill-scope-stuck-requires-4 : (t : ℕ) → kill-scope-lts.Need-stuck-requires-4 (stuck-reads.Asked, stuck-reads.Learnt, skip-list-reads.Asked, skip-list-reads.Learnt, wide-reads.Asked, wide-reads.Learnt, kill-zombie-below t, kill-zombie.Post, kill-live-below t, kill-live.Post) (kill-scope-at t) kill-scope.Post
+kill-scope-stuck-requires-4 : (t : ℕ) → kill-scope-lts.Need-stuck-requires-4 (stuck-reads.Asked, stuck-reads.Learnt, pass-list-reads.Asked, pass-list-reads.Learnt, wide-reads.Asked, wide-reads.Learnt, kill-zombie-below t, kill-zombie.Post, kill-live-below t, kill-live.Post) (kill-scope-at t) kill-scope.Post
 kill-scope-stuck-requires-4 t c κs = search needs
 
-kill-scope-returns-5 : (t : ℕ) → kill-scope-lts.Need-returns-5 (stuck-reads.Asked, stuck-reads.Learnt, skip-list-reads.Asked, skip-list-reads.Learnt, wide-reads.Asked, wide-reads.Learnt, kill-zombie-below t, kill-zombie.Post, kill-live-below t, kill-live.Post) (kill-scope-at t) kill-scope.Post
+kill-scope-returns-5 : (t : ℕ) → kill-scope-lts.Need-returns-5 (stuck-reads.Asked, stuck-reads.Learnt, pass-list-reads.Asked, pass-list-reads.Learnt, wide-reads.Asked, wide-reads.Learnt, kill-zombie-below t, kill-zombie.Post, kill-live-below t, kill-live.Post) (kill-scope-at t) kill-scope.Post
 kill-scope-returns-5 t c =
-    let e = scope-stuck ((c .before .before .before .before .before .before .before .before .before .before .before .before .before .args .depth)) (killW ((c .before .before .before .before .before .before .before .before .before .before .before .before .before .args .depth)) ((c .before .before .before .before .before .before .before .before .before .before .before .before .before .args .ws .now)) ((c .before .before .before .before .before .before .before .before .before .before .before .before .before .args .fault)) ((c .before .before .before .before .before .before .before .before .before .before .before .before .before .args .hole))) ((c .before .before .before .before .before .before .before .before .before .before .before .before .before .args .ws .now)) ((c .before .before .before .before .before .before .before .before .before .before .before .before .before .args .hole)) ((c .before .before .before .before .before .before .before .before .before .before .before .before .before .args .at)) ((c .before .before .before .before .before .before .before .before .before .before .before .before .before .args .out .now)) ((c .before .before .before .before .before .before .before .before .before .before .before .before .before .args .to)) _ _ _ (c .before .before .before .before .before .before .before .before .before .before .if1 .left) (c .before .before .before .before .before .before .before .before .before .skip-list .ensures) (c .before .before .before .before .before .before .before .before .if2 .left) (c .before .before .before .before .before .before .before .if3 .left) (c .before .before .before .before .before .wide .ensures .0) (c .before .before .before .before .if4 .left) (c .before .before .wide2 .ensures .0) (c .before .if5 .taken) in
+    let e = scope-stuck ((c .before .before .before .before .before .before .before .before .before .before .before .before .before .before .args .depth)) (killW ((c .before .before .before .before .before .before .before .before .before .before .before .before .before .before .args .depth)) ((c .before .before .before .before .before .before .before .before .before .before .before .before .before .before .args .ws .now)) ((c .before .before .before .before .before .before .before .before .before .before .before .before .before .before .args .marks .now)) ((c .before .before .before .before .before .before .before .before .before .before .before .before .before .before .args .fault)) ((c .before .before .before .before .before .before .before .before .before .before .before .before .before .before .args .hole))) ((c .before .before .before .before .before .before .before .before .before .before .before .before .before .before .args .ws .now)) ((c .before .before .before .before .before .before .before .before .before .before .before .before .before .before .args .marks .now)) ((c .before .before .before .before .before .before .before .before .before .before .before .before .before .before .args .hole)) ((c .before .before .before .before .before .before .before .before .before .before .before .before .before .before .args .at)) ((c .before .before .before .before .before .before .before .before .before .before .before .before .before .before .args .out .now)) ((c .before .before .before .before .before .before .before .before .before .before .before .before .before .before .args .to)) _ _ _ (c .before .before .before .before .before .before .before .before .before .before .if1 .left) (c .before .before .before .before .before .before .before .before .before .pass-list .ensures) (c .before .before .before .before .before .before .before .before .if2 .left) (c .before .before .before .before .before .before .before .if3 .left) (c .before .before .before .before .before .wide .ensures .0) (c .before .before .before .before .if4 .left) (c .before .before .wide2 .ensures .0) (c .before .if5 .taken) in
     ((c .stuck4 .ensures) ∙ ap moved e, ap output e)
 
-kill-scope-kill-live-requires : (t : ℕ) → kill-scope-lts.Need-kill-live-requires (stuck-reads.Asked, stuck-reads.Learnt, skip-list-reads.Asked, skip-list-reads.Learnt, wide-reads.Asked, wide-reads.Learnt, kill-zombie-below t, kill-zombie.Post, kill-live-below t, kill-live.Post) (kill-scope-at t) kill-scope.Post
+kill-scope-kill-live-requires : (t : ℕ) → kill-scope-lts.Need-kill-live-requires (stuck-reads.Asked, stuck-reads.Learnt, pass-list-reads.Asked, pass-list-reads.Learnt, wide-reads.Asked, wide-reads.Learnt, kill-zombie-below t, kill-zombie.Post, kill-live-below t, kill-live.Post) (kill-scope-at t) kill-scope.Post
 kill-scope-kill-live-requires t c κs = search needs
 
-kill-scope-same-length-2 : (t : ℕ) → kill-scope-lts.Need-same-length-2 (stuck-reads.Asked, stuck-reads.Learnt, skip-list-reads.Asked, skip-list-reads.Learnt, wide-reads.Asked, wide-reads.Learnt, kill-zombie-below t, kill-zombie.Post, kill-live-below t, kill-live.Post) (kill-scope-at t) kill-scope.Post
+kill-scope-same-length-2 : (t : ℕ) → kill-scope-lts.Need-same-length-2 (stuck-reads.Asked, stuck-reads.Learnt, pass-list-reads.Asked, pass-list-reads.Learnt, wide-reads.Asked, wide-reads.Learnt, kill-zombie-below t, kill-zombie.Post, kill-live-below t, kill-live.Post) (kill-scope-at t) kill-scope.Post
 kill-scope-same-length-2 t c = search needs
 
-kill-scope-returns-6 : (t : ℕ) → kill-scope-lts.Need-returns-6 (stuck-reads.Asked, stuck-reads.Learnt, skip-list-reads.Asked, skip-list-reads.Learnt, wide-reads.Asked, wide-reads.Learnt, kill-zombie-below t, kill-zombie.Post, kill-live-below t, kill-live.Post) (kill-scope-at t) kill-scope.Post
+kill-scope-returns-6 : (t : ℕ) → kill-scope-lts.Need-returns-6 (stuck-reads.Asked, stuck-reads.Learnt, pass-list-reads.Asked, pass-list-reads.Learnt, wide-reads.Asked, wide-reads.Learnt, kill-zombie-below t, kill-zombie.Post, kill-live-below t, kill-live.Post) (kill-scope-at t) kill-scope.Post
 unfolding scopeAt scopeW
 kill-scope-returns-6 t c =
     let f0 = c .before .before .before .before .if5 .left in
@@ -560,34 +560,34 @@ kill-scope-returns-6 t c =
     let f2 = c .before .before .before .before .before .before .before .before .before .before .if3 .left in
     let f3 = c .before .before .before .before .before .before .before .before .before .before .before .if2 .left in
     let f4 = c .before .before .before .before .before .before .before .before .before .before .before .before .before .if1 .left in
-    (simp (tests, kill-step, ← (c .before .before .kill-live .ensures .0), ← (c .before .before .kill-live .ensures .1), f0, ← (c .before .before .before .before .before .wide2 .ensures .0), f1, ← (c .before .before .before .before .before .before .before .before .wide .ensures .0), f2, f3, ← (c .before .before .before .before .before .before .before .before .before .before .before .before .skip-list .ensures), f4), simp (tests, kill-step, ← (c .before .before .kill-live .ensures .0), ← (c .before .before .kill-live .ensures .1), f0, ← (c .before .before .before .before .before .wide2 .ensures .0), f1, ← (c .before .before .before .before .before .before .before .before .wide .ensures .0), f2, f3, ← (c .before .before .before .before .before .before .before .before .before .before .before .before .skip-list .ensures), f4))
+    (simp (tests, kill-step, ← (c .before .before .kill-live .ensures .0), ← (c .before .before .kill-live .ensures .1), f0, ← (c .before .before .before .before .before .wide2 .ensures .0), f1, ← (c .before .before .before .before .before .before .before .before .wide .ensures .0), f2, f3, ← (c .before .before .before .before .before .before .before .before .before .before .before .before .pass-list .ensures), f4), simp (tests, kill-step, ← (c .before .before .kill-live .ensures .0), ← (c .before .before .kill-live .ensures .1), f0, ← (c .before .before .before .before .before .wide2 .ensures .0), f1, ← (c .before .before .before .before .before .before .before .before .wide .ensures .0), f2, f3, ← (c .before .before .before .before .before .before .before .before .before .before .before .before .pass-list .ensures), f4))
 
-kill-seq-kill-requires : (t : ℕ) → kill-seq-lts.Need-kill-requires (kill-below t, kill.Post, stuck-reads.Asked, stuck-reads.Learnt, skip-reads.Asked, skip-reads.Learnt) (kill-seq-at t) kill-seq.Post
+kill-seq-kill-requires : (t : ℕ) → kill-seq-lts.Need-kill-requires (kill-below t, kill.Post, stuck-reads.Asked, stuck-reads.Learnt, pass-reads.Asked, pass-reads.Learnt) (kill-seq-at t) kill-seq.Post
 kill-seq-kill-requires t c κs = search needs
 
-kill-seq-stuck-requires : (t : ℕ) → kill-seq-lts.Need-stuck-requires (kill-below t, kill.Post, stuck-reads.Asked, stuck-reads.Learnt, skip-reads.Asked, skip-reads.Learnt) (kill-seq-at t) kill-seq.Post
+kill-seq-stuck-requires : (t : ℕ) → kill-seq-lts.Need-stuck-requires (kill-below t, kill.Post, stuck-reads.Asked, stuck-reads.Learnt, pass-reads.Asked, pass-reads.Learnt) (kill-seq-at t) kill-seq.Post
 kill-seq-stuck-requires t c κs = search needs
 
-kill-seq-same-length : (t : ℕ) → kill-seq-lts.Need-same-length (kill-below t, kill.Post, stuck-reads.Asked, stuck-reads.Learnt, skip-reads.Asked, skip-reads.Learnt) (kill-seq-at t) kill-seq.Post
+kill-seq-same-length : (t : ℕ) → kill-seq-lts.Need-same-length (kill-below t, kill.Post, stuck-reads.Asked, stuck-reads.Learnt, pass-reads.Asked, pass-reads.Learnt) (kill-seq-at t) kill-seq.Post
 kill-seq-same-length t c = search needs
 
-kill-seq-returns : (t : ℕ) → kill-seq-lts.Need-returns (kill-below t, kill.Post, stuck-reads.Asked, stuck-reads.Learnt, skip-reads.Asked, skip-reads.Learnt) (kill-seq-at t) kill-seq.Post
+kill-seq-returns : (t : ℕ) → kill-seq-lts.Need-returns (kill-below t, kill.Post, stuck-reads.Asked, stuck-reads.Learnt, pass-reads.Asked, pass-reads.Learnt) (kill-seq-at t) kill-seq.Post
 unfolding goes seqOn seqW
 kill-seq-returns t c =
     let f0 = c .before .if1 .taken in
     (simp (tests, kill-step, ← (c .stuck .ensures), f0, ← (c .before .before .before .before .before .kill .ensures .0), ← (c .before .before .before .before .before .kill .ensures .1)), simp (tests, kill-step, ← (c .stuck .ensures), f0, ← (c .before .before .before .before .before .kill .ensures .0), ← (c .before .before .before .before .before .kill .ensures .1)))
 
-kill-seq-skip-requires : (t : ℕ) → kill-seq-lts.Need-skip-requires (kill-below t, kill.Post, stuck-reads.Asked, stuck-reads.Learnt, skip-reads.Asked, skip-reads.Learnt) (kill-seq-at t) kill-seq.Post
-kill-seq-skip-requires t c κs = search needs
+kill-seq-pass-requires : (t : ℕ) → kill-seq-lts.Need-pass-requires (kill-below t, kill.Post, stuck-reads.Asked, stuck-reads.Learnt, pass-reads.Asked, pass-reads.Learnt) (kill-seq-at t) kill-seq.Post
+kill-seq-pass-requires t c κs = search needs
 
-kill-seq-same-length-2 : (t : ℕ) → kill-seq-lts.Need-same-length-2 (kill-below t, kill.Post, stuck-reads.Asked, stuck-reads.Learnt, skip-reads.Asked, skip-reads.Learnt) (kill-seq-at t) kill-seq.Post
+kill-seq-same-length-2 : (t : ℕ) → kill-seq-lts.Need-same-length-2 (kill-below t, kill.Post, stuck-reads.Asked, stuck-reads.Learnt, pass-reads.Asked, pass-reads.Learnt) (kill-seq-at t) kill-seq.Post
 kill-seq-same-length-2 t c = search needs
 
-kill-seq-returns-2 : (t : ℕ) → kill-seq-lts.Need-returns-2 (kill-below t, kill.Post, stuck-reads.Asked, stuck-reads.Learnt, skip-reads.Asked, skip-reads.Learnt) (kill-seq-at t) kill-seq.Post
+kill-seq-returns-2 : (t : ℕ) → kill-seq-lts.Need-returns-2 (kill-below t, kill.Post, stuck-reads.Asked, stuck-reads.Learnt, pass-reads.Asked, pass-reads.Learnt) (kill-seq-at t) kill-seq.Post
 unfolding goes seqOn seqW
 kill-seq-returns-2 t c =
     let f0 = c .before .if1 .left in
-    (simp (tests, kill-step, ← (c .skip .ensures), f0, ← (c .before .before .before .before .before .kill .ensures .0), ← (c .before .before .before .before .before .kill .ensures .1)), simp (tests, kill-step, ← (c .skip .ensures), f0, ← (c .before .before .before .before .before .kill .ensures .0), ← (c .before .before .before .before .before .kill .ensures .1)))
+    (simp (tests, kill-step, ← (c .pass .ensures), f0, ← (c .before .before .before .before .before .kill .ensures .0), ← (c .before .before .before .before .before .kill .ensures .1)), simp (tests, kill-step, ← (c .pass .ensures), f0, ← (c .before .before .before .before .before .kill .ensures .0), ← (c .before .before .before .before .before .kill .ensures .1)))
 
 kill-zombie-kill-requires : (t : ℕ) → kill-zombie-lts.Need-kill-requires (kill-below t, kill.Post, stuck-reads.Asked, stuck-reads.Learnt, copy-reads.Asked, copy-reads.Learnt) (kill-zombie-at t) kill-zombie.Post
 kill-zombie-kill-requires t c κs = search needs
@@ -784,8 +784,8 @@ pub +kill+kill-executor+kill-live+kill-par+kill-right+kill-scope+kill-seq+kill-z
     (λ t. kill-scope-lts.spec (
       stuck-reads.Asked,
       stuck-reads.Learnt,
-      skip-list-reads.Asked,
-      skip-list-reads.Learnt,
+      pass-list-reads.Asked,
+      pass-list-reads.Learnt,
       wide-reads.Asked,
       wide-reads.Learnt,
       kill-zombie-below t,
@@ -797,8 +797,8 @@ pub +kill+kill-executor+kill-live+kill-par+kill-right+kill-scope+kill-seq+kill-z
     kill-scope.Post
     (kill-scope-stuck-requires t)
     (kill-scope-returns t)
-    (kill-scope-add-skip-list t)
-    (kill-scope-skip-list-requires t)
+    (kill-scope-add-pass-list t)
+    (kill-scope-pass-list-requires t)
     (kill-scope-stuck-requires-2 t)
     (kill-scope-returns-2 t)
     (kill-scope-stuck-requires-3 t)
@@ -822,8 +822,8 @@ pub +kill+kill-executor+kill-live+kill-par+kill-right+kill-scope+kill-seq+kill-z
       kill.Post,
       stuck-reads.Asked,
       stuck-reads.Learnt,
-      skip-reads.Asked,
-      skip-reads.Learnt,
+      pass-reads.Asked,
+      pass-reads.Learnt,
     )
     (kill-seq-at t)
     kill-seq.Post
@@ -831,7 +831,7 @@ pub +kill+kill-executor+kill-live+kill-par+kill-right+kill-scope+kill-seq+kill-z
     (kill-seq-stuck-requires t)
     (kill-seq-same-length t)
     (kill-seq-returns t)
-    (kill-seq-skip-requires t)
+    (kill-seq-pass-requires t)
     (kill-seq-same-length-2 t)
     (kill-seq-returns-2 t))
     λ t. kill-zombie-lts.spec (

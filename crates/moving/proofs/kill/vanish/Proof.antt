@@ -6,8 +6,8 @@ use borrow.Author.Needs.{needs}
 use Rattle.moving.proofs.kill.vanish.Statement.{statement}
 use Rattle.moving.proofs.kill.vanish.Tie as tie
 
-skip-requires : tie.Need-skip-requires
-skip-requires c κs = search needs
+pass-requires : tie.Need-pass-requires
+pass-requires c κs = search needs
 
 put-requires : tie.Need-put-requires
 put-requires c κs = search needs
@@ -18,7 +18,7 @@ same-length c = search needs
 returns : tie.Need-returns
 unfolding vanishedW
 returns c =
-    (simp (tests, ← (c .before .before .put .ensures .0), ← (c .before .before .put .ensures .1), ← (c .before .before .before .before .skip .ensures)), simp (tests, ← (c .before .before .put .ensures .0), ← (c .before .before .put .ensures .1), ← (c .before .before .before .before .skip .ensures)))
+    (simp (tests, ← (c .before .before .put .ensures .0), ← (c .before .before .put .ensures .1), ← (c .before .before .before .before .pass .ensures)), simp (tests, ← (c .before .before .put .ensures .0), ← (c .before .before .put .ensures .1), ← (c .before .before .before .before .pass .ensures)))
 
 pub vanish-spec : {M : Type 1} → statement M
-vanish-spec = tie.close (tie.spec skip-requires put-requires same-length returns)
+vanish-spec = tie.close (tie.spec pass-requires put-requires same-length returns)

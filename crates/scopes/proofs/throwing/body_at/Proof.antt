@@ -9,13 +9,13 @@ use Rattle.scopes.proofs.throwing.body_at.Tie as tie
 further-requires : tie.Need-further-requires
 further-requires c κs = search needs
 
-skip-list-requires : tie.Need-skip-list-requires
-skip-list-requires c κs = search needs
+pass-list-requires : tie.Need-pass-list-requires
+pass-list-requires c κs = search needs
 
 returns : tie.Need-returns
 unfolding bodyW
 returns c =
-    simp (tests, ← (c .skip-list .ensures), ← (c .before .further .ensures))
+    simp (tests, ← (c .pass-list .ensures), ← (c .before .further .ensures))
 
 pub body-at-spec : {M : Type 1} → statement M
-body-at-spec = tie.close (tie.spec further-requires skip-list-requires returns)
+body-at-spec = tie.close (tie.spec further-requires pass-list-requires returns)

@@ -17,15 +17,15 @@ use Rattle.stepping.proofs.alone.short.Tie as tie
 
 -- the short scratch had room
 kept :
-    (ws : List ℕ) (start next : ℕ) (s : Spot) (kind bound : ℕ) (fresh out : List ℕ) (p : Plan) (made : List ℕ) (end : ℕ) →
-    p ≡ ruleW ws start s kind bound fresh .plan →
-    made ≡ ruleW ws start s kind bound fresh .fresh →
+    (ws marks : List ℕ) (start next : ℕ) (s : Spot) (kind bound : ℕ) (fresh out : List ℕ) (p : Plan) (made : List ℕ) (end : ℕ) →
+    p ≡ ruleW ws marks start s kind bound fresh .plan →
+    made ≡ ruleW ws marks start s kind bound fresh .fresh →
     end ≡ next - 64 →
     p .g ≤ surely →
-    oneW ws start end p (kind % 32) made out ≡ shortW ws start next s kind bound fresh out
+    oneW ws start end p (kind % 32) made out ≡ shortW ws marks start next s kind bound fresh out
 unfolding shortW loneW
-kept ws start next s kind bound fresh out p made end e f h low =
-    let z : ltb surely (ruleW ws start s kind bound fresh .plan .g) ≡ false = le-ltb _ _ (rw e at low) in
+kept ws marks start next s kind bound fresh out p made end e f h low =
+    let z : ltb surely (ruleW ws marks start s kind bound fresh .plan .g) ≡ false = le-ltb _ _ (rw e at low) in
     rw (z, e, f, h)
 
 rule-requires : tie.Need-rule-requires
@@ -63,7 +63,7 @@ same-length-4 c = search needs
 
 returns-2 : tie.Need-returns-2
 returns-2 c =
-    let e = kept _ _ _ _ _ _ _ _ _ _ _ (c .before .before .before .before .before .before .before .before .before .before .rule .ensures .0) (c .before .before .before .before .before .before .before .before .before .before .rule .ensures .1) (c .before .before .before .before .before .end-before .ensures) (c .before .before .before .before .before .before .if1 .left) in
+    let e = kept _ _ _ _ _ _ _ _ _ _ _ _ (c .before .before .before .before .before .before .before .before .before .before .rule .ensures .0) (c .before .before .before .before .before .before .before .before .before .before .rule .ensures .1) (c .before .before .before .before .before .end-before .ensures) (c .before .before .before .before .before .before .if1 .left) in
     (c .before .before .one .ensures .0 ∙ ap (λ u. u .answer) e, c .before .before .one .ensures .1 ∙ ap (λ u. u .out) e)
 
 pub short-spec : {M : Type 1} → statement M

@@ -18,32 +18,41 @@ wide-requires c κs = search needs
 refuse-requires : tie.Need-refuse-requires
 refuse-requires c κs = search needs
 
+same-length : tie.Need-same-length
+same-length c = search needs
+
 returns : tie.Need-returns
 unfolding stepW foundW
 returns c =
-    let f0 = c .before .if1 .taken in
-    (simp (tests, ← (c .refuse .ensures), f0, ← (c .before .before .wide .ensures .0), ← (c .before .before .before .survey .ensures)), simp (tests, ← (c .refuse .ensures), f0, ← (c .before .before .wide .ensures .0), ← (c .before .before .before .survey .ensures)))
+    let f0 = (c .before .if1 .taken) in
+    (simp (tests, ← ((c .refuse .ensures)), f0, ← ((c .before .before .wide .ensures .0)), ← ((c .before .before .before .before .before .survey .ensures .0))), simp (tests, ← ((c .refuse .ensures)), f0, ← ((c .before .before .wide .ensures .0)), ← ((c .before .before .before .before .before .survey .ensures .0))))
 
 refuse-requires-2 : tie.Need-refuse-requires-2
 refuse-requires-2 c κs = search needs
 
+same-length-2 : tie.Need-same-length-2
+same-length-2 c = search needs
+
 returns-2 : tie.Need-returns-2
 unfolding stepW foundW
 returns-2 c =
-    let f0 = c .before .if2 .taken in
-    let f1 = c .before .before .if1 .left in
-    (simp (tests, ← (c .refuse2 .ensures), f0, f1, ← (c .before .before .before .wide .ensures .0), ← (c .before .before .before .before .survey .ensures)), simp (tests, ← (c .refuse2 .ensures), f0, f1, ← (c .before .before .before .wide .ensures .0), ← (c .before .before .before .before .survey .ensures)))
+    let f0 = (c .before .if2 .taken) in
+    let f1 = (c .before .before .if1 .left) in
+    (simp (tests, ← ((c .refuse2 .ensures)), f0, f1, ← ((c .before .before .before .wide .ensures .0)), ← ((c .before .before .before .before .before .before .survey .ensures .0))), simp (tests, ← ((c .refuse2 .ensures)), f0, f1, ← ((c .before .before .before .wide .ensures .0)), ← ((c .before .before .before .before .before .before .survey .ensures .0))))
 
 refuse-requires-3 : tie.Need-refuse-requires-3
 refuse-requires-3 c κs = search needs
 
+same-length-3 : tie.Need-same-length-3
+same-length-3 c = search needs
+
 returns-3 : tie.Need-returns-3
 returns-3 c =
-    let a = c .before .before .before .before .before .before .before .before .args in
+    let a = (c .before .before .before .before .before .before .before .before .before .before .before .before .args) in
     let e =
-    step-beyond (a .ws .now) (a .engine) (a .position) (a .second) (a .place) (a .branch) (a .out .now) _ (c .before .before .before .before .before .survey .ensures) (c .before .before .before .if1 .left) (c .before .before .if2 .left) _
-    (c .before .before .before .before .wide .ensures .0) (c .before .if3 .taken) in
-    (c .refuse3 .ensures ∙ ap (λ (w : Answered). w .answer) e, ap (λ (w : Answered). w .out) e)
+    step-beyond (a .ws .now) (a .marks .now) (a .engine) (a .position) (a .second) (a .place) (a .branch) (a .out .now) _ ((c .before .before .before .before .before .before .before .survey .ensures .0)) _ ((c .before .before .before .before .before .before .before .survey .ensures .1)) ((c .before .before .before .if1 .left)) ((c .before .before .if2 .left)) _
+    ((c .before .before .before .before .wide .ensures .0)) ((c .before .if3 .taken)) in
+    ((c .refuse3 .ensures) ∙ ap (λ (w : Answered). w .answer) e, ap (λ (w : Answered). w .out) e)
 
 mul-start : tie.Need-mul-start
 mul-start c = search needs
@@ -84,26 +93,32 @@ enum-known-a c = search needs
 moving-requires : tie.Need-moving-requires
 moving-requires c κs = search needs
 
+same-length-4 : tie.Need-same-length-4
+same-length-4 c = search needs
+
 returns-4 : tie.Need-returns-4
 returns-4 c =
-    let a = c .before .before .before .before .before .before .before .before .before .before .before .before .before .before .before .before .before .args in
+    let a = (c .before .before .before .before .before .before .before .before .before .before .before .before .before .before .before .before .before .before .before .before .before .before .args) in
     let e =
-    step-past (a .ws .now) (a .engine) (a .position) (a .second) (a .place) (a .branch) (a .out .now) _ (c .before .before .before .before .before .before .before .before .before .before .before .before .before .before .survey .ensures) (c .before .before .before .before .before .before .before .before .before .before .before .before .if1 .left) (c .before .before .before .before .before .before .before .before .before .before .before .if2 .left) _
-    (c .before .before .before .before .before .before .before .before .before .before .before .before .before .wide .ensures .0) (c .before .before .before .before .before .before .before .before .before .before .if3 .left) _ _ _ _ _ (c .before .before .before .before .before .before .before .before .word .ensures) (c .before .before .before .before .before .before .before .wide2 .ensures .0) (c .before .before .before .before .before .before .wide3 .ensures .0) (c .before .before .before .before .before .further .ensures)
-    (c .before .before .before .before .find .ensures) _ (c .before .before .p .given .1) in
-    (c .refuse4 .ensures ∙ ap (λ (w : Answered). w .answer) e, ap (λ (w : Answered). w .out) e)
+    step-past (a .ws .now) (a .marks .now) (a .engine) (a .position) (a .second) (a .place) (a .branch) (a .out .now) _ ((c .before .before .before .before .before .before .before .before .before .before .before .before .before .before .before .before .before .survey .ensures .0)) _ ((c .before .before .before .before .before .before .before .before .before .before .before .before .before .before .before .before .before .survey .ensures .1)) ((c .before .before .before .before .before .before .before .before .before .before .before .before .before .if1 .left)) ((c .before .before .before .before .before .before .before .before .before .before .before .before .if2 .left)) _
+    ((c .before .before .before .before .before .before .before .before .before .before .before .before .before .before .wide .ensures .0)) ((c .before .before .before .before .before .before .before .before .before .before .before .if3 .left)) _ _ _ _ _ ((c .before .before .before .before .before .before .before .before .before .word .ensures)) ((c .before .before .before .before .before .before .before .before .wide2 .ensures .0)) ((c .before .before .before .before .before .before .wide3 .ensures .0)) ((c .before .before .before .before .before .further .ensures))
+    ((c .before .before .before .before .find .ensures)) _ ((c .before .before .p .given .1)) in
+    ((c .refuse4 .ensures) ∙ ap (λ (w : Answered). w .answer) e, ap (λ (w : Answered). w .out) e)
 
-same-length : tie.Need-same-length
-same-length c = search needs
+same-length-5 : tie.Need-same-length-5
+same-length-5 c = (c .before .before .before .before .before .before .before .before .before .before .before .before .before .before .before .before .before .before .before .before .marks .given)
+
+same-length-6 : tie.Need-same-length-6
+same-length-6 c = search needs
 
 returns-5 : tie.Need-returns-5
 returns-5 c =
-    let a = c .before .before .before .before .before .before .before .before .before .before .before .before .before .before .before .before .before .before .before .before .args in
+    let a = (c .before .before .before .before .before .before .before .before .before .before .before .before .before .before .before .before .before .before .before .before .before .before .before .before .before .before .args) in
     let e =
-    step-hit (a .ws .now) (a .engine) (a .position) (a .second) (a .place) (a .branch) (a .out .now) _ (c .before .before .before .before .before .before .before .before .before .before .before .before .before .before .before .before .before .survey .ensures) (c .before .before .before .before .before .before .before .before .before .before .before .before .before .before .before .if1 .left) (c .before .before .before .before .before .before .before .before .before .before .before .before .before .before .if2 .left) _
-    (c .before .before .before .before .before .before .before .before .before .before .before .before .before .before .before .before .wide .ensures .0) (c .before .before .before .before .before .before .before .before .before .before .before .before .before .if3 .left) _ _ _ _ _ (c .before .before .before .before .before .before .before .before .before .before .before .word .ensures) (c .before .before .before .before .before .before .before .before .before .before .wide2 .ensures .0) (c .before .before .before .before .before .before .before .before .before .wide3 .ensures .0) (c .before .before .before .before .before .before .before .before .further .ensures)
-    (c .before .before .before .before .before .before .before .find .ensures) _ (c .before .before .before .before .before .a .given .1) in
-    (c .before .before .moving .ensures .0 ∙ ap (λ (w : Answered). w .answer) e, c .before .before .moving .ensures .1 ∙ ap (λ (w : Answered). w .out) e)
+    step-hit (a .ws .now) (a .marks .now) (a .engine) (a .position) (a .second) (a .place) (a .branch) (a .out .now) _ ((c .before .before .before .before .before .before .before .before .before .before .before .before .before .before .before .before .before .before .before .before .before .survey .ensures .0)) _ ((c .before .before .before .before .before .before .before .before .before .before .before .before .before .before .before .before .before .before .before .before .before .survey .ensures .1)) ((c .before .before .before .before .before .before .before .before .before .before .before .before .before .before .before .before .before .if1 .left)) ((c .before .before .before .before .before .before .before .before .before .before .before .before .before .before .before .before .if2 .left)) _
+    ((c .before .before .before .before .before .before .before .before .before .before .before .before .before .before .before .before .before .before .wide .ensures .0)) ((c .before .before .before .before .before .before .before .before .before .before .before .before .before .before .before .if3 .left)) _ _ _ _ _ ((c .before .before .before .before .before .before .before .before .before .before .before .before .before .word .ensures)) ((c .before .before .before .before .before .before .before .before .before .before .before .before .wide2 .ensures .0)) ((c .before .before .before .before .before .before .before .before .before .before .wide3 .ensures .0)) ((c .before .before .before .before .before .before .before .before .before .further .ensures))
+    ((c .before .before .before .before .before .before .before .before .find .ensures)) _ ((c .before .before .before .before .before .before .a .given .1)) in
+    ((c .before .before .moving .ensures .0) ∙ ap (λ (w : Answered). w .answer) e, (c .before .before .moving .ensures .1) ∙ ap (λ (w : Answered). w .out) e)
 
 pub stepped-spec : {M : Type 1} → statement M
 stepped-spec =
@@ -112,10 +127,13 @@ stepped-spec =
     survey-requires
     wide-requires
     refuse-requires
+    same-length
     returns
     refuse-requires-2
+    same-length-2
     returns-2
     refuse-requires-3
+    same-length-3
     returns-3
     mul-start
     array-read-start
@@ -130,6 +148,8 @@ stepped-spec =
     refuse-requires-4
     enum-known-a
     moving-requires
+    same-length-4
     returns-4
-    same-length
+    same-length-5
+    same-length-6
     returns-5)

@@ -1,0 +1,232 @@
+-- The mirrored marks, by what the code knows where it returns.
+-- Assumes nothing.
+use Prim.Native.Nat.{ℕ, zero, suc, _+_, _-_, _*_, _/_, _%_, _≤_, _<_}
+use native.Mathlib.Omega.{arith}
+use mathlib.Core.Path.{_≡_, refl, sym, ap, _∙_}
+use mathlib.Core.Bool.{Bool, true, false, _&&_, cond}
+use mathlib.Core.List.{List}
+use borrow.Author.Tests.{lt-ltb, le-ltb, lt-leb, le-leb, eq-eqb, ne-eqb}
+use lib.Bits.{bitAnd}
+use lib.Dec.{leb, ltb, eqb}
+use lib.ListN.{length, set}
+use lib.Seq.{set-out}
+use Rattle.reading.specs.Tables.{headMask}
+use Rattle.reading.specs.Walk.{on, when, at, exprEnd, processEnd, twoEnd, restOf, markedEnd, scopeEnd, endAfter, executorEnd, nodeEnd}
+use Rattle.reading.proofs.Tests.{tests}
+use Rattle.reading.proofs.Walks.{process-node, process-refused}
+use Rattle.marking.specs.Marking.{Noting, noteW, noteListW, seqMarks, parMarks, bodyMarks, scopeMarks, executorMarks, nodeMarks, noting, enabledMarks, marksW, enginesMarks, surveyMarks}
+
+-- ---- one mark
+
+-- behind the marks nothing is noted
+pub note-behind : (m : List ℕ) (i e : ℕ) → length m ≤ i → m ≡ noteW m i e
+unfolding noteW
+note-behind m i e h = let behind : length m ≤ i * 2 = omega arith in sym (set-out m (i * 2) (e % 65536) behind)
+
+pub note-list-behind : (m : List ℕ) (i e : ℕ) → length m ≤ i → m ≡ noteListW m i e
+unfolding noteListW
+note-list-behind m i e h = let behind : length m ≤ i * 2 + 1 = omega arith in sym (set-out m (i * 2 + 1) (e % 65536) behind)
+
+pub same-note : (m x : List ℕ) (i e f : ℕ) → e ≡ f → x ≡ m → noteW x i e ≡ noteW m i f
+same-note m x i e f p q = rw (p, q)
+
+-- ---- parts, by what is known of the first
+
+module _ (end : ℕ → ℕ → ℕ) (sub : Noting) (i : ℕ) (m x : List ℕ) (a : ℕ) (ended : a ≡ end 9 i) (noted : x ≡ sub 9 i m) where
+  pub two-none : (c : ℕ) → a ≡ 0 → 0 ≡ twoEnd end 9 c i
+  unfolding twoEnd on
+  two-none c z = rw (← ended, z)
+
+  pub two-next : (c e : ℕ) → (a ≡ 0 → ⊥) → e ≡ end c a → e ≡ twoEnd end 9 c i
+  unfolding twoEnd on
+  two-next c e some q = rw (← ended, ne-eqb a 0 some, q)
+
+  pub seq-none : a ≡ 0 → x ≡ seqMarks end sub i m
+  unfolding seqMarks
+  seq-none z = rw (← ended, z, noted)
+
+  pub seq-next : (e : ℕ) (y : List ℕ) → (a ≡ 0 → ⊥) → e ≡ end 0 a → y ≡ noteW x a e → y ≡ seqMarks end sub i m
+  unfolding seqMarks
+  seq-next e y some q n = rw (← ended, ne-eqb a 0 some, n, noted, q)
+
+  pub par-none : a ≡ 0 → x ≡ parMarks end sub i m
+  unfolding parMarks
+  par-none z = rw (← ended, z, noted)
+
+  pub par-next : (y : List ℕ) → (a ≡ 0 → ⊥) → y ≡ sub 9 a x → y ≡ parMarks end sub i m
+  unfolding parMarks
+  par-next y some n = rw (← ended, ne-eqb a 0 some, n, noted)
+
+-- ---- a scope
+
+module _ (end : ℕ → ℕ → ℕ) (sub : Noting) (ws : List ℕ) (h i : ℕ) (m : List ℕ) where
+  pub scope-short : length ws - i < 3 → (0 ≡ scopeEnd end ws 8 h i) × (m ≡ scopeMarks end sub ws h i m)
+  unfolding scopeEnd scopeMarks when
+  scope-short s = (rw (lt-leb 3 (length ws - i) s), rw (lt-leb 3 (length ws - i) s))
+
+  module _ (w e : ℕ) (long : 3 ≤ length ws - i) (second : w ≡ at ws (i + 1)) (listed : e ≡ markedEnd end ws h w (i + 2)) where
+    pub scope-none : e ≡ 0 → (0 ≡ scopeEnd end ws 8 h i) × (m ≡ scopeMarks end sub ws h i m)
+    unfolding scopeEnd scopeMarks bodyMarks when on
+    scope-none z =
+        (rw (le-leb 3 (length ws - i) long, ← second, ← listed, z), rw (le-leb 3 (length ws - i) long, ← second, ← listed, z))
+
+    pub scope-next :
+        (r : ℕ) (x y : List ℕ) → (e ≡ 0 → ⊥) → x ≡ noteListW m (i + 2) e → r ≡ end 8 e → y ≡ sub 8 e x →
+        (r ≡ scopeEnd end ws 8 h i) × (y ≡ scopeMarks end sub ws h i m)
+    unfolding scopeEnd scopeMarks bodyMarks when on
+    scope-next r x y some n q s =
+        (rw (le-leb 3 (length ws - i) long, ← second, ← listed, ne-eqb e 0 some, q), rw (le-leb 3 (length ws - i) long, ← second, ← listed, ne-eqb e 0 some, s, n))
+
+-- ---- an executor
+
+module _ (end : ℕ → ℕ → ℕ) (sub : Noting) (ws : List ℕ) (bound i : ℕ) (m : List ℕ) where
+  pub executor-none : false ≡ endAfter ws i 8192 bound → (0 ≡ executorEnd end ws bound i) × (m ≡ executorMarks sub ws bound i m)
+  unfolding executorEnd executorMarks when
+  executor-none t = (rw (← t), rw (← t))
+
+  pub executor-next :
+      (r : ℕ) (x : List ℕ) → true ≡ endAfter ws i 8192 bound → r ≡ end 8 (i + 3) → x ≡ sub 8 (i + 3) m →
+      (r ≡ executorEnd end ws bound i) × (x ≡ executorMarks sub ws bound i m)
+  unfolding executorEnd executorMarks when
+  executor-next r x t q n = (rw (← t, q), rw (← t, n))
+
+-- ---- by kind
+
+pred-suc : (d : ℕ) → suc d - 1 ≡ d
+pred-suc d = omega arith
+
+pub none-deep : (d : ℕ) (ws : List ℕ) (bound c i : ℕ) (m : List ℕ) → d ≡ 0 → (0 ≡ processEnd d ws bound c i) × (m ≡ enabledMarks d ws bound c i m)
+unfolding processEnd enabledMarks
+none-deep d ws bound c i m z = rw z (refl, refl)
+
+enabled-step :
+    (d : ℕ) (ws : List ℕ) (bound c i : ℕ) (m : List ℕ) → (d ≡ 0 → ⊥) →
+    enabledMarks d ws bound c i m
+    ≡ cond (ltb i (length ws) && eqb (bitAnd (at ws i + 65536) (headMask c (at ws i / 2048))) 0)
+    (nodeMarks (processEnd (d - 1) ws bound) (marksW (d - 1) ws bound) ws bound (at ws i) i m) m
+unfolding enabledMarks
+enabled-step zero ws bound c i m h = absurd (h refl)
+enabled-step (suc d) ws bound c i m h = rw (pred-suc d)
+
+pub none-left :
+    (d : ℕ) (ws : List ℕ) (bound c i : ℕ) (m : List ℕ) → (d ≡ 0 → ⊥) → length ws ≤ i →
+    (0 ≡ processEnd d ws bound c i) × (m ≡ enabledMarks d ws bound c i m)
+unfolding processEnd when
+none-left zero ws bound c i m p q = absurd (p refl)
+none-left (suc d) ws bound c i m p q = (rw (le-ltb i (length ws) q), sym (enabled-step (suc d) ws bound c i m p ∙ rw (le-ltb i (length ws) q)))
+
+module _
+    (d : ℕ) (ws : List ℕ) (bound c i h x : ℕ) (m : List ℕ)
+    (p : d ≡ 0 → ⊥) (inside : i < length ws) (r : h ≡ at ws i) (s : x ≡ headMask c (h / 2048))
+  where
+    pub refused : (bitAnd (h + 65536) x ≡ 0 → ⊥) → (0 ≡ processEnd d ws bound c i) × (m ≡ enabledMarks d ws bound c i m)
+    refused t = (
+      process-refused d ws bound c i h x p inside r s t,
+      sym (enabled-step d ws bound c i m p ∙ simp (← r, ← s, ne-eqb (bitAnd (h + 65536) x) 0 t, lt-ltb i (length ws) inside)),
+    )
+
+    module _ (t : bitAnd (h + 65536) x ≡ 0) (low : 8 ≤ c) (high : c < 12) where
+      ended : processEnd d ws bound c i ≡ nodeEnd (exprEnd (d - 1) ws) (processEnd (d - 1) ws bound) ws c bound h i
+      ended = process-node d ws bound c i h x p inside r s t
+
+      noted : enabledMarks d ws bound c i m ≡ nodeMarks (processEnd (d - 1) ws bound) (marksW (d - 1) ws bound) ws bound h i m
+      noted = enabled-step d ws bound c i m p ∙ simp (← r, ← s, t, lt-ltb i (length ws) inside)
+
+      -- contexts of what is enabled
+      over : c / 4 * 4 ≡ 8
+      over = omega arith
+
+      pub others :
+          (k : ℕ) → h / 2048 ≡ k → (k ≡ 2 → ⊥) → (k ≡ 3 → ⊥) → (k ≡ 11 → ⊥) → (k ≡ 16 → ⊥) → m ≡ enabledMarks d ws bound c i m
+      unfolding nodeMarks
+      others k e k2 k3 k11 k16 = sym (noted ∙ simp (e, ne-eqb k 2 k2, ne-eqb k 3 k3, ne-eqb k 11 k11, ne-eqb k 16 k16))
+
+      -- a kind of one word
+      pub one-word :
+          (k : ℕ) → h / 2048 ≡ k →
+          ((h : ℕ) → h / 2048 ≡ k → nodeEnd (exprEnd (d - 1) ws) (processEnd (d - 1) ws bound) ws c bound h i ≡ i + 1) →
+          (k ≡ 2 → ⊥) → (k ≡ 3 → ⊥) → (k ≡ 11 → ⊥) → (k ≡ 16 → ⊥) →
+          (i + 1 ≡ processEnd d ws bound c i) × (m ≡ enabledMarks d ws bound c i m)
+      one-word k e q k2 k3 k11 k16 = (sym (ended ∙ q h e), others k e k2 k3 k11 k16)
+
+      pub a-seq :
+          (e : ℕ) (y : List ℕ) → h / 2048 ≡ 2 → e ≡ twoEnd (processEnd (d - 1) ws bound) 9 0 (i + 1) →
+          y ≡ seqMarks (processEnd (d - 1) ws bound) (marksW (d - 1) ws bound) (i + 1) m →
+          (e ≡ processEnd d ws bound c i) × (y ≡ enabledMarks d ws bound c i m)
+      unfolding nodeEnd nodeMarks restOf
+      a-seq e y k q n = (q ∙ sym (ended ∙ rw (k, over, le-ltb c 8 low)), n ∙ sym (noted ∙ rw k))
+
+      pub a-par :
+          (e : ℕ) (y : List ℕ) → h / 2048 ≡ 3 → e ≡ twoEnd (processEnd (d - 1) ws bound) 9 9 (i + 1) →
+          y ≡ parMarks (processEnd (d - 1) ws bound) (marksW (d - 1) ws bound) (i + 1) m →
+          (e ≡ processEnd d ws bound c i) × (y ≡ enabledMarks d ws bound c i m)
+      unfolding nodeEnd nodeMarks
+      a-par e y k q n = (q ∙ sym (ended ∙ rw (k, over)), n ∙ sym (noted ∙ rw k))
+
+      pub a-scope :
+          (e : ℕ) (y : List ℕ) → h / 2048 ≡ 11 → e ≡ scopeEnd (processEnd (d - 1) ws bound) ws 8 h i →
+          y ≡ scopeMarks (processEnd (d - 1) ws bound) (marksW (d - 1) ws bound) ws h i m →
+          (e ≡ processEnd d ws bound c i) × (y ≡ enabledMarks d ws bound c i m)
+      unfolding nodeEnd nodeMarks scopeEnd
+      a-scope e y k q n = (q ∙ sym (ended ∙ rw (k, le-ltb c 8 low)), n ∙ sym (noted ∙ rw k))
+
+      pub an-executor :
+          (e : ℕ) (y : List ℕ) → h / 2048 ≡ 16 → e ≡ executorEnd (processEnd (d - 1) ws bound) ws bound i →
+          y ≡ executorMarks (marksW (d - 1) ws bound) ws bound i m →
+          (e ≡ processEnd d ws bound c i) × (y ≡ enabledMarks d ws bound c i m)
+      unfolding nodeEnd nodeMarks
+      an-executor e y k q n = (q ∙ sym (ended ∙ rw k), n ∙ sym (noted ∙ rw k))
+
+-- ---- engines
+
+engines-step :
+    (deepest : ℕ) (ws : List ℕ) (bound left i : ℕ) (m : List ℕ) → 0 < left →
+    enginesMarks deepest ws bound left i m
+    ≡ cond (ltb (length ws - i) 64) m
+    (cond (eqb (processEnd deepest ws bound 11 (i + 64)) 0) (marksW deepest ws bound 11 (i + 64) m)
+    (enginesMarks deepest ws bound (left - 1) (processEnd deepest ws bound 11 (i + 64)) (marksW deepest ws bound 11 (i + 64) m)))
+unfolding enginesMarks
+engines-step deepest ws bound zero i m h = absurd (omega arith)
+engines-step deepest ws bound (suc left) i m h = rw (pred-suc left)
+
+engines-end : (deepest : ℕ) (ws : List ℕ) (bound left i : ℕ) (m : List ℕ) → left ≤ 0 → enginesMarks deepest ws bound left i m ≡ m
+unfolding enginesMarks
+engines-end deepest ws bound zero i m h = refl
+engines-end deepest ws bound (suc left) i m h = absurd (omega arith)
+
+module _
+    (deepest : ℕ) (ws : List ℕ) (bound n e i : ℕ) (m whole : List ℕ) (same : enginesMarks deepest ws bound (n - e) i m ≡ whole)
+  where
+    pub marks-short : e < n → length ws - i < 64 → m ≡ whole
+    marks-short h p = sym (engines-step deepest ws bound (n - e) i m (omega arith) ∙ simp (lt-ltb _ _ p)) ∙ same
+
+    pub marks-all : n ≤ e → m ≡ whole
+    marks-all h = sym (engines-end deepest ws bound (n - e) i m (omega arith)) ∙ same
+
+    module _ (h : e < n) (p : 64 ≤ length ws - i) (f : ℕ) (x : List ℕ) (ended : f ≡ processEnd deepest ws bound 11 (i + 64)) (noted : x ≡ marksW deepest ws bound 11 (i + 64) m) where
+      pub marks-none : f ≡ 0 → x ≡ whole
+      marks-none z =
+          noted ∙ (sym (engines-step deepest ws bound (n - e) i m (omega arith) ∙ rw (le-ltb (length ws - i) 64 p, eq-eqb (processEnd deepest ws bound 11 (i + 64)) 0 (sym ended ∙ z))) ∙ same)
+
+      pub marks-next : (f ≡ 0 → ⊥) → enginesMarks deepest ws bound (n - (e + 1)) f x ≡ whole
+      marks-next some =
+          let less : n - e - 1 ≡ n - (e + 1) = omega arith in
+          sym
+          (engines-step deepest ws bound (n - e) i m (omega arith)
+          ∙ rw (le-ltb (length ws - i) 64 p, ← ended, ← noted, ne-eqb f 0 some, less))
+          ∙ same
+
+-- what the code knows where it goes through the engines
+pub survey-marks :
+    (deepest longest : ℕ) (ws : List ℕ) (n w : ℕ) (m : List ℕ) →
+    2 ≤ length ws →
+    length ws ≤ longest →
+    n ≡ at ws 0 →
+    w ≡ at ws 1 →
+    (n ≡ 0 → ⊥) →
+    n ≤ 8 →
+    enginesMarks deepest ws (n * 65536 + w) n 2 m ≡ surveyMarks deepest longest ws m
+unfolding surveyMarks
+survey-marks deepest longest ws n w m p q e f some few =
+    let passed : (leb 2 (length ws) && leb (length ws) longest && ltb 0 n && leb n 8) ≡ true = simp (tests, p, q, some, few) in
+    rw (← e, ← f, passed)

@@ -1,0 +1,77 @@
+-- The marks that reading leaves, as the code goes: `end` tells where a process in a context ends, `sub` notes one level down. The marks of
+-- the word at i stand at i * 2, for the process that begins there, and behind it, for the list. The proofs show that each is where the
+-- layout ends; no public contract names it.
+use Prim.Native.Nat.{ℕ, zero, suc, _+_, _-_, _*_, _/_, _%_}
+use mathlib.Core.Bool.{Bool, true, false, _&&_, cond}
+use mathlib.Core.List.{List}
+use lib.Bits.{bitAnd}
+use lib.Dec.{leb, ltb, eqb}
+use lib.ListN.{length, set}
+use Rattle.reading.specs.Tables.{headMask}
+use Rattle.reading.specs.Walk.{at, processEnd, markedEnd, endAfter}
+
+unfoldable pub noteW : List ℕ → ℕ → ℕ → List ℕ
+noteW m i e = set m (i * 2) (e % 65536)
+
+unfoldable pub noteListW : List ℕ → ℕ → ℕ → List ℕ
+noteListW m i e = set m (i * 2 + 1) (e % 65536)
+
+-- noting in a context, at a position, into marks
+abbrev pub Noting : Type 0
+Noting = ℕ → ℕ → List ℕ → List ℕ
+
+-- the first of a seq is enabled, and where the second ends is noted too
+unfoldable pub seqMarks : (ℕ → ℕ → ℕ) → Noting → ℕ → List ℕ → List ℕ
+seqMarks end sub i m = cond (eqb (end 9 i) 0) (sub 9 i m) (noteW (sub 9 i m) (end 9 i) (end 0 (end 9 i)))
+
+unfoldable pub parMarks : (ℕ → ℕ → ℕ) → Noting → ℕ → List ℕ → List ℕ
+parMarks end sub i m = cond (eqb (end 9 i) 0) (sub 9 i m) (sub 9 (end 9 i) (sub 9 i m))
+
+-- the list of a scope ends at e
+unfoldable pub bodyMarks : Noting → ℕ → ℕ → List ℕ → List ℕ
+bodyMarks sub i e m = cond (eqb e 0) m (sub 8 e (noteListW m (i + 2) e))
+
+unfoldable pub scopeMarks : (ℕ → ℕ → ℕ) → Noting → List ℕ → ℕ → ℕ → List ℕ → List ℕ
+scopeMarks end sub ws h i m = cond (leb 3 (length ws - i)) (bodyMarks sub i (markedEnd end ws h (at ws (i + 1)) (i + 2)) m) m
+
+unfoldable pub executorMarks : Noting → List ℕ → ℕ → ℕ → List ℕ → List ℕ
+executorMarks sub ws bound i m = cond (endAfter ws i 8192 bound) (sub 8 (i + 3) m) m
+
+-- by kind
+unfoldable pub nodeMarks : (ℕ → ℕ → ℕ) → Noting → List ℕ → ℕ → ℕ → ℕ → List ℕ → List ℕ
+nodeMarks end sub ws bound h i m =
+    cond (eqb (h / 2048) 2) (seqMarks end sub (i + 1) m)
+    (cond (eqb (h / 2048) 3) (parMarks end sub (i + 1) m)
+    (cond (eqb (h / 2048) 11) (scopeMarks end sub ws h i m)
+    (cond (eqb (h / 2048) 16) (executorMarks sub ws bound i m) m)))
+
+-- what `inner` notes, and where the process itself ends
+unfoldable pub noting : Noting → (ℕ → ℕ → ℕ) → Noting
+noting inner end c i m = noteW (inner c i m) i (end c i)
+
+-- what is noted inside a process
+unfoldable pub enabledMarks : ℕ → List ℕ → ℕ → Noting
+enabledMarks zero ws bound c i m = m
+enabledMarks (suc d) ws bound c i m =
+    cond (ltb i (length ws) && eqb (bitAnd (at ws i + 65536) (headMask c (at ws i / 2048))) 0)
+    (nodeMarks (processEnd d ws bound) (noting (enabledMarks d ws bound) (processEnd d ws bound)) ws bound (at ws i) i m)
+    m
+
+-- and of the process itself
+abbrev pub marksW : ℕ → List ℕ → ℕ → Noting
+marksW d ws bound = noting (enabledMarks d ws bound) (processEnd d ws bound)
+
+-- ---- of a configuration
+
+-- `left` engines, the first one's values from i on
+unfoldable pub enginesMarks : ℕ → List ℕ → ℕ → ℕ → ℕ → List ℕ → List ℕ
+enginesMarks deepest ws bound zero i m = m
+enginesMarks deepest ws bound (suc left) i m =
+    cond (ltb (length ws - i) 64) m
+    (cond (eqb (processEnd deepest ws bound 11 (i + 64)) 0) (marksW deepest ws bound 11 (i + 64) m)
+    (enginesMarks deepest ws bound left (processEnd deepest ws bound 11 (i + 64)) (marksW deepest ws bound 11 (i + 64) m)))
+
+unfoldable pub surveyMarks : ℕ → ℕ → List ℕ → List ℕ → List ℕ
+surveyMarks deepest longest ws m =
+    cond (leb 2 (length ws) && leb (length ws) longest && ltb 0 (at ws 0) && leb (at ws 0) 8)
+    (enginesMarks deepest ws (at ws 0 * 65536 + at ws 1) (at ws 0) 2 m) m
