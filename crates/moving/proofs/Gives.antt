@@ -7,6 +7,7 @@ use mathlib.Core.Path.{_≡_, refl, sym, ap, _∙_}
 use mathlib.Core.Bool.{Bool, true, false, cond}
 use mathlib.Core.Option.{Option, none, some}
 use mathlib.Core.List.{List, [], _∷_, _++_}
+use lib.Dec.{eqb}
 use lib.ListN.{length, take, set}
 use borrow.Author.Tests.{ne-eqb}
 use Rattle.sock.specs.Term.{Node}
@@ -23,7 +24,7 @@ use Rattle.moving.proofs.Laid.{Near, onward-near, Laid, laid-put, laid-
 -- r, which ends at e, is killed to s; twice the room of r is enough
 pub record Gave (r : Run) (out : List ℕ) (to e : ℕ) (k : Killed) (s : Run) : Type 0 where
   pub ends : k .moved .end ≡ e
-  pub done : k .moved .nil ≡ isDone s
+  pub done : eqb (k .moved .nil) 1 ≡ isDone s
   pub reaches : k .moved .to ≡ to + size s
   pub laid : Laid out to (runWords s) (k .out)
   pub small : size s ≤ 2 * size r
@@ -129,7 +130,7 @@ module _ (a b : Run) (sub : Walk) (at : ℕ) (out : List ℕ) (to : ℕ) (room :
             Laid out to (6144 ∷ (runWords a' ++ runWords b')) (k .out) →
             at + 1 + size a + size b ≡ at + size (par a b) →
             Gives (par a b) out to (at + size (par a b))
-            (cond x (made (k .moved .end) (lessOne (to + 1 + size a')) false (lowered (k .out) (to + 1) (to + 1 + size a'))) (made (k .moved .end) (k .moved .to) false (k .out)))
+            (cond x (made (k .moved .end) (lessOne (to + 1 + size a')) 0 (lowered (k .out) (to + 1) (to + 1 + size a'))) (made (k .moved .end) (k .moved .to) 0 (k .out)))
             (some (cond x a' (par a' b')))
         by true d y all e =
             let z = size-par a b in

@@ -38,7 +38,7 @@ pub notice-made :
     second ≡ set first a y →
     c ≡ onward b 1 →
     third ≡ set second b (getD ws (i + 2) 0) →
-    made end c false third ≡ noticeW ws fault i end out to
+    made end c 0 third ≡ noticeW ws fault i end out to
 unfolding noticeW
 notice-made ws fault i end out to x y a b c first second third p q e g h j k l m n =
     rw (lt-leb (length ws) i p, le-ltb (length ws - i) 3 q, ← e, ← g, ← h, ← j, ← k, ← l, ← m, ← n)
@@ -55,7 +55,7 @@ module _
     (c : p ≡ sub (i + 3) start one .moved) (d : next ≡ sub (i + 3) start one .out) (e : p .end ≡ 0 → ⊥)
   where
     pub executor-alone :
-        p .nil ≡ true →
+        p .nil ≡ 1 →
         r ≡ noticeW ws fault i (p .end) next to .moved →
         last ≡ noticeW ws fault i (p .end) next to .out →
         both r last ≡ executorW sub ws fault i out to
@@ -63,12 +63,12 @@ module _
     executor-alone n x y = rw (lt-leb (length ws) i inside, ← a, ← b, ← c, ← d, ne-eqb (p .end) 0 e, n, x, y)
 
     pub executor-beside :
-        p .nil ≡ false →
+        (p .nil ≡ 1 → ⊥) →
         r ≡ noticeW ws fault i (p .end) next (p .to) .moved →
         last ≡ noticeW ws fault i (p .end) next (p .to) .out →
         both r last ≡ executorW sub ws fault i out to
     unfolding executorW executorOn goes
-    executor-beside n x y = rw (lt-leb (length ws) i inside, ← a, ← b, ← c, ← d, ne-eqb (p .end) 0 e, n, x, y)
+    executor-beside n x y = rw (lt-leb (length ws) i inside, ← a, ← b, ← c, ← d, ne-eqb (p .end) 0 e, ne-eqb (p .nil) 1 n, x, y)
 
 -- a live scope whose body is killed
 pub live-made :
@@ -82,7 +82,7 @@ pub live-made :
     one ≡ onward to 1 →
     headed ≡ set next to h →
     last ≡ set headed one 0 →
-    made (p .end) (p .to) false last ≡ liveW sub ws hole i body out to
+    made (p .end) (p .to) 0 last ≡ liveW sub ws hole i body out to
 unfolding liveW liveOn goes
 live-made sub ws hole i body out to b h one start p next headed last e1 e2 e3 e4 e5 e6 e7 e8 e9 =
     rw (← e1, ← e2, ← e3, ← e4, ne-eqb (p .end) 0 e5, ← e6, ← e7, ← e8, ← e9)
@@ -93,17 +93,17 @@ module _
     (a : one ≡ onward to 1) (b : start ≡ set out to 6144) (c : p ≡ sub i start one .moved) (d : next ≡ sub i start one .out) (e : p .end ≡ 0 → ⊥)
   where
     pub par-right :
-        p .nil ≡ true → r ≡ sub (p .end) next to .moved → last ≡ sub (p .end) next to .out → both r last ≡ parW sub i out to
+        p .nil ≡ 1 → r ≡ sub (p .end) next to .moved → last ≡ sub (p .end) next to .out → both r last ≡ parW sub i out to
     unfolding parW leftOn goes
     par-right n x y = rw (← a, ← b, ← c, ← d, ne-eqb (p .end) 0 e, n, x, y)
 
     pub par-both :
-        p .nil ≡ false →
+        (p .nil ≡ 1 → ⊥) →
         r ≡ rightW sub (p .end) next one (p .to) .moved →
         last ≡ rightW sub (p .end) next one (p .to) .out →
         both r last ≡ parW sub i out to
     unfolding parW leftOn goes
-    par-both n x y = rw (← a, ← b, ← c, ← d, ne-eqb (p .end) 0 e, n, x, y)
+    par-both n x y = rw (← a, ← b, ← c, ← d, ne-eqb (p .end) 0 e, ne-eqb (p .nil) 1 n, x, y)
 
 -- the right side of a par, killed to nil or not
 module _
@@ -111,13 +111,13 @@ module _
     (c : q ≡ sub i out to .moved) (d : next ≡ sub i out to .out) (e : q .end ≡ 0 → ⊥)
   where
     pub right-nil :
-        (less : ℕ) (last : List ℕ) → q .nil ≡ true → less ≡ lessOne to → last ≡ lowered next one to → made (q .end) less false last ≡ rightW sub i out one to
+        (less : ℕ) (last : List ℕ) → q .nil ≡ 1 → less ≡ lessOne to → last ≡ lowered next one to → made (q .end) less 0 last ≡ rightW sub i out one to
     unfolding rightW rightOn goes
     right-nil less last n x y = rw (← c, ← d, ne-eqb (q .end) 0 e, n, x, y)
 
-    pub right-stays : q .nil ≡ false → made (q .end) (q .to) false next ≡ rightW sub i out one to
+    pub right-stays : (q .nil ≡ 1 → ⊥) → made (q .end) (q .to) 0 next ≡ rightW sub i out one to
     unfolding rightW rightOn goes
-    right-stays n = rw (← c, ← d, ne-eqb (q .end) 0 e, n)
+    right-stays n = rw (← c, ← d, ne-eqb (q .end) 0 e, ne-eqb (q .nil) 1 n)
 
 -- a live scope with nil body
 pub scope-stuck :

@@ -120,7 +120,7 @@ module _
     notice-word : noticeWord f (client * 8192) ≡ f * 1024 + client * 128
     notice-word = omega arith
 
-    notice-at : (end : ℕ) (out : List ℕ) (to : ℕ) → to + 3 ≤ length out → Near (length out) → noticeW ws f at end out to ≡ made end (to + 3) false (written out to)
+    notice-at : (end : ℕ) (out : List ℕ) (to : ℕ) → to + 3 ≤ length out → Near (length out) → noticeW ws f at end out to ≡ made end (to + 3) 0 (written out to)
     unfolding noticeW size written
     notice-at end out to room near =
         let r : Run = executor o y client serial a in
@@ -183,7 +183,7 @@ module _
           by :
               (x : Bool) → isDone a' ≡ x → size a' ≤ 2 * size a → Laid out to (6144 ∷ runWords a') (k .out) →
               Gives (executor o y client serial a) out to (at + size (executor o y client serial a))
-              (cond x (made (k .moved .end) (to + 3) false (written (k .out) to)) (made (k .moved .end) (to + 1 + size a' + 3) false (written (k .out) (to + 1 + size a'))))
+              (cond x (made (k .moved .end) (to + 3) 0 (written (k .out) to)) (made (k .moved .end) (to + 1 + size a' + 3) 0 (written (k .out) (to + 1 + size a'))))
               (some (cond x (notice o f client serial) (par a' (notice o f client serial))))
           by true d u all =
               let z = size-executor o y client serial a in

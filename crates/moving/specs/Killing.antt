@@ -1,7 +1,7 @@
 -- Killing on words, as the code goes: where the source ends, where the writing has come to, and the output then. A piece for each kind
 -- takes the killing one level down. The proofs show that it is the definitions' killing and climb; no public contract names it.
 use Prim.Native.Nat.{ℕ, zero, suc, _+_, _-_, _*_, _/_, _%_}
-use mathlib.Core.Bool.{Bool, true, false, cond}
+use mathlib.Core.Bool.{cond}
 use mathlib.Core.List.{List}
 use lib.Dec.{ltb, leb, eqb}
 use lib.ListN.{length, getD, set}
@@ -22,13 +22,13 @@ abbrev at : List ℕ → ℕ → ℕ
 at ws i = getD ws i 0
 
 abbrev pub stopped : Moved
-stopped = record { end = 0; to = 0; nil = false }
+stopped = record { end = 0; to = 0; nil = 0 }
 
 -- something can't be killed
 abbrev pub stuckW : List ℕ → Killed
 stuckW out = record { moved = stopped; out = out }
 
-abbrev pub made : ℕ → ℕ → Bool → List ℕ → Killed
+abbrev pub made : ℕ → ℕ → ℕ → List ℕ → Killed
 made end to nil out = record { moved = record { end = end; to = to; nil = nil }; out = out }
 
 -- on to what follows, unless it can't be killed
@@ -62,14 +62,14 @@ waiterW d ws marks i out to =
     cond (leb (length ws) i) (stuckW out)
     (cond (ltb (length ws - i) 2) (stuckW out)
     (cond (eqb (passEnd d ws marks i) 0) (stuckW out)
-    (made (passEnd d ws marks i) (pastedEnd ws i (passEnd d ws marks i) to) false
+    (made (passEnd d ws marks i) (pastedEnd ws i (passEnd d ws marks i) to) 0
     (set (pasted ws i (passEnd d ws marks i) out to) (onward to 1) (deadWord (at ws (i + 1)))))))
 
 unfoldable pub keptW : List ℕ → Walk
-keptW ws i out to = cond (leb (length ws) i) (stuckW out) (made (i + 3) (pastedEnd ws i (i + 3) to) false (pasted ws i (i + 3) out to))
+keptW ws i out to = cond (leb (length ws) i) (stuckW out) (made (i + 3) (pastedEnd ws i (i + 3) to) 0 (pasted ws i (i + 3) out to))
 
 unfoldable pub vanishedW : ℕ → List ℕ → List ℕ → Walk
-vanishedW d ws marks i out to = made (passEnd d ws marks i) (onward to 1) true (set out to 0)
+vanishedW d ws marks i out to = made (passEnd d ws marks i) (onward to 1) 1 (set out to 0)
 
 -- ---- seq and par
 
@@ -86,9 +86,9 @@ lessOne n = cond (eqb n 0) 0 (n - 1)
 unfoldable pub rightOn : ℕ → ℕ → Killed → Killed
 rightOn one to k =
     goes k
-    (cond (k .moved .nil)
-    (made (k .moved .end) (lessOne to) false (lowered (k .out) one to))
-    (made (k .moved .end) (k .moved .to) false (k .out)))
+    (cond (eqb (k .moved .nil) 1)
+    (made (k .moved .end) (lessOne to) 0 (lowered (k .out) one to))
+    (made (k .moved .end) (k .moved .to) 0 (k .out)))
 
 unfoldable pub rightW : Walk → ℕ → List ℕ → ℕ → ℕ → Killed
 rightW sub i out one to = rightOn one to (sub i out to)
@@ -96,7 +96,7 @@ rightW sub i out one to = rightOn one to (sub i out to)
 -- the left side is killed
 unfoldable pub leftOn : Walk → ℕ → ℕ → Killed → Killed
 leftOn sub one to k =
-    goes k (cond (k .moved .nil) (sub (k .moved .end) (k .out) to) (rightW sub (k .moved .end) (k .out) one (k .moved .to)))
+    goes k (cond (eqb (k .moved .nil) 1) (sub (k .moved .end) (k .out) to) (rightW sub (k .moved .end) (k .out) one (k .moved .to)))
 
 unfoldable pub parW : Walk → Walk
 parW sub i out to = leftOn sub (onward to 1) to (sub i (set out to 6144) (onward to 1))
@@ -111,14 +111,14 @@ headFor ws i hole end =
 
 -- the body of a zombie, and of a live scope, is killed
 unfoldable pub zombieOn : List ℕ → ℕ → ℕ → Killed → Killed
-zombieOn ws i to k = goes k (made (k .moved .end) (pastedEnd ws i (k .moved .end) to) false (pasted ws i (k .moved .end) (k .out) to))
+zombieOn ws i to k = goes k (made (k .moved .end) (pastedEnd ws i (k .moved .end) to) 0 (pasted ws i (k .moved .end) (k .out) to))
 
 unfoldable pub zombieW : Walk → List ℕ → ℕ → ℕ → List ℕ → ℕ → Killed
 zombieW sub ws i body out to = zombieOn ws i to (sub body out to)
 
 unfoldable pub liveOn : List ℕ → ℕ → ℕ → ℕ → Killed → Killed
 liveOn ws hole i to k =
-    goes k (made (k .moved .end) (k .moved .to) false (set (set (k .out) to (headFor ws i hole (k .moved .end))) (onward to 1) 0))
+    goes k (made (k .moved .end) (k .moved .to) 0 (set (set (k .out) to (headFor ws i hole (k .moved .end))) (onward to 1) 0))
 
 unfoldable pub liveW : Walk → List ℕ → ℕ → ℕ → ℕ → List ℕ → ℕ → Killed
 liveW sub ws hole i body out to = liveOn ws hole i to (sub body (pasted ws i body out to) (pastedEnd ws i body to))
@@ -140,13 +140,13 @@ unfoldable pub noticeW : List ℕ → ℕ → ℕ → ℕ → List ℕ → ℕ �
 noticeW ws fault i end out to =
     cond (leb (length ws) i) (stuckW out)
     (cond (ltb (length ws - i) 3) (stuckW out)
-    (made end (onward (onward (onward to 1) 1) 1) false
+    (made end (onward (onward (onward to 1) 1) 1) 0
     (set (set (set out to (noticeHead (at ws i))) (onward to 1) (noticeWord fault (at ws (i + 1)))) (onward (onward to 1) 1) (at ws (i + 2)))))
 
 -- the body is killed
 unfoldable pub executorOn : List ℕ → ℕ → ℕ → ℕ → Killed → Killed
 executorOn ws fault i to k =
-    goes k (cond (k .moved .nil) (noticeW ws fault i (k .moved .end) (k .out) to) (noticeW ws fault i (k .moved .end) (k .out) (k .moved .to)))
+    goes k (cond (eqb (k .moved .nil) 1) (noticeW ws fault i (k .moved .end) (k .out) to) (noticeW ws fault i (k .moved .end) (k .out) (k .moved .to)))
 
 unfoldable pub executorW : Walk → List ℕ → ℕ → Walk
 executorW sub ws fault i out to =

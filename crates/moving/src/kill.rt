@@ -12,11 +12,12 @@ ghost use mathlib.Core.Path.{_≡_};
 ghost use Rattle.moving.specs.Killing.{stopped, lessOne, ownZombie, plainZombie, headFor, noticeHead, noticeWord, deadWord};
 ghost use Rattle.moving.specs.Killing.{noticeW, waiterW, keptW, vanishedW, killW, seqW, parW, rightW, scopeW, zombieW, liveW, executorW};
 
-// Where the source ends and where the writing has come to, and whether only nil was written; `end` is 0 where something can't be killed.
+// Where the source ends and where the writing has come to; `nil` is 1 if only nil was written, else 0, a number since the bytes behind a
+// bool would be copied with it. `end` is 0 where something can't be killed.
 pub struct Moved {
     pub end: usize,
     pub to: usize,
-    pub nil: bool,
+    pub nil: usize,
 }
 
 fn stuck() -> Moved
@@ -25,7 +26,7 @@ fn stuck() -> Moved
     Moved {
         end: 0,
         to: 0,
-        nil: false,
+        nil: 0,
     }
 }
 
@@ -101,7 +102,7 @@ fn kill_par(
     if p.end == 0 {
         return stuck();
     }
-    if p.nil {
+    if p.nil == 1 {
         return kill(ws, marks, p.end, fault, hole, depth, out, to);
     }
     kill_right(ws, marks, p.end, fault, hole, depth, out, one, p.to)
@@ -125,18 +126,18 @@ fn kill_right(
     if q.end == 0 {
         return stuck();
     }
-    if q.nil {
+    if q.nil == 1 {
         down(out, one, to);
         return Moved {
             end: q.end,
             to: less_one(to),
-            nil: false,
+            nil: 0,
         };
     }
     Moved {
         end: q.end,
         to: q.to,
-        nil: false,
+        nil: 0,
     }
 }
 
@@ -201,7 +202,7 @@ fn kill_zombie(
     Moved {
         end: p.end,
         to: copy(ws, at, p.end, out, to),
-        nil: false,
+        nil: 0,
     }
 }
 
@@ -229,7 +230,7 @@ fn kill_live(
     Moved {
         end: p.end,
         to: p.to,
-        nil: false,
+        nil: 0,
     }
 }
 
@@ -282,7 +283,7 @@ fn kill_executor(
     if p.end == 0 {
         return stuck();
     }
-    if p.nil {
+    if p.nil == 1 {
         return notice(ws, at, fault, p.end, out, to);
     }
     notice(ws, at, fault, p.end, out, p.to)
@@ -303,7 +304,7 @@ fn notice(ws: &[u16], at: usize, fault: u16, end: usize, out: &mut [u16], to: us
     Moved {
         end: end,
         to: put(out, b, ws[at + 2]),
-        nil: false,
+        nil: 0,
     }
 }
 
@@ -346,7 +347,7 @@ fn kill_waiter(
     Moved {
         end: e,
         to: n,
-        nil: false,
+        nil: 0,
     }
 }
 
@@ -366,7 +367,7 @@ fn keep(ws: &[u16], at: usize, out: &mut [u16], to: usize) -> Moved
     Moved {
         end: at + 3,
         to: copy(ws, at, at + 3, out, to),
-        nil: false,
+        nil: 0,
     }
 }
 
@@ -377,6 +378,6 @@ fn vanish(ws: &[u16], marks: &[u16], at: usize, depth: usize, out: &mut [u16], t
     Moved {
         end: pass(ws, marks, at, depth),
         to: put(out, to, 0),
-        nil: true,
+        nil: 1,
     }
 }

@@ -343,7 +343,7 @@ kill-executor-same-length-2 t c = search needs
 
 kill-executor-returns-3 : (t : ℕ) → kill-executor-lts.Need-returns-3 (stuck-reads.Asked, stuck-reads.Learnt, put-reads.Asked, put-reads.Learnt, kill-below t, kill.Post, notice-reads.Asked, notice-reads.Learnt) (kill-executor-at t) kill-executor.Post
 kill-executor-returns-3 t c =
-    let e = executor-alone (killW ((c .before .before .before .before .before .before .before .before .before .before .before .before .before .before .before .before .before .before .before .args .depth)) ((c .before .before .before .before .before .before .before .before .before .before .before .before .before .before .before .before .before .before .before .args .ws .now)) ((c .before .before .before .before .before .before .before .before .before .before .before .before .before .before .before .before .before .before .before .args .marks .now)) ((c .before .before .before .before .before .before .before .before .before .before .before .before .before .before .before .before .before .before .before .args .fault)) ((c .before .before .before .before .before .before .before .before .before .before .before .before .before .before .before .before .before .before .before .args .hole))) ((c .before .before .before .before .before .before .before .before .before .before .before .before .before .before .before .before .before .before .before .args .ws .now)) ((c .before .before .before .before .before .before .before .before .before .before .before .before .before .before .before .before .before .before .before .args .fault)) ((c .before .before .before .before .before .before .before .before .before .before .before .before .before .before .before .before .before .before .before .args .at)) ((c .before .before .before .before .before .before .before .before .before .before .before .before .before .before .before .before .before .before .before .args .out .now)) ((c .before .before .before .before .before .before .before .before .before .before .before .before .before .before .before .before .before .before .before .args .to)) _ _ _ _ _ _ (c .before .before .before .before .before .before .before .before .before .before .before .before .before .before .before .if1 .left) (c .before .before .before .before .before .before .before .before .before .before .before .before .before .put .ensures .0) (c .before .before .before .before .before .before .before .before .before .before .before .before .before .put .ensures .1) (c .before .before .before .before .before .before .before .before .before .kill .ensures .0) (c .before .before .before .before .before .before .before .before .before .kill .ensures .1) (c .before .before .before .before .before .if2 .left) (c .before .before .before .before .if3 .taken) (c .before .before .notice .ensures .0) (c .before .before .notice .ensures .1) in
+    let e = executor-alone (killW ((c .before .before .before .before .before .before .before .before .before .before .before .before .before .before .before .before .before .before .before .before .args .depth)) ((c .before .before .before .before .before .before .before .before .before .before .before .before .before .before .before .before .before .before .before .before .args .ws .now)) ((c .before .before .before .before .before .before .before .before .before .before .before .before .before .before .before .before .before .before .before .before .args .marks .now)) ((c .before .before .before .before .before .before .before .before .before .before .before .before .before .before .before .before .before .before .before .before .args .fault)) ((c .before .before .before .before .before .before .before .before .before .before .before .before .before .before .before .before .before .before .before .before .args .hole))) ((c .before .before .before .before .before .before .before .before .before .before .before .before .before .before .before .before .before .before .before .before .args .ws .now)) ((c .before .before .before .before .before .before .before .before .before .before .before .before .before .before .before .before .before .before .before .before .args .fault)) ((c .before .before .before .before .before .before .before .before .before .before .before .before .before .before .before .before .before .before .before .before .args .at)) ((c .before .before .before .before .before .before .before .before .before .before .before .before .before .before .before .before .before .before .before .before .args .out .now)) ((c .before .before .before .before .before .before .before .before .before .before .before .before .before .before .before .before .before .before .before .before .args .to)) _ _ _ _ _ _ (c .before .before .before .before .before .before .before .before .before .before .before .before .before .before .before .before .if1 .left) (c .before .before .before .before .before .before .before .before .before .before .before .before .before .before .put .ensures .0) (c .before .before .before .before .before .before .before .before .before .before .before .before .before .before .put .ensures .1) (c .before .before .before .before .before .before .before .before .before .before .kill .ensures .0) (c .before .before .before .before .before .before .before .before .before .before .kill .ensures .1) (c .before .before .before .before .before .before .if2 .left) (c .before .before .before .before .if3 .taken) (c .before .before .notice .ensures .0) (c .before .before .notice .ensures .1) in
     (ap moved e, ap output e)
 
 kill-executor-notice-requires-2 : (t : ℕ) → kill-executor-lts.Need-notice-requires-2 (stuck-reads.Asked, stuck-reads.Learnt, put-reads.Asked, put-reads.Learnt, kill-below t, kill.Post, notice-reads.Asked, notice-reads.Learnt) (kill-executor-at t) kill-executor.Post
@@ -354,7 +354,7 @@ kill-executor-same-length-3 t c = search needs
 
 kill-executor-returns-4 : (t : ℕ) → kill-executor-lts.Need-returns-4 (stuck-reads.Asked, stuck-reads.Learnt, put-reads.Asked, put-reads.Learnt, kill-below t, kill.Post, notice-reads.Asked, notice-reads.Learnt) (kill-executor-at t) kill-executor.Post
 kill-executor-returns-4 t c =
-    let e = executor-beside (killW ((c .before .before .before .before .before .before .before .before .before .before .before .before .before .before .before .before .before .before .before .args .depth)) ((c .before .before .before .before .before .before .before .before .before .before .before .before .before .before .before .before .before .before .before .args .ws .now)) ((c .before .before .before .before .before .before .before .before .before .before .before .before .before .before .before .before .before .before .before .args .marks .now)) ((c .before .before .before .before .before .before .before .before .before .before .before .before .before .before .before .before .before .before .before .args .fault)) ((c .before .before .before .before .before .before .before .before .before .before .before .before .before .before .before .before .before .before .before .args .hole))) ((c .before .before .before .before .before .before .before .before .before .before .before .before .before .before .before .before .before .before .before .args .ws .now)) ((c .before .before .before .before .before .before .before .before .before .before .before .before .before .before .before .before .before .before .before .args .fault)) ((c .before .before .before .before .before .before .before .before .before .before .before .before .before .before .before .before .before .before .before .args .at)) ((c .before .before .before .before .before .before .before .before .before .before .before .before .before .before .before .before .before .before .before .args .out .now)) ((c .before .before .before .before .before .before .before .before .before .before .before .before .before .before .before .before .before .before .before .args .to)) _ _ _ _ _ _ (c .before .before .before .before .before .before .before .before .before .before .before .before .before .before .before .if1 .left) (c .before .before .before .before .before .before .before .before .before .before .before .before .before .put .ensures .0) (c .before .before .before .before .before .before .before .before .before .before .before .before .before .put .ensures .1) (c .before .before .before .before .before .before .before .before .before .kill .ensures .0) (c .before .before .before .before .before .before .before .before .before .kill .ensures .1) (c .before .before .before .before .before .if2 .left) (c .before .before .before .before .if3 .left) (c .before .before .notice2 .ensures .0) (c .before .before .notice2 .ensures .1) in
+    let e = executor-beside (killW ((c .before .before .before .before .before .before .before .before .before .before .before .before .before .before .before .before .before .before .before .before .args .depth)) ((c .before .before .before .before .before .before .before .before .before .before .before .before .before .before .before .before .before .before .before .before .args .ws .now)) ((c .before .before .before .before .before .before .before .before .before .before .before .before .before .before .before .before .before .before .before .before .args .marks .now)) ((c .before .before .before .before .before .before .before .before .before .before .before .before .before .before .before .before .before .before .before .before .args .fault)) ((c .before .before .before .before .before .before .before .before .before .before .before .before .before .before .before .before .before .before .before .before .args .hole))) ((c .before .before .before .before .before .before .before .before .before .before .before .before .before .before .before .before .before .before .before .before .args .ws .now)) ((c .before .before .before .before .before .before .before .before .before .before .before .before .before .before .before .before .before .before .before .before .args .fault)) ((c .before .before .before .before .before .before .before .before .before .before .before .before .before .before .before .before .before .before .before .before .args .at)) ((c .before .before .before .before .before .before .before .before .before .before .before .before .before .before .before .before .before .before .before .before .args .out .now)) ((c .before .before .before .before .before .before .before .before .before .before .before .before .before .before .before .before .before .before .before .before .args .to)) _ _ _ _ _ _ (c .before .before .before .before .before .before .before .before .before .before .before .before .before .before .before .before .if1 .left) (c .before .before .before .before .before .before .before .before .before .before .before .before .before .before .put .ensures .0) (c .before .before .before .before .before .before .before .before .before .before .before .before .before .before .put .ensures .1) (c .before .before .before .before .before .before .before .before .before .before .kill .ensures .0) (c .before .before .before .before .before .before .before .before .before .before .kill .ensures .1) (c .before .before .before .before .before .before .if2 .left) (c .before .before .before .before .if3 .left) (c .before .before .notice2 .ensures .0) (c .before .before .notice2 .ensures .1) in
     (ap moved e, ap output e)
 
 kill-live-copy-requires : (t : ℕ) → kill-live-lts.Need-copy-requires (copy-reads.Asked, copy-reads.Learnt, kill-below t, kill.Post, stuck-reads.Asked, stuck-reads.Learnt, zombie-head-reads.Asked, zombie-head-reads.Learnt, put-reads.Asked, put-reads.Learnt) (kill-live-at t) kill-live.Post
@@ -418,7 +418,7 @@ kill-par-same-length-2 t c = search needs
 
 kill-par-returns-2 : (t : ℕ) → kill-par-lts.Need-returns-2 (put-reads.Asked, put-reads.Learnt, kill-below t, kill.Post, stuck-reads.Asked, stuck-reads.Learnt, kill-right-below t, kill-right.Post) (kill-par-at t) kill-par.Post
 kill-par-returns-2 t c =
-    let e = par-right (killW ((c .before .before .before .before .before .before .before .before .before .before .before .before .before .before .before .before .before .before .args .depth)) ((c .before .before .before .before .before .before .before .before .before .before .before .before .before .before .before .before .before .before .args .ws .now)) ((c .before .before .before .before .before .before .before .before .before .before .before .before .before .before .before .before .before .before .args .marks .now)) ((c .before .before .before .before .before .before .before .before .before .before .before .before .before .before .before .before .before .before .args .fault)) ((c .before .before .before .before .before .before .before .before .before .before .before .before .before .before .before .before .before .before .args .hole))) ((c .before .before .before .before .before .before .before .before .before .before .before .before .before .before .before .before .before .before .args .at)) ((c .before .before .before .before .before .before .before .before .before .before .before .before .before .before .before .before .before .before .args .out .now)) ((c .before .before .before .before .before .before .before .before .before .before .before .before .before .before .before .before .before .before .args .to)) _ _ _ _ _ _ (c .before .before .before .before .before .before .before .before .before .before .before .before .before .put .ensures .0) (c .before .before .before .before .before .before .before .before .before .before .before .before .before .put .ensures .1) (c .before .before .before .before .before .before .before .before .before .kill .ensures .0) (c .before .before .before .before .before .before .before .before .before .kill .ensures .1) (c .before .before .before .before .before .if1 .left) (c .before .before .before .before .if2 .taken) (c .before .before .kill2 .ensures .0) (c .before .before .kill2 .ensures .1) in
+    let e = par-right (killW ((c .before .before .before .before .before .before .before .before .before .before .before .before .before .before .before .before .before .before .before .args .depth)) ((c .before .before .before .before .before .before .before .before .before .before .before .before .before .before .before .before .before .before .before .args .ws .now)) ((c .before .before .before .before .before .before .before .before .before .before .before .before .before .before .before .before .before .before .before .args .marks .now)) ((c .before .before .before .before .before .before .before .before .before .before .before .before .before .before .before .before .before .before .before .args .fault)) ((c .before .before .before .before .before .before .before .before .before .before .before .before .before .before .before .before .before .before .before .args .hole))) ((c .before .before .before .before .before .before .before .before .before .before .before .before .before .before .before .before .before .before .before .args .at)) ((c .before .before .before .before .before .before .before .before .before .before .before .before .before .before .before .before .before .before .before .args .out .now)) ((c .before .before .before .before .before .before .before .before .before .before .before .before .before .before .before .before .before .before .before .args .to)) _ _ _ _ _ _ (c .before .before .before .before .before .before .before .before .before .before .before .before .before .before .put .ensures .0) (c .before .before .before .before .before .before .before .before .before .before .before .before .before .before .put .ensures .1) (c .before .before .before .before .before .before .before .before .before .before .kill .ensures .0) (c .before .before .before .before .before .before .before .before .before .before .kill .ensures .1) (c .before .before .before .before .before .before .if1 .left) (c .before .before .before .before .if2 .taken) (c .before .before .kill2 .ensures .0) (c .before .before .kill2 .ensures .1) in
     (ap moved e, ap output e)
 
 kill-par-kill-right-requires : (t : ℕ) → kill-par-lts.Need-kill-right-requires (put-reads.Asked, put-reads.Learnt, kill-below t, kill.Post, stuck-reads.Asked, stuck-reads.Learnt, kill-right-below t, kill-right.Post) (kill-par-at t) kill-par.Post
@@ -429,7 +429,7 @@ kill-par-same-length-3 t c = search needs
 
 kill-par-returns-3 : (t : ℕ) → kill-par-lts.Need-returns-3 (put-reads.Asked, put-reads.Learnt, kill-below t, kill.Post, stuck-reads.Asked, stuck-reads.Learnt, kill-right-below t, kill-right.Post) (kill-par-at t) kill-par.Post
 kill-par-returns-3 t c =
-    let e = par-both (killW ((c .before .before .before .before .before .before .before .before .before .before .before .before .before .before .before .before .before .before .args .depth)) ((c .before .before .before .before .before .before .before .before .before .before .before .before .before .before .before .before .before .before .args .ws .now)) ((c .before .before .before .before .before .before .before .before .before .before .before .before .before .before .before .before .before .before .args .marks .now)) ((c .before .before .before .before .before .before .before .before .before .before .before .before .before .before .before .before .before .before .args .fault)) ((c .before .before .before .before .before .before .before .before .before .before .before .before .before .before .before .before .before .before .args .hole))) ((c .before .before .before .before .before .before .before .before .before .before .before .before .before .before .before .before .before .before .args .at)) ((c .before .before .before .before .before .before .before .before .before .before .before .before .before .before .before .before .before .before .args .out .now)) ((c .before .before .before .before .before .before .before .before .before .before .before .before .before .before .before .before .before .before .args .to)) _ _ _ _ _ _ (c .before .before .before .before .before .before .before .before .before .before .before .before .before .put .ensures .0) (c .before .before .before .before .before .before .before .before .before .before .before .before .before .put .ensures .1) (c .before .before .before .before .before .before .before .before .before .kill .ensures .0) (c .before .before .before .before .before .before .before .before .before .kill .ensures .1) (c .before .before .before .before .before .if1 .left) (c .before .before .before .before .if2 .left) (c .before .before .kill-right .ensures .0) (c .before .before .kill-right .ensures .1) in
+    let e = par-both (killW ((c .before .before .before .before .before .before .before .before .before .before .before .before .before .before .before .before .before .before .before .args .depth)) ((c .before .before .before .before .before .before .before .before .before .before .before .before .before .before .before .before .before .before .before .args .ws .now)) ((c .before .before .before .before .before .before .before .before .before .before .before .before .before .before .before .before .before .before .before .args .marks .now)) ((c .before .before .before .before .before .before .before .before .before .before .before .before .before .before .before .before .before .before .before .args .fault)) ((c .before .before .before .before .before .before .before .before .before .before .before .before .before .before .before .before .before .before .before .args .hole))) ((c .before .before .before .before .before .before .before .before .before .before .before .before .before .before .before .before .before .before .before .args .at)) ((c .before .before .before .before .before .before .before .before .before .before .before .before .before .before .before .before .before .before .before .args .out .now)) ((c .before .before .before .before .before .before .before .before .before .before .before .before .before .before .before .before .before .before .before .args .to)) _ _ _ _ _ _ (c .before .before .before .before .before .before .before .before .before .before .before .before .before .before .put .ensures .0) (c .before .before .before .before .before .before .before .before .before .before .before .before .before .before .put .ensures .1) (c .before .before .before .before .before .before .before .before .before .before .kill .ensures .0) (c .before .before .before .before .before .before .before .before .before .before .kill .ensures .1) (c .before .before .before .before .before .before .if1 .left) (c .before .before .before .before .if2 .left) (c .before .before .kill-right .ensures .0) (c .before .before .kill-right .ensures .1) in
     (ap moved e, ap output e)
 
 kill-right-kill-requires : (t : ℕ) → kill-right-lts.Need-kill-requires (kill-below t, kill.Post, stuck-reads.Asked, stuck-reads.Learnt, down-reads.Asked, down-reads.Learnt, less-one-reads.Asked, less-one-reads.Learnt) (kill-right-at t) kill-right.Post
@@ -458,7 +458,7 @@ kill-right-same-length-2 t c = search needs
 
 kill-right-returns-2 : (t : ℕ) → kill-right-lts.Need-returns-2 (kill-below t, kill.Post, stuck-reads.Asked, stuck-reads.Learnt, down-reads.Asked, down-reads.Learnt, less-one-reads.Asked, less-one-reads.Learnt) (kill-right-at t) kill-right.Post
 kill-right-returns-2 t c =
-    let e = right-nil (killW ((c .before .before .before .before .before .before .before .before .before .before .before .before .before .before .before .args .depth)) ((c .before .before .before .before .before .before .before .before .before .before .before .before .before .before .before .args .ws .now)) ((c .before .before .before .before .before .before .before .before .before .before .before .before .before .before .before .args .marks .now)) ((c .before .before .before .before .before .before .before .before .before .before .before .before .before .before .before .args .fault)) ((c .before .before .before .before .before .before .before .before .before .before .before .before .before .before .before .args .hole))) ((c .before .before .before .before .before .before .before .before .before .before .before .before .before .before .before .args .at)) ((c .before .before .before .before .before .before .before .before .before .before .before .before .before .before .before .args .out .now)) ((c .before .before .before .before .before .before .before .before .before .before .before .before .before .before .before .args .one)) ((c .before .before .before .before .before .before .before .before .before .before .before .before .before .before .before .args .to)) _ _ (c .before .before .before .before .before .before .before .before .before .before .kill .ensures .0) (c .before .before .before .before .before .before .before .before .before .before .kill .ensures .1) (c .before .before .before .before .before .before .if1 .left) _ _ (c .before .before .before .before .before .if2 .taken) (c .less-one .ensures) (c .before .before .before .down .ensures .1) in
+    let e = right-nil (killW ((c .before .before .before .before .before .before .before .before .before .before .before .before .before .before .before .before .args .depth)) ((c .before .before .before .before .before .before .before .before .before .before .before .before .before .before .before .before .args .ws .now)) ((c .before .before .before .before .before .before .before .before .before .before .before .before .before .before .before .before .args .marks .now)) ((c .before .before .before .before .before .before .before .before .before .before .before .before .before .before .before .before .args .fault)) ((c .before .before .before .before .before .before .before .before .before .before .before .before .before .before .before .before .args .hole))) ((c .before .before .before .before .before .before .before .before .before .before .before .before .before .before .before .before .args .at)) ((c .before .before .before .before .before .before .before .before .before .before .before .before .before .before .before .before .args .out .now)) ((c .before .before .before .before .before .before .before .before .before .before .before .before .before .before .before .before .args .one)) ((c .before .before .before .before .before .before .before .before .before .before .before .before .before .before .before .before .args .to)) _ _ (c .before .before .before .before .before .before .before .before .before .before .before .kill .ensures .0) (c .before .before .before .before .before .before .before .before .before .before .before .kill .ensures .1) (c .before .before .before .before .before .before .before .if1 .left) _ _ (c .before .before .before .before .before .if2 .taken) (c .less-one .ensures) (c .before .before .before .down .ensures .1) in
     (ap moved e, ap output e)
 
 kill-right-same-length-3 : (t : ℕ) → kill-right-lts.Need-same-length-3 (kill-below t, kill.Post, stuck-reads.Asked, stuck-reads.Learnt, down-reads.Asked, down-reads.Learnt, less-one-reads.Asked, less-one-reads.Learnt) (kill-right-at t) kill-right.Post
@@ -466,7 +466,7 @@ kill-right-same-length-3 t c = search needs
 
 kill-right-returns-3 : (t : ℕ) → kill-right-lts.Need-returns-3 (kill-below t, kill.Post, stuck-reads.Asked, stuck-reads.Learnt, down-reads.Asked, down-reads.Learnt, less-one-reads.Asked, less-one-reads.Learnt) (kill-right-at t) kill-right.Post
 kill-right-returns-3 t c =
-    let e = right-stays (killW ((c .before .before .before .before .before .before .before .before .before .before .args .depth)) ((c .before .before .before .before .before .before .before .before .before .before .args .ws .now)) ((c .before .before .before .before .before .before .before .before .before .before .args .marks .now)) ((c .before .before .before .before .before .before .before .before .before .before .args .fault)) ((c .before .before .before .before .before .before .before .before .before .before .args .hole))) ((c .before .before .before .before .before .before .before .before .before .before .args .at)) ((c .before .before .before .before .before .before .before .before .before .before .args .out .now)) ((c .before .before .before .before .before .before .before .before .before .before .args .one)) ((c .before .before .before .before .before .before .before .before .before .before .args .to)) _ _ (c .before .before .before .before .before .kill .ensures .0) (c .before .before .before .before .before .kill .ensures .1) (c .before .if1 .left) (c .if2 .left) in
+    let e = right-stays (killW ((c .before .before .before .before .before .before .before .before .before .before .before .args .depth)) ((c .before .before .before .before .before .before .before .before .before .before .before .args .ws .now)) ((c .before .before .before .before .before .before .before .before .before .before .before .args .marks .now)) ((c .before .before .before .before .before .before .before .before .before .before .before .args .fault)) ((c .before .before .before .before .before .before .before .before .before .before .before .args .hole))) ((c .before .before .before .before .before .before .before .before .before .before .before .args .at)) ((c .before .before .before .before .before .before .before .before .before .before .before .args .out .now)) ((c .before .before .before .before .before .before .before .before .before .before .before .args .one)) ((c .before .before .before .before .before .before .before .before .before .before .before .args .to)) _ _ (c .before .before .before .before .before .before .kill .ensures .0) (c .before .before .before .before .before .before .kill .ensures .1) (c .before .before .if1 .left) (c .if2 .left) in
     (ap moved e, ap output e)
 
 kill-scope-stuck-requires : (t : ℕ) → kill-scope-lts.Need-stuck-requires (stuck-reads.Asked, stuck-reads.Learnt, pass-list-reads.Asked, pass-list-reads.Learnt, wide-reads.Asked, wide-reads.Learnt, kill-zombie-below t, kill-zombie.Post, kill-live-below t, kill-live.Post) (kill-scope-at t) kill-scope.Post
