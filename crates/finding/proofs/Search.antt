@@ -3,11 +3,11 @@
 use Prim.Native.Nat.{ℕ, zero, suc, _+_, _*_, _/_, _%_, _≤_, _<_, max}
 use native.Mathlib.Omega.{arith}
 use mathlib.Core.Path.{_≡_, refl, sym, ap, _∙_}
-use mathlib.Core.Bool.{Bool, true, false, not, cond}
+use mathlib.Core.Bool.{Bool, true, false, true≢false, not, cond}
 use mathlib.Core.Option.{none, some}
 use mathlib.Core.List.{List, [], _∷_, _++_, append-assoc}
-use borrow.Author.Tests.{lt-ltb, lt-leb, ne-eqb, eqb-true, eqb-false, ltb-true, leb-true}
-use lib.Dec.{leb, ltb, eqb}
+use borrow.Author.Tests.{lt-ltb, le-ltb, lt-leb, eq-eqb, ne-eqb, eqb-true, eqb-false, ltb-true, ltb-false}
+use lib.Dec.{ltb, eqb}
 use lib.ListN.{length, getD, drop, length-drop}
 use lib.Seq.{drop-drop, drop-append-seam, getD-drop}
 use Rattle.sock.specs.Words.{kindOf, zombieOf, isOne}
@@ -19,7 +19,6 @@ use Rattle.sock.specs.Frames.{Frame, Located}
 use Rattle.sock.proofs.Fits.{FitsEntries, Sound, nilSound, seqSound, parSound, scopeSound, executorSound, waiterSound, noticeSound, actSound}
 use Rattle.sock.proofs.Fields.{plain-kind, isOne-bit, scope-zombie}
 use Rattle.sock.proofs.ByKind.{code-kind, runKind, kind-asNode}
-use Rattle.sock.proofs.Logic.{true-test}
 use Rattle.sock.proofs.Running.{asNode-fits}
 use Rattle.sock.proofs.Nodes.{depth-some}
 use Rattle.sock.proofs.Measures.{words-scope, depth-seq, depth-par, depth-scope, depth-executor}
@@ -105,22 +104,26 @@ catches-test : (b : Bool) (x : ℕ) → 0 < x → not (eqb (cond b x 0) 0) ≡ b
 catches-test true x h = rw (ne-eqb x 0 (λ z. omega arith))
 catches-test false x h = refl
 
+-- what has a place is not outside, nor is what has no mark
+not-outside : (i k e : ℕ) → i ≤ k → k < e → outsideW i k e ≡ false
+unfolding outsideW
+not-outside i k e p q = simp (ne-eqb e 0 (λ z. omega arith), le-ltb k i p, lt-leb e k q)
+
+unmarked-inside : (i k e : ℕ) → e ≡ 0 → outsideW i k e ≡ false
+unfolding outsideW
+unmarked-inside i k e z = simp (eq-eqb e 0 z)
+
 -- outside a mark that is none or r's end: it is r's end, and nothing of r is located there
 outside-marked : (r : Run) (i k e : ℕ) → ((e ≡ 0 → ⊥) → e ≡ i + size r) → outsideW i k e ≡ true → (e ≡ i + size r) × (within r i k ≡ none)
-unfolding outsideW
-outside-marked r i k e ends o = by (eqb e 0) (ltb k i) refl refl o
+outside-marked r i k e ends o = (end, by (ltb k i) (ltb k e) refl refl)
   where
-    by :
-        (b c : Bool) →
-        eqb e 0 ≡ b →
-        ltb k i ≡ c →
-        cond b false (cond c true (leb e k)) ≡ true →
-        (e ≡ i + size r) × (within r i k ≡ none)
-    by true c p q o = absurd (true-test o)
-    by false true p q o = (ends (eqb-false e 0 p), within-before r i k (ltb-true k i q))
-    by false false p q o =
-        let end : e ≡ i + size r = ends (eqb-false e 0 p) in
-        (end, within-past r i k (omega (arith, leb-true e k o, end)))
+    end : e ≡ i + size r
+    end = ends (λ z. absurd (true≢false (sym o ∙ unmarked-inside i k e z)))
+
+    by : (b c : Bool) → ltb k i ≡ b → ltb k e ≡ c → within r i k ≡ none
+    by true c p q = within-before r i k (ltb-true k i p)
+    by false true p q = absurd (true≢false (sym o ∙ not-outside i k e (ltb-false k i p) (ltb-true k e q)))
+    by false false p q = within-past r i k (omega (arith, ltb-false k e q, end))
 
 module _ (n issued : ℕ) (few : n ≤ 8) (small : issued < 65536) (ws marks : List ℕ) (right : Right ws marks) (target : ℕ) where
   at-head : (m : Node) (i : ℕ) (rest : List ℕ) → drop i ws ≡ words m ++ rest → (getD ws i 0 ≡ headWord m) × (i < length ws)

@@ -3,20 +3,18 @@
 use Prim.Native.Nat.{ℕ, zero, suc, _+_, _-_, _*_, _/_, _%_, _≤_, _<_, max}
 use native.Mathlib.Omega.{arith}
 use mathlib.Core.Path.{_≡_, refl, sym, ap, _∙_}
-use mathlib.Core.Bool.{Bool, true, false, true≢false, not, _&&_, _||_, cond}
-use mathlib.Core.List.{List, [], _∷_, _++_}
+use mathlib.Core.Bool.{Bool, true, false, true≢false, _&&_, cond}
+use mathlib.Core.List.{List, [], _∷_}
 use borrow.Author.Tests.{eqb-true, eqb-false, ltb-true, ltb-false}
 use lib.Bits.{bitAnd}
 use lib.Dec.{T, leb, ltb, eqb, leb→le}
 use lib.ListN.{length, getD, set, drop, replicate, length-append, length-drop}
 use lib.Seq.{set-out, getD-set-same, getD-set-other}
-use Rattle.sock.specs.Term.{Node, Block, list, Entries, entriesOf}
-use Rattle.sock.specs.Layout.{words, count, entriesWords, blockWords, depth, entriesDepth, blockDepth}
-use Rattle.sock.specs.Reading.{Got, got, andThen, check, Stratum, code, Place, anywhere, holds, block, process}
-use Rattle.sock.proofs.Logic.{and-left, and-right}
-use Rattle.sock.proofs.Fits.{Fits, FitsEntries, FitsBlock, aList}
-use Rattle.sock.proofs.Reading.{Holds, nothing, something, holds-then, holds-check, Takes, Found, list-found, read-found}
-use Rattle.skipping.specs.Skip.{skipEnd, skipList}
+use Rattle.sock.specs.Term.{Block}
+use Rattle.sock.specs.Layout.{words, entriesWords, blockWords, depth, entriesDepth, blockDepth}
+use Rattle.sock.specs.Reading.{Got, code}
+use Rattle.sock.proofs.Fits.{FitsBlock, aList}
+use Rattle.sock.proofs.Reading.{Holds, something, holds-then, holds-check, Takes, list-found, read-found}
 use Rattle.skipping.specs.Pass.{markAt, listMarkAt}
 use Rattle.skipping.proofs.Skips.{code-end, list-end}
 use Rattle.skipping.proofs.Marks.{RightMark, RightListMark, Right}

@@ -2,19 +2,19 @@
 -- Assumes nothing.
 use Prim.Native.Nat.{ℕ, zero, suc, _+_, _-_, _*_, _/_, _%_, _≤_, _<_}
 use native.Mathlib.Omega.{arith}
-use mathlib.Core.Path.{_≡_, refl, sym, ap, _∙_}
-use mathlib.Core.Bool.{Bool, true, false, _&&_, cond}
+use mathlib.Core.Path.{_≡_, refl, sym, _∙_}
+use mathlib.Core.Bool.{true, false, _&&_, cond}
 use mathlib.Core.List.{List}
 use borrow.Author.Tests.{lt-ltb, le-ltb, lt-leb, le-leb, eq-eqb, ne-eqb}
 use lib.Bits.{bitAnd}
 use lib.Dec.{leb, ltb, eqb}
-use lib.ListN.{length, set}
+use lib.ListN.{length}
 use lib.Seq.{set-out}
 use Rattle.reading.specs.Tables.{headMask}
 use Rattle.reading.specs.Walk.{on, when, at, exprEnd, processEnd, twoEnd, restOf, markedEnd, scopeEnd, endAfter, executorEnd, nodeEnd}
 use Rattle.reading.proofs.Tests.{tests}
 use Rattle.reading.proofs.Walks.{process-node, process-refused}
-use Rattle.marking.specs.Marking.{Noting, noteW, noteListW, seqMarks, parMarks, bodyMarks, scopeMarks, executorMarks, nodeMarks, noting, enabledMarks, marksW, enginesMarks, surveyMarks}
+use Rattle.marking.specs.Marking.{Noting, noteW, noteListW, seqMarks, parMarks, bodyMarks, scopeMarks, executorMarks, nodeMarks, enabledMarks, marksW, enginesMarks, surveyMarks}
 
 -- ---- one mark
 

@@ -2,7 +2,7 @@
 -- the word at i stand at i * 2, for the process that begins there, and behind it, for the list. The proofs show that each is where the
 -- layout ends; no public contract names it.
 use Prim.Native.Nat.{ℕ, zero, suc, _+_, _-_, _*_, _/_, _%_}
-use mathlib.Core.Bool.{Bool, true, false, _&&_, cond}
+use mathlib.Core.Bool.{_&&_, cond}
 use mathlib.Core.List.{List}
 use lib.Bits.{bitAnd}
 use lib.Dec.{leb, ltb, eqb}

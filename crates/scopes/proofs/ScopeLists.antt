@@ -14,8 +14,8 @@ use Rattle.sock.proofs.Fits.{SoundFrames}
 use Rattle.sock.proofs.Frames.{nearest-fits}
 use Rattle.sock.proofs.Located.{wrap, size-positive}
 use Rattle.sock.proofs.Measures.{depth-nil}
-use Rattle.skipping.specs.Skip.{skipList}
-use Rattle.skipping.proofs.Skips.{list-end}
+use Rattle.skipping.specs.Pass.{passList}
+use Rattle.skipping.proofs.Marks.{Right, pass-entries}
 use Rattle.finding.specs.declared.find.Spot.{Spot}
 use Rattle.finding.proofs.Framing.{scoped, region}
 use Rattle.finding.proofs.Pieces.{Swap}
@@ -111,8 +111,8 @@ module _ (f target : ℕ) (r : Run) (start : ℕ) (l : Located) (s : Spot) (ws :
     to-list = onward-near (s .scope) 2 (length ws) near (omega (arith, list-inside))
 
     pub list-ends :
-        skipList 64 ws 128 (s .scope + 2) ≡ s .scope + 2 + length (region (l .frames))
-    list-ends =
+        (marks : List ℕ) → Right ws marks → passList 64 ws marks (s .scope + 2) ≡ s .scope + 2 + length (region (l .frames))
+    list-ends marks right =
         let a = list-at f target r start 1 l s ws (drop (start + size r) ws) words spotted t in
-        list-end ws (nearest-fits frames) 64 (s .scope + 2) list-deep (a .0) (a .1)
+        pass-entries ws marks right (nearest-fits frames) 64 (s .scope + 2) list-deep (a .0) (a .1)
         ∙ omega (arith, region-length)

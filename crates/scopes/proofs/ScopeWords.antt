@@ -18,8 +18,8 @@ use Rattle.sock.proofs.Fits.{FitsEntries, MarkFits, Sound, seqSound, parSound, 
 use Rattle.sock.proofs.Located.{wrap}
 use Rattle.sock.proofs.Measures.{words-nil, words-scope, depth-nil, depth-scope}
 use Rattle.sock.proofs.Positions.{At, at-head}
-use Rattle.skipping.specs.Skip.{skipList}
-use Rattle.skipping.proofs.Skips.{list-end}
+use Rattle.skipping.specs.Pass.{passList}
+use Rattle.skipping.proofs.Marks.{Right, pass-entries}
 use Rattle.finding.specs.declared.find.Spot.{Spot}
 use Rattle.finding.proofs.Spots.{Spotted}
 use Rattle.finding.proofs.Edits.{process-at}
@@ -168,10 +168,10 @@ module _ (f target : ℕ) (r : Run) (start : ℕ) (l : Located) (s : Spot) (ws :
   pub own-list : (rest : List ℕ) × (drop (target + 2) ws ≡ count h ∷ (entriesWords h ++ rest))
   own-list = ((0 ∷ []) ++ more, ap (λ i. drop i ws) (let z : target + 2 ≡ target + 1 + 1 = omega arith in z) ∙ second .next)
 
-  pub own-ends : FitsEntries true zero h →
-      skipList 64 ws 128 (target + 2) ≡ target + 3 + length (entriesWords h)
-  own-ends g =
-      list-end ws g 64 (target + 2) (omega (arith, its-place)) (own-list .0) (own-list .1) ∙ omega arith
+  pub own-ends : (marks : List ℕ) → Right ws marks → FitsEntries true zero h →
+      passList 64 ws marks (target + 2) ≡ target + 3 + length (entriesWords h)
+  own-ends marks right g =
+      pass-entries ws marks right g 64 (target + 2) (omega (arith, its-place)) (own-list .0) (own-list .1) ∙ omega arith
 
   pub own-key : name < 64 → keyAtW ws (s .at) ≡ markKey name mark
   unfolding keyAtW

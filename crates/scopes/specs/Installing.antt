@@ -3,7 +3,7 @@ use Prim.Native.Nat.{ℕ}
 use mathlib.Core.Bool.{Bool, true, cond}
 use mathlib.Core.List.{List}
 use lib.Dec.{ltb, eqb}
-use Rattle.skipping.specs.Skip.{skipList}
+use Rattle.skipping.specs.Pass.{passList}
 use Rattle.moving.specs.Writing.{onward}
 use Rattle.finding.specs.declared.find.Spot.{Spot}
 use Rattle.handling.specs.Updating.{updateW}
@@ -12,12 +12,12 @@ use Rattle.rules.specs.Planning.{Planned, planned, refusedPlan, nilW}
 unfoldable pub tooDeepW : ℕ → ℕ → Bool
 tooDeepW level levels = cond (ltb 64 levels) true (ltb 64 (onward level levels))
 
-unfoldable pub updatedW : List ℕ → Spot → ℕ → ℕ → List ℕ → Planned
-updatedW ws s l f fresh = nilW s l (skipList 64 ws 128 l) f 32 0 fresh
+unfoldable pub updatedW : List ℕ → List ℕ → Spot → ℕ → ℕ → List ℕ → Planned
+updatedW ws marks s l f fresh = nilW s l (passList 64 ws marks l) f 32 0 fresh
 
-unfoldable pub installedW : List ℕ → ℕ → Spot → List ℕ → Planned
-installedW ws start s fresh =
+unfoldable pub installedW : List ℕ → List ℕ → ℕ → Spot → List ℕ → Planned
+installedW ws marks start s fresh =
     cond (eqb (s .scope) 0) (nilW s start start 0 32 0 fresh)
     (let u = updateW 64 ws (onward (s .scope) 2) (onward (s .at) 1) fresh in
     cond (tooDeepW (s .«scope_level») (u .answer .levels)) (planned (refusedPlan 8) (u .out))
-    (updatedW ws s (onward (s .scope) 2) (u .answer .to) (u .out)))
+    (updatedW ws marks s (onward (s .scope) 2) (u .answer .to) (u .out)))

@@ -10,7 +10,7 @@ use rules::plan::Plan;
 use rules::plan::become_nil;
 use rules::plan::refuse;
 use rules::turn::word;
-use skipping::skip::skip_list;
+use skipping::pass::pass_list;
 ghost use mathlib.Core.Path.{_≡_};
 ghost use Rattle.scopes.specs.Compensating.{levelsAt, movedW, compensatedW};
 
@@ -22,11 +22,11 @@ fn levels_at(level: usize) -> usize
 }
 
 // What was taken out of the list stands in the place of the process; the list without it is in the first fresh words.
-fn moved(ws: &[u16], s: Spot, t: Taken, fresh: &mut [u16]) -> Plan
-    ensures { λ r. ⌜ (r ≡ movedW (now (ws .entry)) s t (now (fresh .entry)) .plan) × (now (fresh .exit) ≡ movedW (now (ws .entry)) s t (now (fresh .entry)) .fresh) ⌝ }
+fn moved(ws: &[u16], marks: &[u16], s: Spot, t: Taken, fresh: &mut [u16]) -> Plan
+    ensures { λ r. ⌜ (r ≡ movedW (now (ws .entry)) (now (marks .entry)) s t (now (fresh .entry)) .plan) × (now (fresh .exit) ≡ movedW (now (ws .entry)) (now (marks .entry)) s t (now (fresh .entry)) .fresh) ⌝ }
 {
     let l = further(s.scope, 2);
-    let m = skip_list(ws, l, 64, 128);
+    let m = pass_list(ws, marks, l, 64);
     let f = t.to;
     let from = t.from;
     let upto = t.upto;
@@ -49,8 +49,15 @@ fn moved(ws: &[u16], s: Spot, t: Taken, fresh: &mut [u16]) -> Plan
 }
 
 // The comp at `s`, in the engine's process that begins at `start`.
-pub fn compensated(ws: &[u16], start: usize, s: Spot, bound: usize, fresh: &mut [u16]) -> Plan
-    ensures { λ r. ⌜ (r ≡ compensatedW bound (now (ws .entry)) start s (now (fresh .entry)) .plan) × (now (fresh .exit) ≡ compensatedW bound (now (ws .entry)) start s (now (fresh .entry)) .fresh) ⌝ }
+pub fn compensated(
+    ws: &[u16],
+    marks: &[u16],
+    start: usize,
+    s: Spot,
+    bound: usize,
+    fresh: &mut [u16],
+) -> Plan
+    ensures { λ r. ⌜ (r ≡ compensatedW bound (now (ws .entry)) (now (marks .entry)) start s (now (fresh .entry)) .plan) × (now (fresh .exit) ≡ compensatedW bound (now (ws .entry)) (now (marks .entry)) start s (now (fresh .entry)) .fresh) ⌝ }
 {
     if s.scope == 0 {
         return become_nil(s, start, start, 0, 32, 0, fresh);
@@ -63,5 +70,5 @@ pub fn compensated(ws: &[u16], start: usize, s: Spot, bound: usize, fresh: &mut 
     if process(ws, t.from, levels_at(s.level), 0, bound) == 0 {
         return refuse(8);
     }
-    moved(ws, s, t, fresh)
+    moved(ws, marks, s, t, fresh)
 }

@@ -12,7 +12,7 @@ use reading::reader::wide;
 use rules::plan::Plan;
 use rules::plan::become_nil;
 use rules::turn::word;
-use skipping::skip::skip_list;
+use skipping::pass::pass_list;
 ghost use mathlib.Core.Path.{_≡_};
 ghost use Rattle.scopes.specs.Ending.{clearedW, keyAtW, takeBehindW, takenTo, takenW, resumedW, promotedTo, promotedW, endingW, endedW};
 
@@ -61,8 +61,15 @@ fn put_taken(ws: &[u16], t: Taken, fresh: &mut [u16], to: usize) -> usize
 }
 
 // The scope at `at` with no mark, without the handler under the key, and that as its body.
-fn resumed(ws: &[u16], start: usize, at: usize, key: usize, fresh: &mut [u16]) -> Plan
-    ensures { λ r. ⌜ (r ≡ resumedW (now (ws .entry)) start at key (now (fresh .entry)) .plan) × (now (fresh .exit) ≡ resumedW (now (ws .entry)) start at key (now (fresh .entry)) .fresh) ⌝ }
+fn resumed(
+    ws: &[u16],
+    marks: &[u16],
+    start: usize,
+    at: usize,
+    key: usize,
+    fresh: &mut [u16],
+) -> Plan
+    ensures { λ r. ⌜ (r ≡ resumedW (now (ws .entry)) (now (marks .entry)) start at key (now (fresh .entry)) .plan) × (now (fresh .exit) ≡ resumedW (now (ws .entry)) (now (marks .entry)) start at key (now (fresh .entry)) .fresh) ⌝ }
 {
     let h = cleared(word(ws, at));
     put(fresh, 0, h);
@@ -71,7 +78,7 @@ fn resumed(ws: &[u16], start: usize, at: usize, key: usize, fresh: &mut [u16]) -
     let t = take_behind(ws, l, key, fresh);
     let to = further(2, t.to);
     let g = put_taken(ws, t, fresh, to);
-    let end = further(skip_list(ws, l, 64, 128), 1);
+    let end = further(pass_list(ws, marks, l, 64), 1);
     Plan {
         number: 0,
         l: start,
@@ -100,24 +107,24 @@ fn promoted(ws: &[u16], l: usize, t: Taken, key: usize, fresh: &mut [u16]) -> us
 }
 
 // The scope becomes nil, and the nearest is updated by its name and the handler under it.
-fn ending(ws: &[u16], s: Spot, key: usize, fresh: &mut [u16]) -> Plan
-    ensures { λ r. ⌜ (r ≡ endingW (now (ws .entry)) s key (now (fresh .entry)) .plan) × (now (fresh .exit) ≡ endingW (now (ws .entry)) s key (now (fresh .entry)) .fresh) ⌝ }
+fn ending(ws: &[u16], marks: &[u16], s: Spot, key: usize, fresh: &mut [u16]) -> Plan
+    ensures { λ r. ⌜ (r ≡ endingW (now (ws .entry)) (now (marks .entry)) s key (now (fresh .entry)) .plan) × (now (fresh .exit) ≡ endingW (now (ws .entry)) (now (marks .entry)) s key (now (fresh .entry)) .fresh) ⌝ }
 {
     let t = take(ws, further(s.at, 2), key, 64, fresh);
     let l = further(s.scope, 2);
     let f = promoted(ws, l, t, key, fresh);
-    updated(ws, s, l, f, fresh)
+    updated(ws, marks, s, l, f, fresh)
 }
 
 // The scope with nil body at `s`, in the engine's process that begins at `start`.
-pub fn ended(ws: &[u16], start: usize, s: Spot, fresh: &mut [u16]) -> Plan
-    ensures { λ r. ⌜ (r ≡ endedW (now (ws .entry)) start s (now (fresh .entry)) .plan) × (now (fresh .exit) ≡ endedW (now (ws .entry)) start s (now (fresh .entry)) .fresh) ⌝ }
+pub fn ended(ws: &[u16], marks: &[u16], start: usize, s: Spot, fresh: &mut [u16]) -> Plan
+    ensures { λ r. ⌜ (r ≡ endedW (now (ws .entry)) (now (marks .entry)) start s (now (fresh .entry)) .plan) × (now (fresh .exit) ≡ endedW (now (ws .entry)) (now (marks .entry)) start s (now (fresh .entry)) .fresh) ⌝ }
 {
     let at = s.at;
     let h = wide(word(ws, at));
     let key = key_at(ws, at);
     if 0 < h / 8 % 4 {
-        return resumed(ws, start, at, key, fresh);
+        return resumed(ws, marks, start, at, key, fresh);
     }
     if h / 4 % 2 == 1 {
         return become_nil(s, start, start, 0, 32, 0, fresh);
@@ -125,5 +132,5 @@ pub fn ended(ws: &[u16], start: usize, s: Spot, fresh: &mut [u16]) -> Plan
     if s.scope == 0 {
         return become_nil(s, start, start, 0, 32, 0, fresh);
     }
-    ending(ws, s, key, fresh)
+    ending(ws, marks, s, key, fresh)
 }

@@ -5,7 +5,7 @@ use moving::write::further;
 use rules::plan::Plan;
 use rules::plan::become_nil;
 use rules::plan::refuse;
-use skipping::skip::skip_list;
+use skipping::pass::pass_list;
 ghost use mathlib.Core.Path.{_≡_};
 ghost use Rattle.scopes.specs.Installing.{tooDeepW, updatedW, installedW};
 
@@ -20,16 +20,16 @@ fn too_deep(level: usize, levels: usize) -> bool
 }
 
 // The list at `l` becomes the first `f` fresh words, the process nil.
-pub fn updated(ws: &[u16], s: Spot, l: usize, f: usize, fresh: &mut [u16]) -> Plan
-    ensures { λ r. ⌜ (r ≡ updatedW (now (ws .entry)) s l f (now (fresh .entry)) .plan) × (now (fresh .exit) ≡ updatedW (now (ws .entry)) s l f (now (fresh .entry)) .fresh) ⌝ }
+pub fn updated(ws: &[u16], marks: &[u16], s: Spot, l: usize, f: usize, fresh: &mut [u16]) -> Plan
+    ensures { λ r. ⌜ (r ≡ updatedW (now (ws .entry)) (now (marks .entry)) s l f (now (fresh .entry)) .plan) × (now (fresh .exit) ≡ updatedW (now (ws .entry)) (now (marks .entry)) s l f (now (fresh .entry)) .fresh) ⌝ }
 {
-    let m = skip_list(ws, l, 64, 128);
+    let m = pass_list(ws, marks, l, 64);
     become_nil(s, l, m, f, 32, 0, fresh)
 }
 
 // The inst at `s`, in the engine's process that begins at `start`.
-pub fn installed(ws: &[u16], start: usize, s: Spot, fresh: &mut [u16]) -> Plan
-    ensures { λ r. ⌜ (r ≡ installedW (now (ws .entry)) start s (now (fresh .entry)) .plan) × (now (fresh .exit) ≡ installedW (now (ws .entry)) start s (now (fresh .entry)) .fresh) ⌝ }
+pub fn installed(ws: &[u16], marks: &[u16], start: usize, s: Spot, fresh: &mut [u16]) -> Plan
+    ensures { λ r. ⌜ (r ≡ installedW (now (ws .entry)) (now (marks .entry)) start s (now (fresh .entry)) .plan) × (now (fresh .exit) ≡ installedW (now (ws .entry)) (now (marks .entry)) start s (now (fresh .entry)) .fresh) ⌝ }
 {
     if s.scope == 0 {
         return become_nil(s, start, start, 0, 32, 0, fresh);
@@ -41,5 +41,5 @@ pub fn installed(ws: &[u16], start: usize, s: Spot, fresh: &mut [u16]) -> Plan
         return refuse(8);
     }
     let f = u.to;
-    updated(ws, s, l, f, fresh)
+    updated(ws, marks, s, l, f, fresh)
 }

@@ -125,8 +125,8 @@ module _ (ws : List ℕ) (ok : Words ws) (k : Numbers) (position-low : k .positi
       unfolding movingW
       moving-law =
           rw kind-at
-          (by (moveOf (engineAt c (k .engine) .values) (l .frames) (l .process)) (movesW ws (sp .at) (kind (asNode (l .process)))) refl
-          (known-moving ws ok s known (k .engine) (found .inside) target l sp (found .place) (found .spotted)))
+          (by (moveOf (engineAt c (k .engine) .values) (l .frames) (l .process)) (movesW ws marks (sp .at) (kind (asNode (l .process)))) refl
+          (known-moving ws ok s known (k .engine) (found .inside) target l sp (found .place) (found .spotted) marks right))
         where
           by :
               (m : Move) (j : ℕ) → moveOf (engineAt c (k .engine) .values) (l .frames) (l .process) ≡ m → Moving m j →

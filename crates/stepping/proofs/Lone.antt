@@ -187,7 +187,7 @@ module _ (ws : List ℕ) (ok : Words ws) (n issued : ℕ) (few : n ≤ 8) (small
     unfolding ruleW scopedW
     made-scope name mark zombie h a is false e = tt
     made-scope name mark zombie h a is true e =
-        still _ _ (ends (faultAt ws target) target r start l s ws words-at spotted near (standing .frames) deep (omega arith)
+        still _ _ (ends (faultAt ws target) target r start l s ws marks right words-at spotted near (standing .frames) deep (omega arith)
         few small short fresh room big sound name mark zombie h (is ∙ ap (scope name mark zombie h) (done-nil a e)))
 
     made-executor : (b : Bool) (u : Planned) (m : Message) → Makes u (cond b (sends m) stuck)
@@ -288,7 +288,7 @@ module _ (ws : List ℕ) (ok : Words ws) (n issued : ℕ) (few : n ≤ 8) (small
         Makes (ruleW ws marks start s 12 bound fresh) (alone vs (some (plug (onNearest (λ x. update x new) (l .frames)) nil)))
     unfolding ruleW scopedW asNode
     made-install h new k fit is =
-        still _ _ (Installs.installs (faultAt ws target) target r start l s ws words-at spotted near (standing .frames) deep (omega arith)
+        still _ _ (Installs.installs (faultAt ws target) target r start l s ws marks right words-at spotted near (standing .frames) deep (omega arith)
         short fresh (omega (arith, room .few)) big h new is fit
         (let e : kind (asNode (l .process)) ≡ 12 = ap (λ p. kind (asNode p)) is ∙ k in rw e at wide))
 
@@ -307,7 +307,7 @@ module _ (ws : List ℕ) (ok : Words ws) (n issued : ℕ) (few : n ≤ 8) (small
     unfolding ruleW scopedW
     made-compensate h is =
         still _ _
-        (Compensates.compensates (faultAt ws target) target r start l s ws words-at spotted near (standing .frames) deep (omega arith)
+        (Compensates.compensates (faultAt ws target) target r start l s ws marks right words-at spotted near (standing .frames) deep (omega arith)
         ok few small short fresh room big h is)
 
     made-act : (m : Node) → l .process ≡ act m → Fits (code false) anywhere m → Shape m →

@@ -28,9 +28,9 @@ valuedW ws start s kind bound fresh =
 
 unfoldable pub scopedW : List ℕ → List ℕ → ℕ → Spot → ℕ → ℕ → List ℕ → Planned
 scopedW ws marks start s kind bound fresh =
-    cond (eqb kind 11) (endedW ws start s fresh)
-    (cond (eqb kind 12) (installedW ws start s fresh)
-    (cond (eqb kind 13) (thrownW ws marks start s fresh) (compensatedW bound ws start s fresh)))
+    cond (eqb kind 11) (endedW ws marks start s fresh)
+    (cond (eqb kind 12) (installedW ws marks start s fresh)
+    (cond (eqb kind 13) (thrownW ws marks start s fresh) (compensatedW bound ws marks start s fresh)))
 
 unfoldable pub ruleW : List ℕ → List ℕ → ℕ → Spot → ℕ → ℕ → List ℕ → Planned
 ruleW ws marks start s kind bound fresh =

@@ -4,7 +4,7 @@ use mathlib.Core.Bool.{Bool, false, cond}
 use mathlib.Core.List.{List}
 use lib.Dec.{leb, ltb, eqb}
 use lib.ListN.{getD, replicate}
-use Rattle.skipping.specs.Skip.{skipList}
+use Rattle.skipping.specs.Pass.{passList}
 use Rattle.reading.specs.Survey.{surveyed}
 use Rattle.marking.specs.Marking.{surveyMarks}
 use Rattle.moving.specs.Writing.{onward}
@@ -17,8 +17,8 @@ use Rattle.stepping.specs.Answering.{Answered, answered, refusing}
 use Rattle.stepping.specs.Exchanging.{betweenW}
 use Rattle.stepping.specs.Alone.{aloneW}
 
-unfoldable pub bodyNil : List ℕ → ℕ → Bool
-bodyNil ws i = eqb (at ws (skipList 64 ws 128 (onward i 2))) 0
+unfoldable pub bodyNil : List ℕ → List ℕ → ℕ → Bool
+bodyNil ws marks i = eqb (at ws (passList 64 ws marks (onward i 2))) 0
 
 unfoldable pub byKind : ℕ → ℕ
 byKind kind =
@@ -30,9 +30,9 @@ byKind kind =
     (cond (eqb kind 18) 2
     (cond (ltb kind 12) 0 (cond (ltb kind 15) 1 0)))))))
 
-unfoldable pub movesW : List ℕ → ℕ → ℕ → ℕ
-movesW ws i kind =
-    cond (eqb kind 11) (cond (bodyNil ws i) 1 0)
+unfoldable pub movesW : List ℕ → List ℕ → ℕ → ℕ → ℕ
+movesW ws marks i kind =
+    cond (eqb kind 11) (cond (bodyNil ws marks i) 1 0)
     (cond (eqb kind 16) (cond (eqb (at ws (onward i 3)) 0) 2 0) (byKind kind))
 
 abbrev startAt : List ℕ → ℕ → ℕ
@@ -53,7 +53,7 @@ noneElse i place branch = cond (eqb i 0) (cond (eqb place 0) (eqb branch 0) fals
 unfoldable pub movingW : List ℕ → List ℕ → List ℕ → ℕ → ℕ → Spot → ℕ → ℕ → ℕ → ℕ → List ℕ → Answered
 movingW ws marks starts n e a i place branch bound out =
     let kind = at ws (a .at) / 2048 in
-    let m = movesW ws (a .at) kind in
+    let m = movesW ws marks (a .at) kind in
     cond (eqb m 0) (answered (refusing 3) out)
     (cond (eqb m 2) (receivingW ws marks starts n e a kind i place branch out)
     (cond (noneElse i place branch) (aloneW ws marks (startAt starts e) (startAt starts (e + 1)) a kind bound out) (answered (refusing 3) out)))

@@ -71,15 +71,15 @@ fn scoped(
     ensures { λ r. ⌜ (r ≡ scopedW (now (ws .entry)) (now (marks .entry)) start s kind bound (now (fresh .entry)) .plan) × (now (fresh .exit) ≡ scopedW (now (ws .entry)) (now (marks .entry)) start s kind bound (now (fresh .entry)) .fresh) ⌝ }
 {
     if kind == 11 {
-        return ended(ws, start, s, fresh);
+        return ended(ws, marks, start, s, fresh);
     }
     if kind == 12 {
-        return installed(ws, start, s, fresh);
+        return installed(ws, marks, start, s, fresh);
     }
     if kind == 13 {
         return thrown(ws, marks, start, s, fresh);
     }
-    compensated(ws, start, s, bound, fresh)
+    compensated(ws, marks, start, s, bound, fresh)
 }
 
 // The rule of the kind given.

@@ -10,7 +10,7 @@ use marking::survey::survey;
 use moving::write::further;
 use reading::reader::wide;
 use rules::turn::word;
-use skipping::skip::skip_list;
+use skipping::pass::pass_list;
 ghost use mathlib.Core.Path.{_≡_};
 ghost use Prim.Native.Nat.{_≤_, _<_};
 ghost use Rattle.sock.specs.Configuration.{standard};
@@ -19,10 +19,10 @@ ghost use Rattle.stepping.specs.Answers.{answerAs, numbers};
 ghost use Rattle.stepping.specs.Stepping.{bodyNil, byKind, movesW, receivingW, noneElse, movingW, manyMarks, stepW};
 
 // Whether the body of the scope at a position is nil.
-fn body_nil(ws: &[u16], at: usize) -> bool
-    ensures { λ r. ⌜ r ≡ bodyNil (now (ws .entry)) at ⌝ }
+fn body_nil(ws: &[u16], marks: &[u16], at: usize) -> bool
+    ensures { λ r. ⌜ r ≡ bodyNil (now (ws .entry)) (now (marks .entry)) at ⌝ }
 {
-    let body = skip_list(ws, further(at, 2), 64, 128);
+    let body = pass_list(ws, marks, further(at, 2), 64);
     word(ws, body) == 0
 }
 
@@ -55,11 +55,11 @@ fn by_kind(kind: usize) -> usize
 }
 
 // What the process at a position does: a scope ends, and an executor replies, once its body is nil.
-fn moves(ws: &[u16], at: usize, kind: usize) -> usize
-    ensures { λ r. ⌜ r ≡ movesW (now (ws .entry)) at kind ⌝ }
+fn moves(ws: &[u16], marks: &[u16], at: usize, kind: usize) -> usize
+    ensures { λ r. ⌜ r ≡ movesW (now (ws .entry)) (now (marks .entry)) at kind ⌝ }
 {
     if kind == 11 {
-        if body_nil(ws, at) {
+        if body_nil(ws, marks, at) {
             return 1;
         }
         return 0;
@@ -132,7 +132,7 @@ fn moving(
     ensures { λ r. ⌜ (r ≡ movingW (now (ws .entry)) (now (marks .entry)) starts n engine a second place branch bound (now (out .entry)) .answer) × (now (out .exit) ≡ movingW (now (ws .entry)) (now (marks .entry)) starts n engine a second place branch bound (now (out .entry)) .out) ⌝ }
 {
     let kind = wide(word(ws, a.at)) / 2048;
-    let m = moves(ws, a.at, kind);
+    let m = moves(ws, marks, a.at, kind);
     if m == 0 {
         return refuse(3);
     }

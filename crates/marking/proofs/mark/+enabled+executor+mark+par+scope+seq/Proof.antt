@@ -3,10 +3,10 @@
 -- Assumes nothing.
 use Prim.Native.Nat.{ℕ, _+_, _*_, _<_}
 use native.Mathlib.Omega.{arith}
-use mathlib.Core.Path.{refl, sym, ap, _∙_}
+use mathlib.Core.Path.{refl, sym, _∙_}
 use borrow.Author.Needs.{needs}
 use Rattle.reading.specs.Walk.{nodeEnd}
-use Rattle.marking.specs.Marking.{noteW, noting, marksW}
+use Rattle.marking.specs.Marking.{noting, marksW}
 use Rattle.marking.proofs.Notes.{none-deep, none-left, refused, others, one-word, a-seq, a-par, a-scope, an-executor, two-none, two-next, seq-none, seq-next, par-none, par-next, scope-short, scope-none, scope-next, executor-none, executor-next, same-note}
 use borrow.Fn.Kinds.{In}
 use borrow.Fn.PlainCycle.{Measures, is, falls, and}

@@ -13,10 +13,6 @@ use Rattle.marking.proofs.Notes.{marks-short, marks-all, marks-none, ma
 use borrow.Author.Needs.{needs}
 use Rattle.marking.proofs.survey.engines.Statement.{statement}
 use Rattle.marking.proofs.survey.engines.Tie as tie
-use Rattle.marking.proofs.survey.engines.Reads as reads
-use Rattle.marking.proofs.survey.engines.Lts as lts
-use Rattle.marking.proofs.mark.mark.Reads as mark-reads
-use Rattle.reading.proofs.survey.unreadable.Reads as unreadable-reads
 
 abbrev Inv-loop : tie.InvT-loop
 Inv-loop ws deepest n bound marks₀ starts₀ at₀ e₀ marks starts at e =

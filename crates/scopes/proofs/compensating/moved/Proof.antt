@@ -9,8 +9,8 @@ use Rattle.scopes.proofs.compensating.moved.Tie as tie
 further-requires : tie.Need-further-requires
 further-requires c κs = search needs
 
-skip-list-requires : tie.Need-skip-list-requires
-skip-list-requires c κs = search needs
+pass-list-requires : tie.Need-pass-list-requires
+pass-list-requires c κs = search needs
 
 copy-requires : tie.Need-copy-requires
 copy-requires c κs = search needs
@@ -24,9 +24,9 @@ same-length c = search needs
 returns : tie.Need-returns
 unfolding movedW
 returns c =
-    (simp (tests, ← (c .further2 .ensures), ← (c .before .before .before .copy .ensures .0), ← (c .before .before .before .copy .ensures .1), ← (c .before .before .before .before .before .skip-list .ensures), ← (c .before .before .before .before .before .before .further .ensures)), simp (tests, ← (c .further2 .ensures), ← (c .before .before .before .copy .ensures .0), ← (c .before .before .before .copy .ensures .1), ← (c .before .before .before .before .before .skip-list .ensures), ← (c .before .before .before .before .before .before .further .ensures)))
+    (simp (tests, ← (c .further2 .ensures), ← (c .before .before .before .copy .ensures .0), ← (c .before .before .before .copy .ensures .1), ← (c .before .before .before .before .before .pass-list .ensures), ← (c .before .before .before .before .before .before .further .ensures)), simp (tests, ← (c .further2 .ensures), ← (c .before .before .before .copy .ensures .0), ← (c .before .before .before .copy .ensures .1), ← (c .before .before .before .before .before .pass-list .ensures), ← (c .before .before .before .before .before .before .further .ensures)))
 
 pub moved-spec : {M : Type 1} → statement M
 moved-spec =
     tie.close
-    (tie.spec further-requires skip-list-requires copy-requires further-requires-2 same-length returns)
+    (tie.spec further-requires pass-list-requires copy-requires further-requires-2 same-length returns)

@@ -25,7 +25,7 @@ same-length c = search needs
 returns : tie.Need-returns
 returns c =
     let e =
-    ended-marked _ _ _ _ _ _ _ (c .before .before .before .before .before .before .before .word .ensures) (c .before .before .before .before .before .before .wide .ensures .0) (c .before .before .before .before .before .key-at .ensures)
+    ended-marked _ _ _ _ _ _ _ _ (c .before .before .before .before .before .before .before .word .ensures) (c .before .before .before .before .before .before .wide .ensures .0) (c .before .before .before .before .before .key-at .ensures)
     (c .before .before .before .before .if1 .taken) in
     (c .before .before .resumed .ensures .0 ∙ ap (λ (u : Planned). u .plan) e, c .before .before .resumed .ensures .1 ∙ ap (λ (u : Planned). u .fresh) e)
 
@@ -38,7 +38,7 @@ same-length-2 c = search needs
 returns-2 : tie.Need-returns-2
 returns-2 c =
     let e =
-    ended-zombie _ _ _ _ _ _ _ (c .before .before .before .before .before .before .before .before .word .ensures) (c .before .before .before .before .before .before .before .wide .ensures .0) (c .before .before .before .before .before .before .key-at .ensures)
+    ended-zombie _ _ _ _ _ _ _ _ (c .before .before .before .before .before .before .before .before .word .ensures) (c .before .before .before .before .before .before .before .wide .ensures .0) (c .before .before .before .before .before .before .key-at .ensures)
     (c .before .before .before .before .before .if1 .left) (c .before .before .before .before .if2 .taken) in
     (c .before .before .become-nil .ensures .0 ∙ ap (λ (u : Planned). u .plan) e, c .before .before .become-nil .ensures .1 ∙ ap (λ (u : Planned). u .fresh) e)
 
@@ -51,7 +51,7 @@ same-length-3 c = search needs
 returns-3 : tie.Need-returns-3
 returns-3 c =
     let e =
-    ended-bare _ _ _ _ _ _ _ (c .before .before .before .before .before .before .before .before .before .before .word .ensures) (c .before .before .before .before .before .before .before .before .before .wide .ensures .0) (c .before .before .before .before .before .before .before .before .key-at .ensures)
+    ended-bare _ _ _ _ _ _ _ _ (c .before .before .before .before .before .before .before .before .before .before .word .ensures) (c .before .before .before .before .before .before .before .before .before .wide .ensures .0) (c .before .before .before .before .before .before .before .before .key-at .ensures)
     (c .before .before .before .before .before .before .before .if1 .left) (c .before .before .before .before .before .before .if2 .left) (c .before .before .before .before .if3 .taken) in
     (c .before .before .become-nil2 .ensures .0 ∙ ap (λ (u : Planned). u .plan) e, c .before .before .become-nil2 .ensures .1 ∙ ap (λ (u : Planned). u .fresh) e)
 
@@ -64,7 +64,7 @@ same-length-4 c = search needs
 returns-4 : tie.Need-returns-4
 returns-4 c =
     let e =
-    ended-live _ _ _ _ _ _ _ (c .before .before .before .before .before .before .before .before .before .before .word .ensures) (c .before .before .before .before .before .before .before .before .before .wide .ensures .0) (c .before .before .before .before .before .before .before .before .key-at .ensures)
+    ended-live _ _ _ _ _ _ _ _ (c .before .before .before .before .before .before .before .before .before .before .word .ensures) (c .before .before .before .before .before .before .before .before .before .wide .ensures .0) (c .before .before .before .before .before .before .before .before .key-at .ensures)
     (c .before .before .before .before .before .before .before .if1 .left) (c .before .before .before .before .before .before .if2 .left) (c .before .before .before .before .if3 .left) in
     (c .before .before .ending .ensures .0 ∙ ap (λ (u : Planned). u .plan) e, c .before .before .ending .ensures .1 ∙ ap (λ (u : Planned). u .fresh) e)
 

@@ -27,7 +27,7 @@ same-length c = search needs
 
 returns : tie.Need-returns
 returns c =
-    let e = ending-made _ _ _ _ _ _ _ _ _ _ (c .before .before .before .before .before .before .before .before .before .before .before .before .before .further .ensures) (c .before .before .before .before .before .before .before .before .before .before .before .take .ensures .0) (c .before .before .before .before .before .before .before .before .before .before .before .take .ensures .1) (c .before .before .before .before .before .before .before .before .further2 .ensures)
+    let e = ending-made _ _ _ _ _ _ _ _ _ _ _ (c .before .before .before .before .before .before .before .before .before .before .before .before .before .further .ensures) (c .before .before .before .before .before .before .before .before .before .before .before .take .ensures .0) (c .before .before .before .before .before .before .before .before .before .before .before .take .ensures .1) (c .before .before .before .before .before .before .before .before .further2 .ensures)
     (c .before .before .before .before .before .before .promoted .ensures .0) (c .before .before .before .before .before .before .promoted .ensures .1) in
     (c .before .before .updated .ensures .0 ∙ ap (λ (u : Planned). u .plan) e, c .before .before .updated .ensures .1 ∙ ap (λ (u : Planned). u .fresh) e)
 

@@ -31,8 +31,8 @@ further-requires-2 c κs = search needs
 put-taken-requires : tie.Need-put-taken-requires
 put-taken-requires c κs = search needs
 
-skip-list-requires : tie.Need-skip-list-requires
-skip-list-requires c κs = search needs
+pass-list-requires : tie.Need-pass-list-requires
+pass-list-requires c κs = search needs
 
 further-requires-3 : tie.Need-further-requires-3
 further-requires-3 c κs = search needs
@@ -42,9 +42,9 @@ same-length c = search needs
 
 returns : tie.Need-returns
 returns c =
-    let e = resumed-made _ _ _ _ _ _ _ _ _ _ _ _ _ _ _ _ _ (c .before .before .before .before .before .before .before .before .before .before .before .before .before .before .before .before .before .before .before .before .before .word .ensures) (c .before .before .before .before .before .before .before .before .before .before .before .before .before .before .before .before .before .before .before .before .cleared .ensures) (c .before .before .before .before .before .before .before .before .before .before .before .before .before .before .before .before .before .before .put .ensures .1) (c .before .before .before .before .before .before .before .before .before .before .before .before .before .before .put2 .ensures .1)
+    let e = resumed-made _ _ _ _ _ _ _ _ _ _ _ _ _ _ _ _ _ _ (c .before .before .before .before .before .before .before .before .before .before .before .before .before .before .before .before .before .before .before .before .before .word .ensures) (c .before .before .before .before .before .before .before .before .before .before .before .before .before .before .before .before .before .before .before .before .cleared .ensures) (c .before .before .before .before .before .before .before .before .before .before .before .before .before .before .before .before .before .before .put .ensures .1) (c .before .before .before .before .before .before .before .before .before .before .before .before .before .before .put2 .ensures .1)
     (c .before .before .before .before .before .before .before .before .before .before .before .further .ensures) (c .before .before .before .before .before .before .before .before .before .take-behind .ensures .0) (c .before .before .before .before .before .before .before .before .before .take-behind .ensures .1) (c .before .before .before .before .before .before .further2 .ensures)
-    (c .before .before .before .before .put-taken .ensures .0) (c .before .before .before .before .put-taken .ensures .1) (c .before .skip-list .ensures) (c .further3 .ensures) in
+    (c .before .before .before .before .put-taken .ensures .0) (c .before .before .before .before .put-taken .ensures .1) (c .before .pass-list .ensures) (c .further3 .ensures) in
     (sym (ap (λ (u : Planned). u .plan) e), sym (ap (λ (u : Planned). u .fresh) e))
 
 pub resumed-spec : {M : Type 1} → statement M
@@ -59,7 +59,7 @@ resumed-spec =
     take-behind-requires
     further-requires-2
     put-taken-requires
-    skip-list-requires
+    pass-list-requires
     further-requires-3
     same-length
     returns)
