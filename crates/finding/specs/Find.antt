@@ -62,23 +62,13 @@ unfoldable pub inParW : (ℕ → Found) → ℕ → Found
 inParW sub i = parSides sub i (sub (i + 1))
 
 -- a body
+abbrev pub shutIn : Spot → ℕ → ℕ → ℕ → Spot
+shutIn s scope level catcher =
+    record { at = s .at; level = s .level; a = s .a; b = s .b; c = s .c; d = s .d; hollow = s .hollow; closed = true; scope = scope; «scope_level» = level; catcher = catcher }
+
 unfoldable pub inBodyW : Found → Found
 inBodyW (Past e) = Past e
-inBodyW (Hit s) =
-    Hit
-    (record {
-      at = s .at;
-      level = s .level;
-      a = s .a;
-      b = s .b;
-      c = s .c;
-      d = s .d;
-      hollow = s .hollow;
-      closed = true;
-      scope = s .scope;
-      «scope_level» = s .«scope_level»;
-      catcher = s .catcher;
-    })
+inBodyW (Hit s) = Hit (shutIn s (s .scope) (s .«scope_level») (s .catcher))
 
 unfoldable pub scopeOf : ℕ → ℕ → ℕ
 scopeOf i scope = cond (eqb scope 0) i scope
@@ -101,20 +91,7 @@ catcherOf d ws target i catcher =
 unfoldable pub inScopeW : ℕ → List ℕ → ℕ → ℕ → ℕ → Found → Found
 inScopeW d ws target level i (Past e) = Past e
 inScopeW d ws target level i (Hit s) =
-    Hit
-    (record {
-      at = s .at;
-      level = s .level;
-      a = s .a;
-      b = s .b;
-      c = s .c;
-      d = s .d;
-      hollow = s .hollow;
-      closed = true;
-      scope = scopeOf i (s .scope);
-      «scope_level» = levelOf level (s .scope) (s .«scope_level»);
-      catcher = catcherOf d ws target i (s .catcher);
-    })
+    Hit (shutIn s (scopeOf i (s .scope)) (levelOf level (s .scope) (s .«scope_level»)) (catcherOf d ws target i (s .catcher)))
 
 -- by kind; `sub` finds one level down, in what begins at a position
 unfoldable pub nodeW : (ℕ → Found) → ℕ → List ℕ → List ℕ → ℕ → ℕ → ℕ → ℕ → Found

@@ -7,7 +7,7 @@ use skipping::skip::skip_list;
 ghost use mathlib.Core.Path.{_≡_};
 ghost use Prim.Native.Nat.{_+_, _/_, _<_};
 ghost use lib.ListN.{length, getD};
-ghost use Rattle.finding.specs.Find.{findW, nodeW, outsideW, hereW, inSeqW, inParW, leftW, besideW, inBodyW, inScopeW, scopeOf, levelOf, catcherOf, faultAt, catchesW};
+ghost use Rattle.finding.specs.Find.{findW, nodeW, outsideW, cut, shutIn, hereW, inSeqW, inParW, leftW, besideW, inBodyW, inScopeW, scopeOf, levelOf, catcherOf, faultAt, catchesW};
 
 // The process at `at`, `level` levels deep. Were it nil, the words a..b and c..d would go; `hollow` tells that a nil would stand at a.
 // `scope` is the head of the nearest scope, `scope_level` its level, `catcher` the head of the scope that stops the fault of a throw; 0
@@ -114,6 +114,44 @@ fn here(ws: &[u16], marks: &[u16], at: usize, depth: usize, level: usize) -> Fou
     })
 }
 
+// The spot, if the words a..b and c..d go from now on; the cut goes on outwards where a nil stands.
+fn cut_at(s: Spot, a: usize, b: usize, c: usize, d: usize, hollow: bool) -> Spot
+    ensures { λ r. ⌜ r ≡ cut s a b c d hollow ⌝ }
+{
+    Spot {
+        at: s.at,
+        level: s.level,
+        a,
+        b,
+        c,
+        d,
+        hollow,
+        closed: !hollow,
+        scope: s.scope,
+        scope_level: s.scope_level,
+        catcher: s.catcher,
+    }
+}
+
+// The spot, if the cut goes on no further, with the scopes around it.
+fn shut(s: Spot, scope: usize, level: usize, catcher: usize) -> Spot
+    ensures { λ r. ⌜ r ≡ shutIn s scope level catcher ⌝ }
+{
+    Spot {
+        at: s.at,
+        level: s.level,
+        a: s.a,
+        b: s.b,
+        c: s.c,
+        d: s.d,
+        hollow: s.hollow,
+        closed: true,
+        scope,
+        scope_level: level,
+        catcher,
+    }
+}
+
 // The first of a seq becoming nil, the second takes the seq's place; a nil second goes on.
 fn in_seq(ws: &[u16], marks: &[u16], at: usize, f: Found, depth: usize) -> Found
     ensures { λ r. ⌜ r ≡ inSeqW depth (now (ws .entry)) (now (marks .entry)) at f ⌝ }
@@ -129,33 +167,9 @@ fn in_seq(ws: &[u16], marks: &[u16], at: usize, f: Found, depth: usize) -> Found
                 return Found::Past(0);
             }
             if ws[q] == 0 {
-                return Found::Hit(Spot {
-                    at: s.at,
-                    level: s.level,
-                    a: at,
-                    b: q + 1,
-                    c: q + 1,
-                    d: q + 1,
-                    hollow: true,
-                    closed: false,
-                    scope: s.scope,
-                    scope_level: s.scope_level,
-                    catcher: s.catcher,
-                });
+                return Found::Hit(cut_at(s, at, q + 1, q + 1, q + 1, true));
             }
-            Found::Hit(Spot {
-                at: s.at,
-                level: s.level,
-                a: at,
-                b: q,
-                c: q,
-                d: q,
-                hollow: false,
-                closed: true,
-                scope: s.scope,
-                scope_level: s.scope_level,
-                catcher: s.catcher,
-            })
+            Found::Hit(cut_at(s, at, q, q, q, false))
         }
     }
 }
@@ -178,19 +192,7 @@ fn left(at: usize, s: Spot) -> Found
     if s.closed {
         return Found::Hit(s);
     }
-    Found::Hit(Spot {
-        at: s.at,
-        level: s.level,
-        a: at,
-        b: s.d,
-        c: s.d,
-        d: s.d,
-        hollow: false,
-        closed: true,
-        scope: s.scope,
-        scope_level: s.scope_level,
-        catcher: s.catcher,
-    })
+    Found::Hit(cut_at(s, at, s.d, s.d, s.d, false))
 }
 
 // The left side ends at `e`.
@@ -204,19 +206,7 @@ fn beside(at: usize, e: usize, f: Found) -> Found
             if s.closed {
                 return Found::Hit(s);
             }
-            Found::Hit(Spot {
-                at: s.at,
-                level: s.level,
-                a: at,
-                b: at + 1,
-                c: e,
-                d: s.d,
-                hollow: false,
-                closed: true,
-                scope: s.scope,
-                scope_level: s.scope_level,
-                catcher: s.catcher,
-            })
+            Found::Hit(cut_at(s, at, at + 1, e, s.d, false))
         }
     }
 }
@@ -227,19 +217,7 @@ fn in_body(f: Found) -> Found
 {
     match f {
         Found::Past(e) => Found::Past(e),
-        Found::Hit(s) => Found::Hit(Spot {
-            at: s.at,
-            level: s.level,
-            a: s.a,
-            b: s.b,
-            c: s.c,
-            d: s.d,
-            hollow: s.hollow,
-            closed: true,
-            scope: s.scope,
-            scope_level: s.scope_level,
-            catcher: s.catcher,
-        }),
+        Found::Hit(s) => Found::Hit(shut(s, s.scope, s.scope_level, s.catcher)),
     }
 }
 
@@ -249,19 +227,12 @@ fn in_scope(ws: &[u16], at: usize, target: usize, level: usize, f: Found, depth:
 {
     match f {
         Found::Past(e) => Found::Past(e),
-        Found::Hit(s) => Found::Hit(Spot {
-            at: s.at,
-            level: s.level,
-            a: s.a,
-            b: s.b,
-            c: s.c,
-            d: s.d,
-            hollow: s.hollow,
-            closed: true,
-            scope: scope_of(at, s.scope),
-            scope_level: level_of(level, s.scope, s.scope_level),
-            catcher: catcher_of(ws, at, target, s.catcher, depth),
-        }),
+        Found::Hit(s) => Found::Hit(shut(
+            s,
+            scope_of(at, s.scope),
+            level_of(level, s.scope, s.scope_level),
+            catcher_of(ws, at, target, s.catcher, depth),
+        )),
     }
 }
 

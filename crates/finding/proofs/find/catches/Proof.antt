@@ -1,4 +1,4 @@
--- `moving::find::catches` meets its contract: whether a scope stops a fault.
+-- `finding::find::catches` meets its contract: whether a scope stops a fault.
 -- Assumes nothing.
 use Rattle.finding.specs.Find.{catchesW}
 use Rattle.reading.proofs.Tests.{tests}

@@ -1,4 +1,4 @@
--- `moving::find::here` meets its contract: the process itself.
+-- `finding::find::here` meets its contract: the process itself.
 -- Assumes nothing.
 use Rattle.finding.specs.Find.{hereW}
 use borrow.Author.Needs.{needs}

@@ -1,4 +1,4 @@
--- `moving::find::scope_of` meets its contract: the nearest scope.
+-- `finding::find::scope_of` meets its contract: the nearest scope.
 -- Assumes nothing.
 use Rattle.finding.specs.Find.{scopeOf}
 use Rattle.reading.proofs.Tests.{tests}
