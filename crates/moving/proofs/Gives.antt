@@ -17,8 +17,8 @@ use Rattle.sock.specs.Frames.{isDone, parOf}
 use Rattle.sock.specs.Rules.{also}
 use Rattle.sock.proofs.Measures.{words-par, size-seq, size-par}
 use Rattle.skipping.specs.Pass.{passEnd}
-use Rattle.moving.specs.Writing.{lowered}
-use Rattle.moving.specs.Killing.{Killed, Walk, made, goes, seqOn, seqW, lessOne, rightOn, rightW, leftOn, parW}
+use Rattle.moving.specs.Writing.{onward, lowered}
+use Rattle.moving.specs.Killing.{Killed, Walk, made, goes, seqOn, seqW, goneW, lessOne, rightOn, rightW, leftOn, parW}
 use Rattle.moving.proofs.Laid.{Near, onward-near, Laid, laid-put, laid-then, laid-again, laid-less, laid-down}
 
 -- r, which ends at e, is killed to s; twice the room of r is enough
@@ -53,6 +53,10 @@ module _ {r : Run} {out : List ℕ} {to e : ℕ} {k : Killed} where
 -- the walk does this of r at a position, wherever there is room
 abbrev pub Does : Walk → ℕ → Run → Option Run → Type 0
 Does sub at r o = (out : List ℕ) (to : ℕ) → to + 2 * size r ≤ length out → Near (length out) → Gives r out to (at + size r) (sub at out to) o
+
+-- where r is seen to become nil, it does, and marks pass over it
+abbrev pub Vanishes : ℕ → List ℕ → List ℕ → ℕ → Run → Option Run → Type 0
+Vanishes d ws marks at r o = goneW ws at ≡ true → (o ≡ some nil) × (passEnd d ws marks at ≡ at + size r)
 
 -- ---- on to what follows
 
@@ -99,6 +103,14 @@ gives-again h l z (stops e) = stops e
 gives-again h l z (gives g) =
     gives (record { ends = g .ends; done = g .done; reaches = g .reaches; laid = laid-again h l (g .laid); small = let y = g .small in omega arith })
 
+-- and of what is no smaller
+gives-within :
+    {a r : Run} {o : Option Run} {out : List ℕ} {to e : ℕ} {k : Killed} →
+    size a ≤ size r → Gives a out to e k o → Gives r out to e k o
+gives-within z (stops e) = stops e
+gives-within z (gives g) =
+    gives (record { ends = g .ends; done = g .done; reaches = g .reaches; laid = g .laid; small = let y = g .small in omega arith })
+
 less-one : (to n : ℕ) → lessOne (to + 1 + n) ≡ to + n
 unfolding lessOne
 less-one to n = rw (ne-eqb (to + 1 + n) 0 (λ z. omega arith)) (let e : to + 1 + n - 1 ≡ to + n = omega arith in e)
@@ -108,89 +120,134 @@ unfolding also
 also-all none = refl
 also-all (some s) = refl
 
-module _ (a b : Run) (sub : Walk) (at : ℕ) (out : List ℕ) (to : ℕ) (room : to + 2 * size (par a b) ≤ length out) (near : Near (length out)) where
-  -- the left side stands killed, with the par's head
-  module _ (a' : Run) {mid : List ℕ} (live : isDone a' ≡ false) (laid : Laid out to (6144 ∷ runWords a') mid) (small : size a' ≤ 2 * size a) where
-    right-gives :
-        {o : Option Run} {k : Killed} →
-        Gives b mid (to + 1 + size a') (at + 1 + size a + size b) k o →
-        Gives (par a b) out to (at + size (par a b)) (rightOn (to + 1) (to + 1 + size a') k) (also o λ b'. some (cond (isDone b') a' (par a' b')))
-    unfolding rightOn also size isDone
-    right-gives {k = k} (stops e) = stops (goes-stops k _ e)
-    right-gives {k = k} (gives {s = b'} g) =
+module _
+    (a b : Run) (d : ℕ) (sub : Walk) (ws marks : List ℕ) (at : ℕ) (out : List ℕ) (to : ℕ)
+    (room : to + 2 * size (par a b) ≤ length out) (near : Near (length out))
+  where
+    -- the left side stands killed, with the par's head
+    module _ (a' : Run) {mid : List ℕ} (live : isDone a' ≡ false) (laid : Laid out to (6144 ∷ runWords a') mid) (small : size a' ≤ 2 * size a) where
+      right-gives :
+          {o : Option Run} {k : Killed} →
+          Gives b mid (to + 1 + size a') (at + 1 + size a + size b) k o →
+          Gives (par a b) out to (at + size (par a b)) (rightOn (to + 1) (to + 1 + size a') k) (also o λ b'. some (cond (isDone b') a' (par a' b')))
+      unfolding rightOn also size isDone
+      right-gives {k = k} (stops e) = stops (goes-stops k _ e)
+      right-gives {k = k} (gives {s = b'} g) =
+          let z = size-par a b in
+          let y : size b' ≤ 2 * size b = g .small in
+          let place : to + length (6144 ∷ runWords a') ≡ to + 1 + size a' = omega arith in
+          let all : Laid out to (6144 ∷ (runWords a' ++ runWords b')) (k .out) = laid-then laid (rw place (g .laid)) in
+          let e : at + 1 + size a + size b ≡ at + size (par a b) = omega arith in
+          rw (goes-on k _ (at + 1 + size a + size b) (g .ends) (omega arith), g .done) (by (isDone b') refl y all e)
+        where
+          by :
+              (x : Bool) → isDone b' ≡ x → size b' ≤ 2 * size b →
+              Laid out to (6144 ∷ (runWords a' ++ runWords b')) (k .out) →
+              at + 1 + size a + size b ≡ at + size (par a b) →
+              Gives (par a b) out to (at + size (par a b))
+              (cond x (made (k .moved .end) (lessOne (to + 1 + size a')) 0 (lowered (k .out) (to + 1) (to + 1 + size a'))) (made (k .moved .end) (k .moved .to) 0 (k .out)))
+              (some (cond x a' (par a' b')))
+          by true w y all e =
+              let z = size-par a b in
+              gives (record {
+                ends = g .ends ∙ e;
+                done = sym live;
+                reaches = less-one to (size a');
+                laid = laid-down (omega arith) (laid-less (6144 ∷ runWords a') (runWords b') (omega arith) all);
+                small = omega arith;
+              })
+          by false w y all e =
+              let z = size-par a b in
+              let s = size-par a' b' in
+              gives (record {
+                ends = g .ends ∙ e;
+                done = refl;
+                reaches = g .reaches ∙ (let q : to + 1 + size a' + size b' ≡ to + size (par a' b') = omega arith in q);
+                laid = rw (words-par a' b') all;
+                small = omega arith;
+              })
+
+      -- and the right side is seen to become nil, or not
+      beside-gives :
+          {o : Option Run} →
+          Does sub (at + 1 + size a) b o →
+          Vanishes d ws marks (at + 1 + size a) b o →
+          Gives (par a b) out to (at + size (par a b)) (rightW d sub ws marks (at + 1 + size a) mid (to + 1) (to + 1 + size a')) (also o λ b'. some (cond (isDone b') a' (par a' b')))
+      unfolding rightW also size isDone
+      beside-gives {o} fb v = by (goneW ws (at + 1 + size a)) refl
+        where
+          by :
+              (x : Bool) → goneW ws (at + 1 + size a) ≡ x →
+              Gives (par a b) out to (at + size (par a b))
+              (cond x
+              (made (passEnd d ws marks (at + 1 + size a)) (lessOne (to + 1 + size a')) 0 (lowered mid (to + 1) (to + 1 + size a')))
+              (rightOn (to + 1) (to + 1 + size a') (sub (at + 1 + size a) mid (to + 1 + size a'))))
+              (also o λ b'. some (cond (isDone b') a' (par a' b')))
+          by true g =
+              let z = size-par a b in
+              rw (v g .0)
+              (gives (record {
+                ends = v g .1 ∙ (let e : at + 1 + size a + size b ≡ at + size (par a b) = omega arith in e);
+                done = sym live;
+                reaches = less-one to (size a');
+                laid = laid-down (omega arith) laid;
+                small = omega arith;
+              }))
+          by false g =
+              let z = size-par a b in
+              let l : length mid ≡ length out = laid .keeps in
+              right-gives (fb mid (to + 1 + size a') (omega arith) (rw l near))
+
+    left-gives :
+        {oa ob : Option Run} {k : Killed} {start : List ℕ} →
+        Does sub (at + 1 + size a) b ob →
+        Vanishes d ws marks (at + 1 + size a) b ob →
+        Laid out to (6144 ∷ []) start →
+        Gives a start (to + 1) (at + 1 + size a) k oa →
+        Gives (par a b) out to (at + size (par a b)) (leftOn d sub ws marks (to + 1) to k) (also oa λ a'. also ob λ b'. some (parOf a' b'))
+    unfolding leftOn also parOf
+    left-gives {k = k} fb vb first (stops e) = stops (goes-stops k _ e)
+    left-gives {ob = ob} {k} fb vb first (gives {s = a'} g) =
         let z = size-par a b in
-        let y : size b' ≤ 2 * size b = g .small in
-        let place : to + length (6144 ∷ runWords a') ≡ to + 1 + size a' = omega arith in
-        let all : Laid out to (6144 ∷ (runWords a' ++ runWords b')) (k .out) = laid-then laid (rw place (g .laid)) in
+        let y : size a' ≤ 2 * size a = g .small in
+        let all : Laid out to (6144 ∷ runWords a') (k .out) = laid-then first (g .laid) in
         let e : at + 1 + size a + size b ≡ at + size (par a b) = omega arith in
-        rw (goes-on k _ (at + 1 + size a + size b) (g .ends) (omega arith), g .done) (by (isDone b') refl y all e)
+        rw (goes-on k _ (at + 1 + size a) (g .ends) (omega arith), g .done, g .ends, g .reaches) (by (isDone a') refl y all e)
       where
         by :
-            (x : Bool) → isDone b' ≡ x → size b' ≤ 2 * size b →
-            Laid out to (6144 ∷ (runWords a' ++ runWords b')) (k .out) →
+            (x : Bool) → isDone a' ≡ x → size a' ≤ 2 * size a →
+            Laid out to (6144 ∷ runWords a') (k .out) →
             at + 1 + size a + size b ≡ at + size (par a b) →
             Gives (par a b) out to (at + size (par a b))
-            (cond x (made (k .moved .end) (lessOne (to + 1 + size a')) 0 (lowered (k .out) (to + 1) (to + 1 + size a'))) (made (k .moved .end) (k .moved .to) 0 (k .out)))
-            (some (cond x a' (par a' b')))
-        by true d y all e =
+            (cond x (sub (at + 1 + size a) (k .out) to) (rightW d sub ws marks (at + 1 + size a) (k .out) (to + 1) (to + 1 + size a')))
+            (also ob λ b'. some (cond x b' (cond (isDone b') a' (par a' b'))))
+        by true w y all e =
             let z = size-par a b in
-            gives (record {
-              ends = g .ends ∙ e;
-              done = sym live;
-              reaches = less-one to (size a');
-              laid = laid-down (omega arith) (laid-less (6144 ∷ runWords a') (runWords b') (omega arith) all);
-              small = omega arith;
-            })
-        by false d y all e =
+            let l : length (k .out) ≡ length out = all .keeps in
+            rw (also-all ob, ← e) (gives-again (omega arith) all (omega arith) (fb (k .out) to (omega arith) (rw l near)))
+        by false w y all e = beside-gives a' w all y fb vb
+
+    pub par-gives :
+        {oa ob : Option Run} →
+        Does sub (at + 1) a oa →
+        Vanishes d ws marks (at + 1) a oa →
+        Does sub (at + 1 + size a) b ob →
+        Vanishes d ws marks (at + 1 + size a) b ob →
+        Gives (par a b) out to (at + size (par a b)) (parW d sub ws marks (at + 1) out to) (also oa λ a'. also ob λ b'. some (parOf a' b'))
+    unfolding parW also parOf isDone
+    par-gives {oa} {ob} fa va fb vb = by (goneW ws (at + 1)) refl
+      where
+        by :
+            (x : Bool) → goneW ws (at + 1) ≡ x →
+            Gives (par a b) out to (at + size (par a b))
+            (cond x (sub (passEnd d ws marks (at + 1)) out to) (leftOn d sub ws marks (onward to 1) to (sub (at + 1) (set out to 6144) (onward to 1))))
+            (also oa λ a'. also ob λ b'. some (parOf a' b'))
+        by true g =
             let z = size-par a b in
-            let s = size-par a' b' in
-            gives (record {
-              ends = g .ends ∙ e;
-              done = refl;
-              reaches = g .reaches ∙ (let q : to + 1 + size a' + size b' ≡ to + size (par a' b') = omega arith in q);
-              laid = rw (words-par a' b') all;
-              small = omega arith;
-            })
-
-  left-gives :
-      {oa ob : Option Run} {k : Killed} {start : List ℕ} →
-      Does sub (at + 1 + size a) b ob →
-      Laid out to (6144 ∷ []) start →
-      Gives a start (to + 1) (at + 1 + size a) k oa →
-      Gives (par a b) out to (at + size (par a b)) (leftOn sub (to + 1) to k) (also oa λ a'. also ob λ b'. some (parOf a' b'))
-  unfolding leftOn rightW also parOf
-  left-gives {k = k} fb first (stops e) = stops (goes-stops k _ e)
-  left-gives {ob = ob} {k} fb first (gives {s = a'} g) =
-      let z = size-par a b in
-      let y : size a' ≤ 2 * size a = g .small in
-      let all : Laid out to (6144 ∷ runWords a') (k .out) = laid-then first (g .laid) in
-      let e : at + 1 + size a + size b ≡ at + size (par a b) = omega arith in
-      rw (goes-on k _ (at + 1 + size a) (g .ends) (omega arith), g .done, g .ends, g .reaches) (by (isDone a') refl y all e)
-    where
-      by :
-          (x : Bool) → isDone a' ≡ x → size a' ≤ 2 * size a →
-          Laid out to (6144 ∷ runWords a') (k .out) →
-          at + 1 + size a + size b ≡ at + size (par a b) →
-          Gives (par a b) out to (at + size (par a b))
-          (cond x (sub (at + 1 + size a) (k .out) to) (rightOn (to + 1) (to + 1 + size a') (sub (at + 1 + size a) (k .out) (to + 1 + size a'))))
-          (also ob λ b'. some (cond x b' (cond (isDone b') a' (par a' b'))))
-      by true d y all e =
-          let z = size-par a b in
-          let l : length (k .out) ≡ length out = all .keeps in
-          rw (also-all ob, ← e) (gives-again (omega arith) all (omega arith) (fb (k .out) to (omega arith) (rw l near)))
-      by false d y all e =
-          let z = size-par a b in
-          let l : length (k .out) ≡ length out = all .keeps in
-          right-gives a' d all y (fb (k .out) (to + 1 + size a') (omega arith) (rw l near))
-
-  pub par-gives :
-      {oa ob : Option Run} →
-      Does sub (at + 1) a oa →
-      Does sub (at + 1 + size a) b ob →
-      Gives (par a b) out to (at + size (par a b)) (parW sub (at + 1) out to) (also oa λ a'. also ob λ b'. some (parOf a' b'))
-  unfolding parW
-  par-gives fa fb =
-      let z = size-par a b in
-      let first : Laid out to (6144 ∷ []) (set out to 6144) = laid-put out to 6144 (omega arith) in
-      let l : length (set out to 6144) ≡ length out = first .keeps in
-      rw (onward-near to 1 (length out) near (omega arith)) (left-gives fb first (fa (set out to 6144) (to + 1) (omega arith) (rw l near)))
+            let e : at + 1 + size a + size b ≡ at + size (par a b) = omega arith in
+            rw (va g .0, va g .1, also-all ob, ← e) (gives-within (omega arith) (fb out to (omega arith) near))
+        by false g =
+            let z = size-par a b in
+            let first : Laid out to (6144 ∷ []) (set out to 6144) = laid-put out to 6144 (omega arith) in
+            let l : length (set out to 6144) ≡ length out = first .keeps in
+            rw (onward-near to 1 (length out) near (omega arith)) (left-gives fb vb first (fa (set out to 6144) (to + 1) (omega arith) (rw l near)))

@@ -23,11 +23,11 @@ use Rattle.sock.proofs.Measures.{words-seq, words-par, words-scope, words-execu
 use Rattle.sock.proofs.Located.{size-positive}
 use Rattle.skipping.specs.Pass.{passEnd, passList}
 use Rattle.skipping.proofs.Marks.{Right, pass-code, pass-run, pass-entries}
-use Rattle.moving.specs.Killing.{stuckW, vanishedW, kindW, killW}
+use Rattle.moving.specs.Killing.{goneKind, goneW, stuckW, vanishedW, kindW, killW}
 use Rattle.moving.proofs.Laid.{Near}
 use Rattle.moving.proofs.Places.{stands-within, word-at, drop-behind, drop-after}
 use Rattle.moving.proofs.Around.{killed, killed-beside, Throws, free, killed-climb}
-use Rattle.moving.proofs.Gives.{Gives, stops, Does, seq-gives, par-gives}
+use Rattle.moving.proofs.Gives.{Gives, stops, Does, Vanishes, seq-gives, par-gives}
 use Rattle.moving.proofs.Noticed.{vanish-gives, kept-gives, waiter-gives, executor-gives}
 use Rattle.moving.proofs.Zombies.{dead-gives, turned-gives}
 
@@ -99,6 +99,22 @@ module _ (ws marks : List ℕ) (f hole d : ℕ) where
   vanishing k at out to a b c h =
       rw (a, b, c, ne-eqb k 16 (λ q. omega arith), ne-eqb k 17 (λ q. omega arith), ne-eqb k 18 (λ q. omega arith))
 
+-- what just becomes nil, by its kind; an inst does not
+gone-kind : (ws : List ℕ) (at k : ℕ) → at < length ws → getD ws at 0 / 2048 ≡ k → goneW ws at ≡ true → goneKind k ≡ true
+unfolding goneW
+gone-kind ws at k h e g = rw (lt-leb (length ws) at h, e) at g
+
+not-inst : (k : ℕ) → goneKind k ≡ true → eqb k 12 ≡ false
+unfolding goneKind
+not-inst k = go (eqb k 2) (eqb k 3) (eqb k 11) (eqb k 12) _
+  where
+    go : (a b c d x : Bool) → cond a false (cond b false (cond c false (cond d false x))) ≡ true → d ≡ false
+    go a b c false x q = refl
+    go false false false true x q = sym q
+    go false false true true x q = sym q
+    go false true c true x q = sym q
+    go true b c true x q = sym q
+
 module _ (ws marks : List ℕ) (right : Right ws marks) (n issued : ℕ) (few : n ≤ 8) (small : issued < 65536) (f : ℕ) (bf : f < 64) (hole : ℕ) where
   -- the list of a scope, and its body
   scope-parts :
@@ -126,6 +142,28 @@ module _ (ws marks : List ℕ) (right : Right ws marks) (n issued : ℕ) (few : 
   act-gives true m d at out to room near e = stops refl
   act-gives false m d at out to room near e = vanish-gives (act m) (suc d) ws marks at out to e room near
 
+  -- what is seen to become nil does, and marks pass over it
+  gone-nil :
+      {r : Run} → Sound n issued r → (d at : ℕ) → runDepth r ≤ d → (rest : List ℕ) → drop at ws ≡ runWords r ++ rest →
+      Vanishes d ws marks at r (killed f hole r at)
+  unfolding killed goneKind guarded
+  gone-nil {r} s d at h rest e g =
+      let k : goneKind (runKind r) ≡ true = gone-kind ws at (runKind r) (run-inside ws rest at r e) (run-kind ws rest at r e s) g in
+      (by s k, pass-run ws marks right n issued few small s d at h rest e)
+    where
+      never : false ≡ true → ⊥
+      never q = let y : _≡_ {A = ℕ} 0 1 = cc in omega arith
+
+      by : {r : Run} → Sound n issued r → goneKind (runKind r) ≡ true → killed f hole r at ≡ some nil
+      by nilSound k = refl
+      by (seqSound a t q) k = absurd (never k)
+      by (parSound a t b u) k = absurd (never k)
+      by (scopeSound a m l b) k = absurd (never k)
+      by (executorSound a b c v) k = absurd (never k)
+      by (waiterSound a b c v) k = absurd (never k)
+      by (noticeSound a b c) k = absurd (never k)
+      by (actSound {p = m} t v) k = rw (not-inst (kind m) k)
+
   kills :
       {r : Run} → Sound n issued r → (d at : ℕ) → runDepth r ≤ d → (rest : List ℕ) → drop at ws ≡ runWords r ++ rest →
       Does (killW d ws marks f hole) at r (killed f hole r at)
@@ -149,7 +187,9 @@ module _ (ws marks : List ℕ) (right : Right ws marks) (n issued : ℕ) (few : 
       drop-after ws (_ ∷ []) (runWords a ++ runWords b) rest at (e ∙ ap (λ l. l ++ rest) (words-par a b)) ∙ append-assoc (runWords a) (runWords b) rest in
       let beside : drop (at + 1 + size a) ws ≡ runWords b ++ rest = run-behind ws (runWords b ++ rest) (at + 1) a left in
       rw (kill-at ws marks f hole d at out to 3 (run-inside ws rest at (par a b) e) (run-kind ws rest at (par a b) e (parSound ga t gb u)))
-      (par-gives a b (killW d ws marks f hole) at out to room near (kills ga d (at + 1) (omega arith) (runWords b ++ rest) left) (kills gb d (at + 1 + size a) (omega arith) rest beside))
+      (par-gives a b d (killW d ws marks f hole) ws marks at out to room near
+      (kills ga d (at + 1) (omega arith) (runWords b ++ rest) left) (gone-nil ga d (at + 1) (omega arith) (runWords b ++ rest) left)
+      (kills gb d (at + 1 + size a) (omega arith) rest beside) (gone-nil gb d (at + 1 + size a) (omega arith) rest beside))
   kills (scopeSound {name} {mark} {zombie = true} {h = l} {a} bn m fl ga) (suc d) at h rest e out to room near =
       let y = depth-scope name mark true l a in
       let s = scope-parts name mark true l a at rest e in

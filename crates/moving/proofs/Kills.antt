@@ -3,14 +3,14 @@
 use Prim.Native.Nat.{ℕ, zero, suc, _+_, _-_, _/_, _%_, _≤_, _<_}
 use native.Mathlib.Omega.{arith}
 use mathlib.Core.Path.{_≡_, refl}
-use mathlib.Core.Bool.{cond}
+use mathlib.Core.Bool.{true, false, cond}
 use mathlib.Core.List.{List}
 use lib.Dec.{leb}
 use lib.ListN.{length, getD, set}
 use borrow.Author.Tests.{le-ltb, lt-leb, ne-eqb}
-use Rattle.skipping.specs.Pass.{passList}
+use Rattle.skipping.specs.Pass.{passEnd, passList}
 use Rattle.moving.specs.Writing.{onward, pasted, pastedEnd, lowered}
-use Rattle.moving.specs.Killing.{Killed, Walk, stuckW, made, goes, noticeHead, noticeWord, noticeW, executorOn, executorW, headFor, liveOn, liveW, leftOn, parW, lessOne, rightOn, rightW, scopeAt, scopeW, kindW, killW}
+use Rattle.moving.specs.Killing.{Killed, Walk, stuckW, made, goes, noticeHead, noticeWord, noticeW, executorOn, executorW, headFor, liveOn, liveW, goneW, leftOn, parW, lessOne, rightOn, rightW, scopeAt, scopeW, kindW, killW}
 use Rattle.moving.specs.declared.kill.Moved.{Moved}
 
 pred-suc : (d : ℕ) → suc d - 1 ≡ d
@@ -87,37 +87,61 @@ unfolding liveW liveOn goes
 live-made sub ws hole i body out to b h one start p next headed last e1 e2 e3 e4 e5 e6 e7 e8 e9 =
     rw (← e1, ← e2, ← e3, ← e4, ne-eqb (p .end) 0 e5, ← e6, ← e7, ← e8, ← e9)
 
+-- a par whose left side just becomes nil
+pub par-gone :
+    (below : ℕ) (sub : Walk) (ws marks : List ℕ) (i : ℕ) (out : List ℕ) (to e : ℕ) (r : Moved) (last : List ℕ) →
+    goneW ws i ≡ true →
+    e ≡ passEnd below ws marks i →
+    r ≡ sub e out to .moved →
+    last ≡ sub e out to .out →
+    both r last ≡ parW below sub ws marks i out to
+unfolding parW
+par-gone below sub ws marks i out to e r last g h x y = rw (g, ← h, x, y)
+
 -- a par whose left side is killed to nil, or not
 module _
-    (sub : Walk) (i : ℕ) (out : List ℕ) (to one : ℕ) (start : List ℕ) (p : Moved) (next : List ℕ) (r : Moved) (last : List ℕ)
-    (a : one ≡ onward to 1) (b : start ≡ set out to 6144) (c : p ≡ sub i start one .moved) (d : next ≡ sub i start one .out) (e : p .end ≡ 0 → ⊥)
+    (below : ℕ) (sub : Walk) (ws marks : List ℕ) (i : ℕ) (out : List ℕ) (to one : ℕ) (start : List ℕ) (p : Moved) (next : List ℕ) (r : Moved) (last : List ℕ)
+    (g : goneW ws i ≡ false) (a : one ≡ onward to 1) (b : start ≡ set out to 6144)
+    (c : p ≡ sub i start one .moved) (d : next ≡ sub i start one .out) (e : p .end ≡ 0 → ⊥)
   where
     pub par-right :
-        p .nil ≡ 1 → r ≡ sub (p .end) next to .moved → last ≡ sub (p .end) next to .out → both r last ≡ parW sub i out to
+        p .nil ≡ 1 → r ≡ sub (p .end) next to .moved → last ≡ sub (p .end) next to .out → both r last ≡ parW below sub ws marks i out to
     unfolding parW leftOn goes
-    par-right n x y = rw (← a, ← b, ← c, ← d, ne-eqb (p .end) 0 e, n, x, y)
+    par-right n x y = rw (g, ← a, ← b, ← c, ← d, ne-eqb (p .end) 0 e, n, x, y)
 
     pub par-both :
         (p .nil ≡ 1 → ⊥) →
-        r ≡ rightW sub (p .end) next one (p .to) .moved →
-        last ≡ rightW sub (p .end) next one (p .to) .out →
-        both r last ≡ parW sub i out to
+        r ≡ rightW below sub ws marks (p .end) next one (p .to) .moved →
+        last ≡ rightW below sub ws marks (p .end) next one (p .to) .out →
+        both r last ≡ parW below sub ws marks i out to
     unfolding parW leftOn goes
-    par-both n x y = rw (← a, ← b, ← c, ← d, ne-eqb (p .end) 0 e, ne-eqb (p .nil) 1 n, x, y)
+    par-both n x y = rw (g, ← a, ← b, ← c, ← d, ne-eqb (p .end) 0 e, ne-eqb (p .nil) 1 n, x, y)
+
+-- the right side of a par, which just becomes nil
+pub right-gone :
+    (below : ℕ) (sub : Walk) (ws marks : List ℕ) (i : ℕ) (out : List ℕ) (one to e less : ℕ) (last : List ℕ) →
+    goneW ws i ≡ true →
+    e ≡ passEnd below ws marks i →
+    less ≡ lessOne to →
+    last ≡ lowered out one to →
+    made e less 0 last ≡ rightW below sub ws marks i out one to
+unfolding rightW
+right-gone below sub ws marks i out one to e less last g h x y = rw (g, ← h, x, y)
 
 -- the right side of a par, killed to nil or not
 module _
-    (sub : Walk) (i : ℕ) (out : List ℕ) (one to : ℕ) (q : Moved) (next : List ℕ)
-    (c : q ≡ sub i out to .moved) (d : next ≡ sub i out to .out) (e : q .end ≡ 0 → ⊥)
+    (below : ℕ) (sub : Walk) (ws marks : List ℕ) (i : ℕ) (out : List ℕ) (one to : ℕ) (q : Moved) (next : List ℕ)
+    (g : goneW ws i ≡ false) (c : q ≡ sub i out to .moved) (d : next ≡ sub i out to .out) (e : q .end ≡ 0 → ⊥)
   where
     pub right-nil :
-        (less : ℕ) (last : List ℕ) → q .nil ≡ 1 → less ≡ lessOne to → last ≡ lowered next one to → made (q .end) less 0 last ≡ rightW sub i out one to
+        (less : ℕ) (last : List ℕ) → q .nil ≡ 1 → less ≡ lessOne to → last ≡ lowered next one to →
+        made (q .end) less 0 last ≡ rightW below sub ws marks i out one to
     unfolding rightW rightOn goes
-    right-nil less last n x y = rw (← c, ← d, ne-eqb (q .end) 0 e, n, x, y)
+    right-nil less last n x y = rw (g, ← c, ← d, ne-eqb (q .end) 0 e, n, x, y)
 
-    pub right-stays : (q .nil ≡ 1 → ⊥) → made (q .end) (q .to) 0 next ≡ rightW sub i out one to
+    pub right-stays : (q .nil ≡ 1 → ⊥) → made (q .end) (q .to) 0 next ≡ rightW below sub ws marks i out one to
     unfolding rightW rightOn goes
-    right-stays n = rw (← c, ← d, ne-eqb (q .end) 0 e, ne-eqb (q .nil) 1 n)
+    right-stays n = rw (g, ← c, ← d, ne-eqb (q .end) 0 e, ne-eqb (q .nil) 1 n)
 
 -- a live scope with nil body
 pub scope-stuck :

@@ -1,7 +1,7 @@
 -- Killing on words, as the code goes: where the source ends, where the writing has come to, and the output then. A piece for each kind
 -- takes the killing one level down. The proofs show that it is the definitions' killing and climb; no public contract names it.
 use Prim.Native.Nat.{ℕ, zero, suc, _+_, _-_, _*_, _/_, _%_}
-use mathlib.Core.Bool.{cond}
+use mathlib.Core.Bool.{Bool, true, false, cond}
 use mathlib.Core.List.{List}
 use lib.Dec.{ltb, leb, eqb}
 use lib.ListN.{length, getD, set}
@@ -79,6 +79,20 @@ seqOn d ws marks k = goes k (made (passEnd d ws marks (k .moved .end)) (k .moved
 unfoldable pub seqW : ℕ → Walk → List ℕ → List ℕ → Walk
 seqW d sub ws marks i out to = seqOn d ws marks (sub i out to)
 
+-- whether what is of a kind, or stands at a position, just becomes nil
+unfoldable pub goneKind : ℕ → Bool
+goneKind kind =
+    cond (eqb kind 2) false
+    (cond (eqb kind 3) false
+    (cond (eqb kind 11) false
+    (cond (eqb kind 12) false
+    (cond (eqb kind 16) false
+    (cond (eqb kind 17) false
+    (cond (eqb kind 18) false true))))))
+
+unfoldable pub goneW : List ℕ → ℕ → Bool
+goneW ws i = cond (leb (length ws) i) false (goneKind (at ws i / 2048))
+
 unfoldable pub lessOne : ℕ → ℕ
 lessOne n = cond (eqb n 0) 0 (n - 1)
 
@@ -90,16 +104,21 @@ rightOn one to k =
     (made (k .moved .end) (lessOne to) 0 (lowered (k .out) one to))
     (made (k .moved .end) (k .moved .to) 0 (k .out)))
 
-unfoldable pub rightW : Walk → ℕ → List ℕ → ℕ → ℕ → Killed
-rightW sub i out one to = rightOn one to (sub i out to)
+unfoldable pub rightW : ℕ → Walk → List ℕ → List ℕ → ℕ → List ℕ → ℕ → ℕ → Killed
+rightW d sub ws marks i out one to =
+    cond (goneW ws i) (made (passEnd d ws marks i) (lessOne to) 0 (lowered out one to)) (rightOn one to (sub i out to))
 
 -- the left side is killed
-unfoldable pub leftOn : Walk → ℕ → ℕ → Killed → Killed
-leftOn sub one to k =
-    goes k (cond (eqb (k .moved .nil) 1) (sub (k .moved .end) (k .out) to) (rightW sub (k .moved .end) (k .out) one (k .moved .to)))
+unfoldable pub leftOn : ℕ → Walk → List ℕ → List ℕ → ℕ → ℕ → Killed → Killed
+leftOn d sub ws marks one to k =
+    goes k
+    (cond (eqb (k .moved .nil) 1)
+    (sub (k .moved .end) (k .out) to)
+    (rightW d sub ws marks (k .moved .end) (k .out) one (k .moved .to)))
 
-unfoldable pub parW : Walk → Walk
-parW sub i out to = leftOn sub (onward to 1) to (sub i (set out to 6144) (onward to 1))
+unfoldable pub parW : ℕ → Walk → List ℕ → List ℕ → Walk
+parW d sub ws marks i out to =
+    cond (goneW ws i) (sub (passEnd d ws marks i) out to) (leftOn d sub ws marks (onward to 1) to (sub i (set out to 6144) (onward to 1)))
 
 -- ---- scope
 
@@ -158,7 +177,7 @@ executorW sub ws fault i out to =
 unfoldable pub kindW : ℕ → ℕ → Walk → List ℕ → List ℕ → ℕ → ℕ → ℕ → Walk
 kindW d below sub ws marks fault hole kind i out to =
     cond (eqb kind 2) (seqW below sub ws marks (i + 1) out to)
-    (cond (eqb kind 3) (parW sub (i + 1) out to)
+    (cond (eqb kind 3) (parW below sub ws marks (i + 1) out to)
     (cond (eqb kind 11) (scopeW below sub ws marks hole i out to)
     (cond (eqb kind 12) (stuckW out)
     (cond (eqb kind 16) (executorW sub ws fault i out to)

@@ -10,7 +10,7 @@ use skipping::pass::pass;
 use skipping::pass::pass_list;
 ghost use mathlib.Core.Path.{_≡_};
 ghost use Rattle.moving.specs.Killing.{stopped, lessOne, ownZombie, plainZombie, headFor, noticeHead, noticeWord, deadWord};
-ghost use Rattle.moving.specs.Killing.{noticeW, waiterW, keptW, vanishedW, killW, seqW, parW, rightW, scopeW, zombieW, liveW, executorW};
+ghost use Rattle.moving.specs.Killing.{noticeW, waiterW, keptW, vanishedW, killW, goneW, seqW, parW, rightW, scopeW, zombieW, liveW, executorW};
 
 // Where the source ends and where the writing has come to; `nil` is 1 if only nil was written, else 0, a number since the bytes behind a
 // bool would be copied with it. `end` is 0 where something can't be killed.
@@ -84,7 +84,26 @@ fn kill_seq(
     }
 }
 
-// A par without its sides that are nil.
+// Whether what stands at `at` just becomes nil: it is of a kind that `kill` gives to `vanish`.
+fn gone(ws: &[u16], at: usize) -> bool
+    ensures { λ r. ⌜ r ≡ goneW (now (ws .entry)) at ⌝ }
+{
+    if ws.len() <= at {
+        return false;
+    }
+    match wide(ws[at]) / 2048 {
+        2 => false,
+        3 => false,
+        11 => false,
+        12 => false,
+        16 => false,
+        17 => false,
+        18 => false,
+        _ => true,
+    }
+}
+
+// A par without its sides that are nil. A left side that just becomes nil is passed over, so it takes no call and no word.
 fn kill_par(
     ws: &[u16],
     marks: &[u16],
@@ -95,8 +114,12 @@ fn kill_par(
     out: &mut [u16],
     to: usize,
 ) -> Moved
-    ensures { λ r. ⌜ (r ≡ parW (killW depth (now (ws .entry)) (now (marks .entry)) fault hole) at (now (out .entry)) to .moved) × (now (out .exit) ≡ parW (killW depth (now (ws .entry)) (now (marks .entry)) fault hole) at (now (out .entry)) to .out) ⌝ }
+    ensures { λ r. ⌜ (r ≡ parW depth (killW depth (now (ws .entry)) (now (marks .entry)) fault hole) (now (ws .entry)) (now (marks .entry)) at (now (out .entry)) to .moved) × (now (out .exit) ≡ parW depth (killW depth (now (ws .entry)) (now (marks .entry)) fault hole) (now (ws .entry)) (now (marks .entry)) at (now (out .entry)) to .out) ⌝ }
 {
+    if gone(ws, at) {
+        let right = pass(ws, marks, at, depth);
+        return kill(ws, marks, right, fault, hole, depth, out, to);
+    }
     let one = put(out, to, 6144);
     let p = kill(ws, marks, at, fault, hole, depth, out, one);
     if p.end == 0 {
@@ -108,7 +131,7 @@ fn kill_par(
     kill_right(ws, marks, p.end, fault, hole, depth, out, one, p.to)
 }
 
-// The right side of a par whose left stands killed at one..to.
+// The right side of a par whose left stands killed at one..to; if it just becomes nil, it too is passed over.
 fn kill_right(
     ws: &[u16],
     marks: &[u16],
@@ -120,8 +143,16 @@ fn kill_right(
     one: usize,
     to: usize,
 ) -> Moved
-    ensures { λ r. ⌜ (r ≡ rightW (killW depth (now (ws .entry)) (now (marks .entry)) fault hole) at (now (out .entry)) one to .moved) × (now (out .exit) ≡ rightW (killW depth (now (ws .entry)) (now (marks .entry)) fault hole) at (now (out .entry)) one to .out) ⌝ }
+    ensures { λ r. ⌜ (r ≡ rightW depth (killW depth (now (ws .entry)) (now (marks .entry)) fault hole) (now (ws .entry)) (now (marks .entry)) at (now (out .entry)) one to .moved) × (now (out .exit) ≡ rightW depth (killW depth (now (ws .entry)) (now (marks .entry)) fault hole) (now (ws .entry)) (now (marks .entry)) at (now (out .entry)) one to .out) ⌝ }
 {
+    if gone(ws, at) {
+        down(out, one, to);
+        return Moved {
+            end: pass(ws, marks, at, depth),
+            to: less_one(to),
+            nil: 0,
+        };
+    }
     let q = kill(ws, marks, at, fault, hole, depth, out, to);
     if q.end == 0 {
         return stuck();

@@ -2,9 +2,9 @@
 -- Assumes nothing.
 use borrow.Author.Needs.{needs}
 use Rattle.moving.specs.Killing.{Killed, goes, kindW, killW, seqOn, seqW, rightOn, rightW, leftOn, parW, zombieOn, zombieW, liveOn, liveW, scopeAt, scopeW, executorOn, executorW}
-use mathlib.Core.Path.{ap, _∙_}
+use mathlib.Core.Path.{sym, ap, _∙_}
 use mathlib.Core.List.{List}
-use Rattle.moving.proofs.Kills.{kill-step, executor-alone, executor-beside, live-made, par-right, par-both, right-nil, right-stays, scope-stuck}
+use Rattle.moving.proofs.Kills.{kill-step, executor-alone, executor-beside, live-made, par-gone, par-right, par-both, right-gone, right-nil, right-stays, scope-stuck}
 use Rattle.moving.specs.declared.kill.Moved.{Moved}
 use Rattle.moving.proofs.Tests.{tests}
 use Prim.Native.Nat.{ℕ, _+_, _*_, _<_}
@@ -34,6 +34,7 @@ use Rattle.moving.proofs.kill.+kill+kill_executor+kill_live+kill_par+ki
 use Rattle.moving.proofs.kill.kill_zombie.Reads as kill-zombie
 use Rattle.moving.proofs.kill.kill_zombie.Kinds as kill-zombie-kinds
 use Rattle.moving.proofs.kill.+kill+kill_executor+kill_live+kill_par+kill_right+kill_scope+kill_seq+kill_zombie.Lts-kill_zombie as kill-zombie-lts
+use Rattle.moving.proofs.kill.gone.Reads as gone-reads
 use Rattle.moving.proofs.kill.keep.Reads as keep-reads
 use Rattle.moving.proofs.kill.kill_waiter.Reads as kill-waiter-reads
 use Rattle.moving.proofs.kill.less_one.Reads as less-one-reads
@@ -392,81 +393,120 @@ kill-live-returns-2 t c =
     let e = live-made (killW ((c .before .before .before .before .before .before .before .before .before .before .before .before .before .before .before .before .before .before .before .before .before .before .args .depth)) ((c .before .before .before .before .before .before .before .before .before .before .before .before .before .before .before .before .before .before .before .before .before .before .args .ws .now)) ((c .before .before .before .before .before .before .before .before .before .before .before .before .before .before .before .before .before .before .before .before .before .before .args .marks .now)) ((c .before .before .before .before .before .before .before .before .before .before .before .before .before .before .before .before .before .before .before .before .before .before .args .fault)) ((c .before .before .before .before .before .before .before .before .before .before .before .before .before .before .before .before .before .before .before .before .before .before .args .hole))) ((c .before .before .before .before .before .before .before .before .before .before .before .before .before .before .before .before .before .before .before .before .before .before .args .ws .now)) ((c .before .before .before .before .before .before .before .before .before .before .before .before .before .before .before .before .before .before .before .before .before .before .args .hole)) ((c .before .before .before .before .before .before .before .before .before .before .before .before .before .before .before .before .before .before .before .before .before .before .args .at)) ((c .before .before .before .before .before .before .before .before .before .before .before .before .before .before .before .before .before .before .before .before .before .before .args .body)) ((c .before .before .before .before .before .before .before .before .before .before .before .before .before .before .before .before .before .before .before .before .before .before .args .out .now)) ((c .before .before .before .before .before .before .before .before .before .before .before .before .before .before .before .before .before .before .before .before .before .before .args .to)) _ _ _ _ _ _ _ _ (c .before .before .before .before .before .before .before .before .before .before .before .before .before .before .before .before .before .copy .ensures .0) (c .before .before .before .before .before .before .before .before .before .before .before .before .before .before .before .before .before .copy .ensures .1) (c .before .before .before .before .before .before .before .before .before .before .before .before .before .kill .ensures .0) (c .before .before .before .before .before .before .before .before .before .before .before .before .before .kill .ensures .1) (c .before .before .before .before .before .before .before .before .before .if1 .left) (c .before .before .before .before .before .before .before .zombie-head .ensures) (c .before .before .before .before .before .before .put .ensures .0) (c .before .before .before .before .before .before .put .ensures .1) (c .before .before .put2 .ensures .1) in
     (ap moved e, ap output e)
 
-kill-par-put-requires : (t : ℕ) → kill-par-lts.Need-put-requires (put-reads.Asked, put-reads.Learnt, kill-below t, kill.Post, stuck-reads.Asked, stuck-reads.Learnt, kill-right-below t, kill-right.Post) (kill-par-at t) kill-par.Post
-kill-par-put-requires t c κs = search needs
+kill-par-gone-requires : (t : ℕ) → kill-par-lts.Need-gone-requires (gone-reads.Asked, gone-reads.Learnt, pass-reads.Asked, pass-reads.Learnt, kill-below t, kill.Post, put-reads.Asked, put-reads.Learnt, stuck-reads.Asked, stuck-reads.Learnt, kill-right-below t, kill-right.Post) (kill-par-at t) kill-par.Post
+kill-par-gone-requires t c κs = search needs
 
-kill-par-kill-requires : (t : ℕ) → kill-par-lts.Need-kill-requires (put-reads.Asked, put-reads.Learnt, kill-below t, kill.Post, stuck-reads.Asked, stuck-reads.Learnt, kill-right-below t, kill-right.Post) (kill-par-at t) kill-par.Post
+kill-par-pass-requires : (t : ℕ) → kill-par-lts.Need-pass-requires (gone-reads.Asked, gone-reads.Learnt, pass-reads.Asked, pass-reads.Learnt, kill-below t, kill.Post, put-reads.Asked, put-reads.Learnt, stuck-reads.Asked, stuck-reads.Learnt, kill-right-below t, kill-right.Post) (kill-par-at t) kill-par.Post
+kill-par-pass-requires t c κs = search needs
+
+kill-par-kill-requires : (t : ℕ) → kill-par-lts.Need-kill-requires (gone-reads.Asked, gone-reads.Learnt, pass-reads.Asked, pass-reads.Learnt, kill-below t, kill.Post, put-reads.Asked, put-reads.Learnt, stuck-reads.Asked, stuck-reads.Learnt, kill-right-below t, kill-right.Post) (kill-par-at t) kill-par.Post
 kill-par-kill-requires t c κs = search needs
 
-kill-par-stuck-requires : (t : ℕ) → kill-par-lts.Need-stuck-requires (put-reads.Asked, put-reads.Learnt, kill-below t, kill.Post, stuck-reads.Asked, stuck-reads.Learnt, kill-right-below t, kill-right.Post) (kill-par-at t) kill-par.Post
-kill-par-stuck-requires t c κs = search needs
-
-kill-par-same-length : (t : ℕ) → kill-par-lts.Need-same-length (put-reads.Asked, put-reads.Learnt, kill-below t, kill.Post, stuck-reads.Asked, stuck-reads.Learnt, kill-right-below t, kill-right.Post) (kill-par-at t) kill-par.Post
+kill-par-same-length : (t : ℕ) → kill-par-lts.Need-same-length (gone-reads.Asked, gone-reads.Learnt, pass-reads.Asked, pass-reads.Learnt, kill-below t, kill.Post, put-reads.Asked, put-reads.Learnt, stuck-reads.Asked, stuck-reads.Learnt, kill-right-below t, kill-right.Post) (kill-par-at t) kill-par.Post
 kill-par-same-length t c = search needs
 
-kill-par-returns : (t : ℕ) → kill-par-lts.Need-returns (put-reads.Asked, put-reads.Learnt, kill-below t, kill.Post, stuck-reads.Asked, stuck-reads.Learnt, kill-right-below t, kill-right.Post) (kill-par-at t) kill-par.Post
-unfolding goes leftOn parW
+kill-par-returns : (t : ℕ) → kill-par-lts.Need-returns (gone-reads.Asked, gone-reads.Learnt, pass-reads.Asked, pass-reads.Learnt, kill-below t, kill.Post, put-reads.Asked, put-reads.Learnt, stuck-reads.Asked, stuck-reads.Learnt, kill-right-below t, kill-right.Post) (kill-par-at t) kill-par.Post
 kill-par-returns t c =
-    let f0 = c .before .if1 .taken in
-    (simp (tests, kill-step, ← (c .stuck .ensures), f0, ← (c .before .before .before .before .before .kill .ensures .0), ← (c .before .before .before .before .before .kill .ensures .1), ← (c .before .before .before .before .before .before .before .before .before .put .ensures .0), ← (c .before .before .before .before .before .before .before .before .before .put .ensures .1)), simp (tests, kill-step, ← (c .stuck .ensures), f0, ← (c .before .before .before .before .before .kill .ensures .0), ← (c .before .before .before .before .before .kill .ensures .1), ← (c .before .before .before .before .before .before .before .before .before .put .ensures .0), ← (c .before .before .before .before .before .before .before .before .before .put .ensures .1)))
+    let e = par-gone (c .before .before .before .before .before .before .before .before .before .before .args .depth) (killW (c .before .before .before .before .before .before .before .before .before .before .args .depth) (c .before .before .before .before .before .before .before .before .before .before .args .ws .now) (c .before .before .before .before .before .before .before .before .before .before .args .marks .now) (c .before .before .before .before .before .before .before .before .before .before .args .fault) (c .before .before .before .before .before .before .before .before .before .before .args .hole)) (c .before .before .before .before .before .before .before .before .before .before .args .ws .now) (c .before .before .before .before .before .before .before .before .before .before .args .marks .now) (c .before .before .before .before .before .before .before .before .before .before .args .at) (c .before .before .before .before .before .before .before .before .before .before .args .out .now) (c .before .before .before .before .before .before .before .before .before .before .args .to) _ _ _ (sym (c .before .before .before .before .before .before .gone .ensures) ∙ (c .before .before .before .before .before .if1 .taken)) (c .before .before .before .before .pass .ensures) (c .before .before .kill .ensures .0) (c .before .before .kill .ensures .1) in
+    (ap moved e, ap output e)
 
-kill-par-kill-requires-2 : (t : ℕ) → kill-par-lts.Need-kill-requires-2 (put-reads.Asked, put-reads.Learnt, kill-below t, kill.Post, stuck-reads.Asked, stuck-reads.Learnt, kill-right-below t, kill-right.Post) (kill-par-at t) kill-par.Post
+kill-par-put-requires : (t : ℕ) → kill-par-lts.Need-put-requires (gone-reads.Asked, gone-reads.Learnt, pass-reads.Asked, pass-reads.Learnt, kill-below t, kill.Post, put-reads.Asked, put-reads.Learnt, stuck-reads.Asked, stuck-reads.Learnt, kill-right-below t, kill-right.Post) (kill-par-at t) kill-par.Post
+kill-par-put-requires t c κs = search needs
+
+kill-par-kill-requires-2 : (t : ℕ) → kill-par-lts.Need-kill-requires-2 (gone-reads.Asked, gone-reads.Learnt, pass-reads.Asked, pass-reads.Learnt, kill-below t, kill.Post, put-reads.Asked, put-reads.Learnt, stuck-reads.Asked, stuck-reads.Learnt, kill-right-below t, kill-right.Post) (kill-par-at t) kill-par.Post
 kill-par-kill-requires-2 t c κs = search needs
 
-kill-par-same-length-2 : (t : ℕ) → kill-par-lts.Need-same-length-2 (put-reads.Asked, put-reads.Learnt, kill-below t, kill.Post, stuck-reads.Asked, stuck-reads.Learnt, kill-right-below t, kill-right.Post) (kill-par-at t) kill-par.Post
+kill-par-stuck-requires : (t : ℕ) → kill-par-lts.Need-stuck-requires (gone-reads.Asked, gone-reads.Learnt, pass-reads.Asked, pass-reads.Learnt, kill-below t, kill.Post, put-reads.Asked, put-reads.Learnt, stuck-reads.Asked, stuck-reads.Learnt, kill-right-below t, kill-right.Post) (kill-par-at t) kill-par.Post
+kill-par-stuck-requires t c κs = search needs
+
+kill-par-same-length-2 : (t : ℕ) → kill-par-lts.Need-same-length-2 (gone-reads.Asked, gone-reads.Learnt, pass-reads.Asked, pass-reads.Learnt, kill-below t, kill.Post, put-reads.Asked, put-reads.Learnt, stuck-reads.Asked, stuck-reads.Learnt, kill-right-below t, kill-right.Post) (kill-par-at t) kill-par.Post
 kill-par-same-length-2 t c = search needs
 
-kill-par-returns-2 : (t : ℕ) → kill-par-lts.Need-returns-2 (put-reads.Asked, put-reads.Learnt, kill-below t, kill.Post, stuck-reads.Asked, stuck-reads.Learnt, kill-right-below t, kill-right.Post) (kill-par-at t) kill-par.Post
+kill-par-returns-2 : (t : ℕ) → kill-par-lts.Need-returns-2 (gone-reads.Asked, gone-reads.Learnt, pass-reads.Asked, pass-reads.Learnt, kill-below t, kill.Post, put-reads.Asked, put-reads.Learnt, stuck-reads.Asked, stuck-reads.Learnt, kill-right-below t, kill-right.Post) (kill-par-at t) kill-par.Post
+unfolding goes leftOn parW
 kill-par-returns-2 t c =
-    let e = par-right (killW ((c .before .before .before .before .before .before .before .before .before .before .before .before .before .before .before .before .before .before .before .args .depth)) ((c .before .before .before .before .before .before .before .before .before .before .before .before .before .before .before .before .before .before .before .args .ws .now)) ((c .before .before .before .before .before .before .before .before .before .before .before .before .before .before .before .before .before .before .before .args .marks .now)) ((c .before .before .before .before .before .before .before .before .before .before .before .before .before .before .before .before .before .before .before .args .fault)) ((c .before .before .before .before .before .before .before .before .before .before .before .before .before .before .before .before .before .before .before .args .hole))) ((c .before .before .before .before .before .before .before .before .before .before .before .before .before .before .before .before .before .before .before .args .at)) ((c .before .before .before .before .before .before .before .before .before .before .before .before .before .before .before .before .before .before .before .args .out .now)) ((c .before .before .before .before .before .before .before .before .before .before .before .before .before .before .before .before .before .before .before .args .to)) _ _ _ _ _ _ (c .before .before .before .before .before .before .before .before .before .before .before .before .before .before .put .ensures .0) (c .before .before .before .before .before .before .before .before .before .before .before .before .before .before .put .ensures .1) (c .before .before .before .before .before .before .before .before .before .before .kill .ensures .0) (c .before .before .before .before .before .before .before .before .before .before .kill .ensures .1) (c .before .before .before .before .before .before .if1 .left) (c .before .before .before .before .if2 .taken) (c .before .before .kill2 .ensures .0) (c .before .before .kill2 .ensures .1) in
-    (ap moved e, ap output e)
+    let f0 = c .before .if2 .taken in
+    let f1 = c .before .before .before .before .before .before .before .before .before .before .before .if1 .left in
+    (simp (tests, kill-step, ← (c .stuck .ensures), f0, ← (c .before .before .before .before .before .kill2 .ensures .0), ← (c .before .before .before .before .before .kill2 .ensures .1), ← (c .before .before .before .before .before .before .before .before .before .put .ensures .0), ← (c .before .before .before .before .before .before .before .before .before .put .ensures .1), f1, ← (c .before .before .before .before .before .before .before .before .before .before .before .before .gone .ensures)), simp (tests, kill-step, ← (c .stuck .ensures), f0, ← (c .before .before .before .before .before .kill2 .ensures .0), ← (c .before .before .before .before .before .kill2 .ensures .1), ← (c .before .before .before .before .before .before .before .before .before .put .ensures .0), ← (c .before .before .before .before .before .before .before .before .before .put .ensures .1), f1, ← (c .before .before .before .before .before .before .before .before .before .before .before .before .gone .ensures)))
 
-kill-par-kill-right-requires : (t : ℕ) → kill-par-lts.Need-kill-right-requires (put-reads.Asked, put-reads.Learnt, kill-below t, kill.Post, stuck-reads.Asked, stuck-reads.Learnt, kill-right-below t, kill-right.Post) (kill-par-at t) kill-par.Post
-kill-par-kill-right-requires t c κs = search needs
+kill-par-kill-requires-3 : (t : ℕ) → kill-par-lts.Need-kill-requires-3 (gone-reads.Asked, gone-reads.Learnt, pass-reads.Asked, pass-reads.Learnt, kill-below t, kill.Post, put-reads.Asked, put-reads.Learnt, stuck-reads.Asked, stuck-reads.Learnt, kill-right-below t, kill-right.Post) (kill-par-at t) kill-par.Post
+kill-par-kill-requires-3 t c κs = search needs
 
-kill-par-same-length-3 : (t : ℕ) → kill-par-lts.Need-same-length-3 (put-reads.Asked, put-reads.Learnt, kill-below t, kill.Post, stuck-reads.Asked, stuck-reads.Learnt, kill-right-below t, kill-right.Post) (kill-par-at t) kill-par.Post
+kill-par-same-length-3 : (t : ℕ) → kill-par-lts.Need-same-length-3 (gone-reads.Asked, gone-reads.Learnt, pass-reads.Asked, pass-reads.Learnt, kill-below t, kill.Post, put-reads.Asked, put-reads.Learnt, stuck-reads.Asked, stuck-reads.Learnt, kill-right-below t, kill-right.Post) (kill-par-at t) kill-par.Post
 kill-par-same-length-3 t c = search needs
 
-kill-par-returns-3 : (t : ℕ) → kill-par-lts.Need-returns-3 (put-reads.Asked, put-reads.Learnt, kill-below t, kill.Post, stuck-reads.Asked, stuck-reads.Learnt, kill-right-below t, kill-right.Post) (kill-par-at t) kill-par.Post
+kill-par-returns-3 : (t : ℕ) → kill-par-lts.Need-returns-3 (gone-reads.Asked, gone-reads.Learnt, pass-reads.Asked, pass-reads.Learnt, kill-below t, kill.Post, put-reads.Asked, put-reads.Learnt, stuck-reads.Asked, stuck-reads.Learnt, kill-right-below t, kill-right.Post) (kill-par-at t) kill-par.Post
 kill-par-returns-3 t c =
-    let e = par-both (killW ((c .before .before .before .before .before .before .before .before .before .before .before .before .before .before .before .before .before .before .before .args .depth)) ((c .before .before .before .before .before .before .before .before .before .before .before .before .before .before .before .before .before .before .before .args .ws .now)) ((c .before .before .before .before .before .before .before .before .before .before .before .before .before .before .before .before .before .before .before .args .marks .now)) ((c .before .before .before .before .before .before .before .before .before .before .before .before .before .before .before .before .before .before .before .args .fault)) ((c .before .before .before .before .before .before .before .before .before .before .before .before .before .before .before .before .before .before .before .args .hole))) ((c .before .before .before .before .before .before .before .before .before .before .before .before .before .before .before .before .before .before .before .args .at)) ((c .before .before .before .before .before .before .before .before .before .before .before .before .before .before .before .before .before .before .before .args .out .now)) ((c .before .before .before .before .before .before .before .before .before .before .before .before .before .before .before .before .before .before .before .args .to)) _ _ _ _ _ _ (c .before .before .before .before .before .before .before .before .before .before .before .before .before .before .put .ensures .0) (c .before .before .before .before .before .before .before .before .before .before .before .before .before .before .put .ensures .1) (c .before .before .before .before .before .before .before .before .before .before .kill .ensures .0) (c .before .before .before .before .before .before .before .before .before .before .kill .ensures .1) (c .before .before .before .before .before .before .if1 .left) (c .before .before .before .before .if2 .left) (c .before .before .kill-right .ensures .0) (c .before .before .kill-right .ensures .1) in
+    let e = par-right (c .before .before .before .before .before .before .before .before .before .before .before .before .before .before .before .before .before .before .before .before .before .args .depth) (killW (c .before .before .before .before .before .before .before .before .before .before .before .before .before .before .before .before .before .before .before .before .before .args .depth) (c .before .before .before .before .before .before .before .before .before .before .before .before .before .before .before .before .before .before .before .before .before .args .ws .now) (c .before .before .before .before .before .before .before .before .before .before .before .before .before .before .before .before .before .before .before .before .before .args .marks .now) (c .before .before .before .before .before .before .before .before .before .before .before .before .before .before .before .before .before .before .before .before .before .args .fault) (c .before .before .before .before .before .before .before .before .before .before .before .before .before .before .before .before .before .before .before .before .before .args .hole)) (c .before .before .before .before .before .before .before .before .before .before .before .before .before .before .before .before .before .before .before .before .before .args .ws .now) (c .before .before .before .before .before .before .before .before .before .before .before .before .before .before .before .before .before .before .before .before .before .args .marks .now) (c .before .before .before .before .before .before .before .before .before .before .before .before .before .before .before .before .before .before .before .before .before .args .at) (c .before .before .before .before .before .before .before .before .before .before .before .before .before .before .before .before .before .before .before .before .before .args .out .now) (c .before .before .before .before .before .before .before .before .before .before .before .before .before .before .before .before .before .before .before .before .before .args .to) _ _ _ _ _ _ (sym (c .before .before .before .before .before .before .before .before .before .before .before .before .before .before .before .before .before .gone .ensures) ∙ (c .before .before .before .before .before .before .before .before .before .before .before .before .before .before .before .before .if1 .left)) (c .before .before .before .before .before .before .before .before .before .before .before .before .before .before .put .ensures .0) (c .before .before .before .before .before .before .before .before .before .before .before .before .before .before .put .ensures .1) (c .before .before .before .before .before .before .before .before .before .before .kill2 .ensures .0) (c .before .before .before .before .before .before .before .before .before .before .kill2 .ensures .1) (c .before .before .before .before .before .before .if2 .left) (c .before .before .before .before .if3 .taken) (c .before .before .kill3 .ensures .0) (c .before .before .kill3 .ensures .1) in
     (ap moved e, ap output e)
 
-kill-right-kill-requires : (t : ℕ) → kill-right-lts.Need-kill-requires (kill-below t, kill.Post, stuck-reads.Asked, stuck-reads.Learnt, down-reads.Asked, down-reads.Learnt, less-one-reads.Asked, less-one-reads.Learnt) (kill-right-at t) kill-right.Post
-kill-right-kill-requires t c κs = search needs
+kill-par-kill-right-requires : (t : ℕ) → kill-par-lts.Need-kill-right-requires (gone-reads.Asked, gone-reads.Learnt, pass-reads.Asked, pass-reads.Learnt, kill-below t, kill.Post, put-reads.Asked, put-reads.Learnt, stuck-reads.Asked, stuck-reads.Learnt, kill-right-below t, kill-right.Post) (kill-par-at t) kill-par.Post
+kill-par-kill-right-requires t c κs = search needs
 
-kill-right-stuck-requires : (t : ℕ) → kill-right-lts.Need-stuck-requires (kill-below t, kill.Post, stuck-reads.Asked, stuck-reads.Learnt, down-reads.Asked, down-reads.Learnt, less-one-reads.Asked, less-one-reads.Learnt) (kill-right-at t) kill-right.Post
-kill-right-stuck-requires t c κs = search needs
+kill-par-same-length-4 : (t : ℕ) → kill-par-lts.Need-same-length-4 (gone-reads.Asked, gone-reads.Learnt, pass-reads.Asked, pass-reads.Learnt, kill-below t, kill.Post, put-reads.Asked, put-reads.Learnt, stuck-reads.Asked, stuck-reads.Learnt, kill-right-below t, kill-right.Post) (kill-par-at t) kill-par.Post
+kill-par-same-length-4 t c = search needs
 
-kill-right-same-length : (t : ℕ) → kill-right-lts.Need-same-length (kill-below t, kill.Post, stuck-reads.Asked, stuck-reads.Learnt, down-reads.Asked, down-reads.Learnt, less-one-reads.Asked, less-one-reads.Learnt) (kill-right-at t) kill-right.Post
-kill-right-same-length t c = search needs
+kill-par-returns-4 : (t : ℕ) → kill-par-lts.Need-returns-4 (gone-reads.Asked, gone-reads.Learnt, pass-reads.Asked, pass-reads.Learnt, kill-below t, kill.Post, put-reads.Asked, put-reads.Learnt, stuck-reads.Asked, stuck-reads.Learnt, kill-right-below t, kill-right.Post) (kill-par-at t) kill-par.Post
+kill-par-returns-4 t c =
+    let e = par-both (c .before .before .before .before .before .before .before .before .before .before .before .before .before .before .before .before .before .before .before .before .before .args .depth) (killW (c .before .before .before .before .before .before .before .before .before .before .before .before .before .before .before .before .before .before .before .before .before .args .depth) (c .before .before .before .before .before .before .before .before .before .before .before .before .before .before .before .before .before .before .before .before .before .args .ws .now) (c .before .before .before .before .before .before .before .before .before .before .before .before .before .before .before .before .before .before .before .before .before .args .marks .now) (c .before .before .before .before .before .before .before .before .before .before .before .before .before .before .before .before .before .before .before .before .before .args .fault) (c .before .before .before .before .before .before .before .before .before .before .before .before .before .before .before .before .before .before .before .before .before .args .hole)) (c .before .before .before .before .before .before .before .before .before .before .before .before .before .before .before .before .before .before .before .before .before .args .ws .now) (c .before .before .before .before .before .before .before .before .before .before .before .before .before .before .before .before .before .before .before .before .before .args .marks .now) (c .before .before .before .before .before .before .before .before .before .before .before .before .before .before .before .before .before .before .before .before .before .args .at) (c .before .before .before .before .before .before .before .before .before .before .before .before .before .before .before .before .before .before .before .before .before .args .out .now) (c .before .before .before .before .before .before .before .before .before .before .before .before .before .before .before .before .before .before .before .before .before .args .to) _ _ _ _ _ _ (sym (c .before .before .before .before .before .before .before .before .before .before .before .before .before .before .before .before .before .gone .ensures) ∙ (c .before .before .before .before .before .before .before .before .before .before .before .before .before .before .before .before .if1 .left)) (c .before .before .before .before .before .before .before .before .before .before .before .before .before .before .put .ensures .0) (c .before .before .before .before .before .before .before .before .before .before .before .before .before .before .put .ensures .1) (c .before .before .before .before .before .before .before .before .before .before .kill2 .ensures .0) (c .before .before .before .before .before .before .before .before .before .before .kill2 .ensures .1) (c .before .before .before .before .before .before .if2 .left) (c .before .before .before .before .if3 .left) (c .before .before .kill-right .ensures .0) (c .before .before .kill-right .ensures .1) in
+    (ap moved e, ap output e)
 
-kill-right-returns : (t : ℕ) → kill-right-lts.Need-returns (kill-below t, kill.Post, stuck-reads.Asked, stuck-reads.Learnt, down-reads.Asked, down-reads.Learnt, less-one-reads.Asked, less-one-reads.Learnt) (kill-right-at t) kill-right.Post
-unfolding goes rightOn rightW
-kill-right-returns t c =
-    let f0 = c .before .if1 .taken in
-    (simp (tests, kill-step, ← (c .stuck .ensures), f0, ← (c .before .before .before .before .before .kill .ensures .0), ← (c .before .before .before .before .before .kill .ensures .1)), simp (tests, kill-step, ← (c .stuck .ensures), f0, ← (c .before .before .before .before .before .kill .ensures .0), ← (c .before .before .before .before .before .kill .ensures .1)))
+kill-right-gone-requires : (t : ℕ) → kill-right-lts.Need-gone-requires (gone-reads.Asked, gone-reads.Learnt, down-reads.Asked, down-reads.Learnt, pass-reads.Asked, pass-reads.Learnt, less-one-reads.Asked, less-one-reads.Learnt, kill-below t, kill.Post, stuck-reads.Asked, stuck-reads.Learnt) (kill-right-at t) kill-right.Post
+kill-right-gone-requires t c κs = search needs
 
-kill-right-down-requires : (t : ℕ) → kill-right-lts.Need-down-requires (kill-below t, kill.Post, stuck-reads.Asked, stuck-reads.Learnt, down-reads.Asked, down-reads.Learnt, less-one-reads.Asked, less-one-reads.Learnt) (kill-right-at t) kill-right.Post
+kill-right-down-requires : (t : ℕ) → kill-right-lts.Need-down-requires (gone-reads.Asked, gone-reads.Learnt, down-reads.Asked, down-reads.Learnt, pass-reads.Asked, pass-reads.Learnt, less-one-reads.Asked, less-one-reads.Learnt, kill-below t, kill.Post, stuck-reads.Asked, stuck-reads.Learnt) (kill-right-at t) kill-right.Post
 kill-right-down-requires t c κs = search needs
 
-kill-right-less-one-requires : (t : ℕ) → kill-right-lts.Need-less-one-requires (kill-below t, kill.Post, stuck-reads.Asked, stuck-reads.Learnt, down-reads.Asked, down-reads.Learnt, less-one-reads.Asked, less-one-reads.Learnt) (kill-right-at t) kill-right.Post
+kill-right-pass-requires : (t : ℕ) → kill-right-lts.Need-pass-requires (gone-reads.Asked, gone-reads.Learnt, down-reads.Asked, down-reads.Learnt, pass-reads.Asked, pass-reads.Learnt, less-one-reads.Asked, less-one-reads.Learnt, kill-below t, kill.Post, stuck-reads.Asked, stuck-reads.Learnt) (kill-right-at t) kill-right.Post
+kill-right-pass-requires t c κs = search needs
+
+kill-right-less-one-requires : (t : ℕ) → kill-right-lts.Need-less-one-requires (gone-reads.Asked, gone-reads.Learnt, down-reads.Asked, down-reads.Learnt, pass-reads.Asked, pass-reads.Learnt, less-one-reads.Asked, less-one-reads.Learnt, kill-below t, kill.Post, stuck-reads.Asked, stuck-reads.Learnt) (kill-right-at t) kill-right.Post
 kill-right-less-one-requires t c κs = search needs
 
-kill-right-same-length-2 : (t : ℕ) → kill-right-lts.Need-same-length-2 (kill-below t, kill.Post, stuck-reads.Asked, stuck-reads.Learnt, down-reads.Asked, down-reads.Learnt, less-one-reads.Asked, less-one-reads.Learnt) (kill-right-at t) kill-right.Post
-kill-right-same-length-2 t c = search needs
+kill-right-same-length : (t : ℕ) → kill-right-lts.Need-same-length (gone-reads.Asked, gone-reads.Learnt, down-reads.Asked, down-reads.Learnt, pass-reads.Asked, pass-reads.Learnt, less-one-reads.Asked, less-one-reads.Learnt, kill-below t, kill.Post, stuck-reads.Asked, stuck-reads.Learnt) (kill-right-at t) kill-right.Post
+kill-right-same-length t c = search needs
 
-kill-right-returns-2 : (t : ℕ) → kill-right-lts.Need-returns-2 (kill-below t, kill.Post, stuck-reads.Asked, stuck-reads.Learnt, down-reads.Asked, down-reads.Learnt, less-one-reads.Asked, less-one-reads.Learnt) (kill-right-at t) kill-right.Post
-kill-right-returns-2 t c =
-    let e = right-nil (killW ((c .before .before .before .before .before .before .before .before .before .before .before .before .before .before .before .before .args .depth)) ((c .before .before .before .before .before .before .before .before .before .before .before .before .before .before .before .before .args .ws .now)) ((c .before .before .before .before .before .before .before .before .before .before .before .before .before .before .before .before .args .marks .now)) ((c .before .before .before .before .before .before .before .before .before .before .before .before .before .before .before .before .args .fault)) ((c .before .before .before .before .before .before .before .before .before .before .before .before .before .before .before .before .args .hole))) ((c .before .before .before .before .before .before .before .before .before .before .before .before .before .before .before .before .args .at)) ((c .before .before .before .before .before .before .before .before .before .before .before .before .before .before .before .before .args .out .now)) ((c .before .before .before .before .before .before .before .before .before .before .before .before .before .before .before .before .args .one)) ((c .before .before .before .before .before .before .before .before .before .before .before .before .before .before .before .before .args .to)) _ _ (c .before .before .before .before .before .before .before .before .before .before .before .kill .ensures .0) (c .before .before .before .before .before .before .before .before .before .before .before .kill .ensures .1) (c .before .before .before .before .before .before .before .if1 .left) _ _ (c .before .before .before .before .before .if2 .taken) (c .less-one .ensures) (c .before .before .before .down .ensures .1) in
+kill-right-returns : (t : ℕ) → kill-right-lts.Need-returns (gone-reads.Asked, gone-reads.Learnt, down-reads.Asked, down-reads.Learnt, pass-reads.Asked, pass-reads.Learnt, less-one-reads.Asked, less-one-reads.Learnt, kill-below t, kill.Post, stuck-reads.Asked, stuck-reads.Learnt) (kill-right-at t) kill-right.Post
+kill-right-returns t c =
+    let e = right-gone (c .before .before .before .before .before .before .before .before .before .before .before .args .depth) (killW (c .before .before .before .before .before .before .before .before .before .before .before .args .depth) (c .before .before .before .before .before .before .before .before .before .before .before .args .ws .now) (c .before .before .before .before .before .before .before .before .before .before .before .args .marks .now) (c .before .before .before .before .before .before .before .before .before .before .before .args .fault) (c .before .before .before .before .before .before .before .before .before .before .before .args .hole)) (c .before .before .before .before .before .before .before .before .before .before .before .args .ws .now) (c .before .before .before .before .before .before .before .before .before .before .before .args .marks .now) (c .before .before .before .before .before .before .before .before .before .before .before .args .at) (c .before .before .before .before .before .before .before .before .before .before .before .args .out .now) (c .before .before .before .before .before .before .before .before .before .before .before .args .one) (c .before .before .before .before .before .before .before .before .before .before .before .args .to) _ _ _ (sym (c .before .before .before .before .before .before .before .gone .ensures) ∙ (c .before .before .before .before .before .before .if1 .taken)) (c .before .pass .ensures) (c .less-one .ensures) (c .before .before .before .before .down .ensures .1) in
     (ap moved e, ap output e)
 
-kill-right-same-length-3 : (t : ℕ) → kill-right-lts.Need-same-length-3 (kill-below t, kill.Post, stuck-reads.Asked, stuck-reads.Learnt, down-reads.Asked, down-reads.Learnt, less-one-reads.Asked, less-one-reads.Learnt) (kill-right-at t) kill-right.Post
+kill-right-kill-requires : (t : ℕ) → kill-right-lts.Need-kill-requires (gone-reads.Asked, gone-reads.Learnt, down-reads.Asked, down-reads.Learnt, pass-reads.Asked, pass-reads.Learnt, less-one-reads.Asked, less-one-reads.Learnt, kill-below t, kill.Post, stuck-reads.Asked, stuck-reads.Learnt) (kill-right-at t) kill-right.Post
+kill-right-kill-requires t c κs = search needs
+
+kill-right-stuck-requires : (t : ℕ) → kill-right-lts.Need-stuck-requires (gone-reads.Asked, gone-reads.Learnt, down-reads.Asked, down-reads.Learnt, pass-reads.Asked, pass-reads.Learnt, less-one-reads.Asked, less-one-reads.Learnt, kill-below t, kill.Post, stuck-reads.Asked, stuck-reads.Learnt) (kill-right-at t) kill-right.Post
+kill-right-stuck-requires t c κs = search needs
+
+kill-right-same-length-2 : (t : ℕ) → kill-right-lts.Need-same-length-2 (gone-reads.Asked, gone-reads.Learnt, down-reads.Asked, down-reads.Learnt, pass-reads.Asked, pass-reads.Learnt, less-one-reads.Asked, less-one-reads.Learnt, kill-below t, kill.Post, stuck-reads.Asked, stuck-reads.Learnt) (kill-right-at t) kill-right.Post
+kill-right-same-length-2 t c = search needs
+
+kill-right-returns-2 : (t : ℕ) → kill-right-lts.Need-returns-2 (gone-reads.Asked, gone-reads.Learnt, down-reads.Asked, down-reads.Learnt, pass-reads.Asked, pass-reads.Learnt, less-one-reads.Asked, less-one-reads.Learnt, kill-below t, kill.Post, stuck-reads.Asked, stuck-reads.Learnt) (kill-right-at t) kill-right.Post
+unfolding goes rightOn rightW
+kill-right-returns-2 t c =
+    let f0 = c .before .if2 .taken in
+    let f1 = c .before .before .before .before .before .before .before .if1 .left in
+    (simp (tests, kill-step, ← (c .stuck .ensures), f0, ← (c .before .before .before .before .before .kill .ensures .0), ← (c .before .before .before .before .before .kill .ensures .1), f1, ← (c .before .before .before .before .before .before .before .before .gone .ensures)), simp (tests, kill-step, ← (c .stuck .ensures), f0, ← (c .before .before .before .before .before .kill .ensures .0), ← (c .before .before .before .before .before .kill .ensures .1), f1, ← (c .before .before .before .before .before .before .before .before .gone .ensures)))
+
+kill-right-down-requires-2 : (t : ℕ) → kill-right-lts.Need-down-requires-2 (gone-reads.Asked, gone-reads.Learnt, down-reads.Asked, down-reads.Learnt, pass-reads.Asked, pass-reads.Learnt, less-one-reads.Asked, less-one-reads.Learnt, kill-below t, kill.Post, stuck-reads.Asked, stuck-reads.Learnt) (kill-right-at t) kill-right.Post
+kill-right-down-requires-2 t c κs = search needs
+
+kill-right-less-one-requires-2 : (t : ℕ) → kill-right-lts.Need-less-one-requires-2 (gone-reads.Asked, gone-reads.Learnt, down-reads.Asked, down-reads.Learnt, pass-reads.Asked, pass-reads.Learnt, less-one-reads.Asked, less-one-reads.Learnt, kill-below t, kill.Post, stuck-reads.Asked, stuck-reads.Learnt) (kill-right-at t) kill-right.Post
+kill-right-less-one-requires-2 t c κs = search needs
+
+kill-right-same-length-3 : (t : ℕ) → kill-right-lts.Need-same-length-3 (gone-reads.Asked, gone-reads.Learnt, down-reads.Asked, down-reads.Learnt, pass-reads.Asked, pass-reads.Learnt, less-one-reads.Asked, less-one-reads.Learnt, kill-below t, kill.Post, stuck-reads.Asked, stuck-reads.Learnt) (kill-right-at t) kill-right.Post
 kill-right-same-length-3 t c = search needs
 
-kill-right-returns-3 : (t : ℕ) → kill-right-lts.Need-returns-3 (kill-below t, kill.Post, stuck-reads.Asked, stuck-reads.Learnt, down-reads.Asked, down-reads.Learnt, less-one-reads.Asked, less-one-reads.Learnt) (kill-right-at t) kill-right.Post
+kill-right-returns-3 : (t : ℕ) → kill-right-lts.Need-returns-3 (gone-reads.Asked, gone-reads.Learnt, down-reads.Asked, down-reads.Learnt, pass-reads.Asked, pass-reads.Learnt, less-one-reads.Asked, less-one-reads.Learnt, kill-below t, kill.Post, stuck-reads.Asked, stuck-reads.Learnt) (kill-right-at t) kill-right.Post
 kill-right-returns-3 t c =
-    let e = right-stays (killW ((c .before .before .before .before .before .before .before .before .before .before .before .args .depth)) ((c .before .before .before .before .before .before .before .before .before .before .before .args .ws .now)) ((c .before .before .before .before .before .before .before .before .before .before .before .args .marks .now)) ((c .before .before .before .before .before .before .before .before .before .before .before .args .fault)) ((c .before .before .before .before .before .before .before .before .before .before .before .args .hole))) ((c .before .before .before .before .before .before .before .before .before .before .before .args .at)) ((c .before .before .before .before .before .before .before .before .before .before .before .args .out .now)) ((c .before .before .before .before .before .before .before .before .before .before .before .args .one)) ((c .before .before .before .before .before .before .before .before .before .before .before .args .to)) _ _ (c .before .before .before .before .before .before .kill .ensures .0) (c .before .before .before .before .before .before .kill .ensures .1) (c .before .before .if1 .left) (c .if2 .left) in
+    let e = right-nil (c .before .before .before .before .before .before .before .before .before .before .before .before .before .before .before .before .before .before .args .depth) (killW (c .before .before .before .before .before .before .before .before .before .before .before .before .before .before .before .before .before .before .args .depth) (c .before .before .before .before .before .before .before .before .before .before .before .before .before .before .before .before .before .before .args .ws .now) (c .before .before .before .before .before .before .before .before .before .before .before .before .before .before .before .before .before .before .args .marks .now) (c .before .before .before .before .before .before .before .before .before .before .before .before .before .before .before .before .before .before .args .fault) (c .before .before .before .before .before .before .before .before .before .before .before .before .before .before .before .before .before .before .args .hole)) (c .before .before .before .before .before .before .before .before .before .before .before .before .before .before .before .before .before .before .args .ws .now) (c .before .before .before .before .before .before .before .before .before .before .before .before .before .before .before .before .before .before .args .marks .now) (c .before .before .before .before .before .before .before .before .before .before .before .before .before .before .before .before .before .before .args .at) (c .before .before .before .before .before .before .before .before .before .before .before .before .before .before .before .before .before .before .args .out .now) (c .before .before .before .before .before .before .before .before .before .before .before .before .before .before .before .before .before .before .args .one) (c .before .before .before .before .before .before .before .before .before .before .before .before .before .before .before .before .before .before .args .to) _ _ (sym (c .before .before .before .before .before .before .before .before .before .before .before .before .before .before .gone .ensures) ∙ (c .before .before .before .before .before .before .before .before .before .before .before .before .before .if1 .left)) (c .before .before .before .before .before .before .before .before .before .before .before .kill .ensures .0) (c .before .before .before .before .before .before .before .before .before .before .before .kill .ensures .1) (c .before .before .before .before .before .before .before .if2 .left) _ _ (c .before .before .before .before .before .if3 .taken) (c .less-one2 .ensures) (c .before .before .before .down2 .ensures .1) in
+    (ap moved e, ap output e)
+
+kill-right-same-length-4 : (t : ℕ) → kill-right-lts.Need-same-length-4 (gone-reads.Asked, gone-reads.Learnt, down-reads.Asked, down-reads.Learnt, pass-reads.Asked, pass-reads.Learnt, less-one-reads.Asked, less-one-reads.Learnt, kill-below t, kill.Post, stuck-reads.Asked, stuck-reads.Learnt) (kill-right-at t) kill-right.Post
+kill-right-same-length-4 t c = search needs
+
+kill-right-returns-4 : (t : ℕ) → kill-right-lts.Need-returns-4 (gone-reads.Asked, gone-reads.Learnt, down-reads.Asked, down-reads.Learnt, pass-reads.Asked, pass-reads.Learnt, less-one-reads.Asked, less-one-reads.Learnt, kill-below t, kill.Post, stuck-reads.Asked, stuck-reads.Learnt) (kill-right-at t) kill-right.Post
+kill-right-returns-4 t c =
+    let e = right-stays (c .before .before .before .before .before .before .before .before .before .before .before .before .before .args .depth) (killW (c .before .before .before .before .before .before .before .before .before .before .before .before .before .args .depth) (c .before .before .before .before .before .before .before .before .before .before .before .before .before .args .ws .now) (c .before .before .before .before .before .before .before .before .before .before .before .before .before .args .marks .now) (c .before .before .before .before .before .before .before .before .before .before .before .before .before .args .fault) (c .before .before .before .before .before .before .before .before .before .before .before .before .before .args .hole)) (c .before .before .before .before .before .before .before .before .before .before .before .before .before .args .ws .now) (c .before .before .before .before .before .before .before .before .before .before .before .before .before .args .marks .now) (c .before .before .before .before .before .before .before .before .before .before .before .before .before .args .at) (c .before .before .before .before .before .before .before .before .before .before .before .before .before .args .out .now) (c .before .before .before .before .before .before .before .before .before .before .before .before .before .args .one) (c .before .before .before .before .before .before .before .before .before .before .before .before .before .args .to) _ _ (sym (c .before .before .before .before .before .before .before .before .before .gone .ensures) ∙ (c .before .before .before .before .before .before .before .before .if1 .left)) (c .before .before .before .before .before .before .kill .ensures .0) (c .before .before .before .before .before .before .kill .ensures .1) (c .before .before .if2 .left) (c .if3 .left) in
     (ap moved e, ap output e)
 
 kill-scope-stuck-requires : (t : ℕ) → kill-scope-lts.Need-stuck-requires (stuck-reads.Asked, stuck-reads.Learnt, pass-list-reads.Asked, pass-list-reads.Learnt, wide-reads.Asked, wide-reads.Learnt, kill-zombie-below t, kill-zombie.Post, kill-live-below t, kill-live.Post) (kill-scope-at t) kill-scope.Post
@@ -737,10 +777,14 @@ pub +kill+kill-executor+kill-live+kill-par+kill-right+kill-scope+kill-seq+kill-z
     (kill-live-same-length-2 t)
     (kill-live-returns-2 t))
     (λ t. kill-par-lts.spec (
-      put-reads.Asked,
-      put-reads.Learnt,
+      gone-reads.Asked,
+      gone-reads.Learnt,
+      pass-reads.Asked,
+      pass-reads.Learnt,
       kill-below t,
       kill.Post,
+      put-reads.Asked,
+      put-reads.Learnt,
       stuck-reads.Asked,
       stuck-reads.Learnt,
       kill-right-below t,
@@ -748,39 +792,54 @@ pub +kill+kill-executor+kill-live+kill-par+kill-right+kill-scope+kill-seq+kill-z
     )
     (kill-par-at t)
     kill-par.Post
-    (kill-par-put-requires t)
+    (kill-par-gone-requires t)
+    (kill-par-pass-requires t)
     (kill-par-kill-requires t)
-    (kill-par-stuck-requires t)
     (kill-par-same-length t)
     (kill-par-returns t)
+    (kill-par-put-requires t)
     (kill-par-kill-requires-2 t)
+    (kill-par-stuck-requires t)
     (kill-par-same-length-2 t)
     (kill-par-returns-2 t)
-    (kill-par-kill-right-requires t)
+    (kill-par-kill-requires-3 t)
     (kill-par-same-length-3 t)
-    (kill-par-returns-3 t))
+    (kill-par-returns-3 t)
+    (kill-par-kill-right-requires t)
+    (kill-par-same-length-4 t)
+    (kill-par-returns-4 t))
     (λ t. kill-right-lts.spec (
+      gone-reads.Asked,
+      gone-reads.Learnt,
+      down-reads.Asked,
+      down-reads.Learnt,
+      pass-reads.Asked,
+      pass-reads.Learnt,
+      less-one-reads.Asked,
+      less-one-reads.Learnt,
       kill-below t,
       kill.Post,
       stuck-reads.Asked,
       stuck-reads.Learnt,
-      down-reads.Asked,
-      down-reads.Learnt,
-      less-one-reads.Asked,
-      less-one-reads.Learnt,
     )
     (kill-right-at t)
     kill-right.Post
-    (kill-right-kill-requires t)
-    (kill-right-stuck-requires t)
+    (kill-right-gone-requires t)
+    (kill-right-down-requires t)
+    (kill-right-pass-requires t)
+    (kill-right-less-one-requires t)
     (kill-right-same-length t)
     (kill-right-returns t)
-    (kill-right-down-requires t)
-    (kill-right-less-one-requires t)
+    (kill-right-kill-requires t)
+    (kill-right-stuck-requires t)
     (kill-right-same-length-2 t)
     (kill-right-returns-2 t)
+    (kill-right-down-requires-2 t)
+    (kill-right-less-one-requires-2 t)
     (kill-right-same-length-3 t)
-    (kill-right-returns-3 t))
+    (kill-right-returns-3 t)
+    (kill-right-same-length-4 t)
+    (kill-right-returns-4 t))
     (λ t. kill-scope-lts.spec (
       stuck-reads.Asked,
       stuck-reads.Learnt,
