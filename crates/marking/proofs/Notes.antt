@@ -3,9 +3,9 @@
 use Prim.Native.Nat.{ℕ, zero, suc, _+_, _-_, _*_, _/_, _%_, _≤_, _<_}
 use native.Mathlib.Omega.{arith}
 use mathlib.Core.Path.{_≡_, refl, sym, _∙_}
-use mathlib.Core.Bool.{Bool, true, false, true≢false, _&&_, cond}
+use mathlib.Core.Bool.{true, false, _&&_, cond}
 use mathlib.Core.List.{List}
-use borrow.Author.Tests.{eqb-true, ltb-true, lt-ltb, le-ltb, lt-leb, le-leb, eq-eqb, ne-eqb}
+use borrow.Author.Tests.{lt-ltb, le-ltb, lt-leb, le-leb, eq-eqb, ne-eqb}
 use lib.Bits.{bitAnd}
 use lib.Dec.{leb, ltb, eqb}
 use lib.ListN.{length}
@@ -14,7 +14,7 @@ use Rattle.reading.specs.Tables.{headMask}
 use Rattle.reading.specs.Walk.{on, when, at, exprEnd, processEnd, twoEnd, restOf, markedEnd, scopeEnd, endAfter, executorEnd, nodeEnd}
 use Rattle.reading.proofs.Tests.{tests}
 use Rattle.reading.proofs.Walks.{process-node, process-refused}
-use Rattle.marking.specs.Marking.{Noting, noteW, noteListW, oneWord, leafW, noting, seqMarks, parMarks, bodyMarks, scopeMarks, executorMarks, nodeMarks, enabledMarks, marksW, enginesMarks, surveyMarks}
+use Rattle.marking.specs.Marking.{Noting, noteW, noteListW, seqMarks, parMarks, bodyMarks, scopeMarks, executorMarks, nodeMarks, enabledMarks, marksW, enginesMarks, surveyMarks}
 
 -- ---- one mark
 
@@ -141,6 +141,14 @@ module _
       unfolding nodeMarks
       others k e k2 k3 k11 k16 = sym (noted ∙ simp (e, ne-eqb k 2 k2, ne-eqb k 3 k3, ne-eqb k 11 k11, ne-eqb k 16 k16))
 
+      -- a kind of one word
+      pub one-word :
+          (k : ℕ) → h / 2048 ≡ k →
+          ((h : ℕ) → h / 2048 ≡ k → nodeEnd (exprEnd (d - 1) ws) (processEnd (d - 1) ws bound) ws c bound h i ≡ i + 1) →
+          (k ≡ 2 → ⊥) → (k ≡ 3 → ⊥) → (k ≡ 11 → ⊥) → (k ≡ 16 → ⊥) →
+          (i + 1 ≡ processEnd d ws bound c i) × (m ≡ enabledMarks d ws bound c i m)
+      one-word k e q k2 k3 k11 k16 = (sym (ended ∙ q h e), others k e k2 k3 k11 k16)
+
       pub a-seq :
           (e : ℕ) (y : List ℕ) → h / 2048 ≡ 2 → e ≡ twoEnd (processEnd (d - 1) ws bound) 9 0 (i + 1) →
           y ≡ seqMarks (processEnd (d - 1) ws bound) (marksW (d - 1) ws bound) (i + 1) m →
@@ -168,57 +176,6 @@ module _
           (e ≡ processEnd d ws bound c i) × (y ≡ enabledMarks d ws bound c i m)
       unfolding nodeEnd nodeMarks
       an-executor e y k q n = (q ∙ sym (ended ∙ rw k), n ∙ sym (noted ∙ rw k))
-
--- ---- a process of one word
-
-four : (a b c d : Bool) → a && b && c && d ≡ true → (a ≡ true) × (b ≡ true) × (c ≡ true) × (d ≡ true)
-four true true true true e = (refl, refl, refl, refl)
-four true true true false e = absurd (true≢false (sym e))
-four true true false d e = absurd (true≢false (sym e))
-four true false c d e = absurd (true≢false (sym e))
-four false b c d e = absurd (true≢false (sym e))
-
--- its kind is one of four
-by-word : (P : ℕ → Type 0) (k : ℕ) → oneWord k ≡ true → P 0 → P 7 → P 13 → P 14 → P k
-unfolding oneWord
-by-word P k e p0 p7 p13 p14 = by (eqb k 0) (eqb k 7) (eqb k 13) refl refl refl e
-  where
-    by :
-        (a b c : Bool) → eqb k 0 ≡ a → eqb k 7 ≡ b → eqb k 13 ≡ c → cond a true (cond b true (cond c true (eqb k 14))) ≡ true → P k
-    by true b c x y z e = rw (eqb-true k 0 x) p0
-    by false true c x y z e = rw (eqb-true k 7 y) p7
-    by false false true x y z e = rw (eqb-true k 13 z) p13
-    by false false false x y z e = rw (eqb-true k 14 e) p14
-
-module _ (d : ℕ) (ws : List ℕ) (bound c i : ℕ) (m : List ℕ) (low : 8 ≤ c) (high : c < 12) (is : leafW d ws c i ≡ true) where
-  its : (ltb 0 d ≡ true) × (ltb i (length ws) ≡ true) × (eqb (bitAnd (at ws i + 65536) (headMask c (at ws i / 2048))) 0 ≡ true) × (oneWord (at ws i / 2048) ≡ true)
-  unfolding leafW
-  its = four _ _ _ _ is
-
-  pub leaf-inside : i < length ws
-  leaf-inside = ltb-true i (length ws) (its .1)
-
-  pub leaf-ends : (i + 1 ≡ processEnd d ws bound c i) × (noteW m i (i + 1) ≡ marksW d ws bound c i m)
-  unfolding noting nodeEnd
-  leaf-ends =
-      let some : d ≡ 0 → ⊥ = λ z. omega (arith, ltb-true 0 d (its .0)) in
-      let clear : bitAnd (at ws i + 65536) (headMask c (at ws i / 2048)) ≡ 0 = eqb-true _ 0 (its .2) in
-      let end : processEnd d ws bound c i ≡ i + 1 =
-      process-node d ws bound c i (at ws i) (headMask c (at ws i / 2048)) some leaf-inside refl refl clear
-      ∙ by-word (λ k. (h : ℕ) → h / 2048 ≡ k → nodeEnd (exprEnd (d - 1) ws) (processEnd (d - 1) ws bound) ws c bound h i ≡ i + 1) (at ws i / 2048) (its .3)
-      (λ h e. rw e) (λ h e. rw e) (λ h e. rw e) (λ h e. rw e) (at ws i) refl in
-      let none : m ≡ enabledMarks d ws bound c i m =
-      by-word (λ k. at ws i / 2048 ≡ k → m ≡ enabledMarks d ws bound c i m) (at ws i / 2048) (its .3)
-      (λ e. stays 0 e (λ z. omega arith) (λ z. omega arith) (λ z. omega arith) (λ z. omega arith))
-      (λ e. stays 7 e (λ z. omega arith) (λ z. omega arith) (λ z. omega arith) (λ z. omega arith))
-      (λ e. stays 13 e (λ z. omega arith) (λ z. omega arith) (λ z. omega arith) (λ z. omega arith))
-      (λ e. stays 14 e (λ z. omega arith) (λ z. omega arith) (λ z. omega arith) (λ z. omega arith)) refl in
-      (sym end, same-note _ _ i (i + 1) (processEnd d ws bound c i) (sym end) none)
-    where
-      stays : (k : ℕ) → at ws i / 2048 ≡ k → (k ≡ 2 → ⊥) → (k ≡ 3 → ⊥) → (k ≡ 11 → ⊥) → (k ≡ 16 → ⊥) → m ≡ enabledMarks d ws bound c i m
-      stays =
-          others d ws bound c i (at ws i) (headMask c (at ws i / 2048)) m (λ z. omega (arith, ltb-true 0 d (its .0))) leaf-inside refl refl
-          (eqb-true _ 0 (its .2)) low high
 
 -- ---- engines
 

@@ -2,7 +2,7 @@
 -- the word at i stand at i * 2, for the process that begins there, and behind it, for the list. The proofs show that each is where the
 -- layout ends; no public contract names it.
 use Prim.Native.Nat.{ℕ, zero, suc, _+_, _-_, _*_, _/_, _%_}
-use mathlib.Core.Bool.{Bool, true, _&&_, cond}
+use mathlib.Core.Bool.{_&&_, cond}
 use mathlib.Core.List.{List}
 use lib.Bits.{bitAnd}
 use lib.Dec.{leb, ltb, eqb}
@@ -15,14 +15,6 @@ noteW m i e = set m (i * 2) (e % 65536)
 
 unfoldable pub noteListW : List ℕ → ℕ → ℕ → List ℕ
 noteListW m i e = set m (i * 2 + 1) (e % 65536)
-
--- a process of one word that may stand at i in a context
-unfoldable pub oneWord : ℕ → Bool
-oneWord kind = cond (eqb kind 0) true (cond (eqb kind 7) true (cond (eqb kind 13) true (eqb kind 14)))
-
-unfoldable pub leafW : ℕ → List ℕ → ℕ → ℕ → Bool
-leafW d ws c i =
-    ltb 0 d && ltb i (length ws) && eqb (bitAnd (at ws i + 65536) (headMask c (at ws i / 2048))) 0 && oneWord (at ws i / 2048)
 
 -- noting in a context, at a position, into marks
 abbrev pub Noting : Type 0

@@ -9,7 +9,7 @@ ghost use mathlib.Core.Path.{_≡_};
 ghost use Prim.Native.Nat.{_+_, _*_, _≤_, _<_};
 ghost use lib.ListN.{length};
 ghost use Rattle.reading.specs.Walk.{processEnd, twoEnd, scopeEnd, executorEnd};
-ghost use Rattle.marking.specs.Marking.{noteW, noteListW, oneWord, leafW, marksW, enabledMarks, seqMarks, parMarks, scopeMarks, executorMarks};
+ghost use Rattle.marking.specs.Marking.{noteW, noteListW, marksW, enabledMarks, seqMarks, parMarks, scopeMarks, executorMarks};
 
 // The process at `at` ends at `e`.
 fn note(marks: &mut [u16], at: usize, e: usize) -> usize
@@ -57,7 +57,7 @@ pub fn mark(
     note(marks, at, e)
 }
 
-// The same, but for its own mark.
+// The same, but for its own mark. A process of one word is read here, since calls would take longer.
 fn enabled(
     ws: &[u16],
     at: usize,
@@ -82,68 +82,23 @@ fn enabled(
     }
     let d = depth - 1;
     match k {
+        0 => at + 1,
         2 => seq(ws, at + 1, d, bound, marks),
         3 => par(ws, at + 1, d, bound, marks),
+        7 => at + 1,
         11 => scope(ws, at, d, h, bound, marks),
+        13 => at + 1,
+        14 => at + 1,
         16 => executor(ws, at, d, bound, marks),
         _ => process(ws, at, depth, context, bound),
     }
-}
-
-// The kinds of one word that may be enabled: nil, one-way, throw and comp.
-fn one_word(kind: usize) -> bool
-    ensures { λ r. ⌜ r ≡ oneWord kind ⌝ }
-{
-    match kind {
-        0 => true,
-        7 => true,
-        13 => true,
-        14 => true,
-        _ => false,
-    }
-}
-
-// Whether a process of one word stands at `at`, and may stand there.
-fn leaf(ws: &[u16], at: usize, depth: usize, context: usize) -> bool
-    requires { ⌜ context < 12 ⌝ }
-    ensures { λ r. ⌜ r ≡ leafW depth (now (ws .entry)) context at ⌝ }
-{
-    if depth == 0 {
-        return false;
-    }
-    if ws.len() <= at {
-        return false;
-    }
-    let h = wide(ws[at]);
-    if (h + 65536) & head_mask(context, h / 2048) != 0 {
-        return false;
-    }
-    one_word(h / 2048)
-}
-
-// As `mark`, but a process of one word takes no call.
-fn part(
-    ws: &[u16],
-    at: usize,
-    depth: usize,
-    context: usize,
-    bound: usize,
-    marks: &mut [u16],
-) -> usize
-    requires { ⌜ (8 ≤ context) × (context < 12) ⌝ }
-    ensures { λ r. ⌜ (r ≡ processEnd depth (now (ws .entry)) bound context at) × (now (marks .exit) ≡ marksW depth (now (ws .entry)) bound context at (now (marks .entry))) ⌝ }
-{
-    if leaf(ws, at, depth, context) {
-        return note(marks, at, at + 1);
-    }
-    mark(ws, at, depth, context, bound, marks)
 }
 
 // The parts of a seq: the first is enabled.
 fn seq(ws: &[u16], at: usize, depth: usize, bound: usize, marks: &mut [u16]) -> usize
     ensures { λ r. ⌜ (r ≡ twoEnd (processEnd depth (now (ws .entry)) bound) 9 0 at) × (now (marks .exit) ≡ seqMarks (processEnd depth (now (ws .entry)) bound) (marksW depth (now (ws .entry)) bound) at (now (marks .entry))) ⌝ }
 {
-    let a = part(ws, at, depth, 9, bound, marks);
+    let a = mark(ws, at, depth, 9, bound, marks);
     if a == 0 {
         return 0;
     }
@@ -155,11 +110,11 @@ fn seq(ws: &[u16], at: usize, depth: usize, bound: usize, marks: &mut [u16]) -> 
 fn par(ws: &[u16], at: usize, depth: usize, bound: usize, marks: &mut [u16]) -> usize
     ensures { λ r. ⌜ (r ≡ twoEnd (processEnd depth (now (ws .entry)) bound) 9 9 at) × (now (marks .exit) ≡ parMarks (processEnd depth (now (ws .entry)) bound) (marksW depth (now (ws .entry)) bound) at (now (marks .entry))) ⌝ }
 {
-    let a = part(ws, at, depth, 9, bound, marks);
+    let a = mark(ws, at, depth, 9, bound, marks);
     if a == 0 {
         return 0;
     }
-    part(ws, a, depth, 9, bound, marks)
+    mark(ws, a, depth, 9, bound, marks)
 }
 
 // A scope whose head is `h`.
@@ -175,7 +130,7 @@ fn scope(ws: &[u16], at: usize, depth: usize, h: usize, bound: usize, marks: &mu
         return 0;
     }
     note_list(marks, at + 2, e);
-    part(ws, e, depth, 8, bound, marks)
+    mark(ws, e, depth, 8, bound, marks)
 }
 
 fn executor(ws: &[u16], at: usize, depth: usize, bound: usize, marks: &mut [u16]) -> usize
@@ -183,7 +138,7 @@ fn executor(ws: &[u16], at: usize, depth: usize, bound: usize, marks: &mut [u16]
     ensures { λ r. ⌜ (r ≡ executorEnd (processEnd depth (now (ws .entry)) bound) (now (ws .entry)) bound at) × (now (marks .exit) ≡ executorMarks (marksW depth (now (ws .entry)) bound) (now (ws .entry)) bound at (now (marks .entry))) ⌝ }
 {
     if end(ws, at, 8192, bound) {
-        part(ws, at + 3, depth, 8, bound, marks)
+        mark(ws, at + 3, depth, 8, bound, marks)
     } else {
         0
     }

@@ -1,0 +1,439 @@
+-- `enabled`, `executor`, `mark`, `par`, `scope` and `seq` of `marking::mark` meet their contracts: the code is its mirror in specs/. The
+-- measure is the depth that is left, and for the same depth who calls whom.
+-- Assumes nothing.
+use Prim.Native.Nat.{ℕ, _+_, _*_, _<_}
+use native.Mathlib.Omega.{arith}
+use mathlib.Core.Path.{refl, sym, _∙_}
+use borrow.Author.Needs.{needs}
+use Rattle.reading.specs.Walk.{nodeEnd}
+use Rattle.marking.specs.Marking.{noting, marksW}
+use Rattle.marking.proofs.Notes.{none-deep, none-left, refused, others, one-word, a-seq, a-par, a-scope, an-executor, two-none, two-next, seq-none, seq-next, par-none, par-next, scope-short, scope-none, scope-next, executor-none, executor-next, same-note}
+use borrow.Fn.Kinds.{In}
+use borrow.Fn.PlainCycle.{Measures, is, falls, and}
+use Rattle.marking.proofs.mark.enabled.Reads as enabled
+use Rattle.marking.proofs.mark.enabled.Kinds as enabled-kinds
+use Rattle.marking.proofs.mark.+enabled+executor+mark+par+scope+seq.Lts-enabled as enabled-lts
+use Rattle.marking.proofs.mark.executor.Reads as executor
+use Rattle.marking.proofs.mark.executor.Kinds as executor-kinds
+use Rattle.marking.proofs.mark.+enabled+executor+mark+par+scope+seq.Lts-executor as executor-lts
+use Rattle.marking.proofs.mark.mark.Reads as mark
+use Rattle.marking.proofs.mark.mark.Kinds as mark-kinds
+use Rattle.marking.proofs.mark.+enabled+executor+mark+par+scope+seq.Lts-mark as mark-lts
+use Rattle.marking.proofs.mark.par.Reads as par
+use Rattle.marking.proofs.mark.par.Kinds as par-kinds
+use Rattle.marking.proofs.mark.+enabled+executor+mark+par+scope+seq.Lts-par as par-lts
+use Rattle.marking.proofs.mark.scope.Reads as scope
+use Rattle.marking.proofs.mark.scope.Kinds as scope-kinds
+use Rattle.marking.proofs.mark.+enabled+executor+mark+par+scope+seq.Lts-scope as scope-lts
+use Rattle.marking.proofs.mark.seq.Reads as seq
+use Rattle.marking.proofs.mark.seq.Kinds as seq-kinds
+use Rattle.marking.proofs.mark.+enabled+executor+mark+par+scope+seq.Lts-seq as seq-lts
+use Rattle.marking.proofs.mark.note.Reads as note-reads
+use Rattle.marking.proofs.mark.note_list.Reads as note-list-reads
+use Rattle.reading.proofs.reader.end.Reads as end-reads
+use Rattle.reading.proofs.reader.marked.Reads as marked-reads
+use Rattle.reading.proofs.reader.process.Reads as process-reads
+use Rattle.reading.proofs.reader.wide.Reads as wide-reads
+use Rattle.reading.proofs.tables.head_mask.Reads as head-mask-reads
+use Rattle.marking.proofs.mark.+enabled+executor+mark+par+scope+seq.{statement}
+use Rattle.marking.proofs.mark.+enabled+executor+mark+par+scope+seq.Tie.{close}
+
+abbrev μ-enabled : Measures 2 enabled-kinds.ps ℕ
+μ-enabled κs a = a .1 .1 .0 * 3
+
+abbrev μ-executor : Measures 2 executor-kinds.ps ℕ
+μ-executor κs a = a .1 .1 .0 * 3 + 2
+
+abbrev μ-mark : Measures 2 mark-kinds.ps ℕ
+μ-mark κs a = a .1 .1 .0 * 3 + 1
+
+abbrev μ-par : Measures 2 par-kinds.ps ℕ
+μ-par κs a = a .1 .1 .0 * 3 + 2
+
+abbrev μ-scope : Measures 2 scope-kinds.ps ℕ
+μ-scope κs a = a .1 .1 .0 * 3 + 2
+
+abbrev μ-seq : Measures 2 seq-kinds.ps ℕ
+μ-seq κs a = a .1 .1 .0 * 3 + 2
+
+abbrev enabled-at : ℕ → In 2 enabled-kinds.ps
+enabled-at t = and 2 enabled-kinds.ps (is 2 enabled-kinds.ps μ-enabled t) enabled.Pre
+
+abbrev enabled-below : ℕ → In 2 enabled-kinds.ps
+enabled-below t = and 2 enabled-kinds.ps (falls 2 enabled-kinds.ps _<_ μ-enabled t) enabled.Pre
+
+abbrev executor-at : ℕ → In 2 executor-kinds.ps
+executor-at t = and 2 executor-kinds.ps (is 2 executor-kinds.ps μ-executor t) executor.Pre
+
+abbrev executor-below : ℕ → In 2 executor-kinds.ps
+executor-below t =
+    and 2 executor-kinds.ps (falls 2 executor-kinds.ps _<_ μ-executor t) executor.Pre
+
+abbrev mark-at : ℕ → In 2 mark-kinds.ps
+mark-at t = and 2 mark-kinds.ps (is 2 mark-kinds.ps μ-mark t) mark.Pre
+
+abbrev mark-below : ℕ → In 2 mark-kinds.ps
+mark-below t = and 2 mark-kinds.ps (falls 2 mark-kinds.ps _<_ μ-mark t) mark.Pre
+
+abbrev par-at : ℕ → In 2 par-kinds.ps
+par-at t = and 2 par-kinds.ps (is 2 par-kinds.ps μ-par t) par.Pre
+
+abbrev par-below : ℕ → In 2 par-kinds.ps
+par-below t = and 2 par-kinds.ps (falls 2 par-kinds.ps _<_ μ-par t) par.Pre
+
+abbrev scope-at : ℕ → In 2 scope-kinds.ps
+scope-at t = and 2 scope-kinds.ps (is 2 scope-kinds.ps μ-scope t) scope.Pre
+
+abbrev scope-below : ℕ → In 2 scope-kinds.ps
+scope-below t = and 2 scope-kinds.ps (falls 2 scope-kinds.ps _<_ μ-scope t) scope.Pre
+
+abbrev seq-at : ℕ → In 2 seq-kinds.ps
+seq-at t = and 2 seq-kinds.ps (is 2 seq-kinds.ps μ-seq t) seq.Pre
+
+abbrev seq-below : ℕ → In 2 seq-kinds.ps
+seq-below t = and 2 seq-kinds.ps (falls 2 seq-kinds.ps _<_ μ-seq t) seq.Pre
+
+enabled-returns : (t : ℕ) → enabled-lts.Need-returns (wide-reads.Asked, wide-reads.Learnt, head-mask-reads.Asked, head-mask-reads.Learnt, seq-below t, seq.Post, par-below t, par.Post, scope-below t, scope.Post, executor-below t, executor.Post, process-reads.Asked, process-reads.Learnt) (enabled-at t) enabled.Post
+enabled-returns t c = none-deep _ _ _ _ _ _ ((c .if1 .taken))
+
+enabled-returns-2 : (t : ℕ) → enabled-lts.Need-returns-2 (wide-reads.Asked, wide-reads.Learnt, head-mask-reads.Asked, head-mask-reads.Learnt, seq-below t, seq.Post, par-below t, par.Post, scope-below t, scope.Post, executor-below t, executor.Post, process-reads.Asked, process-reads.Learnt) (enabled-at t) enabled.Post
+enabled-returns-2 t c = none-left _ _ _ _ _ _ ((c .before .if1 .left)) ((c .if2 .taken))
+
+enabled-mul-wide : (t : ℕ) → enabled-lts.Need-mul-wide (wide-reads.Asked, wide-reads.Learnt, head-mask-reads.Asked, head-mask-reads.Learnt, seq-below t, seq.Post, par-below t, par.Post, scope-below t, scope.Post, executor-below t, executor.Post, process-reads.Asked, process-reads.Learnt) (enabled-at t) enabled.Post
+enabled-mul-wide t c = search needs
+
+enabled-shared-slice-read-wide : (t : ℕ) → enabled-lts.Need-shared-slice-read-wide (wide-reads.Asked, wide-reads.Learnt, head-mask-reads.Asked, head-mask-reads.Learnt, seq-below t, seq.Post, par-below t, par.Post, scope-below t, scope.Post, executor-below t, executor.Post, process-reads.Asked, process-reads.Learnt) (enabled-at t) enabled.Post
+enabled-shared-slice-read-wide t c = search needs
+
+enabled-wide-requires : (t : ℕ) → enabled-lts.Need-wide-requires (wide-reads.Asked, wide-reads.Learnt, head-mask-reads.Asked, head-mask-reads.Learnt, seq-below t, seq.Post, par-below t, par.Post, scope-below t, scope.Post, executor-below t, executor.Post, process-reads.Asked, process-reads.Learnt) (enabled-at t) enabled.Post
+enabled-wide-requires t c κs = search needs
+
+enabled-add-if3 : (t : ℕ) → enabled-lts.Need-add-if3 (wide-reads.Asked, wide-reads.Learnt, head-mask-reads.Asked, head-mask-reads.Learnt, seq-below t, seq.Post, par-below t, par.Post, scope-below t, scope.Post, executor-below t, executor.Post, process-reads.Asked, process-reads.Learnt) (enabled-at t) enabled.Post
+enabled-add-if3 t c = search needs
+
+enabled-head-mask-requires : (t : ℕ) → enabled-lts.Need-head-mask-requires (wide-reads.Asked, wide-reads.Learnt, head-mask-reads.Asked, head-mask-reads.Learnt, seq-below t, seq.Post, par-below t, par.Post, scope-below t, scope.Post, executor-below t, executor.Post, process-reads.Asked, process-reads.Learnt) (enabled-at t) enabled.Post
+enabled-head-mask-requires t c κs = search needs
+
+enabled-returns-3 : (t : ℕ) → enabled-lts.Need-returns-3 (wide-reads.Asked, wide-reads.Learnt, head-mask-reads.Asked, head-mask-reads.Learnt, seq-below t, seq.Post, par-below t, par.Post, scope-below t, scope.Post, executor-below t, executor.Post, process-reads.Asked, process-reads.Learnt) (enabled-at t) enabled.Post
+enabled-returns-3 t c = refused _ _ _ _ _ _ _ _ ((c .before .before .before .before .before .if1 .left)) ((c .before .before .before .before .if2 .left)) ((c .before .before .wide .ensures .0)) ((c .before .head-mask .ensures)) ((c .if3 .taken))
+
+enabled-sub-d : (t : ℕ) → enabled-lts.Need-sub-d (wide-reads.Asked, wide-reads.Learnt, head-mask-reads.Asked, head-mask-reads.Learnt, seq-below t, seq.Post, par-below t, par.Post, scope-below t, scope.Post, executor-below t, executor.Post, process-reads.Asked, process-reads.Learnt) (enabled-at t) enabled.Post
+enabled-sub-d t c = search needs
+
+enabled-add-result : (t : ℕ) → enabled-lts.Need-add-result (wide-reads.Asked, wide-reads.Learnt, head-mask-reads.Asked, head-mask-reads.Learnt, seq-below t, seq.Post, par-below t, par.Post, scope-below t, scope.Post, executor-below t, executor.Post, process-reads.Asked, process-reads.Learnt) (enabled-at t) enabled.Post
+enabled-add-result t c = search needs
+
+enabled-add-seq : (t : ℕ) → enabled-lts.Need-add-seq (wide-reads.Asked, wide-reads.Learnt, head-mask-reads.Asked, head-mask-reads.Learnt, seq-below t, seq.Post, par-below t, par.Post, scope-below t, scope.Post, executor-below t, executor.Post, process-reads.Asked, process-reads.Learnt) (enabled-at t) enabled.Post
+enabled-add-seq t c = search needs
+
+enabled-seq-requires : (t : ℕ) → enabled-lts.Need-seq-requires (wide-reads.Asked, wide-reads.Learnt, head-mask-reads.Asked, head-mask-reads.Learnt, seq-below t, seq.Post, par-below t, par.Post, scope-below t, scope.Post, executor-below t, executor.Post, process-reads.Asked, process-reads.Learnt) (enabled-at t) enabled.Post
+enabled-seq-requires t c κs = search needs
+
+enabled-add-par : (t : ℕ) → enabled-lts.Need-add-par (wide-reads.Asked, wide-reads.Learnt, head-mask-reads.Asked, head-mask-reads.Learnt, seq-below t, seq.Post, par-below t, par.Post, scope-below t, scope.Post, executor-below t, executor.Post, process-reads.Asked, process-reads.Learnt) (enabled-at t) enabled.Post
+enabled-add-par t c = search needs
+
+enabled-par-requires : (t : ℕ) → enabled-lts.Need-par-requires (wide-reads.Asked, wide-reads.Learnt, head-mask-reads.Asked, head-mask-reads.Learnt, seq-below t, seq.Post, par-below t, par.Post, scope-below t, scope.Post, executor-below t, executor.Post, process-reads.Asked, process-reads.Learnt) (enabled-at t) enabled.Post
+enabled-par-requires t c κs = search needs
+
+enabled-add-result-2 : (t : ℕ) → enabled-lts.Need-add-result-2 (wide-reads.Asked, wide-reads.Learnt, head-mask-reads.Asked, head-mask-reads.Learnt, seq-below t, seq.Post, par-below t, par.Post, scope-below t, scope.Post, executor-below t, executor.Post, process-reads.Asked, process-reads.Learnt) (enabled-at t) enabled.Post
+enabled-add-result-2 t c = search needs
+
+enabled-scope-requires : (t : ℕ) → enabled-lts.Need-scope-requires (wide-reads.Asked, wide-reads.Learnt, head-mask-reads.Asked, head-mask-reads.Learnt, seq-below t, seq.Post, par-below t, par.Post, scope-below t, scope.Post, executor-below t, executor.Post, process-reads.Asked, process-reads.Learnt) (enabled-at t) enabled.Post
+enabled-scope-requires t c κs = search needs
+
+enabled-add-result-3 : (t : ℕ) → enabled-lts.Need-add-result-3 (wide-reads.Asked, wide-reads.Learnt, head-mask-reads.Asked, head-mask-reads.Learnt, seq-below t, seq.Post, par-below t, par.Post, scope-below t, scope.Post, executor-below t, executor.Post, process-reads.Asked, process-reads.Learnt) (enabled-at t) enabled.Post
+enabled-add-result-3 t c = search needs
+
+enabled-add-result-4 : (t : ℕ) → enabled-lts.Need-add-result-4 (wide-reads.Asked, wide-reads.Learnt, head-mask-reads.Asked, head-mask-reads.Learnt, seq-below t, seq.Post, par-below t, par.Post, scope-below t, scope.Post, executor-below t, executor.Post, process-reads.Asked, process-reads.Learnt) (enabled-at t) enabled.Post
+enabled-add-result-4 t c = search needs
+
+enabled-executor-requires : (t : ℕ) → enabled-lts.Need-executor-requires (wide-reads.Asked, wide-reads.Learnt, head-mask-reads.Asked, head-mask-reads.Learnt, seq-below t, seq.Post, par-below t, par.Post, scope-below t, scope.Post, executor-below t, executor.Post, process-reads.Asked, process-reads.Learnt) (enabled-at t) enabled.Post
+enabled-executor-requires t c κs = search needs
+
+enabled-process-requires : (t : ℕ) → enabled-lts.Need-process-requires (wide-reads.Asked, wide-reads.Learnt, head-mask-reads.Asked, head-mask-reads.Learnt, seq-below t, seq.Post, par-below t, par.Post, scope-below t, scope.Post, executor-below t, executor.Post, process-reads.Asked, process-reads.Learnt) (enabled-at t) enabled.Post
+enabled-process-requires t c κs = search needs
+
+enabled-returns-4 : (t : ℕ) → enabled-lts.Need-returns-4 (wide-reads.Asked, wide-reads.Learnt, head-mask-reads.Asked, head-mask-reads.Learnt, seq-below t, seq.Post, par-below t, par.Post, scope-below t, scope.Post, executor-below t, executor.Post, process-reads.Asked, process-reads.Learnt) (enabled-at t) enabled.Post
+unfolding nodeEnd
+enabled-returns-4 t c =
+    one-word _ _ _ _ _ _ _ _ ((c .before .before .before .before .before .before .if1 .left)) ((c .before .before .before .before .before .if2 .left)) ((c .before .before .before .wide .ensures .0)) ((c .before .before .head-mask .ensures)) ((c .before .if3 .left)) ((c .before .before .before .before .before .before .before .before .before .pre .1 .0)) ((c .before .before .before .before .before .before .before .before .before .pre .1 .1)) 0 ((c .match .keys1)) (λ h e. rw e refl) (λ z. omega arith) (λ z. omega arith) (λ z. omega arith) (λ z. omega arith)
+
+enabled-same-length : (t : ℕ) → enabled-lts.Need-same-length (wide-reads.Asked, wide-reads.Learnt, head-mask-reads.Asked, head-mask-reads.Learnt, seq-below t, seq.Post, par-below t, par.Post, scope-below t, scope.Post, executor-below t, executor.Post, process-reads.Asked, process-reads.Learnt) (enabled-at t) enabled.Post
+enabled-same-length t c = search needs
+
+enabled-returns-5 : (t : ℕ) → enabled-lts.Need-returns-5 (wide-reads.Asked, wide-reads.Learnt, head-mask-reads.Asked, head-mask-reads.Learnt, seq-below t, seq.Post, par-below t, par.Post, scope-below t, scope.Post, executor-below t, executor.Post, process-reads.Asked, process-reads.Learnt) (enabled-at t) enabled.Post
+enabled-returns-5 t c = a-seq _ _ _ _ _ _ _ _ ((c .before .before .before .before .before .before .before .before .before .before .if1 .left)) ((c .before .before .before .before .before .before .before .before .before .if2 .left)) ((c .before .before .before .before .before .before .before .wide .ensures .0)) ((c .before .before .before .before .before .before .head-mask .ensures)) ((c .before .before .before .before .before .if3 .left)) ((c .before .before .before .before .before .before .before .before .before .before .before .before .before .pre .1 .0)) ((c .before .before .before .before .before .before .before .before .before .before .before .before .before .pre .1 .1)) _ _ ((c .before .before .before .before .match .keys2)) ((c .before .before .seq .ensures .0)) ((c .before .before .seq .ensures .1))
+
+enabled-same-length-2 : (t : ℕ) → enabled-lts.Need-same-length-2 (wide-reads.Asked, wide-reads.Learnt, head-mask-reads.Asked, head-mask-reads.Learnt, seq-below t, seq.Post, par-below t, par.Post, scope-below t, scope.Post, executor-below t, executor.Post, process-reads.Asked, process-reads.Learnt) (enabled-at t) enabled.Post
+enabled-same-length-2 t c = search needs
+
+enabled-returns-6 : (t : ℕ) → enabled-lts.Need-returns-6 (wide-reads.Asked, wide-reads.Learnt, head-mask-reads.Asked, head-mask-reads.Learnt, seq-below t, seq.Post, par-below t, par.Post, scope-below t, scope.Post, executor-below t, executor.Post, process-reads.Asked, process-reads.Learnt) (enabled-at t) enabled.Post
+enabled-returns-6 t c = a-par _ _ _ _ _ _ _ _ ((c .before .before .before .before .before .before .before .before .before .before .if1 .left)) ((c .before .before .before .before .before .before .before .before .before .if2 .left)) ((c .before .before .before .before .before .before .before .wide .ensures .0)) ((c .before .before .before .before .before .before .head-mask .ensures)) ((c .before .before .before .before .before .if3 .left)) ((c .before .before .before .before .before .before .before .before .before .before .before .before .before .pre .1 .0)) ((c .before .before .before .before .before .before .before .before .before .before .before .before .before .pre .1 .1)) _ _ ((c .before .before .before .before .match .keys3)) ((c .before .before .par .ensures .0)) ((c .before .before .par .ensures .1))
+
+enabled-returns-7 : (t : ℕ) → enabled-lts.Need-returns-7 (wide-reads.Asked, wide-reads.Learnt, head-mask-reads.Asked, head-mask-reads.Learnt, seq-below t, seq.Post, par-below t, par.Post, scope-below t, scope.Post, executor-below t, executor.Post, process-reads.Asked, process-reads.Learnt) (enabled-at t) enabled.Post
+unfolding nodeEnd
+enabled-returns-7 t c =
+    one-word _ _ _ _ _ _ _ _ ((c .before .before .before .before .before .before .if1 .left)) ((c .before .before .before .before .before .if2 .left)) ((c .before .before .before .wide .ensures .0)) ((c .before .before .head-mask .ensures)) ((c .before .if3 .left)) ((c .before .before .before .before .before .before .before .before .before .pre .1 .0)) ((c .before .before .before .before .before .before .before .before .before .pre .1 .1)) 7 ((c .match .keys4)) (λ h e. rw e refl) (λ z. omega arith) (λ z. omega arith) (λ z. omega arith) (λ z. omega arith)
+
+enabled-same-length-3 : (t : ℕ) → enabled-lts.Need-same-length-3 (wide-reads.Asked, wide-reads.Learnt, head-mask-reads.Asked, head-mask-reads.Learnt, seq-below t, seq.Post, par-below t, par.Post, scope-below t, scope.Post, executor-below t, executor.Post, process-reads.Asked, process-reads.Learnt) (enabled-at t) enabled.Post
+enabled-same-length-3 t c = search needs
+
+enabled-returns-8 : (t : ℕ) → enabled-lts.Need-returns-8 (wide-reads.Asked, wide-reads.Learnt, head-mask-reads.Asked, head-mask-reads.Learnt, seq-below t, seq.Post, par-below t, par.Post, scope-below t, scope.Post, executor-below t, executor.Post, process-reads.Asked, process-reads.Learnt) (enabled-at t) enabled.Post
+enabled-returns-8 t c = a-scope _ _ _ _ _ _ _ _ ((c .before .before .before .before .before .before .before .before .before .before .if1 .left)) ((c .before .before .before .before .before .before .before .before .before .if2 .left)) ((c .before .before .before .before .before .before .before .wide .ensures .0)) ((c .before .before .before .before .before .before .head-mask .ensures)) ((c .before .before .before .before .before .if3 .left)) ((c .before .before .before .before .before .before .before .before .before .before .before .before .before .pre .1 .0)) ((c .before .before .before .before .before .before .before .before .before .before .before .before .before .pre .1 .1)) _ _ ((c .before .before .before .before .match .keys5)) ((c .before .before .scope .ensures .0)) ((c .before .before .scope .ensures .1))
+
+enabled-returns-9 : (t : ℕ) → enabled-lts.Need-returns-9 (wide-reads.Asked, wide-reads.Learnt, head-mask-reads.Asked, head-mask-reads.Learnt, seq-below t, seq.Post, par-below t, par.Post, scope-below t, scope.Post, executor-below t, executor.Post, process-reads.Asked, process-reads.Learnt) (enabled-at t) enabled.Post
+unfolding nodeEnd
+enabled-returns-9 t c =
+    one-word _ _ _ _ _ _ _ _ ((c .before .before .before .before .before .before .if1 .left)) ((c .before .before .before .before .before .if2 .left)) ((c .before .before .before .wide .ensures .0)) ((c .before .before .head-mask .ensures)) ((c .before .if3 .left)) ((c .before .before .before .before .before .before .before .before .before .pre .1 .0)) ((c .before .before .before .before .before .before .before .before .before .pre .1 .1)) 13 ((c .match .keys6)) (λ h e. rw e refl) (λ z. omega arith) (λ z. omega arith) (λ z. omega arith) (λ z. omega arith)
+
+enabled-returns-10 : (t : ℕ) → enabled-lts.Need-returns-10 (wide-reads.Asked, wide-reads.Learnt, head-mask-reads.Asked, head-mask-reads.Learnt, seq-below t, seq.Post, par-below t, par.Post, scope-below t, scope.Post, executor-below t, executor.Post, process-reads.Asked, process-reads.Learnt) (enabled-at t) enabled.Post
+unfolding nodeEnd
+enabled-returns-10 t c =
+    one-word _ _ _ _ _ _ _ _ ((c .before .before .before .before .before .before .if1 .left)) ((c .before .before .before .before .before .if2 .left)) ((c .before .before .before .wide .ensures .0)) ((c .before .before .head-mask .ensures)) ((c .before .if3 .left)) ((c .before .before .before .before .before .before .before .before .before .pre .1 .0)) ((c .before .before .before .before .before .before .before .before .before .pre .1 .1)) 14 ((c .match .keys7)) (λ h e. rw e refl) (λ z. omega arith) (λ z. omega arith) (λ z. omega arith) (λ z. omega arith)
+
+enabled-same-length-4 : (t : ℕ) → enabled-lts.Need-same-length-4 (wide-reads.Asked, wide-reads.Learnt, head-mask-reads.Asked, head-mask-reads.Learnt, seq-below t, seq.Post, par-below t, par.Post, scope-below t, scope.Post, executor-below t, executor.Post, process-reads.Asked, process-reads.Learnt) (enabled-at t) enabled.Post
+enabled-same-length-4 t c = search needs
+
+enabled-returns-11 : (t : ℕ) → enabled-lts.Need-returns-11 (wide-reads.Asked, wide-reads.Learnt, head-mask-reads.Asked, head-mask-reads.Learnt, seq-below t, seq.Post, par-below t, par.Post, scope-below t, scope.Post, executor-below t, executor.Post, process-reads.Asked, process-reads.Learnt) (enabled-at t) enabled.Post
+enabled-returns-11 t c = an-executor _ _ _ _ _ _ _ _ ((c .before .before .before .before .before .before .before .before .before .before .if1 .left)) ((c .before .before .before .before .before .before .before .before .before .if2 .left)) ((c .before .before .before .before .before .before .before .wide .ensures .0)) ((c .before .before .before .before .before .before .head-mask .ensures)) ((c .before .before .before .before .before .if3 .left)) ((c .before .before .before .before .before .before .before .before .before .before .before .before .before .pre .1 .0)) ((c .before .before .before .before .before .before .before .before .before .before .before .before .before .pre .1 .1)) _ _ ((c .before .before .before .before .match .keys8)) ((c .before .before .executor .ensures .0)) ((c .before .before .executor .ensures .1))
+
+enabled-returns-12 : (t : ℕ) → enabled-lts.Need-returns-12 (wide-reads.Asked, wide-reads.Learnt, head-mask-reads.Asked, head-mask-reads.Learnt, seq-below t, seq.Post, par-below t, par.Post, scope-below t, scope.Post, executor-below t, executor.Post, process-reads.Asked, process-reads.Learnt) (enabled-at t) enabled.Post
+enabled-returns-12 t c = ((c .process .ensures), others _ _ _ _ _ _ _ _ ((c .before .before .before .before .before .before .before .if1 .left)) ((c .before .before .before .before .before .before .if2 .left)) ((c .before .before .before .before .wide .ensures .0)) ((c .before .before .before .head-mask .ensures)) ((c .before .before .if3 .left)) ((c .before .before .before .before .before .before .before .before .before .before .pre .1 .0)) ((c .before .before .before .before .before .before .before .before .before .before .pre .1 .1)) _ refl ((c .before .match .rest .0 .0 .0 .0 .0 .0 .1)) ((c .before .match .rest .0 .0 .0 .0 .0 .1)) ((c .before .match .rest .0 .0 .0 .1)) ((c .before .match .rest .1)))
+
+executor-end-requires : (t : ℕ) → executor-lts.Need-end-requires (end-reads.Asked, end-reads.Learnt, mark-below t, mark.Post) (executor-at t) executor.Post
+executor-end-requires t c κs = search needs
+
+executor-add-mark : (t : ℕ) → executor-lts.Need-add-mark (end-reads.Asked, end-reads.Learnt, mark-below t, mark.Post) (executor-at t) executor.Post
+executor-add-mark t c = search needs
+
+executor-mark-requires : (t : ℕ) → executor-lts.Need-mark-requires (end-reads.Asked, end-reads.Learnt, mark-below t, mark.Post) (executor-at t) executor.Post
+executor-mark-requires t c κs = search needs
+
+executor-same-length : (t : ℕ) → executor-lts.Need-same-length (end-reads.Asked, end-reads.Learnt, mark-below t, mark.Post) (executor-at t) executor.Post
+executor-same-length t c = search needs
+
+executor-returns : (t : ℕ) → executor-lts.Need-returns (end-reads.Asked, end-reads.Learnt, mark-below t, mark.Post) (executor-at t) executor.Post
+executor-returns t c = executor-next _ _ _ _ _ _ _ _ (sym ((c .before .before .before .before .if1 .taken)) ∙ (c .before .before .before .before .before .end .ensures)) ((c .before .before .mark .ensures .0)) ((c .before .before .mark .ensures .1))
+
+executor-returns-2 : (t : ℕ) → executor-lts.Need-returns-2 (end-reads.Asked, end-reads.Learnt, mark-below t, mark.Post) (executor-at t) executor.Post
+executor-returns-2 t c = executor-none _ _ _ _ _ _ (sym ((c .if1 .left)) ∙ (c .before .end .ensures))
+
+mark-enabled-requires : (t : ℕ) → mark-lts.Need-enabled-requires (enabled-below t, enabled.Post, note-reads.Asked, note-reads.Learnt) (mark-at t) mark.Post
+mark-enabled-requires t c κs = search needs
+
+mark-note-requires : (t : ℕ) → mark-lts.Need-note-requires (enabled-below t, enabled.Post, note-reads.Asked, note-reads.Learnt) (mark-at t) mark.Post
+mark-note-requires t c κs = search needs
+
+mark-same-length : (t : ℕ) → mark-lts.Need-same-length (enabled-below t, enabled.Post, note-reads.Asked, note-reads.Learnt) (mark-at t) mark.Post
+mark-same-length t c = search needs
+
+mark-returns : (t : ℕ) → mark-lts.Need-returns (enabled-below t, enabled.Post, note-reads.Asked, note-reads.Learnt) (mark-at t) mark.Post
+unfolding noting
+mark-returns t c =
+    ((c .before .before .note .ensures .0) ∙ (c .before .before .before .before .before .before .enabled .ensures .0), (c .before .before .note .ensures .1) ∙ same-note _ _ _ _ _ ((c .before .before .before .before .before .before .enabled .ensures .0)) ((c .before .before .before .before .before .before .enabled .ensures .1)))
+
+par-mark-requires : (t : ℕ) → par-lts.Need-mark-requires (mark-below t, mark.Post) (par-at t) par.Post
+par-mark-requires t c κs = search needs
+
+par-same-length : (t : ℕ) → par-lts.Need-same-length (mark-below t, mark.Post) (par-at t) par.Post
+par-same-length t c = search needs
+
+par-returns : (t : ℕ) → par-lts.Need-returns (mark-below t, mark.Post) (par-at t) par.Post
+par-returns t c = (two-none _ (marksW ((c .before .before .before .before .before .before .before .args .depth)) ((c .before .before .before .before .before .before .before .args .ws .now)) ((c .before .before .before .before .before .before .before .args .bound))) _ _ _ _ ((c .before .before .before .mark .ensures .0)) ((c .before .before .before .mark .ensures .1)) _ ((c .if1 .taken)), par-none _ _ _ _ _ _ ((c .before .before .before .mark .ensures .0)) ((c .before .before .before .mark .ensures .1)) ((c .if1 .taken)))
+
+par-mark-requires-2 : (t : ℕ) → par-lts.Need-mark-requires-2 (mark-below t, mark.Post) (par-at t) par.Post
+par-mark-requires-2 t c κs = search needs
+
+par-same-length-2 : (t : ℕ) → par-lts.Need-same-length-2 (mark-below t, mark.Post) (par-at t) par.Post
+par-same-length-2 t c = search needs
+
+par-returns-2 : (t : ℕ) → par-lts.Need-returns-2 (mark-below t, mark.Post) (par-at t) par.Post
+par-returns-2 t c = (two-next _ (marksW ((c .before .before .before .before .before .before .before .before .before .before .before .args .depth)) ((c .before .before .before .before .before .before .before .before .before .before .before .args .ws .now)) ((c .before .before .before .before .before .before .before .before .before .before .before .args .bound))) _ _ _ _ ((c .before .before .before .before .before .before .before .mark .ensures .0)) ((c .before .before .before .before .before .before .before .mark .ensures .1)) _ _ ((c .before .before .before .before .if1 .left)) ((c .before .before .mark2 .ensures .0)), par-next _ _ _ _ _ _ ((c .before .before .before .before .before .before .before .mark .ensures .0)) ((c .before .before .before .before .before .before .before .mark .ensures .1)) _ ((c .before .before .before .before .if1 .left)) ((c .before .before .mark2 .ensures .1)))
+
+scope-sub-if1 : (t : ℕ) → scope-lts.Need-sub-if1 (wide-reads.Asked, wide-reads.Learnt, marked-reads.Asked, marked-reads.Learnt, note-list-reads.Asked, note-list-reads.Learnt, mark-below t, mark.Post) (scope-at t) scope.Post
+scope-sub-if1 t c = search needs
+
+scope-returns : (t : ℕ) → scope-lts.Need-returns (wide-reads.Asked, wide-reads.Learnt, marked-reads.Asked, marked-reads.Learnt, note-list-reads.Asked, note-list-reads.Learnt, mark-below t, mark.Post) (scope-at t) scope.Post
+scope-returns t c = scope-short _ _ _ _ _ _ ((c .if1 .taken))
+
+scope-add-marked : (t : ℕ) → scope-lts.Need-add-marked (wide-reads.Asked, wide-reads.Learnt, marked-reads.Asked, marked-reads.Learnt, note-list-reads.Asked, note-list-reads.Learnt, mark-below t, mark.Post) (scope-at t) scope.Post
+scope-add-marked t c = search needs
+
+scope-add-wide : (t : ℕ) → scope-lts.Need-add-wide (wide-reads.Asked, wide-reads.Learnt, marked-reads.Asked, marked-reads.Learnt, note-list-reads.Asked, note-list-reads.Learnt, mark-below t, mark.Post) (scope-at t) scope.Post
+scope-add-wide t c = search needs
+
+scope-mul-wide : (t : ℕ) → scope-lts.Need-mul-wide (wide-reads.Asked, wide-reads.Learnt, marked-reads.Asked, marked-reads.Learnt, note-list-reads.Asked, note-list-reads.Learnt, mark-below t, mark.Post) (scope-at t) scope.Post
+scope-mul-wide t c = search needs
+
+scope-shared-slice-read-wide : (t : ℕ) → scope-lts.Need-shared-slice-read-wide (wide-reads.Asked, wide-reads.Learnt, marked-reads.Asked, marked-reads.Learnt, note-list-reads.Asked, note-list-reads.Learnt, mark-below t, mark.Post) (scope-at t) scope.Post
+scope-shared-slice-read-wide t c = search needs
+
+scope-wide-requires : (t : ℕ) → scope-lts.Need-wide-requires (wide-reads.Asked, wide-reads.Learnt, marked-reads.Asked, marked-reads.Learnt, note-list-reads.Asked, note-list-reads.Learnt, mark-below t, mark.Post) (scope-at t) scope.Post
+scope-wide-requires t c κs = search needs
+
+scope-marked-requires : (t : ℕ) → scope-lts.Need-marked-requires (wide-reads.Asked, wide-reads.Learnt, marked-reads.Asked, marked-reads.Learnt, note-list-reads.Asked, note-list-reads.Learnt, mark-below t, mark.Post) (scope-at t) scope.Post
+scope-marked-requires t c κs = search needs
+
+scope-returns-2 : (t : ℕ) → scope-lts.Need-returns-2 (wide-reads.Asked, wide-reads.Learnt, marked-reads.Asked, marked-reads.Learnt, note-list-reads.Asked, note-list-reads.Learnt, mark-below t, mark.Post) (scope-at t) scope.Post
+scope-returns-2 t c = scope-none _ _ _ _ _ _ _ _ ((c .before .before .before .before .if1 .left)) ((c .before .before .wide .ensures .0)) ((c .before .marked .ensures)) ((c .if2 .taken))
+
+scope-add-note-list : (t : ℕ) → scope-lts.Need-add-note-list (wide-reads.Asked, wide-reads.Learnt, marked-reads.Asked, marked-reads.Learnt, note-list-reads.Asked, note-list-reads.Learnt, mark-below t, mark.Post) (scope-at t) scope.Post
+scope-add-note-list t c = search needs
+
+scope-note-list-requires : (t : ℕ) → scope-lts.Need-note-list-requires (wide-reads.Asked, wide-reads.Learnt, marked-reads.Asked, marked-reads.Learnt, note-list-reads.Asked, note-list-reads.Learnt, mark-below t, mark.Post) (scope-at t) scope.Post
+scope-note-list-requires t c κs = search needs
+
+scope-mark-requires : (t : ℕ) → scope-lts.Need-mark-requires (wide-reads.Asked, wide-reads.Learnt, marked-reads.Asked, marked-reads.Learnt, note-list-reads.Asked, note-list-reads.Learnt, mark-below t, mark.Post) (scope-at t) scope.Post
+scope-mark-requires t c κs = search needs
+
+scope-same-length : (t : ℕ) → scope-lts.Need-same-length (wide-reads.Asked, wide-reads.Learnt, marked-reads.Asked, marked-reads.Learnt, note-list-reads.Asked, note-list-reads.Learnt, mark-below t, mark.Post) (scope-at t) scope.Post
+scope-same-length t c = search needs
+
+scope-returns-3 : (t : ℕ) → scope-lts.Need-returns-3 (wide-reads.Asked, wide-reads.Learnt, marked-reads.Asked, marked-reads.Learnt, note-list-reads.Asked, note-list-reads.Learnt, mark-below t, mark.Post) (scope-at t) scope.Post
+scope-returns-3 t c = scope-next _ _ _ _ _ _ _ _ ((c .before .before .before .before .before .before .before .before .before .before .before .before .if1 .left)) ((c .before .before .before .before .before .before .before .before .before .before .wide .ensures .0)) ((c .before .before .before .before .before .before .before .before .before .marked .ensures)) _ _ _ ((c .before .before .before .before .before .before .before .before .if2 .left)) ((c .before .before .before .before .before .before .note-list .ensures .1)) ((c .before .before .mark .ensures .0)) ((c .before .before .mark .ensures .1))
+
+seq-mark-requires : (t : ℕ) → seq-lts.Need-mark-requires (mark-below t, mark.Post, process-reads.Asked, process-reads.Learnt, note-reads.Asked, note-reads.Learnt) (seq-at t) seq.Post
+seq-mark-requires t c κs = search needs
+
+seq-same-length : (t : ℕ) → seq-lts.Need-same-length (mark-below t, mark.Post, process-reads.Asked, process-reads.Learnt, note-reads.Asked, note-reads.Learnt) (seq-at t) seq.Post
+seq-same-length t c = search needs
+
+seq-returns : (t : ℕ) → seq-lts.Need-returns (mark-below t, mark.Post, process-reads.Asked, process-reads.Learnt, note-reads.Asked, note-reads.Learnt) (seq-at t) seq.Post
+seq-returns t c = (two-none _ (marksW ((c .before .before .before .before .before .before .before .args .depth)) ((c .before .before .before .before .before .before .before .args .ws .now)) ((c .before .before .before .before .before .before .before .args .bound))) _ _ _ _ ((c .before .before .before .mark .ensures .0)) ((c .before .before .before .mark .ensures .1)) _ ((c .if1 .taken)), seq-none _ _ _ _ _ _ ((c .before .before .before .mark .ensures .0)) ((c .before .before .before .mark .ensures .1)) ((c .if1 .taken)))
+
+seq-process-requires : (t : ℕ) → seq-lts.Need-process-requires (mark-below t, mark.Post, process-reads.Asked, process-reads.Learnt, note-reads.Asked, note-reads.Learnt) (seq-at t) seq.Post
+seq-process-requires t c κs = search needs
+
+seq-note-requires : (t : ℕ) → seq-lts.Need-note-requires (mark-below t, mark.Post, process-reads.Asked, process-reads.Learnt, note-reads.Asked, note-reads.Learnt) (seq-at t) seq.Post
+seq-note-requires t c κs = search needs
+
+seq-same-length-2 : (t : ℕ) → seq-lts.Need-same-length-2 (mark-below t, mark.Post, process-reads.Asked, process-reads.Learnt, note-reads.Asked, note-reads.Learnt) (seq-at t) seq.Post
+seq-same-length-2 t c = search needs
+
+seq-returns-2 : (t : ℕ) → seq-lts.Need-returns-2 (mark-below t, mark.Post, process-reads.Asked, process-reads.Learnt, note-reads.Asked, note-reads.Learnt) (seq-at t) seq.Post
+seq-returns-2 t c = (two-next _ (marksW ((c .before .before .before .before .before .before .before .before .before .before .before .before .args .depth)) ((c .before .before .before .before .before .before .before .before .before .before .before .before .args .ws .now)) ((c .before .before .before .before .before .before .before .before .before .before .before .before .args .bound))) _ _ _ _ ((c .before .before .before .before .before .before .before .before .mark .ensures .0)) ((c .before .before .before .before .before .before .before .before .mark .ensures .1)) _ _ ((c .before .before .before .before .before .if1 .left)) ((c .before .before .note .ensures .0) ∙ (c .before .before .before .before .process .ensures)), seq-next _ _ _ _ _ _ ((c .before .before .before .before .before .before .before .before .mark .ensures .0)) ((c .before .before .before .before .before .before .before .before .mark .ensures .1)) _ _ ((c .before .before .before .before .before .if1 .left)) ((c .before .before .before .before .process .ensures)) ((c .before .before .note .ensures .1)))
+
+pub +enabled+executor+mark+par+scope+seq-spec : {M : Type 1} → statement M
++enabled+executor+mark+par+scope+seq-spec =
+    close μ-enabled μ-executor μ-mark μ-par μ-scope μ-seq (λ t. enabled-lts.spec (
+      wide-reads.Asked,
+      wide-reads.Learnt,
+      head-mask-reads.Asked,
+      head-mask-reads.Learnt,
+      seq-below t,
+      seq.Post,
+      par-below t,
+      par.Post,
+      scope-below t,
+      scope.Post,
+      executor-below t,
+      executor.Post,
+      process-reads.Asked,
+      process-reads.Learnt,
+    )
+    (enabled-at t)
+    enabled.Post
+    (enabled-returns t)
+    (enabled-returns-2 t)
+    (enabled-mul-wide t)
+    (enabled-shared-slice-read-wide t)
+    (enabled-wide-requires t)
+    (enabled-add-if3 t)
+    (enabled-head-mask-requires t)
+    (enabled-returns-3 t)
+    (enabled-sub-d t)
+    (enabled-add-result t)
+    (enabled-add-seq t)
+    (enabled-seq-requires t)
+    (enabled-add-par t)
+    (enabled-par-requires t)
+    (enabled-add-result-2 t)
+    (enabled-scope-requires t)
+    (enabled-add-result-3 t)
+    (enabled-add-result-4 t)
+    (enabled-executor-requires t)
+    (enabled-process-requires t)
+    (enabled-returns-4 t)
+    (enabled-same-length t)
+    (enabled-returns-5 t)
+    (enabled-same-length-2 t)
+    (enabled-returns-6 t)
+    (enabled-returns-7 t)
+    (enabled-same-length-3 t)
+    (enabled-returns-8 t)
+    (enabled-returns-9 t)
+    (enabled-returns-10 t)
+    (enabled-same-length-4 t)
+    (enabled-returns-11 t)
+    (enabled-returns-12 t))
+    (λ t. executor-lts.spec
+    (end-reads.Asked, end-reads.Learnt, mark-below t, mark.Post)
+    (executor-at t)
+    executor.Post
+    (executor-end-requires t)
+    (executor-add-mark t)
+    (executor-mark-requires t)
+    (executor-same-length t)
+    (executor-returns t)
+    (executor-returns-2 t))
+    (λ t. mark-lts.spec
+    (enabled-below t, enabled.Post, note-reads.Asked, note-reads.Learnt)
+    (mark-at t)
+    mark.Post
+    (mark-enabled-requires t)
+    (mark-note-requires t)
+    (mark-same-length t)
+    (mark-returns t))
+    (λ t. par-lts.spec
+    (mark-below t, mark.Post)
+    (par-at t)
+    par.Post
+    (par-mark-requires t)
+    (par-same-length t)
+    (par-returns t)
+    (par-mark-requires-2 t)
+    (par-same-length-2 t)
+    (par-returns-2 t))
+    (λ t. scope-lts.spec (
+      wide-reads.Asked,
+      wide-reads.Learnt,
+      marked-reads.Asked,
+      marked-reads.Learnt,
+      note-list-reads.Asked,
+      note-list-reads.Learnt,
+      mark-below t,
+      mark.Post,
+    )
+    (scope-at t)
+    scope.Post
+    (scope-sub-if1 t)
+    (scope-returns t)
+    (scope-add-marked t)
+    (scope-add-wide t)
+    (scope-mul-wide t)
+    (scope-shared-slice-read-wide t)
+    (scope-wide-requires t)
+    (scope-marked-requires t)
+    (scope-returns-2 t)
+    (scope-add-note-list t)
+    (scope-note-list-requires t)
+    (scope-mark-requires t)
+    (scope-same-length t)
+    (scope-returns-3 t))
+    λ t. seq-lts.spec (
+      mark-below t,
+      mark.Post,
+      process-reads.Asked,
+      process-reads.Learnt,
+      note-reads.Asked,
+      note-reads.Learnt,
+    )
+    (seq-at t)
+    seq.Post
+    (seq-mark-requires t)
+    (seq-same-length t)
+    (seq-returns t)
+    (seq-process-requires t)
+    (seq-note-requires t)
+    (seq-same-length-2 t)
+    (seq-returns-2 t)
