@@ -3,18 +3,20 @@
 use Prim.Native.Nat.{ℕ, zero, suc, _+_, _-_, _*_, _/_, _%_, _≤_, _<_}
 use native.Mathlib.Omega.{arith}
 use mathlib.Core.Path.{_≡_, refl, sym, _∙_}
-use mathlib.Core.Bool.{true, false, _&&_, cond}
+use mathlib.Core.Bool.{Bool, true, false, true≢false, _&&_, cond}
 use mathlib.Core.List.{List}
-use borrow.Author.Tests.{lt-ltb, le-ltb, lt-leb, le-leb, eq-eqb, ne-eqb}
+use borrow.Author.Tests.{eqb-true, eqb-false, leb-false, lt-ltb, le-ltb, lt-leb, le-leb, eq-eqb, ne-eqb}
 use lib.Bits.{bitAnd}
 use lib.Dec.{leb, ltb, eqb}
 use lib.ListN.{length}
 use lib.Seq.{set-out}
-use Rattle.reading.specs.Tables.{headMask}
+use Rattle.sock.specs.Kind.{rows, rowOf}
+use Rattle.sock.specs.Reading.{allowed, placed}
+use Rattle.reading.specs.Tables.{spareOf, headMask}
 use Rattle.reading.specs.Walk.{on, when, at, exprEnd, processEnd, twoEnd, restOf, markedEnd, scopeEnd, endAfter, executorEnd, nodeEnd}
 use Rattle.reading.proofs.Tests.{tests}
 use Rattle.reading.proofs.Walks.{process-node, process-refused}
-use Rattle.marking.specs.Marking.{Noting, noteW, noteListW, seqMarks, parMarks, bodyMarks, scopeMarks, executorMarks, nodeMarks, enabledMarks, marksW, enginesMarks, surveyMarks}
+use Rattle.marking.specs.Marking.{Noting, noteW, noteListW, plainPar, seqMarks, parMarks, bodyMarks, scopeMarks, executorMarks, nodeMarks, enabledMarks, marksW, enginesMarks, surveyMarks}
 
 -- ---- one mark
 
@@ -176,6 +178,36 @@ module _
           (e ≡ processEnd d ws bound c i) × (y ≡ enabledMarks d ws bound c i m)
       unfolding nodeEnd nodeMarks
       an-executor e y k q n = (q ∙ sym (ended ∙ rw k), n ∙ sym (noted ∙ rw k))
+
+-- ---- a par, without a look at the table
+
+-- its head has no bit that has to be 0
+par-clear : (c : ℕ) → 8 ≤ c → c < 10 → bitAnd (6144 + 65536) (headMask c 3) ≡ 0
+unfolding headMask spareOf allowed placed rowOf rows
+par-clear c low high = by (eqb c 8) refl
+  where
+    by : (b : Bool) → eqb c 8 ≡ b → bitAnd (6144 + 65536) (headMask c 3) ≡ 0
+    by true e = rw (eqb-true c 8 e)
+    by false e = let nine : c ≡ 9 = omega (arith, eqb-false c 8 e) in rw nine
+
+plain-is : (h c : ℕ) → plainPar h c ≡ true → (c < 10) × (h ≡ 6144)
+unfolding plainPar
+plain-is h c e = by (leb 10 c) refl e
+  where
+    by : (b : Bool) → leb 10 c ≡ b → cond b false (eqb h 6144) ≡ true → (c < 10) × (h ≡ 6144)
+    by true x e = absurd (true≢false (sym e))
+    by false x e = (leb-false 10 c x, eqb-true h 6144 e)
+
+pub par-ends :
+    (d : ℕ) (ws : List ℕ) (bound c i h : ℕ) (m : List ℕ) → (d ≡ 0 → ⊥) → i < length ws → h ≡ at ws i → 8 ≤ c → c < 12 → plainPar h c ≡ true →
+    (e : ℕ) (y : List ℕ) → e ≡ twoEnd (processEnd (d - 1) ws bound) 9 9 (i + 1) →
+    y ≡ parMarks (processEnd (d - 1) ws bound) (marksW (d - 1) ws bound) (i + 1) m →
+    (e ≡ processEnd d ws bound c i) × (y ≡ enabledMarks d ws bound c i m)
+par-ends d ws bound c i h m some inside same low high is e y q n =
+    let p = plain-is h c is in
+    let three : h / 2048 ≡ 3 = rw (p .1) in
+    let clear : bitAnd (h + 65536) (headMask c (h / 2048)) ≡ 0 = rw (p .1) (par-clear c low (p .0)) in
+    a-par d ws bound c i h (headMask c (h / 2048)) m some inside same refl clear low high e y three q n
 
 -- ---- engines
 

@@ -2,7 +2,7 @@
 -- the word at i stand at i * 2, for the process that begins there, and behind it, for the list. The proofs show that each is where the
 -- layout ends; no public contract names it.
 use Prim.Native.Nat.{ℕ, zero, suc, _+_, _-_, _*_, _/_, _%_}
-use mathlib.Core.Bool.{_&&_, cond}
+use mathlib.Core.Bool.{Bool, false, _&&_, cond}
 use mathlib.Core.List.{List}
 use lib.Bits.{bitAnd}
 use lib.Dec.{leb, ltb, eqb}
@@ -15,6 +15,10 @@ noteW m i e = set m (i * 2) (e % 65536)
 
 unfoldable pub noteListW : List ℕ → ℕ → ℕ → List ℕ
 noteListW m i e = set m (i * 2 + 1) (e % 65536)
+
+-- the head of a par, in a context where one may stand
+unfoldable pub plainPar : ℕ → ℕ → Bool
+plainPar h c = cond (leb 10 c) false (eqb h 6144)
 
 -- noting in a context, at a position, into marks
 abbrev pub Noting : Type 0

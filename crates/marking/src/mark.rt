@@ -9,7 +9,7 @@ ghost use mathlib.Core.Path.{_≡_};
 ghost use Prim.Native.Nat.{_+_, _*_, _≤_, _<_};
 ghost use lib.ListN.{length};
 ghost use Rattle.reading.specs.Walk.{processEnd, twoEnd, scopeEnd, executorEnd};
-ghost use Rattle.marking.specs.Marking.{noteW, noteListW, marksW, enabledMarks, seqMarks, parMarks, scopeMarks, executorMarks};
+ghost use Rattle.marking.specs.Marking.{noteW, noteListW, plainPar, marksW, enabledMarks, seqMarks, parMarks, scopeMarks, executorMarks};
 
 // The process at `at` ends at `e`.
 fn note(marks: &mut [u16], at: usize, e: usize) -> usize
@@ -76,11 +76,14 @@ fn enabled(
         return 0;
     }
     let h = wide(ws[at]);
+    let d = depth - 1;
+    if plain_par(h, context) {
+        return par(ws, at + 1, d, bound, marks);
+    }
     let k = h / 2048;
     if (h + 65536) & head_mask(context, k) != 0 {
         return 0;
     }
-    let d = depth - 1;
     match k {
         0 => at + 1,
         2 => seq(ws, at + 1, d, bound, marks),
@@ -92,6 +95,16 @@ fn enabled(
         16 => executor(ws, at, d, bound, marks),
         _ => process(ws, at, depth, context, bound),
     }
+}
+
+// Whether a head is a par's and may stand in the context. Most heads of what is enabled are, so this saves the look at the table.
+fn plain_par(h: usize, context: usize) -> bool
+    ensures { λ r. ⌜ r ≡ plainPar h context ⌝ }
+{
+    if 10 <= context {
+        return false;
+    }
+    h == 6144
 }
 
 // The parts of a seq: the first is enabled.

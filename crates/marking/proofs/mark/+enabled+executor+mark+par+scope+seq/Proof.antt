@@ -7,7 +7,7 @@ use mathlib.Core.Path.{refl, sym, _∙_}
 use borrow.Author.Needs.{needs}
 use Rattle.reading.specs.Walk.{nodeEnd}
 use Rattle.marking.specs.Marking.{noting, marksW}
-use Rattle.marking.proofs.Notes.{none-deep, none-left, refused, others, one-word, a-seq, a-par, a-scope, an-executor, two-none, two-next, seq-none, seq-next, par-none, par-next, scope-short, scope-none, scope-next, executor-none, executor-next, same-note}
+use Rattle.marking.proofs.Notes.{none-deep, none-left, refused, others, one-word, a-seq, a-par, a-scope, an-executor, par-ends, two-none, two-next, seq-none, seq-next, par-none, par-next, scope-short, scope-none, scope-next, executor-none, executor-next, same-note}
 use borrow.Fn.Kinds.{In}
 use borrow.Fn.PlainCycle.{Measures, is, falls, and}
 use Rattle.marking.proofs.mark.enabled.Reads as enabled
@@ -30,6 +30,7 @@ use Rattle.marking.proofs.mark.seq.Kinds as seq-kinds
 use Rattle.marking.proofs.mark.+enabled+executor+mark+par+scope+seq.Lts-seq as seq-lts
 use Rattle.marking.proofs.mark.note.Reads as note-reads
 use Rattle.marking.proofs.mark.note_list.Reads as note-list-reads
+use Rattle.marking.proofs.mark.plain_par.Reads as plain-par-reads
 use Rattle.reading.proofs.reader.end.Reads as end-reads
 use Rattle.reading.proofs.reader.marked.Reads as marked-reads
 use Rattle.reading.proofs.reader.process.Reads as process-reads
@@ -93,112 +94,127 @@ seq-at t = and 2 seq-kinds.ps (is 2 seq-kinds.ps μ-seq t) seq.Pre
 abbrev seq-below : ℕ → In 2 seq-kinds.ps
 seq-below t = and 2 seq-kinds.ps (falls 2 seq-kinds.ps _<_ μ-seq t) seq.Pre
 
-enabled-returns : (t : ℕ) → enabled-lts.Need-returns (wide-reads.Asked, wide-reads.Learnt, head-mask-reads.Asked, head-mask-reads.Learnt, seq-below t, seq.Post, par-below t, par.Post, scope-below t, scope.Post, executor-below t, executor.Post, process-reads.Asked, process-reads.Learnt) (enabled-at t) enabled.Post
+enabled-returns : (t : ℕ) → enabled-lts.Need-returns (wide-reads.Asked, wide-reads.Learnt, plain-par-reads.Asked, plain-par-reads.Learnt, par-below t, par.Post, head-mask-reads.Asked, head-mask-reads.Learnt, seq-below t, seq.Post, scope-below t, scope.Post, executor-below t, executor.Post, process-reads.Asked, process-reads.Learnt) (enabled-at t) enabled.Post
 enabled-returns t c = none-deep _ _ _ _ _ _ ((c .if1 .taken))
 
-enabled-returns-2 : (t : ℕ) → enabled-lts.Need-returns-2 (wide-reads.Asked, wide-reads.Learnt, head-mask-reads.Asked, head-mask-reads.Learnt, seq-below t, seq.Post, par-below t, par.Post, scope-below t, scope.Post, executor-below t, executor.Post, process-reads.Asked, process-reads.Learnt) (enabled-at t) enabled.Post
+enabled-returns-2 : (t : ℕ) → enabled-lts.Need-returns-2 (wide-reads.Asked, wide-reads.Learnt, plain-par-reads.Asked, plain-par-reads.Learnt, par-below t, par.Post, head-mask-reads.Asked, head-mask-reads.Learnt, seq-below t, seq.Post, scope-below t, scope.Post, executor-below t, executor.Post, process-reads.Asked, process-reads.Learnt) (enabled-at t) enabled.Post
 enabled-returns-2 t c = none-left _ _ _ _ _ _ ((c .before .if1 .left)) ((c .if2 .taken))
 
-enabled-mul-wide : (t : ℕ) → enabled-lts.Need-mul-wide (wide-reads.Asked, wide-reads.Learnt, head-mask-reads.Asked, head-mask-reads.Learnt, seq-below t, seq.Post, par-below t, par.Post, scope-below t, scope.Post, executor-below t, executor.Post, process-reads.Asked, process-reads.Learnt) (enabled-at t) enabled.Post
+enabled-mul-wide : (t : ℕ) → enabled-lts.Need-mul-wide (wide-reads.Asked, wide-reads.Learnt, plain-par-reads.Asked, plain-par-reads.Learnt, par-below t, par.Post, head-mask-reads.Asked, head-mask-reads.Learnt, seq-below t, seq.Post, scope-below t, scope.Post, executor-below t, executor.Post, process-reads.Asked, process-reads.Learnt) (enabled-at t) enabled.Post
 enabled-mul-wide t c = search needs
 
-enabled-shared-slice-read-wide : (t : ℕ) → enabled-lts.Need-shared-slice-read-wide (wide-reads.Asked, wide-reads.Learnt, head-mask-reads.Asked, head-mask-reads.Learnt, seq-below t, seq.Post, par-below t, par.Post, scope-below t, scope.Post, executor-below t, executor.Post, process-reads.Asked, process-reads.Learnt) (enabled-at t) enabled.Post
+enabled-shared-slice-read-wide : (t : ℕ) → enabled-lts.Need-shared-slice-read-wide (wide-reads.Asked, wide-reads.Learnt, plain-par-reads.Asked, plain-par-reads.Learnt, par-below t, par.Post, head-mask-reads.Asked, head-mask-reads.Learnt, seq-below t, seq.Post, scope-below t, scope.Post, executor-below t, executor.Post, process-reads.Asked, process-reads.Learnt) (enabled-at t) enabled.Post
 enabled-shared-slice-read-wide t c = search needs
 
-enabled-wide-requires : (t : ℕ) → enabled-lts.Need-wide-requires (wide-reads.Asked, wide-reads.Learnt, head-mask-reads.Asked, head-mask-reads.Learnt, seq-below t, seq.Post, par-below t, par.Post, scope-below t, scope.Post, executor-below t, executor.Post, process-reads.Asked, process-reads.Learnt) (enabled-at t) enabled.Post
+enabled-wide-requires : (t : ℕ) → enabled-lts.Need-wide-requires (wide-reads.Asked, wide-reads.Learnt, plain-par-reads.Asked, plain-par-reads.Learnt, par-below t, par.Post, head-mask-reads.Asked, head-mask-reads.Learnt, seq-below t, seq.Post, scope-below t, scope.Post, executor-below t, executor.Post, process-reads.Asked, process-reads.Learnt) (enabled-at t) enabled.Post
 enabled-wide-requires t c κs = search needs
 
-enabled-add-if3 : (t : ℕ) → enabled-lts.Need-add-if3 (wide-reads.Asked, wide-reads.Learnt, head-mask-reads.Asked, head-mask-reads.Learnt, seq-below t, seq.Post, par-below t, par.Post, scope-below t, scope.Post, executor-below t, executor.Post, process-reads.Asked, process-reads.Learnt) (enabled-at t) enabled.Post
-enabled-add-if3 t c = search needs
-
-enabled-head-mask-requires : (t : ℕ) → enabled-lts.Need-head-mask-requires (wide-reads.Asked, wide-reads.Learnt, head-mask-reads.Asked, head-mask-reads.Learnt, seq-below t, seq.Post, par-below t, par.Post, scope-below t, scope.Post, executor-below t, executor.Post, process-reads.Asked, process-reads.Learnt) (enabled-at t) enabled.Post
-enabled-head-mask-requires t c κs = search needs
-
-enabled-returns-3 : (t : ℕ) → enabled-lts.Need-returns-3 (wide-reads.Asked, wide-reads.Learnt, head-mask-reads.Asked, head-mask-reads.Learnt, seq-below t, seq.Post, par-below t, par.Post, scope-below t, scope.Post, executor-below t, executor.Post, process-reads.Asked, process-reads.Learnt) (enabled-at t) enabled.Post
-enabled-returns-3 t c = refused _ _ _ _ _ _ _ _ ((c .before .before .before .before .before .if1 .left)) ((c .before .before .before .before .if2 .left)) ((c .before .before .wide .ensures .0)) ((c .before .head-mask .ensures)) ((c .if3 .taken))
-
-enabled-sub-d : (t : ℕ) → enabled-lts.Need-sub-d (wide-reads.Asked, wide-reads.Learnt, head-mask-reads.Asked, head-mask-reads.Learnt, seq-below t, seq.Post, par-below t, par.Post, scope-below t, scope.Post, executor-below t, executor.Post, process-reads.Asked, process-reads.Learnt) (enabled-at t) enabled.Post
+enabled-sub-d : (t : ℕ) → enabled-lts.Need-sub-d (wide-reads.Asked, wide-reads.Learnt, plain-par-reads.Asked, plain-par-reads.Learnt, par-below t, par.Post, head-mask-reads.Asked, head-mask-reads.Learnt, seq-below t, seq.Post, scope-below t, scope.Post, executor-below t, executor.Post, process-reads.Asked, process-reads.Learnt) (enabled-at t) enabled.Post
 enabled-sub-d t c = search needs
 
-enabled-add-result : (t : ℕ) → enabled-lts.Need-add-result (wide-reads.Asked, wide-reads.Learnt, head-mask-reads.Asked, head-mask-reads.Learnt, seq-below t, seq.Post, par-below t, par.Post, scope-below t, scope.Post, executor-below t, executor.Post, process-reads.Asked, process-reads.Learnt) (enabled-at t) enabled.Post
-enabled-add-result t c = search needs
+enabled-plain-par-requires : (t : ℕ) → enabled-lts.Need-plain-par-requires (wide-reads.Asked, wide-reads.Learnt, plain-par-reads.Asked, plain-par-reads.Learnt, par-below t, par.Post, head-mask-reads.Asked, head-mask-reads.Learnt, seq-below t, seq.Post, scope-below t, scope.Post, executor-below t, executor.Post, process-reads.Asked, process-reads.Learnt) (enabled-at t) enabled.Post
+enabled-plain-par-requires t c κs = search needs
 
-enabled-add-seq : (t : ℕ) → enabled-lts.Need-add-seq (wide-reads.Asked, wide-reads.Learnt, head-mask-reads.Asked, head-mask-reads.Learnt, seq-below t, seq.Post, par-below t, par.Post, scope-below t, scope.Post, executor-below t, executor.Post, process-reads.Asked, process-reads.Learnt) (enabled-at t) enabled.Post
-enabled-add-seq t c = search needs
-
-enabled-seq-requires : (t : ℕ) → enabled-lts.Need-seq-requires (wide-reads.Asked, wide-reads.Learnt, head-mask-reads.Asked, head-mask-reads.Learnt, seq-below t, seq.Post, par-below t, par.Post, scope-below t, scope.Post, executor-below t, executor.Post, process-reads.Asked, process-reads.Learnt) (enabled-at t) enabled.Post
-enabled-seq-requires t c κs = search needs
-
-enabled-add-par : (t : ℕ) → enabled-lts.Need-add-par (wide-reads.Asked, wide-reads.Learnt, head-mask-reads.Asked, head-mask-reads.Learnt, seq-below t, seq.Post, par-below t, par.Post, scope-below t, scope.Post, executor-below t, executor.Post, process-reads.Asked, process-reads.Learnt) (enabled-at t) enabled.Post
+enabled-add-par : (t : ℕ) → enabled-lts.Need-add-par (wide-reads.Asked, wide-reads.Learnt, plain-par-reads.Asked, plain-par-reads.Learnt, par-below t, par.Post, head-mask-reads.Asked, head-mask-reads.Learnt, seq-below t, seq.Post, scope-below t, scope.Post, executor-below t, executor.Post, process-reads.Asked, process-reads.Learnt) (enabled-at t) enabled.Post
 enabled-add-par t c = search needs
 
-enabled-par-requires : (t : ℕ) → enabled-lts.Need-par-requires (wide-reads.Asked, wide-reads.Learnt, head-mask-reads.Asked, head-mask-reads.Learnt, seq-below t, seq.Post, par-below t, par.Post, scope-below t, scope.Post, executor-below t, executor.Post, process-reads.Asked, process-reads.Learnt) (enabled-at t) enabled.Post
+enabled-par-requires : (t : ℕ) → enabled-lts.Need-par-requires (wide-reads.Asked, wide-reads.Learnt, plain-par-reads.Asked, plain-par-reads.Learnt, par-below t, par.Post, head-mask-reads.Asked, head-mask-reads.Learnt, seq-below t, seq.Post, scope-below t, scope.Post, executor-below t, executor.Post, process-reads.Asked, process-reads.Learnt) (enabled-at t) enabled.Post
 enabled-par-requires t c κs = search needs
 
-enabled-add-result-2 : (t : ℕ) → enabled-lts.Need-add-result-2 (wide-reads.Asked, wide-reads.Learnt, head-mask-reads.Asked, head-mask-reads.Learnt, seq-below t, seq.Post, par-below t, par.Post, scope-below t, scope.Post, executor-below t, executor.Post, process-reads.Asked, process-reads.Learnt) (enabled-at t) enabled.Post
-enabled-add-result-2 t c = search needs
-
-enabled-scope-requires : (t : ℕ) → enabled-lts.Need-scope-requires (wide-reads.Asked, wide-reads.Learnt, head-mask-reads.Asked, head-mask-reads.Learnt, seq-below t, seq.Post, par-below t, par.Post, scope-below t, scope.Post, executor-below t, executor.Post, process-reads.Asked, process-reads.Learnt) (enabled-at t) enabled.Post
-enabled-scope-requires t c κs = search needs
-
-enabled-add-result-3 : (t : ℕ) → enabled-lts.Need-add-result-3 (wide-reads.Asked, wide-reads.Learnt, head-mask-reads.Asked, head-mask-reads.Learnt, seq-below t, seq.Post, par-below t, par.Post, scope-below t, scope.Post, executor-below t, executor.Post, process-reads.Asked, process-reads.Learnt) (enabled-at t) enabled.Post
-enabled-add-result-3 t c = search needs
-
-enabled-add-result-4 : (t : ℕ) → enabled-lts.Need-add-result-4 (wide-reads.Asked, wide-reads.Learnt, head-mask-reads.Asked, head-mask-reads.Learnt, seq-below t, seq.Post, par-below t, par.Post, scope-below t, scope.Post, executor-below t, executor.Post, process-reads.Asked, process-reads.Learnt) (enabled-at t) enabled.Post
-enabled-add-result-4 t c = search needs
-
-enabled-executor-requires : (t : ℕ) → enabled-lts.Need-executor-requires (wide-reads.Asked, wide-reads.Learnt, head-mask-reads.Asked, head-mask-reads.Learnt, seq-below t, seq.Post, par-below t, par.Post, scope-below t, scope.Post, executor-below t, executor.Post, process-reads.Asked, process-reads.Learnt) (enabled-at t) enabled.Post
-enabled-executor-requires t c κs = search needs
-
-enabled-process-requires : (t : ℕ) → enabled-lts.Need-process-requires (wide-reads.Asked, wide-reads.Learnt, head-mask-reads.Asked, head-mask-reads.Learnt, seq-below t, seq.Post, par-below t, par.Post, scope-below t, scope.Post, executor-below t, executor.Post, process-reads.Asked, process-reads.Learnt) (enabled-at t) enabled.Post
-enabled-process-requires t c κs = search needs
-
-enabled-returns-4 : (t : ℕ) → enabled-lts.Need-returns-4 (wide-reads.Asked, wide-reads.Learnt, head-mask-reads.Asked, head-mask-reads.Learnt, seq-below t, seq.Post, par-below t, par.Post, scope-below t, scope.Post, executor-below t, executor.Post, process-reads.Asked, process-reads.Learnt) (enabled-at t) enabled.Post
-unfolding nodeEnd
-enabled-returns-4 t c =
-    one-word _ _ _ _ _ _ _ _ ((c .before .before .before .before .before .before .if1 .left)) ((c .before .before .before .before .before .if2 .left)) ((c .before .before .before .wide .ensures .0)) ((c .before .before .head-mask .ensures)) ((c .before .if3 .left)) ((c .before .before .before .before .before .before .before .before .before .pre .1 .0)) ((c .before .before .before .before .before .before .before .before .before .pre .1 .1)) 0 ((c .match .keys1)) (λ h e. rw e refl) (λ z. omega arith) (λ z. omega arith) (λ z. omega arith) (λ z. omega arith)
-
-enabled-same-length : (t : ℕ) → enabled-lts.Need-same-length (wide-reads.Asked, wide-reads.Learnt, head-mask-reads.Asked, head-mask-reads.Learnt, seq-below t, seq.Post, par-below t, par.Post, scope-below t, scope.Post, executor-below t, executor.Post, process-reads.Asked, process-reads.Learnt) (enabled-at t) enabled.Post
+enabled-same-length : (t : ℕ) → enabled-lts.Need-same-length (wide-reads.Asked, wide-reads.Learnt, plain-par-reads.Asked, plain-par-reads.Learnt, par-below t, par.Post, head-mask-reads.Asked, head-mask-reads.Learnt, seq-below t, seq.Post, scope-below t, scope.Post, executor-below t, executor.Post, process-reads.Asked, process-reads.Learnt) (enabled-at t) enabled.Post
 enabled-same-length t c = search needs
 
-enabled-returns-5 : (t : ℕ) → enabled-lts.Need-returns-5 (wide-reads.Asked, wide-reads.Learnt, head-mask-reads.Asked, head-mask-reads.Learnt, seq-below t, seq.Post, par-below t, par.Post, scope-below t, scope.Post, executor-below t, executor.Post, process-reads.Asked, process-reads.Learnt) (enabled-at t) enabled.Post
-enabled-returns-5 t c = a-seq _ _ _ _ _ _ _ _ ((c .before .before .before .before .before .before .before .before .before .before .if1 .left)) ((c .before .before .before .before .before .before .before .before .before .if2 .left)) ((c .before .before .before .before .before .before .before .wide .ensures .0)) ((c .before .before .before .before .before .before .head-mask .ensures)) ((c .before .before .before .before .before .if3 .left)) ((c .before .before .before .before .before .before .before .before .before .before .before .before .before .pre .1 .0)) ((c .before .before .before .before .before .before .before .before .before .before .before .before .before .pre .1 .1)) _ _ ((c .before .before .before .before .match .keys2)) ((c .before .before .seq .ensures .0)) ((c .before .before .seq .ensures .1))
+enabled-returns-3 : (t : ℕ) → enabled-lts.Need-returns-3 (wide-reads.Asked, wide-reads.Learnt, plain-par-reads.Asked, plain-par-reads.Learnt, par-below t, par.Post, head-mask-reads.Asked, head-mask-reads.Learnt, seq-below t, seq.Post, scope-below t, scope.Post, executor-below t, executor.Post, process-reads.Asked, process-reads.Learnt) (enabled-at t) enabled.Post
+enabled-returns-3 t c = par-ends _ _ _ _ _ _ _ ((c .before .before .before .before .before .before .before .before .before .if1 .left)) ((c .before .before .before .before .before .before .before .before .if2 .left)) ((c .before .before .before .before .before .before .wide .ensures .0)) ((c .before .before .before .before .before .before .before .before .before .before .before .before .pre .1 .0)) ((c .before .before .before .before .before .before .before .before .before .before .before .before .pre .1 .1)) (sym ((c .before .before .before .before .before .plain-par .ensures)) ∙ (c .before .before .before .before .if3 .taken)) _ _ ((c .before .before .par .ensures .0)) ((c .before .before .par .ensures .1))
 
-enabled-same-length-2 : (t : ℕ) → enabled-lts.Need-same-length-2 (wide-reads.Asked, wide-reads.Learnt, head-mask-reads.Asked, head-mask-reads.Learnt, seq-below t, seq.Post, par-below t, par.Post, scope-below t, scope.Post, executor-below t, executor.Post, process-reads.Asked, process-reads.Learnt) (enabled-at t) enabled.Post
+enabled-add-if4 : (t : ℕ) → enabled-lts.Need-add-if4 (wide-reads.Asked, wide-reads.Learnt, plain-par-reads.Asked, plain-par-reads.Learnt, par-below t, par.Post, head-mask-reads.Asked, head-mask-reads.Learnt, seq-below t, seq.Post, scope-below t, scope.Post, executor-below t, executor.Post, process-reads.Asked, process-reads.Learnt) (enabled-at t) enabled.Post
+enabled-add-if4 t c = search needs
+
+enabled-head-mask-requires : (t : ℕ) → enabled-lts.Need-head-mask-requires (wide-reads.Asked, wide-reads.Learnt, plain-par-reads.Asked, plain-par-reads.Learnt, par-below t, par.Post, head-mask-reads.Asked, head-mask-reads.Learnt, seq-below t, seq.Post, scope-below t, scope.Post, executor-below t, executor.Post, process-reads.Asked, process-reads.Learnt) (enabled-at t) enabled.Post
+enabled-head-mask-requires t c κs = search needs
+
+enabled-returns-4 : (t : ℕ) → enabled-lts.Need-returns-4 (wide-reads.Asked, wide-reads.Learnt, plain-par-reads.Asked, plain-par-reads.Learnt, par-below t, par.Post, head-mask-reads.Asked, head-mask-reads.Learnt, seq-below t, seq.Post, scope-below t, scope.Post, executor-below t, executor.Post, process-reads.Asked, process-reads.Learnt) (enabled-at t) enabled.Post
+enabled-returns-4 t c = refused _ _ _ _ _ _ _ _ ((c .before .before .before .before .before .before .before .if1 .left)) ((c .before .before .before .before .before .before .if2 .left)) ((c .before .before .before .before .wide .ensures .0)) ((c .before .head-mask .ensures)) ((c .if4 .taken))
+
+enabled-add-result : (t : ℕ) → enabled-lts.Need-add-result (wide-reads.Asked, wide-reads.Learnt, plain-par-reads.Asked, plain-par-reads.Learnt, par-below t, par.Post, head-mask-reads.Asked, head-mask-reads.Learnt, seq-below t, seq.Post, scope-below t, scope.Post, executor-below t, executor.Post, process-reads.Asked, process-reads.Learnt) (enabled-at t) enabled.Post
+enabled-add-result t c = search needs
+
+enabled-add-seq : (t : ℕ) → enabled-lts.Need-add-seq (wide-reads.Asked, wide-reads.Learnt, plain-par-reads.Asked, plain-par-reads.Learnt, par-below t, par.Post, head-mask-reads.Asked, head-mask-reads.Learnt, seq-below t, seq.Post, scope-below t, scope.Post, executor-below t, executor.Post, process-reads.Asked, process-reads.Learnt) (enabled-at t) enabled.Post
+enabled-add-seq t c = search needs
+
+enabled-seq-requires : (t : ℕ) → enabled-lts.Need-seq-requires (wide-reads.Asked, wide-reads.Learnt, plain-par-reads.Asked, plain-par-reads.Learnt, par-below t, par.Post, head-mask-reads.Asked, head-mask-reads.Learnt, seq-below t, seq.Post, scope-below t, scope.Post, executor-below t, executor.Post, process-reads.Asked, process-reads.Learnt) (enabled-at t) enabled.Post
+enabled-seq-requires t c κs = search needs
+
+enabled-add-par-2 : (t : ℕ) → enabled-lts.Need-add-par-2 (wide-reads.Asked, wide-reads.Learnt, plain-par-reads.Asked, plain-par-reads.Learnt, par-below t, par.Post, head-mask-reads.Asked, head-mask-reads.Learnt, seq-below t, seq.Post, scope-below t, scope.Post, executor-below t, executor.Post, process-reads.Asked, process-reads.Learnt) (enabled-at t) enabled.Post
+enabled-add-par-2 t c = search needs
+
+enabled-par-requires-2 : (t : ℕ) → enabled-lts.Need-par-requires-2 (wide-reads.Asked, wide-reads.Learnt, plain-par-reads.Asked, plain-par-reads.Learnt, par-below t, par.Post, head-mask-reads.Asked, head-mask-reads.Learnt, seq-below t, seq.Post, scope-below t, scope.Post, executor-below t, executor.Post, process-reads.Asked, process-reads.Learnt) (enabled-at t) enabled.Post
+enabled-par-requires-2 t c κs = search needs
+
+enabled-add-result-2 : (t : ℕ) → enabled-lts.Need-add-result-2 (wide-reads.Asked, wide-reads.Learnt, plain-par-reads.Asked, plain-par-reads.Learnt, par-below t, par.Post, head-mask-reads.Asked, head-mask-reads.Learnt, seq-below t, seq.Post, scope-below t, scope.Post, executor-below t, executor.Post, process-reads.Asked, process-reads.Learnt) (enabled-at t) enabled.Post
+enabled-add-result-2 t c = search needs
+
+enabled-scope-requires : (t : ℕ) → enabled-lts.Need-scope-requires (wide-reads.Asked, wide-reads.Learnt, plain-par-reads.Asked, plain-par-reads.Learnt, par-below t, par.Post, head-mask-reads.Asked, head-mask-reads.Learnt, seq-below t, seq.Post, scope-below t, scope.Post, executor-below t, executor.Post, process-reads.Asked, process-reads.Learnt) (enabled-at t) enabled.Post
+enabled-scope-requires t c κs = search needs
+
+enabled-add-result-3 : (t : ℕ) → enabled-lts.Need-add-result-3 (wide-reads.Asked, wide-reads.Learnt, plain-par-reads.Asked, plain-par-reads.Learnt, par-below t, par.Post, head-mask-reads.Asked, head-mask-reads.Learnt, seq-below t, seq.Post, scope-below t, scope.Post, executor-below t, executor.Post, process-reads.Asked, process-reads.Learnt) (enabled-at t) enabled.Post
+enabled-add-result-3 t c = search needs
+
+enabled-add-result-4 : (t : ℕ) → enabled-lts.Need-add-result-4 (wide-reads.Asked, wide-reads.Learnt, plain-par-reads.Asked, plain-par-reads.Learnt, par-below t, par.Post, head-mask-reads.Asked, head-mask-reads.Learnt, seq-below t, seq.Post, scope-below t, scope.Post, executor-below t, executor.Post, process-reads.Asked, process-reads.Learnt) (enabled-at t) enabled.Post
+enabled-add-result-4 t c = search needs
+
+enabled-executor-requires : (t : ℕ) → enabled-lts.Need-executor-requires (wide-reads.Asked, wide-reads.Learnt, plain-par-reads.Asked, plain-par-reads.Learnt, par-below t, par.Post, head-mask-reads.Asked, head-mask-reads.Learnt, seq-below t, seq.Post, scope-below t, scope.Post, executor-below t, executor.Post, process-reads.Asked, process-reads.Learnt) (enabled-at t) enabled.Post
+enabled-executor-requires t c κs = search needs
+
+enabled-process-requires : (t : ℕ) → enabled-lts.Need-process-requires (wide-reads.Asked, wide-reads.Learnt, plain-par-reads.Asked, plain-par-reads.Learnt, par-below t, par.Post, head-mask-reads.Asked, head-mask-reads.Learnt, seq-below t, seq.Post, scope-below t, scope.Post, executor-below t, executor.Post, process-reads.Asked, process-reads.Learnt) (enabled-at t) enabled.Post
+enabled-process-requires t c κs = search needs
+
+enabled-returns-5 : (t : ℕ) → enabled-lts.Need-returns-5 (wide-reads.Asked, wide-reads.Learnt, plain-par-reads.Asked, plain-par-reads.Learnt, par-below t, par.Post, head-mask-reads.Asked, head-mask-reads.Learnt, seq-below t, seq.Post, scope-below t, scope.Post, executor-below t, executor.Post, process-reads.Asked, process-reads.Learnt) (enabled-at t) enabled.Post
+unfolding nodeEnd
+enabled-returns-5 t c =
+    one-word _ _ _ _ _ _ _ _ ((c .before .before .before .before .before .before .before .before .if1 .left)) ((c .before .before .before .before .before .before .before .if2 .left)) ((c .before .before .before .before .before .wide .ensures .0)) ((c .before .before .head-mask .ensures)) ((c .before .if4 .left)) ((c .before .before .before .before .before .before .before .before .before .before .before .pre .1 .0)) ((c .before .before .before .before .before .before .before .before .before .before .before .pre .1 .1)) 0 ((c .match .keys1)) (λ h e. rw e refl) (λ z. omega arith) (λ z. omega arith) (λ z. omega arith) (λ z. omega arith)
+
+enabled-same-length-2 : (t : ℕ) → enabled-lts.Need-same-length-2 (wide-reads.Asked, wide-reads.Learnt, plain-par-reads.Asked, plain-par-reads.Learnt, par-below t, par.Post, head-mask-reads.Asked, head-mask-reads.Learnt, seq-below t, seq.Post, scope-below t, scope.Post, executor-below t, executor.Post, process-reads.Asked, process-reads.Learnt) (enabled-at t) enabled.Post
 enabled-same-length-2 t c = search needs
 
-enabled-returns-6 : (t : ℕ) → enabled-lts.Need-returns-6 (wide-reads.Asked, wide-reads.Learnt, head-mask-reads.Asked, head-mask-reads.Learnt, seq-below t, seq.Post, par-below t, par.Post, scope-below t, scope.Post, executor-below t, executor.Post, process-reads.Asked, process-reads.Learnt) (enabled-at t) enabled.Post
-enabled-returns-6 t c = a-par _ _ _ _ _ _ _ _ ((c .before .before .before .before .before .before .before .before .before .before .if1 .left)) ((c .before .before .before .before .before .before .before .before .before .if2 .left)) ((c .before .before .before .before .before .before .before .wide .ensures .0)) ((c .before .before .before .before .before .before .head-mask .ensures)) ((c .before .before .before .before .before .if3 .left)) ((c .before .before .before .before .before .before .before .before .before .before .before .before .before .pre .1 .0)) ((c .before .before .before .before .before .before .before .before .before .before .before .before .before .pre .1 .1)) _ _ ((c .before .before .before .before .match .keys3)) ((c .before .before .par .ensures .0)) ((c .before .before .par .ensures .1))
+enabled-returns-6 : (t : ℕ) → enabled-lts.Need-returns-6 (wide-reads.Asked, wide-reads.Learnt, plain-par-reads.Asked, plain-par-reads.Learnt, par-below t, par.Post, head-mask-reads.Asked, head-mask-reads.Learnt, seq-below t, seq.Post, scope-below t, scope.Post, executor-below t, executor.Post, process-reads.Asked, process-reads.Learnt) (enabled-at t) enabled.Post
+enabled-returns-6 t c = a-seq _ _ _ _ _ _ _ _ ((c .before .before .before .before .before .before .before .before .before .before .before .before .if1 .left)) ((c .before .before .before .before .before .before .before .before .before .before .before .if2 .left)) ((c .before .before .before .before .before .before .before .before .before .wide .ensures .0)) ((c .before .before .before .before .before .before .head-mask .ensures)) ((c .before .before .before .before .before .if4 .left)) ((c .before .before .before .before .before .before .before .before .before .before .before .before .before .before .before .pre .1 .0)) ((c .before .before .before .before .before .before .before .before .before .before .before .before .before .before .before .pre .1 .1)) _ _ ((c .before .before .before .before .match .keys2)) ((c .before .before .seq .ensures .0)) ((c .before .before .seq .ensures .1))
 
-enabled-returns-7 : (t : ℕ) → enabled-lts.Need-returns-7 (wide-reads.Asked, wide-reads.Learnt, head-mask-reads.Asked, head-mask-reads.Learnt, seq-below t, seq.Post, par-below t, par.Post, scope-below t, scope.Post, executor-below t, executor.Post, process-reads.Asked, process-reads.Learnt) (enabled-at t) enabled.Post
-unfolding nodeEnd
-enabled-returns-7 t c =
-    one-word _ _ _ _ _ _ _ _ ((c .before .before .before .before .before .before .if1 .left)) ((c .before .before .before .before .before .if2 .left)) ((c .before .before .before .wide .ensures .0)) ((c .before .before .head-mask .ensures)) ((c .before .if3 .left)) ((c .before .before .before .before .before .before .before .before .before .pre .1 .0)) ((c .before .before .before .before .before .before .before .before .before .pre .1 .1)) 7 ((c .match .keys4)) (λ h e. rw e refl) (λ z. omega arith) (λ z. omega arith) (λ z. omega arith) (λ z. omega arith)
-
-enabled-same-length-3 : (t : ℕ) → enabled-lts.Need-same-length-3 (wide-reads.Asked, wide-reads.Learnt, head-mask-reads.Asked, head-mask-reads.Learnt, seq-below t, seq.Post, par-below t, par.Post, scope-below t, scope.Post, executor-below t, executor.Post, process-reads.Asked, process-reads.Learnt) (enabled-at t) enabled.Post
+enabled-same-length-3 : (t : ℕ) → enabled-lts.Need-same-length-3 (wide-reads.Asked, wide-reads.Learnt, plain-par-reads.Asked, plain-par-reads.Learnt, par-below t, par.Post, head-mask-reads.Asked, head-mask-reads.Learnt, seq-below t, seq.Post, scope-below t, scope.Post, executor-below t, executor.Post, process-reads.Asked, process-reads.Learnt) (enabled-at t) enabled.Post
 enabled-same-length-3 t c = search needs
 
-enabled-returns-8 : (t : ℕ) → enabled-lts.Need-returns-8 (wide-reads.Asked, wide-reads.Learnt, head-mask-reads.Asked, head-mask-reads.Learnt, seq-below t, seq.Post, par-below t, par.Post, scope-below t, scope.Post, executor-below t, executor.Post, process-reads.Asked, process-reads.Learnt) (enabled-at t) enabled.Post
-enabled-returns-8 t c = a-scope _ _ _ _ _ _ _ _ ((c .before .before .before .before .before .before .before .before .before .before .if1 .left)) ((c .before .before .before .before .before .before .before .before .before .if2 .left)) ((c .before .before .before .before .before .before .before .wide .ensures .0)) ((c .before .before .before .before .before .before .head-mask .ensures)) ((c .before .before .before .before .before .if3 .left)) ((c .before .before .before .before .before .before .before .before .before .before .before .before .before .pre .1 .0)) ((c .before .before .before .before .before .before .before .before .before .before .before .before .before .pre .1 .1)) _ _ ((c .before .before .before .before .match .keys5)) ((c .before .before .scope .ensures .0)) ((c .before .before .scope .ensures .1))
+enabled-returns-7 : (t : ℕ) → enabled-lts.Need-returns-7 (wide-reads.Asked, wide-reads.Learnt, plain-par-reads.Asked, plain-par-reads.Learnt, par-below t, par.Post, head-mask-reads.Asked, head-mask-reads.Learnt, seq-below t, seq.Post, scope-below t, scope.Post, executor-below t, executor.Post, process-reads.Asked, process-reads.Learnt) (enabled-at t) enabled.Post
+enabled-returns-7 t c = a-par _ _ _ _ _ _ _ _ ((c .before .before .before .before .before .before .before .before .before .before .before .before .if1 .left)) ((c .before .before .before .before .before .before .before .before .before .before .before .if2 .left)) ((c .before .before .before .before .before .before .before .before .before .wide .ensures .0)) ((c .before .before .before .before .before .before .head-mask .ensures)) ((c .before .before .before .before .before .if4 .left)) ((c .before .before .before .before .before .before .before .before .before .before .before .before .before .before .before .pre .1 .0)) ((c .before .before .before .before .before .before .before .before .before .before .before .before .before .before .before .pre .1 .1)) _ _ ((c .before .before .before .before .match .keys3)) ((c .before .before .par2 .ensures .0)) ((c .before .before .par2 .ensures .1))
 
-enabled-returns-9 : (t : ℕ) → enabled-lts.Need-returns-9 (wide-reads.Asked, wide-reads.Learnt, head-mask-reads.Asked, head-mask-reads.Learnt, seq-below t, seq.Post, par-below t, par.Post, scope-below t, scope.Post, executor-below t, executor.Post, process-reads.Asked, process-reads.Learnt) (enabled-at t) enabled.Post
+enabled-returns-8 : (t : ℕ) → enabled-lts.Need-returns-8 (wide-reads.Asked, wide-reads.Learnt, plain-par-reads.Asked, plain-par-reads.Learnt, par-below t, par.Post, head-mask-reads.Asked, head-mask-reads.Learnt, seq-below t, seq.Post, scope-below t, scope.Post, executor-below t, executor.Post, process-reads.Asked, process-reads.Learnt) (enabled-at t) enabled.Post
 unfolding nodeEnd
-enabled-returns-9 t c =
-    one-word _ _ _ _ _ _ _ _ ((c .before .before .before .before .before .before .if1 .left)) ((c .before .before .before .before .before .if2 .left)) ((c .before .before .before .wide .ensures .0)) ((c .before .before .head-mask .ensures)) ((c .before .if3 .left)) ((c .before .before .before .before .before .before .before .before .before .pre .1 .0)) ((c .before .before .before .before .before .before .before .before .before .pre .1 .1)) 13 ((c .match .keys6)) (λ h e. rw e refl) (λ z. omega arith) (λ z. omega arith) (λ z. omega arith) (λ z. omega arith)
+enabled-returns-8 t c =
+    one-word _ _ _ _ _ _ _ _ ((c .before .before .before .before .before .before .before .before .if1 .left)) ((c .before .before .before .before .before .before .before .if2 .left)) ((c .before .before .before .before .before .wide .ensures .0)) ((c .before .before .head-mask .ensures)) ((c .before .if4 .left)) ((c .before .before .before .before .before .before .before .before .before .before .before .pre .1 .0)) ((c .before .before .before .before .before .before .before .before .before .before .before .pre .1 .1)) 7 ((c .match .keys4)) (λ h e. rw e refl) (λ z. omega arith) (λ z. omega arith) (λ z. omega arith) (λ z. omega arith)
 
-enabled-returns-10 : (t : ℕ) → enabled-lts.Need-returns-10 (wide-reads.Asked, wide-reads.Learnt, head-mask-reads.Asked, head-mask-reads.Learnt, seq-below t, seq.Post, par-below t, par.Post, scope-below t, scope.Post, executor-below t, executor.Post, process-reads.Asked, process-reads.Learnt) (enabled-at t) enabled.Post
-unfolding nodeEnd
-enabled-returns-10 t c =
-    one-word _ _ _ _ _ _ _ _ ((c .before .before .before .before .before .before .if1 .left)) ((c .before .before .before .before .before .if2 .left)) ((c .before .before .before .wide .ensures .0)) ((c .before .before .head-mask .ensures)) ((c .before .if3 .left)) ((c .before .before .before .before .before .before .before .before .before .pre .1 .0)) ((c .before .before .before .before .before .before .before .before .before .pre .1 .1)) 14 ((c .match .keys7)) (λ h e. rw e refl) (λ z. omega arith) (λ z. omega arith) (λ z. omega arith) (λ z. omega arith)
-
-enabled-same-length-4 : (t : ℕ) → enabled-lts.Need-same-length-4 (wide-reads.Asked, wide-reads.Learnt, head-mask-reads.Asked, head-mask-reads.Learnt, seq-below t, seq.Post, par-below t, par.Post, scope-below t, scope.Post, executor-below t, executor.Post, process-reads.Asked, process-reads.Learnt) (enabled-at t) enabled.Post
+enabled-same-length-4 : (t : ℕ) → enabled-lts.Need-same-length-4 (wide-reads.Asked, wide-reads.Learnt, plain-par-reads.Asked, plain-par-reads.Learnt, par-below t, par.Post, head-mask-reads.Asked, head-mask-reads.Learnt, seq-below t, seq.Post, scope-below t, scope.Post, executor-below t, executor.Post, process-reads.Asked, process-reads.Learnt) (enabled-at t) enabled.Post
 enabled-same-length-4 t c = search needs
 
-enabled-returns-11 : (t : ℕ) → enabled-lts.Need-returns-11 (wide-reads.Asked, wide-reads.Learnt, head-mask-reads.Asked, head-mask-reads.Learnt, seq-below t, seq.Post, par-below t, par.Post, scope-below t, scope.Post, executor-below t, executor.Post, process-reads.Asked, process-reads.Learnt) (enabled-at t) enabled.Post
-enabled-returns-11 t c = an-executor _ _ _ _ _ _ _ _ ((c .before .before .before .before .before .before .before .before .before .before .if1 .left)) ((c .before .before .before .before .before .before .before .before .before .if2 .left)) ((c .before .before .before .before .before .before .before .wide .ensures .0)) ((c .before .before .before .before .before .before .head-mask .ensures)) ((c .before .before .before .before .before .if3 .left)) ((c .before .before .before .before .before .before .before .before .before .before .before .before .before .pre .1 .0)) ((c .before .before .before .before .before .before .before .before .before .before .before .before .before .pre .1 .1)) _ _ ((c .before .before .before .before .match .keys8)) ((c .before .before .executor .ensures .0)) ((c .before .before .executor .ensures .1))
+enabled-returns-9 : (t : ℕ) → enabled-lts.Need-returns-9 (wide-reads.Asked, wide-reads.Learnt, plain-par-reads.Asked, plain-par-reads.Learnt, par-below t, par.Post, head-mask-reads.Asked, head-mask-reads.Learnt, seq-below t, seq.Post, scope-below t, scope.Post, executor-below t, executor.Post, process-reads.Asked, process-reads.Learnt) (enabled-at t) enabled.Post
+enabled-returns-9 t c = a-scope _ _ _ _ _ _ _ _ ((c .before .before .before .before .before .before .before .before .before .before .before .before .if1 .left)) ((c .before .before .before .before .before .before .before .before .before .before .before .if2 .left)) ((c .before .before .before .before .before .before .before .before .before .wide .ensures .0)) ((c .before .before .before .before .before .before .head-mask .ensures)) ((c .before .before .before .before .before .if4 .left)) ((c .before .before .before .before .before .before .before .before .before .before .before .before .before .before .before .pre .1 .0)) ((c .before .before .before .before .before .before .before .before .before .before .before .before .before .before .before .pre .1 .1)) _ _ ((c .before .before .before .before .match .keys5)) ((c .before .before .scope .ensures .0)) ((c .before .before .scope .ensures .1))
 
-enabled-returns-12 : (t : ℕ) → enabled-lts.Need-returns-12 (wide-reads.Asked, wide-reads.Learnt, head-mask-reads.Asked, head-mask-reads.Learnt, seq-below t, seq.Post, par-below t, par.Post, scope-below t, scope.Post, executor-below t, executor.Post, process-reads.Asked, process-reads.Learnt) (enabled-at t) enabled.Post
-enabled-returns-12 t c = ((c .process .ensures), others _ _ _ _ _ _ _ _ ((c .before .before .before .before .before .before .before .if1 .left)) ((c .before .before .before .before .before .before .if2 .left)) ((c .before .before .before .before .wide .ensures .0)) ((c .before .before .before .head-mask .ensures)) ((c .before .before .if3 .left)) ((c .before .before .before .before .before .before .before .before .before .before .pre .1 .0)) ((c .before .before .before .before .before .before .before .before .before .before .pre .1 .1)) _ refl ((c .before .match .rest .0 .0 .0 .0 .0 .0 .1)) ((c .before .match .rest .0 .0 .0 .0 .0 .1)) ((c .before .match .rest .0 .0 .0 .1)) ((c .before .match .rest .1)))
+enabled-returns-10 : (t : ℕ) → enabled-lts.Need-returns-10 (wide-reads.Asked, wide-reads.Learnt, plain-par-reads.Asked, plain-par-reads.Learnt, par-below t, par.Post, head-mask-reads.Asked, head-mask-reads.Learnt, seq-below t, seq.Post, scope-below t, scope.Post, executor-below t, executor.Post, process-reads.Asked, process-reads.Learnt) (enabled-at t) enabled.Post
+unfolding nodeEnd
+enabled-returns-10 t c =
+    one-word _ _ _ _ _ _ _ _ ((c .before .before .before .before .before .before .before .before .if1 .left)) ((c .before .before .before .before .before .before .before .if2 .left)) ((c .before .before .before .before .before .wide .ensures .0)) ((c .before .before .head-mask .ensures)) ((c .before .if4 .left)) ((c .before .before .before .before .before .before .before .before .before .before .before .pre .1 .0)) ((c .before .before .before .before .before .before .before .before .before .before .before .pre .1 .1)) 13 ((c .match .keys6)) (λ h e. rw e refl) (λ z. omega arith) (λ z. omega arith) (λ z. omega arith) (λ z. omega arith)
+
+enabled-returns-11 : (t : ℕ) → enabled-lts.Need-returns-11 (wide-reads.Asked, wide-reads.Learnt, plain-par-reads.Asked, plain-par-reads.Learnt, par-below t, par.Post, head-mask-reads.Asked, head-mask-reads.Learnt, seq-below t, seq.Post, scope-below t, scope.Post, executor-below t, executor.Post, process-reads.Asked, process-reads.Learnt) (enabled-at t) enabled.Post
+unfolding nodeEnd
+enabled-returns-11 t c =
+    one-word _ _ _ _ _ _ _ _ ((c .before .before .before .before .before .before .before .before .if1 .left)) ((c .before .before .before .before .before .before .before .if2 .left)) ((c .before .before .before .before .before .wide .ensures .0)) ((c .before .before .head-mask .ensures)) ((c .before .if4 .left)) ((c .before .before .before .before .before .before .before .before .before .before .before .pre .1 .0)) ((c .before .before .before .before .before .before .before .before .before .before .before .pre .1 .1)) 14 ((c .match .keys7)) (λ h e. rw e refl) (λ z. omega arith) (λ z. omega arith) (λ z. omega arith) (λ z. omega arith)
+
+enabled-same-length-5 : (t : ℕ) → enabled-lts.Need-same-length-5 (wide-reads.Asked, wide-reads.Learnt, plain-par-reads.Asked, plain-par-reads.Learnt, par-below t, par.Post, head-mask-reads.Asked, head-mask-reads.Learnt, seq-below t, seq.Post, scope-below t, scope.Post, executor-below t, executor.Post, process-reads.Asked, process-reads.Learnt) (enabled-at t) enabled.Post
+enabled-same-length-5 t c = search needs
+
+enabled-returns-12 : (t : ℕ) → enabled-lts.Need-returns-12 (wide-reads.Asked, wide-reads.Learnt, plain-par-reads.Asked, plain-par-reads.Learnt, par-below t, par.Post, head-mask-reads.Asked, head-mask-reads.Learnt, seq-below t, seq.Post, scope-below t, scope.Post, executor-below t, executor.Post, process-reads.Asked, process-reads.Learnt) (enabled-at t) enabled.Post
+enabled-returns-12 t c = an-executor _ _ _ _ _ _ _ _ ((c .before .before .before .before .before .before .before .before .before .before .before .before .if1 .left)) ((c .before .before .before .before .before .before .before .before .before .before .before .if2 .left)) ((c .before .before .before .before .before .before .before .before .before .wide .ensures .0)) ((c .before .before .before .before .before .before .head-mask .ensures)) ((c .before .before .before .before .before .if4 .left)) ((c .before .before .before .before .before .before .before .before .before .before .before .before .before .before .before .pre .1 .0)) ((c .before .before .before .before .before .before .before .before .before .before .before .before .before .before .before .pre .1 .1)) _ _ ((c .before .before .before .before .match .keys8)) ((c .before .before .executor .ensures .0)) ((c .before .before .executor .ensures .1))
+
+enabled-returns-13 : (t : ℕ) → enabled-lts.Need-returns-13 (wide-reads.Asked, wide-reads.Learnt, plain-par-reads.Asked, plain-par-reads.Learnt, par-below t, par.Post, head-mask-reads.Asked, head-mask-reads.Learnt, seq-below t, seq.Post, scope-below t, scope.Post, executor-below t, executor.Post, process-reads.Asked, process-reads.Learnt) (enabled-at t) enabled.Post
+enabled-returns-13 t c = ((c .process .ensures), others _ _ _ _ _ _ _ _ ((c .before .before .before .before .before .before .before .before .before .if1 .left)) ((c .before .before .before .before .before .before .before .before .if2 .left)) ((c .before .before .before .before .before .before .wide .ensures .0)) ((c .before .before .before .head-mask .ensures)) ((c .before .before .if4 .left)) ((c .before .before .before .before .before .before .before .before .before .before .before .before .pre .1 .0)) ((c .before .before .before .before .before .before .before .before .before .before .before .before .pre .1 .1)) _ refl ((c .before .match .rest .0 .0 .0 .0 .0 .0 .1)) ((c .before .match .rest .0 .0 .0 .0 .0 .1)) ((c .before .match .rest .0 .0 .0 .1)) ((c .before .match .rest .1)))
 
 executor-end-requires : (t : ℕ) → executor-lts.Need-end-requires (end-reads.Asked, end-reads.Learnt, mark-below t, mark.Post) (executor-at t) executor.Post
 executor-end-requires t c κs = search needs
@@ -318,12 +334,14 @@ pub +enabled+executor+mark+par+scope+seq-spec : {M : Type 1} → statement M
     close μ-enabled μ-executor μ-mark μ-par μ-scope μ-seq (λ t. enabled-lts.spec (
       wide-reads.Asked,
       wide-reads.Learnt,
+      plain-par-reads.Asked,
+      plain-par-reads.Learnt,
+      par-below t,
+      par.Post,
       head-mask-reads.Asked,
       head-mask-reads.Learnt,
       seq-below t,
       seq.Post,
-      par-below t,
-      par.Post,
       scope-below t,
       scope.Post,
       executor-below t,
@@ -338,34 +356,39 @@ pub +enabled+executor+mark+par+scope+seq-spec : {M : Type 1} → statement M
     (enabled-mul-wide t)
     (enabled-shared-slice-read-wide t)
     (enabled-wide-requires t)
-    (enabled-add-if3 t)
-    (enabled-head-mask-requires t)
-    (enabled-returns-3 t)
     (enabled-sub-d t)
+    (enabled-plain-par-requires t)
+    (enabled-add-par t)
+    (enabled-par-requires t)
+    (enabled-same-length t)
+    (enabled-returns-3 t)
+    (enabled-add-if4 t)
+    (enabled-head-mask-requires t)
+    (enabled-returns-4 t)
     (enabled-add-result t)
     (enabled-add-seq t)
     (enabled-seq-requires t)
-    (enabled-add-par t)
-    (enabled-par-requires t)
+    (enabled-add-par-2 t)
+    (enabled-par-requires-2 t)
     (enabled-add-result-2 t)
     (enabled-scope-requires t)
     (enabled-add-result-3 t)
     (enabled-add-result-4 t)
     (enabled-executor-requires t)
     (enabled-process-requires t)
-    (enabled-returns-4 t)
-    (enabled-same-length t)
     (enabled-returns-5 t)
     (enabled-same-length-2 t)
     (enabled-returns-6 t)
-    (enabled-returns-7 t)
     (enabled-same-length-3 t)
+    (enabled-returns-7 t)
     (enabled-returns-8 t)
+    (enabled-same-length-4 t)
     (enabled-returns-9 t)
     (enabled-returns-10 t)
-    (enabled-same-length-4 t)
     (enabled-returns-11 t)
-    (enabled-returns-12 t))
+    (enabled-same-length-5 t)
+    (enabled-returns-12 t)
+    (enabled-returns-13 t))
     (λ t. executor-lts.spec
     (end-reads.Asked, end-reads.Learnt, mark-below t, mark.Post)
     (executor-at t)
