@@ -13,7 +13,7 @@ use lib.Seq.{set-out}
 use Rattle.sock.specs.Kind.{rows, rowOf}
 use Rattle.sock.specs.Reading.{allowed, placed}
 use Rattle.reading.specs.Tables.{spareOf, headMask}
-use Rattle.reading.specs.Walk.{on, when, at, exprEnd, processEnd, twoEnd, restOf, markedEnd, scopeEnd, endAfter, executorEnd, nodeEnd}
+use Rattle.reading.specs.Walk.{on, when, at, exprEnd, processEnd, twoEnd, restOf, entriesEnd, listEnd, markedEnd, scopeEnd, endAfter, executorEnd, nodeEnd}
 use Rattle.reading.proofs.Tests.{tests}
 use Rattle.reading.proofs.Walks.{process-node, process-refused}
 use Rattle.marking.specs.Marking.{Noting, noteW, noteListW, plainPar, seqMarks, parMarks, bodyMarks, scopeMarks, executorMarks, nodeMarks, enabledMarks, marksW, enginesMarks, surveyMarks}
@@ -78,6 +78,17 @@ module _ (end : ℕ → ℕ → ℕ) (sub : Noting) (ws : List ℕ) (h i : ℕ) 
     unfolding scopeEnd scopeMarks bodyMarks when on
     scope-next r x y some n q s =
         (rw (le-leb 3 (length ws - i) long, ← second, ← listed, ne-eqb e 0 some, q), rw (le-leb 3 (length ws - i) long, ← second, ← listed, ne-eqb e 0 some, s, n))
+
+-- no mark, no fault and no entries
+pub bare-list :
+    (end : ℕ → ℕ → ℕ) (ws : List ℕ) (h i v w : ℕ) → i + 2 < length ws → v ≡ at ws (i + 1) → w ≡ at ws (i + 2) → h / 8 % 4 + v + w ≡ 0 →
+    i + 3 ≡ markedEnd end ws h (at ws (i + 1)) (i + 2)
+unfolding markedEnd listEnd entriesEnd when
+bare-list end ws h i v w inside first second none =
+    let a : h / 8 % 4 ≡ 0 = omega arith in
+    let b : v ≡ 0 = omega arith in
+    let c : w ≡ 0 = omega arith in
+    sym (rw (a, ← first, b, ← second, c, lt-ltb (i + 2) (length ws) inside) (let three : i + 2 + 1 ≡ i + 3 = omega arith in three))
 
 -- ---- an executor
 

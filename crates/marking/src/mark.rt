@@ -7,8 +7,8 @@ use reading::reader::wide;
 use reading::tables::head_mask;
 ghost use mathlib.Core.Path.{_≡_};
 ghost use Prim.Native.Nat.{_+_, _*_, _≤_, _<_};
-ghost use lib.ListN.{length};
-ghost use Rattle.reading.specs.Walk.{processEnd, twoEnd, scopeEnd, executorEnd};
+ghost use lib.ListN.{length, getD};
+ghost use Rattle.reading.specs.Walk.{processEnd, twoEnd, markedEnd, scopeEnd, executorEnd};
 ghost use Rattle.marking.specs.Marking.{noteW, noteListW, plainPar, marksW, enabledMarks, seqMarks, parMarks, scopeMarks, executorMarks};
 
 // The process at `at` ends at `e`.
@@ -130,6 +130,18 @@ fn par(ws: &[u16], at: usize, depth: usize, bound: usize, marks: &mut [u16]) -> 
     mark(ws, a, depth, 9, bound, marks)
 }
 
+// Where the list of the scope at `at`, whose head is `h`, ends. Most scopes have no mark and an empty list, and take no call.
+fn listed(ws: &[u16], at: usize, depth: usize, h: usize, bound: usize) -> usize
+    requires { ⌜ at + 2 < length (now ws) ⌝ }
+    ensures { λ r. ⌜ r ≡ markedEnd (processEnd depth (now (ws .entry)) bound) (now (ws .entry)) h (getD (now (ws .entry)) (at + 1) 0) (at + 2) ⌝ }
+{
+    let fault = wide(ws[at + 1]);
+    if h / 8 % 4 + fault + wide(ws[at + 2]) == 0 {
+        return at + 3;
+    }
+    marked(ws, at + 2, depth, h, fault, bound)
+}
+
 // A scope whose head is `h`.
 fn scope(ws: &[u16], at: usize, depth: usize, h: usize, bound: usize, marks: &mut [u16]) -> usize
     requires { ⌜ at < length (now ws) ⌝ }
@@ -138,7 +150,7 @@ fn scope(ws: &[u16], at: usize, depth: usize, h: usize, bound: usize, marks: &mu
     if ws.len() - at < 3 {
         return 0;
     }
-    let e = marked(ws, at + 2, depth, h, wide(ws[at + 1]), bound);
+    let e = listed(ws, at, depth, h, bound);
     if e == 0 {
         return 0;
     }

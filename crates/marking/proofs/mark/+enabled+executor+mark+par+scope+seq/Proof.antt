@@ -28,11 +28,11 @@ use Rattle.marking.proofs.mark.+enabled+executor+mark+par+scope+seq.Lts
 use Rattle.marking.proofs.mark.seq.Reads as seq
 use Rattle.marking.proofs.mark.seq.Kinds as seq-kinds
 use Rattle.marking.proofs.mark.+enabled+executor+mark+par+scope+seq.Lts-seq as seq-lts
+use Rattle.marking.proofs.mark.listed.Reads as listed-reads
 use Rattle.marking.proofs.mark.note.Reads as note-reads
 use Rattle.marking.proofs.mark.note_list.Reads as note-list-reads
 use Rattle.marking.proofs.mark.plain_par.Reads as plain-par-reads
 use Rattle.reading.proofs.reader.end.Reads as end-reads
-use Rattle.reading.proofs.reader.marked.Reads as marked-reads
 use Rattle.reading.proofs.reader.process.Reads as process-reads
 use Rattle.reading.proofs.reader.wide.Reads as wide-reads
 use Rattle.reading.proofs.tables.head_mask.Reads as head-mask-reads
@@ -266,47 +266,32 @@ par-same-length-2 t c = search needs
 par-returns-2 : (t : ℕ) → par-lts.Need-returns-2 (mark-below t, mark.Post) (par-at t) par.Post
 par-returns-2 t c = (two-next _ (marksW ((c .before .before .before .before .before .before .before .before .before .before .before .args .depth)) ((c .before .before .before .before .before .before .before .before .before .before .before .args .ws .now)) ((c .before .before .before .before .before .before .before .before .before .before .before .args .bound))) _ _ _ _ ((c .before .before .before .before .before .before .before .mark .ensures .0)) ((c .before .before .before .before .before .before .before .mark .ensures .1)) _ _ ((c .before .before .before .before .if1 .left)) ((c .before .before .mark2 .ensures .0)), par-next _ _ _ _ _ _ ((c .before .before .before .before .before .before .before .mark .ensures .0)) ((c .before .before .before .before .before .before .before .mark .ensures .1)) _ ((c .before .before .before .before .if1 .left)) ((c .before .before .mark2 .ensures .1)))
 
-scope-sub-if1 : (t : ℕ) → scope-lts.Need-sub-if1 (wide-reads.Asked, wide-reads.Learnt, marked-reads.Asked, marked-reads.Learnt, note-list-reads.Asked, note-list-reads.Learnt, mark-below t, mark.Post) (scope-at t) scope.Post
+scope-sub-if1 : (t : ℕ) → scope-lts.Need-sub-if1 (listed-reads.Asked, listed-reads.Learnt, note-list-reads.Asked, note-list-reads.Learnt, mark-below t, mark.Post) (scope-at t) scope.Post
 scope-sub-if1 t c = search needs
 
-scope-returns : (t : ℕ) → scope-lts.Need-returns (wide-reads.Asked, wide-reads.Learnt, marked-reads.Asked, marked-reads.Learnt, note-list-reads.Asked, note-list-reads.Learnt, mark-below t, mark.Post) (scope-at t) scope.Post
+scope-returns : (t : ℕ) → scope-lts.Need-returns (listed-reads.Asked, listed-reads.Learnt, note-list-reads.Asked, note-list-reads.Learnt, mark-below t, mark.Post) (scope-at t) scope.Post
 scope-returns t c = scope-short _ _ _ _ _ _ ((c .if1 .taken))
 
-scope-add-marked : (t : ℕ) → scope-lts.Need-add-marked (wide-reads.Asked, wide-reads.Learnt, marked-reads.Asked, marked-reads.Learnt, note-list-reads.Asked, note-list-reads.Learnt, mark-below t, mark.Post) (scope-at t) scope.Post
-scope-add-marked t c = search needs
+scope-listed-requires : (t : ℕ) → scope-lts.Need-listed-requires (listed-reads.Asked, listed-reads.Learnt, note-list-reads.Asked, note-list-reads.Learnt, mark-below t, mark.Post) (scope-at t) scope.Post
+scope-listed-requires t c κs = search needs
 
-scope-add-wide : (t : ℕ) → scope-lts.Need-add-wide (wide-reads.Asked, wide-reads.Learnt, marked-reads.Asked, marked-reads.Learnt, note-list-reads.Asked, note-list-reads.Learnt, mark-below t, mark.Post) (scope-at t) scope.Post
-scope-add-wide t c = search needs
+scope-returns-2 : (t : ℕ) → scope-lts.Need-returns-2 (listed-reads.Asked, listed-reads.Learnt, note-list-reads.Asked, note-list-reads.Learnt, mark-below t, mark.Post) (scope-at t) scope.Post
+scope-returns-2 t c = scope-none _ _ _ _ _ _ _ _ ((c .before .before .if1 .left)) refl ((c .before .listed .ensures)) ((c .if2 .taken))
 
-scope-mul-wide : (t : ℕ) → scope-lts.Need-mul-wide (wide-reads.Asked, wide-reads.Learnt, marked-reads.Asked, marked-reads.Learnt, note-list-reads.Asked, note-list-reads.Learnt, mark-below t, mark.Post) (scope-at t) scope.Post
-scope-mul-wide t c = search needs
-
-scope-shared-slice-read-wide : (t : ℕ) → scope-lts.Need-shared-slice-read-wide (wide-reads.Asked, wide-reads.Learnt, marked-reads.Asked, marked-reads.Learnt, note-list-reads.Asked, note-list-reads.Learnt, mark-below t, mark.Post) (scope-at t) scope.Post
-scope-shared-slice-read-wide t c = search needs
-
-scope-wide-requires : (t : ℕ) → scope-lts.Need-wide-requires (wide-reads.Asked, wide-reads.Learnt, marked-reads.Asked, marked-reads.Learnt, note-list-reads.Asked, note-list-reads.Learnt, mark-below t, mark.Post) (scope-at t) scope.Post
-scope-wide-requires t c κs = search needs
-
-scope-marked-requires : (t : ℕ) → scope-lts.Need-marked-requires (wide-reads.Asked, wide-reads.Learnt, marked-reads.Asked, marked-reads.Learnt, note-list-reads.Asked, note-list-reads.Learnt, mark-below t, mark.Post) (scope-at t) scope.Post
-scope-marked-requires t c κs = search needs
-
-scope-returns-2 : (t : ℕ) → scope-lts.Need-returns-2 (wide-reads.Asked, wide-reads.Learnt, marked-reads.Asked, marked-reads.Learnt, note-list-reads.Asked, note-list-reads.Learnt, mark-below t, mark.Post) (scope-at t) scope.Post
-scope-returns-2 t c = scope-none _ _ _ _ _ _ _ _ ((c .before .before .before .before .if1 .left)) ((c .before .before .wide .ensures .0)) ((c .before .marked .ensures)) ((c .if2 .taken))
-
-scope-add-note-list : (t : ℕ) → scope-lts.Need-add-note-list (wide-reads.Asked, wide-reads.Learnt, marked-reads.Asked, marked-reads.Learnt, note-list-reads.Asked, note-list-reads.Learnt, mark-below t, mark.Post) (scope-at t) scope.Post
+scope-add-note-list : (t : ℕ) → scope-lts.Need-add-note-list (listed-reads.Asked, listed-reads.Learnt, note-list-reads.Asked, note-list-reads.Learnt, mark-below t, mark.Post) (scope-at t) scope.Post
 scope-add-note-list t c = search needs
 
-scope-note-list-requires : (t : ℕ) → scope-lts.Need-note-list-requires (wide-reads.Asked, wide-reads.Learnt, marked-reads.Asked, marked-reads.Learnt, note-list-reads.Asked, note-list-reads.Learnt, mark-below t, mark.Post) (scope-at t) scope.Post
+scope-note-list-requires : (t : ℕ) → scope-lts.Need-note-list-requires (listed-reads.Asked, listed-reads.Learnt, note-list-reads.Asked, note-list-reads.Learnt, mark-below t, mark.Post) (scope-at t) scope.Post
 scope-note-list-requires t c κs = search needs
 
-scope-mark-requires : (t : ℕ) → scope-lts.Need-mark-requires (wide-reads.Asked, wide-reads.Learnt, marked-reads.Asked, marked-reads.Learnt, note-list-reads.Asked, note-list-reads.Learnt, mark-below t, mark.Post) (scope-at t) scope.Post
+scope-mark-requires : (t : ℕ) → scope-lts.Need-mark-requires (listed-reads.Asked, listed-reads.Learnt, note-list-reads.Asked, note-list-reads.Learnt, mark-below t, mark.Post) (scope-at t) scope.Post
 scope-mark-requires t c κs = search needs
 
-scope-same-length : (t : ℕ) → scope-lts.Need-same-length (wide-reads.Asked, wide-reads.Learnt, marked-reads.Asked, marked-reads.Learnt, note-list-reads.Asked, note-list-reads.Learnt, mark-below t, mark.Post) (scope-at t) scope.Post
+scope-same-length : (t : ℕ) → scope-lts.Need-same-length (listed-reads.Asked, listed-reads.Learnt, note-list-reads.Asked, note-list-reads.Learnt, mark-below t, mark.Post) (scope-at t) scope.Post
 scope-same-length t c = search needs
 
-scope-returns-3 : (t : ℕ) → scope-lts.Need-returns-3 (wide-reads.Asked, wide-reads.Learnt, marked-reads.Asked, marked-reads.Learnt, note-list-reads.Asked, note-list-reads.Learnt, mark-below t, mark.Post) (scope-at t) scope.Post
-scope-returns-3 t c = scope-next _ _ _ _ _ _ _ _ ((c .before .before .before .before .before .before .before .before .before .before .before .before .if1 .left)) ((c .before .before .before .before .before .before .before .before .before .before .wide .ensures .0)) ((c .before .before .before .before .before .before .before .before .before .marked .ensures)) _ _ _ ((c .before .before .before .before .before .before .before .before .if2 .left)) ((c .before .before .before .before .before .before .note-list .ensures .1)) ((c .before .before .mark .ensures .0)) ((c .before .before .mark .ensures .1))
+scope-returns-3 : (t : ℕ) → scope-lts.Need-returns-3 (listed-reads.Asked, listed-reads.Learnt, note-list-reads.Asked, note-list-reads.Learnt, mark-below t, mark.Post) (scope-at t) scope.Post
+scope-returns-3 t c = scope-next _ _ _ _ _ _ _ _ ((c .before .before .before .before .before .before .before .before .before .before .if1 .left)) refl ((c .before .before .before .before .before .before .before .before .before .listed .ensures)) _ _ _ ((c .before .before .before .before .before .before .before .before .if2 .left)) ((c .before .before .before .before .before .before .note-list .ensures .1)) ((c .before .before .mark .ensures .0)) ((c .before .before .mark .ensures .1))
 
 seq-mark-requires : (t : ℕ) → seq-lts.Need-mark-requires (mark-below t, mark.Post, process-reads.Asked, process-reads.Learnt, note-reads.Asked, note-reads.Learnt) (seq-at t) seq.Post
 seq-mark-requires t c κs = search needs
@@ -418,10 +403,8 @@ pub +enabled+executor+mark+par+scope+seq-spec : {M : Type 1} → statement M
     (par-same-length-2 t)
     (par-returns-2 t))
     (λ t. scope-lts.spec (
-      wide-reads.Asked,
-      wide-reads.Learnt,
-      marked-reads.Asked,
-      marked-reads.Learnt,
+      listed-reads.Asked,
+      listed-reads.Learnt,
       note-list-reads.Asked,
       note-list-reads.Learnt,
       mark-below t,
@@ -431,12 +414,7 @@ pub +enabled+executor+mark+par+scope+seq-spec : {M : Type 1} → statement M
     scope.Post
     (scope-sub-if1 t)
     (scope-returns t)
-    (scope-add-marked t)
-    (scope-add-wide t)
-    (scope-mul-wide t)
-    (scope-shared-slice-read-wide t)
-    (scope-wide-requires t)
-    (scope-marked-requires t)
+    (scope-listed-requires t)
     (scope-returns-2 t)
     (scope-add-note-list t)
     (scope-note-list-requires t)
