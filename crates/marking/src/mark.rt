@@ -97,7 +97,7 @@ fn enabled(
     }
 }
 
-// Whether a head is a par's and may stand in the context. Most heads of what is enabled are, so this saves the look at the table.
+// Whether a head is a par's and may stand in the context. Up to half of what is enabled are pars, and this saves the look at the table.
 fn plain_par(h: usize, context: usize) -> bool
     ensures { λ r. ⌜ r ≡ plainPar h context ⌝ }
 {
@@ -130,7 +130,7 @@ fn par(ws: &[u16], at: usize, depth: usize, bound: usize, marks: &mut [u16]) -> 
     mark(ws, a, depth, 9, bound, marks)
 }
 
-// Where the list of the scope at `at`, whose head is `h`, ends. Most scopes have no mark and an empty list, and take no call.
+// Where the list of the scope at `at`, whose head is `h`, ends. An empty one of a scope with no mark takes no call.
 fn listed(ws: &[u16], at: usize, depth: usize, h: usize, bound: usize) -> usize
     requires { ⌜ at + 2 < length (now ws) ⌝ }
     ensures { λ r. ⌜ r ≡ markedEnd (processEnd depth (now (ws .entry)) bound) (now (ws .entry)) h (getD (now (ws .entry)) (at + 1) 0) (at + 2) ⌝ }
