@@ -13,10 +13,14 @@ use Rattle.sock.specs.Reading.{isEmpty}
 use Rattle.sock.specs.Running.{Run, nil, seq, par, scope, executor, waiter, notice, act}
 use Rattle.sock.specs.Configuration.{Engine, Config, isUnmarked, freshRun, isScope, freshEngines, fresh}
 use Rattle.sock.specs.Calls.{End, waiting, working, tally, tallyAll, waits, works}
-use Rattle.sock.specs.Runs.{same, stands}
+use Rattle.sock.specs.Runs.{same}
 use Rattle.sock.proofs.Logic.{and-left, and-right}
 use Rattle.sock.proofs.Turns.{here, here-same, here-other, here-zero, share, endsIn, endsAt}
 use Rattle.sock.proofs.Ledger.{Status, idle, pending, shareOf, openOf, Only, Ledger, waiting-only, working-only, waiting-found, working-found}
+
+-- an end stands in an engine
+unfoldable pub stands : Config → ℕ → End → Type 0
+stands c e x = 0 < endsAt (same x) c e
 
 -- ---- sums over the engines
 

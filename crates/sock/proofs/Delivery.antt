@@ -1,5 +1,4 @@
--- A working end with nothing left to run is delivered: the step that names it and the end that awaits it is accepted, and where a serial is
--- awaited, the end that awaits it is found.
+-- A working end with nothing left to run is delivered: the step that names it and the end that awaits it is accepted.
 -- Assumes nothing.
 use Prim.Native.Nat.{ℕ, zero, suc, _+_, _-_, _≤_, _<_}
 use native.Mathlib.Omega.{arith}
@@ -195,71 +194,3 @@ module _ (limits : Limits) (c : Config) (r : Readable limits c) (s e p e' p' : �
             (omega arith),
         d .serial,
       )
-
--- ---- where a serial is awaited, the end that awaits it is found
-
--- a located waiting end
-abbrev Awaiting : ℕ → Run → List Frame → Type 0
-Awaiting s r fs = (p : ℕ) × (l : Located) × (locate r p fs ≡ some l) × T (awaits s (l .process))
-
--- a sum above 0 has a side above 0
-either : {A : Type 0} (m n : ℕ) → 0 < m + n → (0 < m → A) → (0 < n → A) → A
-either zero n h f g = g (omega arith)
-either (suc m) n h f g = f (omega arith)
-
-bit-set : (b : Bool) → 0 < bit b → T b
-bit-set true h = tt
-bit-set false h = absurd (omega arith)
-
--- past its own words a process looks in its part
-beyond : {A : Type 0} (own i p : ℕ) (o : A) (find : ℕ → A) → p ≡ own + i → cond (ltb p own) o (find (p - own)) ≡ find i
-beyond own i p o find e =
-    let out : ltb p own ≡ false = test-false (ltb p own) (not-T (ltb p own) (λ t. omega (arith, ltb→lt p own t))) in
-    let rest : p - own ≡ i = omega arith in
-    rw (out, rest)
-
-inside : (own i p : ℕ) (l : Located) (find : ℕ → Option Located) → 0 < own → p ≡ own + i → hereOr p l (past own p find) ≡ find i
-unfolding hereOr past
-inside own i zero l find h e = absurd (omega arith)
-inside own i (suc p) l find h e = beyond own i (suc p) none find e
-
-awaiting : (s : ℕ) (r : Run) (fs : List Frame) → 0 < tally (waits s) r → Awaiting s r fs
-unfolding tally waits locate awaits hereOr
-awaiting s nil fs h = absurd (omega arith)
-awaiting s (seq a q) fs h =
-    let w = awaiting s a (seqFrame q ∷ fs) h in
-    (1 + w .0, w .1, inside 1 (w .0) (1 + w .0) _ _ (omega arith) refl ∙ w .2, w .3)
-awaiting s (par a b) fs h =
-    either (tally (waits s) a) (tally (waits s) b) h
-    (λ m.
-    let w = awaiting s a (leftFrame b ∷ fs) m in
-    let within : w .0 < size a = omega (arith, located-before a (w .0) (leftFrame b ∷ fs) (w .1) (w .2), size-positive (w .1 .process)) in
-    (1 + w .0, w .1, inside 1 (w .0) (1 + w .0) _ _ (omega arith) refl ∙ rw (test-true (ltb (w .0) (size a)) (lt→ltb (w .0) (size a) within)) (w .2), w .3))
-    (λ m.
-    let w = awaiting s b (rightFrame a ∷ fs) m in
-    let i : ℕ = size a + w .0 in
-    (1 + i, w .1, inside 1 i (1 + i) _ _ (omega arith) refl ∙ beyond (size a) (w .0) i _ (λ i. locate b i (rightFrame a ∷ fs)) refl ∙ w .2, w .3))
-awaiting s (scope name mark zombie hs a) fs h =
-    let w = awaiting s a (scopeFrame name mark zombie hs ∷ fs) h in
-    let own : ℕ = 3 + length (entriesWords hs) in
-    (own + w .0, w .1, inside own (w .0) (own + w .0) _ _ (omega arith) refl ∙ w .2, w .3)
-awaiting s (executor o y client serial a) fs h =
-    let w = awaiting s a (executorFrame o y client serial ∷ fs) (omega arith) in
-    (3 + w .0, w .1, inside 3 (w .0) (3 + w .0) _ _ (omega arith) refl ∙ w .2, w .3)
-awaiting s (waiter o x dead server serial l) fs h = (0, record { frames = fs; process = waiter o x dead server serial l }, refl, bit-set (eqb s serial) h)
-awaiting s (notice o f client serial) fs h = absurd (omega arith)
-awaiting s (act a) fs h = absurd (omega arith)
-
-pub waiter-found :
-    (c : Config) (s e : ℕ) →
-    e < length (c .engines) →
-    0 < tally (waits s) (engineAt c e .process) →
-    (p : ℕ) × (b : Spot) × (enabledAt c e p ≡ some b) × T (awaits s (b .process))
-unfolding enabledAt also
-waiter-found c s e h t =
-    let w = awaiting s (engineAt c e .process) [] t in (
-      w .0,
-      record { engine = e; values = engineAt c e .values; frames = w .1 .frames; process = w .1 .process },
-      passed (ltb e (length (c .engines))) (lt→ltb e (length (c .engines)) h) ∙ rw (w .2),
-      w .3,
-    )

@@ -8,7 +8,7 @@ use mathlib.Core.List.{List, [], _∷_, _++_}
 use lib.ListN.{replicate, set}
 use Rattle.sock.specs.Kind
 use Rattle.sock.specs.Words.{headOf, scopeKey}
-use Rattle.sock.specs.Term.{Operator, sum, less, Expr, constant, apply, Node, node, absent, list, Entries, noEntries, entry, noParts, _&_, nilNode}
+use Rattle.sock.specs.Term.{Operator, sum, difference, less, equal, Expr, constant, apply, Node, node, absent, list, Entries, noEntries, entry, noParts, _&_, nilNode}
 use Rattle.sock.specs.Running.{Mark, unmarked, ownName, Run, nil, seq, par, scope, executor, waiter, notice, act}
 use Rattle.sock.specs.Configuration.{Engine, Config, encode, standard}
 use Rattle.sock.specs.Rules.{instOf, throwOf}
@@ -97,6 +97,16 @@ live p = scope 1 unmarked false noEntries p
 unfoldable pub zombie : Run → Run
 zombie p = scope 1 unmarked true noEntries p
 
+-- variable 0 takes an expression's value; it held another before, so that a step which leaves it is no case
+values : ℕ → Expr → ℕ → Case
+values before e after =
+    record {
+      given = record { issued = 0; engines = engine (set zeros 0 before) (live (assigned e)) ∷ [] };
+      steps = at 0 3 ∷ [];
+      number = 0;
+      gives = record { issued = 0; engines = engine (set zeros 0 after) (live nil) ∷ [] };
+    }
+
 unfoldable pub waits : Bool → Run
 waits dead = waiter 4 6 dead 1 1 (one 3 P)
 
@@ -151,20 +161,14 @@ cases =
     -- M9 comp of an absent name: nil
     ∷ record { given = single noEntries (act P'); steps = at 0 3 ∷ []; number = 0; gives = single noEntries nil }
     -- M10 4,294,967,295 plus 1 is 0; 0 less 4,294,967,295 is 1
-    ∷ record {
-      given = record { issued = 0; engines = engine (set zeros 0 9) (live (assigned (apply sum (constant 4294967295) (constant 1)))) ∷ [] };
-      steps = at 0 3 ∷ [];
-      number = 0;
-      gives = record { issued = 0; engines = engine zeros (live nil) ∷ [] };
-    }
-    ∷ record {
-      given = record { issued = 0; engines = engine zeros (live (assigned (apply less (constant 0) (constant 4294967295)))) ∷ [] };
-      steps = at 0 3 ∷ [];
-      number = 0;
-      gives = record { issued = 0; engines = engine (set zeros 0 1) (live nil) ∷ [] };
-    }
+    ∷ values 9 (apply sum (constant 4294967295) (constant 1)) 0
+    ∷ values 9 (apply less (constant 0) (constant 4294967295)) 1
+    -- and what document 01 says of the other two operators: 0 minus 4,294,967,295 is 1; equal gives 1 or 0
+    ∷ values 9 (apply difference (constant 0) (constant 4294967295)) 1
+    ∷ values 9 (apply equal (constant 7) (constant 7)) 1
+    ∷ values 9 (apply equal (constant 7) (constant 8)) 0
     ∷ []
 
 pub examples : Every Shown cases
-unfolding computed then outcome cases leaf P P' B R cH both one zeros engine single double at to assigned live zombie waits
-examples = (refl, (refl, (refl, (refl, (refl, (refl, (refl, (refl, (refl, (refl, (refl, tt)))))))))))
+unfolding computed then outcome cases leaf P P' B R cH both one zeros engine single double at to assigned values live zombie waits
+examples = (refl, (refl, (refl, (refl, (refl, (refl, (refl, (refl, (refl, (refl, (refl, (refl, (refl, (refl, tt))))))))))))))

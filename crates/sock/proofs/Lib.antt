@@ -5,6 +5,7 @@ pub mod ByKind
 pub mod Computed
 pub mod Configuration
 pub mod Delivery
+pub mod Edges
 pub mod Examples
 pub mod Exchange
 pub mod Fields
@@ -18,6 +19,7 @@ pub mod Measures
 pub mod Moves
 pub mod Nodes
 pub mod Opening
+pub mod Placed
 pub mod Positions
 pub mod Reading
 pub mod Replies

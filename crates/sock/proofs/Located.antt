@@ -1,15 +1,17 @@
--- Where an enabled process is located: the words from its position on begin with its own, and its frames put back around it give the whole.
+-- Where an enabled process is located. Every end has a position. The words from a process's position on begin with its own, and its frames put
+-- back around it give the whole.
 -- Assumes nothing.
 use Prim.Native.Nat.{ℕ, zero, suc, _+_, _*_, _-_, _≤_, _<_}
 use native.Mathlib.Omega.{arith}
 use mathlib.Core.Path.{_≡_, refl, sym, ap, _∙_}
+use mathlib.Core.Bool.{Bool, true, false, cond}
 use mathlib.Core.Option.{Option, none, some}
 use mathlib.Core.List.{List, [], _∷_, _++_, append-assoc, append-nil}
-use lib.Dec.{ltb, ltb→lt, nltb→le}
+use lib.Dec.{T, ltb, ltb→lt, lt→ltb, nltb→le, not-T}
 use lib.ListN.{length, getD, take, drop, length-append, length-drop}
 use lib.Seq.{split-at, drop-append-le, drop-append-add}
 use Rattle.sock.specs.Kind
-use Rattle.sock.specs.Words.{headOf}
+use Rattle.sock.specs.Words.{bit, headOf}
 use Rattle.sock.specs.Term.{Node, node}
 use Rattle.sock.specs.Layout.{exprsWords, count, words, entriesWords}
 use Rattle.sock.specs.Running.{Run, nil, seq, par, scope, executor, waiter, notice, act, markedFault, scopeHead, asNode, runWords, size}
@@ -17,7 +19,80 @@ use Rattle.sock.specs.Frames.{Frame, seqFrame, leftFrame, rightFrame, sc
 use Rattle.sock.specs.Configuration.{Engine, Config, valuesWords, engineWords, enginesWords, encode}
 use Rattle.sock.specs.Calls.{Spot, engineAt, enabledAt}
 use Rattle.sock.proofs.Fits.{FitsEngine, FitsEngines, noEngines, oneEngine, FitsConfig}
-use Rattle.sock.proofs.Logic.{cond-case, All, allNone, allSome, all-some, all-map, all-also, all-guarded}
+use Rattle.sock.proofs.Measures.{size-seq, size-par, size-scope, size-executor, size-waiter, size-notice}
+use Rattle.sock.proofs.Logic.{test-true, test-false, cond-case, All, allNone, allSome, all-some, all-map, all-also, all-guarded}
+
+-- ---- each end among what is enabled has a position that names it
+
+-- how many ends pass a test of processes
+unfoldable pub tallied : (Run → Bool) → Run → ℕ
+tallied t nil = 0
+tallied t (seq p q) = tallied t p
+tallied t (par p q) = tallied t p + tallied t q
+tallied t (scope name mark zombie h p) = tallied t p
+tallied t (executor o y client serial p) = bit (t (executor o y client serial p)) + tallied t p
+tallied t (waiter o x dead server serial l) = bit (t (waiter o x dead server serial l))
+tallied t (notice o f client serial) = bit (t (notice o f client serial))
+tallied t (act p) = 0
+
+-- a sum above 0 has a side above 0
+pub either : {A : Type 0} (m n : ℕ) → 0 < m + n → (0 < m → A) → (0 < n → A) → A
+either zero n h f g = g (omega arith)
+either (suc m) n h f g = f (omega arith)
+
+bit-set : (b : Bool) → 0 < bit b → T b
+bit-set true h = tt
+bit-set false h = absurd (omega arith)
+
+-- past its own words a process looks in its part
+beyond : {A : Type 0} (own i p : ℕ) (o : A) (find : ℕ → A) → p ≡ own + i → cond (ltb p own) o (find (p - own)) ≡ find i
+beyond own i p o find e =
+    let out : ltb p own ≡ false = test-false (ltb p own) (not-T (ltb p own) (λ t. omega (arith, ltb→lt p own t))) in
+    let rest : p - own ≡ i = omega arith in
+    rw (out, rest)
+
+inside : (own i p : ℕ) (l : Located) (find : ℕ → Option Located) → 0 < own → p ≡ own + i → hereOr p l (past own p find) ≡ find i
+unfolding hereOr past
+inside own i zero l find h e = absurd (omega arith)
+inside own i (suc p) l find h e = beyond own i (suc p) none find e
+
+module _ (t : Run → Bool) where
+  -- a position, inside the process's words, that names a process which passes the test
+  abbrev pub Position : Run → List Frame → Type 0
+  Position r fs = (p : ℕ) × (p < size r) × (l : Located) × (locate r p fs ≡ some l) × T (t (l .process))
+
+  pub position : (r : Run) (fs : List Frame) → 0 < tallied t r → Position r fs
+  unfolding tallied locate hereOr
+  position nil fs h = absurd (omega arith)
+  position (seq a q) fs h =
+      let (i, b, l, e, u) = position a (seqFrame q ∷ fs) h in
+      (1 + i, omega (arith, size-seq a q), l, inside 1 i (1 + i) _ _ (omega arith) refl ∙ e, u)
+  position (par a b) fs h =
+      either (tallied t a) (tallied t b) h
+      (λ m.
+      let (i, w, l, e, u) = position a (leftFrame b ∷ fs) m in
+      (1 + i, omega (arith, size-par a b), l, inside 1 i (1 + i) _ _ (omega arith) refl ∙ rw (test-true (ltb i (size a)) (lt→ltb i (size a) w)) e, u))
+      (λ m.
+      let (i, w, l, e, u) = position b (rightFrame a ∷ fs) m in
+      let j : ℕ = size a + i in
+      (1 + j, omega (arith, size-par a b), l, inside 1 j (1 + j) _ _ (omega arith) refl ∙ beyond (size a) i j _ (λ i. locate b i (rightFrame a ∷ fs)) refl ∙ e, u))
+  position (scope name mark zombie hs a) fs h =
+      let (i, w, l, e, u) = position a (scopeFrame name mark zombie hs ∷ fs) h in
+      let own : ℕ = 3 + length (entriesWords hs) in
+      (own + i, omega (arith, size-scope name mark zombie hs a), l, inside own i (own + i) _ _ (omega arith) refl ∙ e, u)
+  position (executor o y client serial a) fs h =
+      either (bit (t (executor o y client serial a))) (tallied t a) h
+      (λ m. (0, omega (arith, size-executor o y client serial a), record { frames = fs; process = executor o y client serial a }, refl, bit-set (t (executor o y client serial a)) m))
+      (λ m.
+      let (i, w, l, e, u) = position a (executorFrame o y client serial ∷ fs) m in
+      (3 + i, omega (arith, size-executor o y client serial a), l, inside 3 i (3 + i) _ _ (omega arith) refl ∙ e, u))
+  position (waiter o x dead server serial l) fs h =
+      (0, omega (arith, size-waiter o x dead server serial l), record { frames = fs; process = waiter o x dead server serial l }, refl, bit-set (t (waiter o x dead server serial l)) h)
+  position (notice o f client serial) fs h =
+      (0, omega (arith, size-notice o f client serial), record { frames = fs; process = notice o f client serial }, refl, bit-set (t (notice o f client serial)) h)
+  position (act a) fs h = absurd (omega arith)
+
+-- ---- what stands at a position
 
 -- the frames around a process as they stand, no nil dropped
 unfoldable pub wrap : List Frame → Run → Run

@@ -19,7 +19,7 @@ use Rattle.sock.specs.Evaluation.{evaluate, isTrue}
 use Rattle.sock.specs.Handlers.{handler, without, update}
 use Rattle.sock.specs.Frames.{Frame, seqFrame, leftFrame, rightFrame, scopeFrame, executorFrame, isDone, seqOf, parOf, plug, nearest, onNearest}
 use Rattle.sock.specs.Rules.{kill, climb, Action, still, assign, branch, repeat, notify, solicit, install, throw, compensate, action, notification, solicitation, reply, failure, Move, stuck, alone, sends, ending, acting, onceDone, moveOf}
-use Rattle.sock.specs.Calls.{End, working, tally}
+use Rattle.sock.specs.Calls.{End, working, tally, works}
 use Rattle.sock.specs.Runs.{isSolicit, carries}
 use Rattle.sock.proofs.Logic.{cond-case, All, allSome, all-also, all-guarded}
 use Rattle.sock.proofs.Tallies.{enable-tally, done-tally, seqOf-tally, parOf-tally, around, plug-tally, nearest-tally}
@@ -200,7 +200,7 @@ module _ (vs : List ℕ) (fs : List Frame) where
   acting-moves p (solicit o y z x l) e = asking e (λ s. refl) (λ t. refl)
 
   pub move-moves : (p : Run) → Moves fs p (moveOf vs fs p)
-  unfolding moveOf onceDone tally isSolicit asNode carries
+  unfolding moveOf onceDone tally isSolicit asNode carries works
   move-moves nil = stuckMoves
   move-moves (seq p q) = stuckMoves
   move-moves (par p q) = stuckMoves

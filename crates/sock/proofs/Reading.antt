@@ -157,7 +157,7 @@ module _
         let t = split (isWord w && clear 512 w) (leb least (keyOf w)) t in
         let u = split (isWord w) (clear 512 w) (t .0) in
         let same : w ≡ keyWord (keyOf w) = omega tests in
-        something (simp append-assoc (cc), (entryFitsOn (omega tests) (omega tests) good (f .fitting) (q .1 .0), omega arith, omega arith))
+        something {rest = rest} (simp append-assoc (cc), (entryFitsOn (omega tests) (omega tests) good (f .fitting) (q .1 .0), omega arith, omega arith))
 
     block-found : (n : ℕ) (ws : List ℕ) → Holds (Takes blockWords (λ b. FitsBlock ofScope n b × (blockDepth b ≤ d)) ws) (block sub ofScope n ws)
     unfolding block words depth

@@ -14,8 +14,9 @@ use Rattle.sock.specs.Words.{bit}
 use Rattle.sock.specs.Running.{Run}
 use Rattle.sock.specs.Configuration.{Limits, Config, encode, readConfig, fresh}
 use Rattle.sock.specs.Rules.{also}
-use Rattle.sock.specs.Calls.{unreadable, notFresh, number, Result, refused, done, _>>=_, _>>_, _!_, _unless_, Spot, enabledAt, Stepped, stepAnswer, passed, start, checkStart, tallyAll, waits, works, known, counted, ends}
-use Rattle.sock.specs.Runs.{Call, accepted, nextWords, run, named, ofSpot, isSolicit, carries, counts, total, solicits, deliveries, lastSerial, delivery, Matched, EveryRequestHasOneReply}
+use Rattle.sock.specs.Calls.{unreadable, notFresh, number, Result, refused, done, _>>=_, _>>_, _!_, _unless_, Spot, enabledAt, Stepped, stepAnswer, passed, start, checkStart, End, isEnd, tallyAll, waits, works, known, counted, ends}
+use Rattle.sock.specs.Runs.{Call, accepted, nextWords, run, named, ofSpot, isSolicit, carries, counts, total, solicits, deliveries, lastSerial, awaits, delivery, Matched, EveryRequestHasOneReply}
+use Rattle.sock.specs.Everywhere.{everywhere}
 use Rattle.sock.proofs.Fits.{Readable}
 use Rattle.sock.proofs.Located.{all-equal}
 use Rattle.sock.proofs.Configuration.{config-found}
@@ -23,8 +24,9 @@ use Rattle.sock.proofs.Steps.{Sure, sureDone, sure-then, sure-given, su
 use Rattle.sock.proofs.Turns.{Turn, turn-issued, turn-latest, Stepping, step-turns}
 use Rattle.sock.proofs.Ledger.{Ledger, ledger-turns, ledger-same, openOf}
 use Rattle.sock.proofs.Accepted.{number-positive, Refused, Done, Called, calledRefused, calledDone, called}
-use Rattle.sock.proofs.Accounts.{waits-all, works-all, ends-paired, fresh-ledger}
-use Rattle.sock.proofs.Replies.{ready-awaited, ready-deliverable}
+use Rattle.sock.proofs.Accounts.{waits-all, works-all, fresh-ledger}
+use Rattle.sock.proofs.Placed.{everywhere-all}
+use Rattle.sock.proofs.Replies.{end-placed, named-paired, ready-awaited, ready-deliverable}
 
 module _ (limits : Limits) where
   -- ---- one call
@@ -133,7 +135,7 @@ module _ (limits : Limits) where
 
   matched :
       (ws : List ℕ) {c₀ : Config} → c₀ .issued ≡ 0 → (calls : List Call) (x : After ws calls c₀ (λ s. 0)) → Matched limits ws calls (x .config)
-  unfolding encode
+  unfolding encode awaits carries
   matched ws z calls x =
       record {
         readable = x .reads;
@@ -142,18 +144,20 @@ module _ (limits : Limits) where
         counted = λ s a b. ap (λ r. r .number) (answered s a b);
         balanced = λ s a b. rw (answered s a b) (waits-all l s ∙ sym (works-all l s));
         once = λ s a b. rw (answered s a b) (omega (arith, waits-all l s, l .given s a (omega (arith, count))));
-        paired = λ s o o' g g' e e' w k. ends-paired l s o o' g g' e e' w k;
+        all = λ s a b. (here-all (waits s) ∙ ap (λ r. r .waiters) (sym (answered s a b)), here-all (works s) ∙ ap (λ r. r .workers) (sym (answered s a b)));
         others = λ s f.
             let free : openOf (l .status s) ≡ 0 = omega (arith, l .others s (λ a b. f a (omega (arith, count)))) in
-            (waits-all l s ∙ free, works-all l s ∙ free);
-        awaited = λ s e p a at t. ready-awaited good l s e p a at t;
-        deliverable = λ s e p e' p' a b out at t at' t' room.
+            (here-all (waits s) ∙ waits-all l s ∙ free, here-all (works s) ∙ works-all l s ∙ free);
+        placed = end-placed good;
+        paired = named-paired good l;
+        awaited = ready-awaited good l;
+        deliverable = λ s e p e' p' out n n' room.
             subst
             (λ ws.
             length ws ≤ length out →
             (stepAnswer limits ws (delivery e p e' p') out .number ≡ 0)
             × (stepAnswer limits ws (delivery e p e' p') out .serial ≡ s))
-            words (ready-deliverable good l s e p a at t e' p' b out at' t') room;
+            words (ready-deliverable good l s e p e' p' out n n') room;
       }
     where
       c : Config
@@ -167,6 +171,9 @@ module _ (limits : Limits) where
 
       good : Readable limits c
       good = config-found limits (run limits ws calls) c (x .reads) .1
+
+      here-all : (t : End → Bool) → everywhere (isEnd t) c ≡ tallyAll t (c .engines)
+      here-all t = everywhere-all t (good .fitting)
 
       count : c .issued ≡ solicits limits ws calls
       count = omega (arith, x .issued)

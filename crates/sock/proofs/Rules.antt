@@ -99,14 +99,18 @@ bit-below : (b : Bool) → bit b < 4294967296
 bit-below true = lit< tt
 bit-below false = lit< tt
 
+operate-below : (o : Operator) (a b : ℕ) → operate o a b < 4294967296
+unfolding operate
+operate-below sum a b = mod-lt _ (lit< tt)
+operate-below difference a b = mod-lt _ (lit< tt)
+operate-below less a b = search bit-below
+operate-below equal a b = search bit-below
+
 pub evaluate-below : {vs : List ℕ} → FitValues vs → {e : Expr} → FitsExpr e → evaluate vs e < 4294967296
-unfolding evaluate operate
+unfolding evaluate
 evaluate-below g (constantFits h) = h
 evaluate-below g (variableFits {x = x} h) = value-below g x
-evaluate-below {vs} g (applyFits {o = sum} {a = a} {b = b} x y) = mod-lt (evaluate vs a + evaluate vs b) (lit< tt)
-evaluate-below {vs} g (applyFits {o = difference} {a = a} {b = b} x y) = mod-lt (evaluate vs a + 4294967296 - evaluate vs b) (lit< tt)
-evaluate-below {vs} g (applyFits {o = less} {a = a} {b = b} x y) = bit-below (ltb (evaluate vs a) (evaluate vs b))
-evaluate-below {vs} g (applyFits {o = equal} {a = a} {b = b} x y) = bit-below (eqb (evaluate vs a) (evaluate vs b))
+evaluate-below {vs} g (applyFits {o = o} {a = a} {b = b} x y) = operate-below o (evaluate vs a) (evaluate vs b)
 
 -- ---- what a process does
 

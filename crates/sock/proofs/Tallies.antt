@@ -19,7 +19,7 @@ use Rattle.sock.proofs.Frames.{all-here, all-past}
 -- ---- code that becomes enabled
 
 -- the forms that hold no end themselves
-abbrev endless : Form → Bool
+abbrev pub endless : Form → Bool
 endless nilForm = true
 endless seqForm = true
 endless parForm = true

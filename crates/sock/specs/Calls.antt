@@ -221,15 +221,33 @@ pub data End : Type 0 where
   waiting : ℕ → ℕ → ℕ → End
   working : ℕ → ℕ → ℕ → End
 
+-- The end that a process is, and whether it is one that passes a test
+abbrev pub endOf : Run → Option End
+endOf nil = none
+endOf (seq p q) = none
+endOf (par p q) = none
+endOf (scope name mark zombie h p) = none
+endOf (executor o y client serial p) = some (working serial o client)
+endOf (waiter o x dead server serial l) = some (waiting serial o server)
+endOf (notice o f client serial) = some (working serial o client)
+endOf (act p) = none
+
+abbrev pub ofEnd : (End → Bool) → Option End → Bool
+ofEnd test none = false
+ofEnd test (some x) = test x
+
+abbrev pub isEnd : (End → Bool) → Run → Bool
+isEnd test r = ofEnd test (endOf r)
+
 -- how many ends pass a test
 unfoldable pub tally : (End → Bool) → Run → ℕ
 tally test nil = 0
 tally test (seq p q) = tally test p
 tally test (par p q) = tally test p + tally test q
 tally test (scope name mark zombie h p) = tally test p
-tally test (executor o y client serial p) = bit (test (working serial o client)) + tally test p
-tally test (waiter o x dead server serial l) = bit (test (waiting serial o server))
-tally test (notice o f client serial) = bit (test (working serial o client))
+tally test (executor o y client serial p) = bit (isEnd test (executor o y client serial p)) + tally test p
+tally test (waiter o x dead server serial l) = bit (isEnd test (waiter o x dead server serial l))
+tally test (notice o f client serial) = bit (isEnd test (notice o f client serial))
 tally test (act p) = 0
 
 unfoldable pub tallyAll : (End → Bool) → List Engine → ℕ

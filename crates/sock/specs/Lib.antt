@@ -12,4 +12,5 @@ pub mod Rules
 pub mod Calls
 pub mod Bytes
 pub mod Counts
+pub mod Everywhere
 pub mod Runs

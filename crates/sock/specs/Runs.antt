@@ -14,7 +14,8 @@ use Rattle.sock.specs.Running.{Run, nil, seq, par, scope, executor, wait
 use Rattle.sock.specs.Configuration.{Limits, Config, readConfig}
 use Rattle.sock.specs.Frames.{isDone}
 use Rattle.sock.specs.Rules.{also}
-use Rattle.sock.specs.Calls.{Numbers, Spot, engineAt, enabledAt, stepAnswer, stepOutput, checkStart, ends, End, waiting, working, tally, tallyAll, waits, works}
+use Rattle.sock.specs.Calls.{Numbers, Spot, enabledAt, stepAnswer, stepOutput, checkStart, ends, End, waiting, working, endOf, isEnd, waits, works}
+use Rattle.sock.specs.Everywhere.{everywhere}
 
 -- a call of the step: its five numbers, and an output of any length and content
 pub record Call : Type 0 where
@@ -49,16 +50,9 @@ ofSpot test (some a) = test (a .process)
 unfoldable pub isSolicit : Run → Bool
 isSolicit p = eqb (kind (asNode p)) Kind.solicit
 
--- it delivers s: the process named is of kind 16 or 18 with serial s
+-- it delivers s: the process named is of kind 16 or 18 with serial s, a working end
 unfoldable pub carries : ℕ → Run → Bool
-carries s nil = false
-carries s (seq p q) = false
-carries s (par p q) = false
-carries s (scope name mark zombie h p) = false
-carries s (executor o y client serial p) = eqb s serial
-carries s (waiter o x dead server serial l) = false
-carries s (notice o f client serial) = eqb s serial
-carries s (act p) = false
+carries s r = isEnd (works s) r
 
 -- accepted calls whose process passes a test: in one call, and in a list of calls
 unfoldable pub counts : (Run → Bool) → Limits → List ℕ → Call → ℕ
@@ -81,6 +75,25 @@ lastSerial serial limits ws (k ∷ ks) =
     lastSerial (cond (accepted limits ws k && ofSpot isSolicit (named limits ws k)) (stepAnswer limits ws (k .numbers) (k .output) .serial) serial)
     limits (nextWords limits ws k) ks
 
+-- a waiting end of s
+unfoldable pub awaits : ℕ → Run → Bool
+awaits s r = isEnd (waits s) r
+
+-- Nothing left to run means a nil body
+unfoldable pub bodyless : Run → Bool
+bodyless nil = true
+bodyless (seq p q) = true
+bodyless (par p q) = true
+bodyless (scope name mark zombie h p) = isDone p
+bodyless (executor o y client serial p) = isDone p
+bodyless (waiter o x dead server serial l) = true
+bodyless (notice o f client serial) = true
+bodyless (act p) = true
+
+-- a working end of s with nothing left to run: a notice, or an executor with nil body
+unfoldable pub ready : ℕ → Run → Bool
+ready s r = carries s r && bodyless r
+
 -- two ends alike in all they say
 unfoldable pub same : End → End → Bool
 same (waiting s o g) (waiting s' o' g') = eqb s s' && eqb o o' && eqb g g'
@@ -88,31 +101,12 @@ same (waiting s o g) (working s' o' g') = false
 same (working s o g) (waiting s' o' g') = false
 same (working s o g) (working s' o' g') = eqb s s' && eqb o o' && eqb g g'
 
--- an end stands in an engine
-unfoldable pub stands : Config → ℕ → End → Type 0
-stands c e x = 0 < tally (same x) (engineAt c e .process)
+-- an engine and a position name a process that passes a test; the end that they name
+abbrev pub names : Config → (Run → Bool) → ℕ → ℕ → Type 0
+names c test e p = T (ofSpot test (enabledAt c e p))
 
--- a working end with nothing left to run: a notice, or an executor with nil body
-unfoldable pub ready : ℕ → Run → Bool
-ready s nil = false
-ready s (seq p q) = false
-ready s (par p q) = false
-ready s (scope name mark zombie h p) = false
-ready s (executor o y client serial p) = eqb s serial && isDone p
-ready s (waiter o x dead server serial l) = false
-ready s (notice o f client serial) = eqb s serial
-ready s (act p) = false
-
--- a waiting end
-unfoldable pub awaits : ℕ → Run → Bool
-awaits s nil = false
-awaits s (seq p q) = false
-awaits s (par p q) = false
-awaits s (scope name mark zombie h p) = false
-awaits s (executor o y client serial p) = false
-awaits s (waiter o x dead server serial l) = eqb s serial
-awaits s (notice o f client serial) = false
-awaits s (act p) = false
+unfoldable pub endAt : Config → ℕ → ℕ → Option End
+endAt c e p = also (enabledAt c e p) λ a. endOf (a .process)
 
 -- the numbers that name a working end's engine and position, then the waiting end's, and branch 0
 abbrev pub delivery : ℕ → ℕ → ℕ → ℕ → Numbers
@@ -137,30 +131,35 @@ pub record Matched (limits : Limits) (start : List ℕ) (calls : List Call) (c :
       0 < s →
       s ≤ solicits limits start calls →
       ends limits (run limits start calls) s .waiters + deliveries s limits start calls ≡ 1
-  -- where there are two ends they name the same operation, and each the engine in which the other stands
-  pub paired :
-      (s o o' g g' e e' : ℕ) →
-      stands c e (waiting s o g) →
-      stands c e' (working s o' g') →
-      (o ≡ o') × (g ≡ e') × (g' ≡ e)
-  -- no other serial has an end
+  -- and these are all its ends, wherever they stand; no other serial has an end
+  pub all :
+      (s : ℕ) →
+      0 < s →
+      s ≤ solicits limits start calls →
+      (everywhere (awaits s) c ≡ ends limits (run limits start calls) s .waiters)
+      × (everywhere (carries s) c ≡ ends limits (run limits start calls) s .workers)
   pub others :
       (s : ℕ) →
       (0 < s → s ≤ solicits limits start calls → ⊥) →
-      (tallyAll (waits s) (c .engines) ≡ 0) × (tallyAll (works s) (c .engines) ≡ 0)
-  -- a working end that is a notice or an executor with nil body is awaited somewhere
+      (everywhere (awaits s) c ≡ 0) × (everywhere (carries s) c ≡ 0)
+  -- every end, wherever it stands, has an engine and a position that name it
+  pub placed : (x : End) → 0 < everywhere (isEnd (same x)) c → (e : ℕ) × (p : ℕ) × (endAt c e p ≡ some x)
+  -- where there are two ends they name the same operation, and each the engine in which the other stands
+  pub paired :
+      (s o o' g g' e p e' p' : ℕ) →
+      endAt c e p ≡ some (waiting s o g) →
+      endAt c e' p' ≡ some (working s o' g') →
+      (o ≡ o') × (g ≡ e') × (g' ≡ e)
+  -- whenever s has a working end that is a notice or an executor with nil body, an engine and a position name it, and others its waiting end
   pub awaited :
-      (s e p : ℕ) (a : Spot) →
-      enabledAt c e p ≡ some a →
-      T (ready s (a .process)) →
-      (e' : ℕ) × (p' : ℕ) × (b : Spot) × (enabledAt c e' p' ≡ some b) × T (awaits s (b .process))
-  -- and the call that names it, then the waiting end, and branch 0 is accepted for every output no shorter than the configuration
+      (s : ℕ) →
+      0 < everywhere (ready s) c →
+      (e : ℕ) × (p : ℕ) × (e' : ℕ) × (p' : ℕ) × names c (ready s) e p × names c (awaits s) e' p'
+  -- and for all such the step that delivers s is accepted with every output no shorter than the configuration
   pub deliverable :
-      (s e p e' p' : ℕ) (a b : Spot) (out : List ℕ) →
-      enabledAt c e p ≡ some a →
-      T (ready s (a .process)) →
-      enabledAt c e' p' ≡ some b →
-      T (awaits s (b .process)) →
+      (s e p e' p' : ℕ) (out : List ℕ) →
+      names c (ready s) e p →
+      names c (awaits s) e' p' →
       length (run limits start calls) ≤ length out →
       (stepAnswer limits (run limits start calls) (delivery e p e' p') out .number ≡ 0)
       × (stepAnswer limits (run limits start calls) (delivery e p e' p') out .serial ≡ s)

@@ -1,0 +1,160 @@
+//! Writes cases as theorems about the definitions: for each, what this implementation answers to the five calls, every field and every
+//! word, as equations that the prover computes. Arguments: the folder of proofs to write to, and how many cases. `bin/compare-definitions`
+//! runs it.
+
+use reference::generate::damage;
+use reference::generate::random::Random;
+use reference::generate::run::{Run, ORIGINS};
+use reference::{check_readable, check_start, ends, process_range, step, Numbers, STANDARD};
+use std::fmt::Write;
+use std::fs;
+use std::path::Path;
+
+/// Cases in a file.
+const FILE: usize = 100;
+
+/// Longer configurations take the prover too long.
+const LONGEST: usize = 600;
+
+/// What stands in the output before a step.
+const FILL: u16 = 42_405;
+
+const HEAD: &str = "\
+-- Cases of the second implementation, computed by the definitions.
+use Prim.Native.Nat.{ℕ}
+use mathlib.Core.Path.{_≡_, refl}
+use mathlib.Core.List.{List, [], _∷_, _++_}
+use lib.ListN.{replicate}
+use Rattle.sock.specs.Configuration.{standard}
+use Rattle.sock.specs.Calls.{Numbers, Answer, Ends, Part, stepAnswer, stepOutput, checkReadable, checkStart, ends, processPart}
+use Rattle.sock.proofs.Computed.{computed}
+
+abbrev numbers : ℕ → ℕ → ℕ → ℕ → ℕ → Numbers
+numbers e p f q b = record { engine = e; position = p; second = f; secondPosition = q; branch = b }
+
+abbrev answer : ℕ → ℕ → ℕ → ℕ → ℕ → Answer
+answer n k s f l = record { number = n; kind = k; serial = s; fault = f; length = l }
+
+abbrev counts : ℕ → ℕ → ℕ → Ends
+counts n a b = record { number = n; waiters = a; workers = b }
+
+abbrev part : ℕ → ℕ → Part
+part a b = record { first = a; count = b }
+";
+
+struct Cases {
+    folder: String,
+    wanted: usize,
+    count: usize,
+    text: String,
+    files: Vec<String>,
+}
+
+impl Cases {
+    fn full(&self) -> bool {
+        self.count >= self.wanted
+    }
+
+    fn add(&mut self, words: &[u16], numbers: Numbers, room: usize, serial: u16, engine: u16) {
+        if self.full() || words.len() > LONGEST {
+            return;
+        }
+        let mut output = vec![FILL; room];
+        let a = step(&STANDARD, words, numbers, &mut output);
+        let e = ends(&STANDARD, words, serial);
+        let p = process_range(&STANDARD, words, engine);
+        let call = format!("standard words{0} numbers{0} (replicate {room} {FILL})", self.count);
+        let _ = write!(
+            self.text,
+            "
+words{0} : List ℕ
+words{0} = {words}
+
+numbers{0} : Numbers
+numbers{0} = numbers {numbers}
+
+case{0} :
+    (stepAnswer {call} ≡ answer {answer})
+    × (stepOutput {call} ≡ {output})
+    × (checkReadable standard words{0} ≡ {readable})
+    × (checkStart standard words{0} ≡ {start})
+    × (ends standard words{0} {serial} ≡ counts {ends})
+    × (processPart standard words{0} {engine} ≡ part {first} {length})
+unfolding computed words{0} numbers{0}
+case{0} = (refl, refl, refl, refl, refl, refl)
+",
+            self.count,
+            words = list(words),
+            numbers = five(numbers),
+            answer = format_args!("{} {} {} {} {}", a.number, a.kind, a.serial, a.fault, a.length),
+            output = list(&output),
+            readable = check_readable(&STANDARD, words),
+            start = check_start(&STANDARD, words),
+            ends = format_args!("{} {} {}", e.number, e.waiters, e.workers),
+            first = p.start,
+            length = p.len(),
+        );
+        self.count += 1;
+        if self.count % FILE == 0 || self.full() {
+            self.write();
+        }
+    }
+
+    fn write(&mut self) {
+        let name = format!("Compared{}", self.files.len());
+        let path = Path::new(&self.folder).join(format!("{name}.antt"));
+        fs::write(path, format!("{HEAD}{}", self.text)).expect("a file of cases");
+        self.files.push(name);
+        self.text.clear();
+    }
+}
+
+fn five(n: Numbers) -> String {
+    format!("{} {} {} {} {}", n.engine, n.position, n.second_engine, n.second_position, n.branch)
+}
+
+/// A list as an expression, long rows of one word as `replicate`.
+fn list(words: &[u16]) -> String {
+    let mut text = String::from("(");
+    let mut i = 0;
+    while i < words.len() {
+        let same = words[i..].iter().take_while(|w| **w == words[i]).count();
+        if same >= 8 {
+            let _ = write!(text, "replicate {same} {} ++ (", words[i]);
+            i += same;
+            return text + &list(&words[i..]) + "))";
+        }
+        let _ = write!(text, "{} ∷ ", words[i]);
+        i += 1;
+    }
+    text + "[])"
+}
+
+fn main() {
+    let mut arguments = std::env::args().skip(1);
+    let folder = arguments.next().expect("a folder");
+    let wanted = arguments.next().and_then(|n| n.parse().ok()).expect("a count");
+    let mut cases = Cases { folder, wanted, count: 0, text: String::new(), files: Vec::new() };
+    for seed in 0.. {
+        if cases.full() {
+            break;
+        }
+        let mut run = Run::new(seed, ORIGINS[seed as usize % ORIGINS.len()]);
+        let mut random = Random::new(seed + 1000);
+        for turn in 0..12 {
+            let Some(call) = run.call() else { break };
+            let mut output = vec![0; call.room];
+            let answer = step(&STANDARD, &run.words, call.numbers, &mut output);
+            let room = call.room.min(run.words.len().max(usize::from(answer.length)) + 3);
+            cases.add(&run.words, call.numbers, room, random.below(4) as u16, random.below(5) as u16);
+            if turn % 4 == 0 {
+                let damaged = damage::random_damage(&mut random, &run.words);
+                cases.add(&damaged, call.numbers, room, random.below(4) as u16, random.below(3) as u16);
+            }
+            run.take(&answer, &output);
+        }
+    }
+    for name in &cases.files {
+        println!("pub mod {name}");
+    }
+}
