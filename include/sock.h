@@ -4,7 +4,7 @@
  * answers for all bytes and numbers: nothing has to be checked before. A configuration of odd length is unreadable. No call keeps a
  * pointer, allocates, or reads or writes outside what it is lent. A length may be 0; the pointer is then not followed, but must not be
  * null. `sock_step` must not be lent an output that overlaps the configuration. Calls on different memory may run at the same time; a
- * thread that calls needs 128 KiB of stack.
+ * thread that calls needs SOCK_STACK bytes of stack.
  *
  * Link with libcabinet.a, which `rt staticlib cabinet` writes to target/staticlib.
  */
@@ -21,6 +21,9 @@ extern "C" {
 /* The most words and bytes that a configuration has. */
 #define SOCK_WORDS 8192
 #define SOCK_BYTES (2 * SOCK_WORDS)
+
+/* Bytes of stack that are enough for any call; tested to be a third more than any call was seen to use. */
+#define SOCK_STACK 262144
 
 /* What a call answers: a result (0), or why there is none. */
 enum sock_number {
