@@ -69,6 +69,12 @@ for name in worked lockage bridge compensation dead-waiter choice; do
 done >"$scratch/explained"
 same "explained" examples/explained.txt <"$scratch/explained"
 
+# The file that docs/FORMAT.md has, and what it says that it prints.
+in_format() { awk -v part="$1" '/^## / { now = $0 == "## A whole file" ? "input" : "" } /^It prints:/ { now = "lines" } now == part && sub(/^    /, "")' docs/FORMAT.md; }
+in_format input >"$scratch/format.hex"
+in_format lines >"$scratch/format.txt"
+ends 0 "$scratch/format.txt" 'bin/handover "$scratch/format.hex"'
+
 # The bytes of the worked example, the same and ten thousand steps more, and the same without its last two bytes.
 bytes_of() { NAME=$1 LC_ALL=C awk -f tools/hex.awk "$1" | while IFS= read -r line; do printf '%b' "$line"; done; }
 bytes_of examples/worked.hex >"$scratch/worked"
