@@ -185,6 +185,19 @@ ends 2 $none 'bin/handover "$scratch/OTHER.HEX"'
 printf '%s\n' "$plain" >"$scratch/name with 'signs' \$HOME \\n.hex"
 ends 0 $worked 'bin/handover "$scratch/name with '"'signs'"' \$HOME \\n.hex"'
 
+# ---- The picture of the step's times: a row with a name for each row of the table, and a mark for each number
+
+LC_ALL=C awk -f tools/plot.awk docs/PERFORMANCE.md >"$scratch/step.svg"
+sed -n '/^| step | words |/,/^$/s/^| \(.*\) |$/\1/p' docs/PERFORMANCE.md | sed 1d >"$scratch/rows"
+[ "$(wc -l <"$scratch/rows")" -gt 20 ] || wrong "the table of the step is not found"
+sed -n 's/^<text .* class="step">\(.*\)<.text>$/\1/p' "$scratch/step.svg" >"$scratch/labels"
+sed 's/ | .*//' "$scratch/rows" | same "labels of the picture" "$scratch/labels"
+[ -z "$(sort "$scratch/labels" | uniq -d)" ] || wrong "two rows of the picture have one label"
+marks=$(awk -F ' [|] ' '{ marks += 3 * split($2, lengths, "/") } END { print marks }' "$scratch/rows")
+[ "$(grep -c 'class="mark".* ns a word' "$scratch/step.svg")" = "$marks" ] || wrong "the picture has not $marks marks"
+ends 1 $none 'echo "no table" | awk -f tools/plot.awk 2>/dev/null'
+ends 2 $none 'bin/bench-step --help'
+
 # ---- The command from elsewhere: by a link, by a link to a link, from another folder, with CDPATH
 
 ln -s "$PWD/bin/handover" "$scratch/link"
