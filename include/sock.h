@@ -8,8 +8,8 @@
  * accessors that take it apart. The inline calls (sock_take_step, sock_count_ends, ..) make the same calls and answer a struct of their
  * own, so that the compiler tells one answer from another.
  *
- * Platform. x86-64 Linux, in 64-bit mode, with the usual calling convention; no instruction beyond SSE2. Link with libcabinet.a, which
- * `rt staticlib cabinet` writes to target/staticlib. It is position-independent and needs one function from outside: memset.
+ * Platform. x86-64 Linux, with its usual calling convention. Link with libcabinet.a, which `rt staticlib cabinet` writes to
+ * target/staticlib. It is position-independent and needs one function from outside: memset.
  *
  * Memory. No call allocates, keeps a pointer or reads or writes outside what it is lent, and the library has no variables of its own. A
  * length may be 0; the pointer is then not followed, and may be null. With any other length it must point to so many bytes. Lent memory
