@@ -33,17 +33,15 @@ says() { grep -qF -- "$1" "$scratch/said" || wrong "does not say '$1': $(cat "$s
 
 library=target/staticlib/libcabinet.a
 strict='-pedantic -Wall -Wextra -Wconversion -Wshadow -Werror -Iinclude'
-compilers='gcc -std=c99,g++ -x c++,gcc -O2 -std=c11,g++ -O2 -x c++ -std=c++20'
-! command -v clang >/dev/null || compilers="$compilers,clang -std=c99"
-! command -v clang++ >/dev/null || compilers="$compilers,clang++ -x c++"
 # An answer of one call handed to what takes another's; and, so that this is known to be the fault, one that is taken.
 for answer in sock_find_process:mistaken sock_process:taken; do
     printf '#include "sock.h"\nint main(void) { return (int)sock_number(%s(0, 0, 0)); }\n' "${answer%:*}" >"$scratch/${answer#*:}.c"
 done
 
-IFS=,
-for compiler in $compilers; do
-    IFS=' '
+used=
+for compiler in 'gcc -std=c99' 'gcc -O2 -std=c11' 'g++ -x c++' 'g++ -O2 -x c++ -std=c++20' 'clang -std=c99' 'clang++ -x c++'; do
+    command -v "${compiler%% *}" >/dev/null || [ "${compiler%% *}" = gcc ] || continue
+    used="$used, $compiler"
     for source in examples/worked examples/calls tests/header; do
         $compiler $strict "$source.c" -x none "$library" -o "$scratch/program"
         expected=/dev/null
@@ -53,7 +51,6 @@ for compiler in $compilers; do
     $compiler $strict -fsyntax-only "$scratch/taken.c"
     ! $compiler $strict -fsyntax-only "$scratch/mistaken.c" 2>/dev/null || wrong "$compiler takes one answer for another"
 done
-unset IFS
 
 # What the header says of the library: one function from outside, no variables, no address that is fixed.
 [ "$(nm -u "$library" | awk '/ U / { print $2 }')" = memset ] || wrong "the library needs $(nm -u "$library")"
@@ -255,4 +252,4 @@ mkdir "$scratch/few"
 for tool in awk basename cat dirname find head mktemp od pwd readlink rm sed sh tail tee touch; do ln -s "$(command -v $tool)" "$scratch/few/$tool" 2>/dev/null || :; done
 ends 2 $none 'cd "$scratch/copy" && PATH=$scratch/few bin/handover --example' && says 'no rt'
 
-echo "examples: as their files say"
+echo "examples: as their files say (compiled by ${used#, })"
