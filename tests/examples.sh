@@ -101,6 +101,15 @@ ends 1 "$refused" 'false | bin/handover'
 echo "start 1          unreadable: the input is empty" >"$scratch/explained.txt"
 ends 1 "$scratch/explained.txt" 'bin/handover --explain "$scratch/empty"'
 ends 1 "$scratch/explained.txt" 'bin/handover --explain </dev/null'
+# unreadable BYTES REASON: the explanation of a start that is not readable.
+unreadable() {
+    echo "start 1          unreadable: $2" >"$scratch/explained.txt"
+    ends 1 "$scratch/explained.txt" "printf '$1' | bin/handover --explain"
+}
+unreadable '\1' "the input is one byte"
+unreadable '\40\1' "the first word says 8193 words, and 8,192 are the most"
+unreadable '\0\5\0\1\0' "the first word says 5 words, and 1 follow"
+unreadable '\0\1\0\1' "no configuration that can be read"
 ends 1 "$scratch/cut.txt" 'bin/handover "$scratch/cut"'
 ends 1 "$scratch/cut.txt" 'bin/handover <"$scratch/cut"'
 # A start that is refused is told from an input that cannot be read, also where much is left to read.
