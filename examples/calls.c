@@ -5,36 +5,55 @@
 
 #include <stdio.h>
 
-/* n, issued; values, scope 1 around a waiter; values, scope 1 around an executor with nil body. */
-static const uint16_t words[144] = {
-    [0] = 2, [1] = 1,
-    [66] = 0x5820, [69] = 0x8800, [70] = 0x1000, [71] = 1,
-    [137] = 0x5820, [140] = 0x8000, [141] = 0x0000, [142] = 1,
+/* Scope 1 around a waiter, and scope 1 around an executor with nil body. */
+static const uint16_t processes[2][7] = {
+    {0x5820, 0x0000, 0x0000, 0x8800, 0x1000, 0x0001, 0x0000},
+    {0x5820, 0x0000, 0x0000, 0x8000, 0x0000, 0x0001, 0x0000},
 };
+
+/* Two engines, one serial issued, all values 0. Answers how many words there are. */
+static size_t middle(uint8_t *config)
+{
+    size_t at = sock_put(config, sock_put(config, 0, 2), 1);
+    for (int engine = 0; engine < 2; engine++) {
+        for (int variable = 0; variable < SOCK_VARIABLES; variable++)
+            at = sock_put_value(config, at, 0);
+        for (int word = 0; word < 7; word++)
+            at = sock_put(config, at, processes[engine][word]);
+    }
+    return at;
+}
 
 int main(void)
 {
-    uint8_t config[2 * 144], out[SOCK_BYTES];
-    for (int i = 0; i < 144; i++) {
-        config[2 * i] = (uint8_t)(words[i] >> 8);
-        config[2 * i + 1] = (uint8_t)words[i];
-    }
+    static uint8_t config[SOCK_BYTES], out[SOCK_BYTES];
+    size_t length = sock_bytes(middle(config));
 
-    printf("readable: %s\n", sock_word(sock_check_readable(config, sizeof config)));
-    printf("as a start: %s\n", sock_word(sock_check_start(config, sizeof config)));
+    printf("readable: %s\n", sock_word(sock_test_readable(config, length).number));
+    printf("as a start: %s\n", sock_word(sock_test_start(config, length).number));
 
-    uint64_t ends = sock_ends(config, sizeof config, 1);
-    printf("serial 1: %d, %u waiting, %u working\n", sock_number(ends), sock_waiters(ends), sock_workers(ends));
+    struct sock_ends_answer ends = sock_count_ends(config, length, 1);
+    printf("serial 1: %d, %d waiting, %d working\n", ends.number, ends.waiters, ends.workers);
 
-    uint64_t process = sock_process(config, sizeof config, 1);
-    printf("engine 1's process: %u words from word %u on\n", sock_count(process), sock_first(process));
+    struct sock_process_answer process = sock_find_process(config, length, 1);
+    printf("engine 1's process: %u words from word %u on\n", (unsigned)process.count, (unsigned)process.first);
 
-    /* The executor in engine 1 replies to the waiter in engine 0; both stand three words into their engines' processes. */
-    uint64_t answer = sock_step(1, 3, 0, 3, 0, config, sizeof config, out, sizeof out);
-    printf("step: %s, kind %d, serial %u, fault %d, %u words\n", sock_word(sock_number(answer)), sock_kind(answer), sock_serial(answer),
-           sock_fault(answer), sock_length(answer));
+    /* The executor in engine 1 replies to the waiter in engine 0; both stand three words into their engines' processes. What it sends is its
+     * variable 0, here a level that was just measured. */
+    sock_put_value(config, sock_variable(process, 0), 4812);
+    struct sock_move reply = {1, 3, 0, 3, 0};
+    struct sock_step_answer answer = sock_take_step(reply, config, length, out, sizeof out);
+    printf("step: %s, kind %d, serial %d, fault %d, %d words\n", sock_word(answer.number), answer.kind, answer.serial, answer.fault,
+           answer.length);
+    process = sock_find_process(out, sock_bytes(answer.length), 0);
+    printf("engine 0's variable 0: %lu\n", (unsigned long)sock_get_value(out, sock_variable(process, 0)));
 
-    answer = sock_step(1, 3, 0, 3, 0, config, sizeof config, out, 2 * 138);
-    printf("the same, with room for 138 words: %s\n", sock_word(sock_number(answer)));
+    answer = sock_take_step(reply, config, length, out, sock_bytes(138));
+    printf("the same, with room for 138 words: %s\n", sock_word(answer.number));
+    answer = sock_take_step(reply, config, length, config, sizeof config);
+    printf("the same, over the configuration: %s\n", sock_word(answer.number));
+
+    /* The raw call, which a program in another language makes: one number that holds all. */
+    printf("packed: %016llx\n", (unsigned long long)sock_step(1, 3, 0, 3, 0, config, length, out, sizeof out));
     return 0;
 }

@@ -1,12 +1,25 @@
-/* SOCK engines in a lock cabinet: the calls on bytes, for C.
+/* SOCK engines in a lock cabinet: the calls on bytes, for C and C++.
  *
- * A configuration is a row of 16-bit words, each two bytes, the high byte first. It has at most 8,192 words (16,384 bytes). Every call
- * answers for all bytes and numbers: nothing has to be checked before. A configuration of odd length is unreadable. No call keeps a
- * pointer, allocates, or reads or writes outside what it is lent. A length may be 0; the pointer is then not followed, but must not be
- * null. `sock_step` must not be lent an output that overlaps the configuration. Calls on different memory may run at the same time; a
- * thread that calls needs 128 KiB of stack.
+ * A configuration is a row of 16-bit words, each two bytes, the high byte first; docs/FORMAT.md says what the words mean. It has at most
+ * 8,192 words (16,384 bytes). Every call answers for all bytes and numbers: nothing has to be checked before. A configuration of odd length
+ * is unreadable.
  *
- * Link with libcabinet.a, which `rt staticlib cabinet` writes to target/staticlib.
+ * There are two layers. The raw calls (sock_step, sock_ends, ..) are what the library exports: they answer one packed number, and each has
+ * accessors that take it apart. The inline calls (sock_take_step, sock_count_ends, ..) make the same calls and answer a struct of their
+ * own, so that the compiler tells one answer from another.
+ *
+ * Platform. x86-64 Linux, with its usual calling convention. Link with libcabinet.a, which `rt staticlib cabinet` writes to
+ * target/staticlib. It is position-independent and needs one function from outside: memset.
+ *
+ * Memory. No call allocates, keeps a pointer or reads or writes outside what it is lent, and the library has no variables of its own. A
+ * length may be 0; the pointer is then not followed, and may be null. With any other length it must point to so many bytes. Lent memory
+ * may stand at any address. A configuration is only read. The output of a step must not overlap it, not by one byte: the proofs take the
+ * two to be apart. sock_step cannot see an overlap and its answer then means nothing; sock_take_step refuses it (SOCK_OVERLAP).
+ *
+ * Threads and signals. Every call may be made from any thread and from a signal handler, also while another call is under way. Two
+ * calls may read one configuration at the same time; nobody may write to it, or touch an output, until the call has returned.
+ *
+ * Stack. A call needs at most SOCK_STACK bytes, on the stack of its thread or of the signal handler (sigaltstack).
  */
 #ifndef SOCK_H
 #define SOCK_H
@@ -18,9 +31,23 @@
 extern "C" {
 #endif
 
+/* This header's version. The first number rises when a call, an answer or the format changes, the second when something is added. */
+#define SOCK_VERSION_MAJOR 1
+#define SOCK_VERSION_MINOR 0
+#define SOCK_VERSION_PATCH 0
+#define SOCK_VERSION "1.0.0"
+
 /* The most words and bytes that a configuration has. */
 #define SOCK_WORDS 8192
 #define SOCK_BYTES (2 * SOCK_WORDS)
+
+/* The most engines that a configuration has, and the variables and the words of their values that each of them has. */
+#define SOCK_ENGINES 8
+#define SOCK_VARIABLES 32
+#define SOCK_VALUE_WORDS (2 * SOCK_VARIABLES)
+
+/* Bytes of stack that are enough for any call. The most that a call was seen to use is below three quarters of it, which is tested. */
+#define SOCK_STACK 262144
 
 /* What a call answers: a result (0), or why there is none. */
 enum sock_number {
@@ -36,7 +63,8 @@ enum sock_number {
     SOCK_LONG = 9,            /* the result would be longer than 8,192 words */
     SOCK_SHORT_PAPER = 10,    /* the output is shorter than the result */
     SOCK_NOT_FRESH = 11,      /* start check: readable, but not a start */
-    SOCK_UNKNOWN_SERIAL = 12  /* ends: the serial is 0 or above issued */
+    SOCK_UNKNOWN_SERIAL = 12, /* ends: the serial is 0 or above issued */
+    SOCK_OVERLAP = 255        /* sock_take_step alone: output and configuration overlap, so no call was made */
 };
 
 /* The nineteen kinds of process, the first 5 bits of a head. */
@@ -62,52 +90,172 @@ enum sock_kind {
     SOCK_NOTICE = 18
 };
 
-/* Step: from one configuration to the next.
+/* The keeper's word for a number, as document 01 has it; "accepted" for 0. Takes what any call or accessor gives as number. */
+static inline const char *sock_word(unsigned number)
+{
+    static const char *const words[] = {"accepted",      "unreadable", "nobody there", "no move",     "no partner", "no fit",        "installing",
+                                        "serials spent", "deep",       "long",         "short paper", "not fresh",  "unknown serial"};
+    if (number == SOCK_OVERLAP)
+        return "overlap";
+    return number < sizeof words / sizeof *words ? words[number] : "";
+}
+
+/* ---- Words and values of a configuration, counted in words from its start. They test nothing: the words have to be there. ---- */
+
+/* How many bytes so many words are. */
+static inline size_t sock_bytes(size_t words) { return 2 * words; }
+
+/* A word. */
+static inline uint16_t sock_get(const uint8_t *config, size_t word)
+{
+    return (uint16_t)((unsigned)config[2 * word] << 8 | config[2 * word + 1]);
+}
+
+/* Writes a word; answers where the next one goes. */
+static inline size_t sock_put(uint8_t *config, size_t word, uint16_t content)
+{
+    config[2 * word] = (uint8_t)(content >> 8);
+    config[2 * word + 1] = (uint8_t)(content & 0xff);
+    return word + 1;
+}
+
+/* A value, which is two words, the high one first. */
+static inline uint32_t sock_get_value(const uint8_t *config, size_t word)
+{
+    return (uint32_t)sock_get(config, word) << 16 | sock_get(config, word + 1);
+}
+
+/* Writes a value; answers where the next word goes. */
+static inline size_t sock_put_value(uint8_t *config, size_t word, uint32_t value)
+{
+    return sock_put(config, sock_put(config, word, (uint16_t)(value >> 16)), (uint16_t)(value & 0xffff));
+}
+
+/* ---- Step: from one configuration to the next. ----
  *
  * `engine` and `position` name the process that moves: the engine, and the process's first word counted from the start of its engine's
  * process. A process that sends needs a receiver, named by `second` and `second_position`, and `branch` chooses a branch of a choice (from
  * 1); all three are 0 for a process that moves alone, and `branch` is 0 for a receiver that is not a choice.
  *
- * Accepted: the next configuration stands in the first 2 * sock_length(answer) bytes of `out`; the bytes behind keep what they were.
- * Refused: no byte of `out` has changed, and all fields of the answer but the number are 0. An output has room for half its bytes in
- * words, rounded down. Refusals 1 to 10, the first that applies.
+ * Accepted: the next configuration stands in the first words of `out`, as many as the answer's length says; the bytes behind keep what
+ * they were. Refused: no byte of `out` has changed, and all fields of the answer but the number are 0. An output has room for half its
+ * bytes in words, rounded down. Refusals 1 to 10, the first that applies.
  */
 uint64_t sock_step(uint16_t engine, uint16_t position, uint16_t second, uint16_t second_position, uint16_t branch,
                    const uint8_t *config, size_t config_length, uint8_t *out, size_t out_length);
 
-/* Start check: may a run begin here? 0, SOCK_UNREADABLE or SOCK_NOT_FRESH. From a start, every request keeps exactly one reply. */
-uint8_t sock_check_start(const uint8_t *config, size_t config_length);
-
-/* Readable check: 0 or SOCK_UNREADABLE. */
-uint8_t sock_check_readable(const uint8_t *config, size_t config_length);
-
-/* Ends: how many waiters, and how many executors and notices, a serial has. SOCK_UNREADABLE, or SOCK_UNKNOWN_SERIAL. */
-uint64_t sock_ends(const uint8_t *config, size_t config_length, uint16_t serial);
-
-/* Process of an engine: which part of the configuration it is; empty if unreadable or if there is no such engine. */
-uint64_t sock_process(const uint8_t *config, size_t config_length, uint16_t engine);
-
 /* The parts of sock_step's answer. */
-static inline enum sock_number sock_number(uint64_t answer) { return (enum sock_number)(answer >> 56); }
+static inline enum sock_number sock_number(uint64_t answer) { return (enum sock_number)(answer >> 56); }  /* sock_ends's too */
 static inline enum sock_kind sock_kind(uint64_t answer) { return (enum sock_kind)(answer >> 48 & 0xff); } /* of the process that moved */
 static inline int sock_fault(uint64_t answer) { return (int)(answer >> 40 & 0xff); }                      /* 1: a fault was delivered */
-static inline uint16_t sock_serial(uint64_t answer) { return (uint16_t)(answer >> 16); }                  /* issued or delivered, else 0 */
-static inline uint16_t sock_length(uint64_t answer) { return (uint16_t)answer; }                          /* words of the result */
+static inline uint16_t sock_serial(uint64_t answer) { return (uint16_t)(answer >> 16 & 0xffff); }         /* issued or delivered, else 0 */
+static inline uint16_t sock_length(uint64_t answer) { return (uint16_t)(answer & 0xffff); }               /* words of the result */
+
+/* The numbers of a step. */
+struct sock_move {
+    uint16_t engine, position, second, second_position, branch;
+};
+
+struct sock_step_answer {
+    enum sock_number number;
+    enum sock_kind kind; /* of the process that moved */
+    int fault;           /* 1: a fault was delivered */
+    uint16_t serial;     /* issued or delivered, else 0 */
+    uint16_t length;     /* words of the result */
+};
+
+/* Whether two pieces of memory have a byte in common. */
+static inline int sock_overlap(const uint8_t *one, size_t one_length, const uint8_t *other, size_t other_length)
+{
+    uintptr_t a = (uintptr_t)one, b = (uintptr_t)other;
+    if (one_length == 0 || other_length == 0)
+        return 0;
+    return a < b ? b - a < one_length : a - b < other_length;
+}
+
+/* The step; SOCK_OVERLAP, before all others, where output and configuration overlap. */
+static inline struct sock_step_answer sock_take_step(struct sock_move move, const uint8_t *config, size_t config_length,
+                                                     uint8_t *out, size_t out_length)
+{
+    struct sock_step_answer taken = {SOCK_OVERLAP, SOCK_NIL, 0, 0, 0};
+    uint64_t answer;
+    if (sock_overlap(config, config_length, out, out_length))
+        return taken;
+    answer = sock_step(move.engine, move.position, move.second, move.second_position, move.branch, config, config_length, out, out_length);
+    taken.number = sock_number(answer);
+    taken.kind = sock_kind(answer);
+    taken.fault = sock_fault(answer);
+    taken.serial = sock_serial(answer);
+    taken.length = sock_length(answer);
+    return taken;
+}
+
+/* ---- Start check: may a run begin here? 0, SOCK_UNREADABLE or SOCK_NOT_FRESH. From a start, every request keeps exactly one reply. ---- */
+uint8_t sock_check_start(const uint8_t *config, size_t config_length);
+
+/* ---- Readable check: 0 or SOCK_UNREADABLE. ---- */
+uint8_t sock_check_readable(const uint8_t *config, size_t config_length);
+
+struct sock_check_answer {
+    enum sock_number number;
+};
+
+static inline struct sock_check_answer sock_test_start(const uint8_t *config, size_t config_length)
+{
+    struct sock_check_answer tested = {(enum sock_number)sock_check_start(config, config_length)};
+    return tested;
+}
+
+static inline struct sock_check_answer sock_test_readable(const uint8_t *config, size_t config_length)
+{
+    struct sock_check_answer tested = {(enum sock_number)sock_check_readable(config, config_length)};
+    return tested;
+}
+
+/* ---- Ends: how many waiters, and how many executors and notices, a serial has. SOCK_UNREADABLE, or SOCK_UNKNOWN_SERIAL. ---- */
+uint64_t sock_ends(const uint8_t *config, size_t config_length, uint16_t serial);
 
 /* The parts of sock_ends's answer; its number is sock_number's. */
-static inline uint16_t sock_waiters(uint64_t ends) { return (uint16_t)(ends >> 16); }
-static inline uint16_t sock_workers(uint64_t ends) { return (uint16_t)ends; }
+static inline uint16_t sock_waiters(uint64_t ends) { return (uint16_t)(ends >> 16 & 0xffff); }
+static inline uint16_t sock_workers(uint64_t ends) { return (uint16_t)(ends & 0xffff); }
 
-/* The parts of sock_process's answer, in words from the configuration's start. */
-static inline uint32_t sock_first(uint64_t process) { return (uint32_t)(process >> 32); }
-static inline uint32_t sock_count(uint64_t process) { return (uint32_t)process; }
+struct sock_ends_answer {
+    enum sock_number number;
+    uint16_t waiters;
+    uint16_t workers; /* executors and notices */
+};
 
-/* The keeper's word for a number, as document 01 has it; "accepted" for 0. */
-static inline const char *sock_word(enum sock_number number)
+static inline struct sock_ends_answer sock_count_ends(const uint8_t *config, size_t config_length, uint16_t serial)
 {
-    static const char *const words[] = {"accepted",      "unreadable", "nobody there", "no move",     "no partner", "no fit",        "installing",
-                                        "serials spent", "deep",       "long",         "short paper", "not fresh",  "unknown serial"};
-    return (unsigned)number < sizeof words / sizeof *words ? words[number] : "";
+    uint64_t ends = sock_ends(config, config_length, serial);
+    struct sock_ends_answer counted = {sock_number(ends), sock_waiters(ends), sock_workers(ends)};
+    return counted;
+}
+
+/* ---- Process of an engine: which part of the configuration it is; empty if unreadable or if there is no such engine. ---- */
+uint64_t sock_process(const uint8_t *config, size_t config_length, uint16_t engine);
+
+/* The parts of sock_process's answer, in words from the configuration's start. It has no number: a count of 0 says that there is none. */
+static inline uint32_t sock_first(uint64_t process) { return (uint32_t)(process >> 32); }
+static inline uint32_t sock_count(uint64_t process) { return (uint32_t)(process & 0xffffffff); }
+
+struct sock_process_answer {
+    uint32_t first; /* where it begins */
+    uint32_t count; /* its words; 0 if there is none */
+};
+
+static inline struct sock_process_answer sock_find_process(const uint8_t *config, size_t config_length, uint16_t engine)
+{
+    uint64_t process = sock_process(config, config_length, engine);
+    struct sock_process_answer found = {sock_first(process), sock_count(process)};
+    return found;
+}
+
+/* Where the value of an engine's variable (0 to 31) stands, for sock_get_value and sock_put_value: the values stand right before the
+ * process. There has to be one, so its count is not 0. */
+static inline size_t sock_variable(struct sock_process_answer process, unsigned variable)
+{
+    return (size_t)process.first - SOCK_VALUE_WORDS + 2 * (size_t)variable;
 }
 
 #ifdef __cplusplus

@@ -1,10 +1,10 @@
-# Says in words what each line of the program handover means. First file: the input as bytes in decimal, from which each step's numbers are
-# taken; second: the program's lines.
+# Says in words what each line of the program handover means. Two files, with part=lines between their names: the input as bytes in decimal,
+# from which each step's numbers are taken, and the program's lines.
 BEGIN {
     split("unreadable,nobody there,no move,no partner,no fit,installing,serials spent,deep,long,short paper,not fresh,unknown serial", word, ",")
 }
 
-NR == FNR {
+part == "" {
     for (f = 1; f <= NF; f++) bytes[count++] = $f
     next
 }
@@ -43,7 +43,16 @@ function done(kind, serial, i,    who, to) {
     return who " reports a fault to " to ", serial " serial " is delivered"
 }
 
-$1 == "start" { text = $2 == 0 ? "the run begins" : $2 == 1 ? "unreadable: no configuration that can be read" : "not fresh: readable, but no start" }
+# Why a start is not readable, as far as that can be told without reading it.
+function unreadable() {
+    if (count == 0) return "the input is empty"
+    if (count == 1) return "the input is one byte"
+    if (word_at(0) > 8192) return "the first word says " word_at(0) " words, and 8,192 are the most"
+    if (count < 2 * (1 + word_at(0))) return "the first word says " word_at(0) " words, and " int(count / 2) - 1 " follow"
+    return "no configuration that can be read"
+}
+
+$1 == "start" { text = $2 == 0 ? "the run begins" : $2 == 1 ? "unreadable: " unreadable() : "not fresh: readable, but no start" }
 $1 == "end" { text = "the configuration's words" }
 $1 == "cut" { text = "the input ends inside a step" }
 $1 ~ /^[0-9]/ { text = $2 == 0 ? done($3, $4, $1) : word[$2] ": " why($2, $1) }

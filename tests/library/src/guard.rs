@@ -8,27 +8,8 @@
 //! the other edge shows that one.
 
 use crate::memory::{Lent, Memory};
-use std::ffi::c_void;
+use crate::pages::{Pages, NONE, PAGE, READ, READ_WRITE};
 
-extern "C" {
-    fn mmap(
-        address: *mut c_void,
-        length: usize,
-        protection: i32,
-        flags: i32,
-        file: i32,
-        offset: i64,
-    ) -> *mut c_void;
-    fn mprotect(address: *mut c_void, length: usize, protection: i32) -> i32;
-    fn munmap(address: *mut c_void, length: usize) -> i32;
-}
-
-const NONE: i32 = 0;
-const READ: i32 = 1;
-const READ_WRITE: i32 = 3;
-const PRIVATE_ANONYMOUS: i32 = 0x22;
-
-const PAGE: usize = 4096;
 /// Inaccessible on either side: more than 65,535 words, the farthest that a position names.
 const GUARD: usize = 64 * PAGE;
 /// Accessible between: room for more bytes than any configuration has.
@@ -45,6 +26,7 @@ pub enum Edge {
 }
 
 struct Region {
+    pages: Pages,
     /// Of the accessible pages.
     open: *mut u8,
     edge: Edge,
@@ -54,22 +36,16 @@ struct Region {
 
 impl Region {
     fn new(edge: Edge) -> Region {
-        let whole = GUARD + OPEN + GUARD;
-        // A new mapping of its own; nothing else refers to it.
-        let open = unsafe {
-            let start = mmap(std::ptr::null_mut(), whole, NONE, PRIVATE_ANONYMOUS, -1, 0);
-            assert_ne!(start as isize, -1, "no memory to map");
-            start.cast::<u8>().add(GUARD)
-        };
-        let region = Region { open, edge, lent: (0, 0) };
+        let pages = Pages::map(GUARD + OPEN + GUARD, NONE);
+        let open = unsafe { pages.start.add(GUARD) };
+        let region = Region { pages, open, edge, lent: (0, 0) };
         region.protect(READ_WRITE);
         unsafe { std::ptr::write_bytes(open, REST_BYTE, OPEN) };
         region
     }
 
     fn protect(&self, protection: i32) {
-        let status = unsafe { mprotect(self.open.cast(), OPEN, protection) };
-        assert_eq!(status, 0, "pages can't be protected");
+        self.pages.protect(GUARD, OPEN, protection);
     }
 
     /// The pages have to be writable. Of no bytes, the pointer stands in the guard itself.
@@ -97,12 +73,6 @@ impl Region {
         let (offset, length) = self.lent;
         let after = offset + length;
         all[..offset] == REST[..offset] && all[after..] == REST[after..]
-    }
-}
-
-impl Drop for Region {
-    fn drop(&mut self) {
-        unsafe { munmap(self.open.sub(GUARD).cast(), GUARD + OPEN + GUARD) };
     }
 }
 

@@ -3,16 +3,20 @@
 //!
 //! `exported` declares the calls, `memory` and `guard` lend them configurations and outputs,
 //! `compare` makes one call on both sides, `walk` makes the calls of a run, `bytes` and
-//! `outputs` give inputs and output lengths, `counts` says what was met. All is deterministic;
-//! a difference prints the class, seed and step of the input, the call and the bytes.
+//! `outputs` give inputs and output lengths, `counts` says what was met. `painted` measures the
+//! stack that a call needs, on the configurations of `deep`. All is deterministic; a difference
+//! prints the class, seed and step of the input, the call and the bytes.
 
 pub mod bytes;
 pub mod compare;
 pub mod counts;
+pub mod deep;
 pub mod exported;
 pub mod guard;
 pub mod input;
 pub mod memory;
 pub mod memory_fault;
 pub mod outputs;
+pub mod pages;
+pub mod painted;
 pub mod walk;

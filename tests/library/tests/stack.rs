@@ -1,90 +1,121 @@
-//! The stack that a call needs: on the deepest configurations, calls in a thread with little stack
-//! answer what the second implementation does. Too little stack would end the process by a signal.
+//! The stack that each call needs: on configurations that are deep and long at once, every call is
+//! made on a painted stack, and the most that one used stays below three quarters of what
+//! `include/sock.h` promises to be enough. The answers are the second implementation's.
 
+use library::counts::ACTORS;
+use library::deep::shapes;
 use library::exported;
 use library::memory::Lent;
+use library::painted::Painted;
 use reference::bytes::from_words;
 use reference::configuration::Configuration;
-use reference::generate::edges::{deep, long, nest, result_long, WAYS};
-use reference::generate::steps::{stands, Stand};
-use reference::process::{Key, Mark, Part};
-use reference::{build, write, Numbers};
+use reference::generate::steps::{fitting, stands};
+use reference::{readable, write, Numbers, STANDARD};
+use std::collections::{BTreeMap, BTreeSet};
+use std::io::Write;
 
-/// As much as `include/sock.h` asks for; what the thread itself takes is in it.
-const STACK: usize = 128 * 1024;
-
-/// Scopes nested in each other to the given depth, a throw innermost and something to kill beside each.
-fn climb(levels: usize) -> Part {
-    let beside = |inner| build::par(build::one_way(1, 1), inner);
-    (0..levels).fold(build::throw(2), |inner, _| beside(build::scope(1, inner)))
+/// What the header promises: the number in its line `#define SOCK_STACK`.
+fn promised() -> usize {
+    let header = include_str!("../../../include/sock.h");
+    let line = header.lines().find_map(|line| line.strip_prefix("#define SOCK_STACK "));
+    line.expect("the header has SOCK_STACK").trim().parse().expect("a plain number")
 }
 
-/// A scope that holds a deep handler, and an inst that wraps it once more.
-fn install(levels: usize) -> Part {
-    let old = build::list([(Key::Fault(1), nest(WAYS[0], levels))]);
-    let new = build::list([(Key::Fault(1), build::seq(build::comp(1), build::current_handler()))]);
-    build::scope_with(1, Mark::None, false, old, build::inst(new))
+/// The most that a call used, and on which shape.
+#[derive(Default)]
+struct Most {
+    used: BTreeMap<&'static str, (usize, String)>,
+    painted: Painted,
+    kinds: BTreeSet<u64>,
 }
 
-fn configurations() -> Vec<Configuration> {
-    let rooted = |process| build::configuration(0, vec![process]);
-    let mut all = vec![rooted(build::scope(1, climb(31))), rooted(install(60))];
-    all.extend(WAYS.iter().map(|way| deep(*way, 64)));
-    all.extend(long(8_192));
-    all.extend(result_long(8_192));
-    all
-}
-
-/// The enabled processes of each configuration, 400 at most, each as one that moves alone.
-fn inputs() -> Vec<(Vec<u8>, Numbers)> {
-    let steps = |configuration: Configuration| {
-        let config = from_words(&write::configuration(&configuration));
-        let alone = |stand: Stand| Numbers::new(0, stand.position as u16, 0, 0, 0);
-        stands(&configuration)
-            .into_iter()
-            .take(400)
-            .map(move |stand| (config.clone(), alone(stand)))
-    };
-    configurations().into_iter().flat_map(steps).collect()
-}
-
-#[test]
-fn calls_need_little_stack() {
-    let inputs = inputs();
-    let calls = inputs.clone();
-    let little = std::thread::Builder::new().stack_size(STACK);
-    let mut outputs = vec![vec![7u8; 16_384]; calls.len()];
-    let run = move || {
-        for ((config, numbers), output) in calls.iter().zip(&mut outputs) {
-            let lent = Lent { start: config.as_ptr().cast_mut(), length: config.len() };
-            let answer = exported::step(
-                *numbers,
-                lent,
-                Lent { start: output.as_mut_ptr(), length: output.len() },
-            );
-            output.extend_from_slice(&answer.to_be_bytes());
-            output.push(exported::check_start(lent));
+impl Most {
+    /// Makes the call on the painted stack and gives its answer.
+    fn call(&mut self, call: &'static str, shape: &str, made: impl Fn() -> u64) -> u64 {
+        let mut answer = 0;
+        let used = self.painted.used(|| answer = made());
+        let most = self.used.entry(call).or_default();
+        if most.0 < used {
+            *most = (used, shape.to_string());
         }
-        outputs
-    };
-    let outputs = little.spawn(run).expect("a thread").join().expect("no panic");
-    let mut accepted = 0;
-    for ((config, numbers), output) in inputs.iter().zip(outputs) {
-        let mut expected = vec![7u8; 16_384];
-        let Numbers { engine, position, second_engine, second_position, branch } = *numbers;
-        let answer = reference::sock_step(
+        answer
+    }
+
+    fn read(&mut self, shape: &str, config: &[u8]) {
+        let lent = Lent { start: config.as_ptr().cast_mut(), length: config.len() };
+        let readable =
+            self.call("sock_check_readable", shape, || exported::check_readable(lent).into());
+        assert_eq!(readable, 0, "{shape}");
+        let start = self.call("sock_check_start", shape, || exported::check_start(lent).into());
+        assert_eq!(start, reference::sock_check_start(config).into(), "{shape}");
+        let ends = self.call("sock_ends", shape, || exported::ends(lent, 1));
+        assert_eq!(ends, reference::sock_ends(config, 1), "{shape}");
+        for engine in 0..3 {
+            let process = self.call("sock_process", shape, || exported::process(lent, engine));
+            assert_eq!(process, reference::sock_process(config, engine), "{shape}");
+        }
+    }
+
+    /// Past the capture of the test's output, so that a run that passes shows it too.
+    fn print(&self) {
+        let mut out = std::io::stdout();
+        for (call, (used, shape)) in &self.used {
+            let _ = writeln!(out, "{call}: {used} bytes of stack ({shape})");
+        }
+    }
+
+    fn step(&mut self, shape: &str, config: &[u8], numbers: Numbers) {
+        let mut out = vec![7u8; 16_384];
+        let mut expected = out.clone();
+        let output = Lent { start: out.as_mut_ptr(), length: out.len() };
+        let lent = Lent { start: config.as_ptr().cast_mut(), length: config.len() };
+        let answer = self.call("sock_step", shape, || exported::step(numbers, lent, output));
+        let Numbers { engine, position, second_engine: second, second_position, branch } = numbers;
+        let other = reference::sock_step(
             engine,
             position,
-            second_engine,
+            second,
             second_position,
             branch,
             config,
             &mut expected,
         );
-        accepted += u32::from(answer >> 56 == 0);
-        expected.extend_from_slice(&answer.to_be_bytes());
-        expected.push(reference::sock_check_start(config));
-        assert!(output == expected, "{numbers:?}");
+        assert_eq!(answer, other, "{shape}, {numbers:?}");
+        assert!(output.bytes() == expected, "{shape}, {numbers:?}: another output");
+        if answer >> 56 == 0 {
+            self.kinds.insert(answer >> 48);
+        }
     }
-    assert!(accepted > 100, "{accepted} accepted");
+}
+
+/// What acts, first of all; also the first and the last that are enabled, whatever they are.
+fn steps(configuration: &Configuration) -> Vec<Numbers> {
+    let mut all: Vec<Numbers> = fitting(configuration).into_iter().map(|step| step.0).collect();
+    let stands = stands(configuration);
+    for stand in [stands.first(), stands.last()].into_iter().flatten() {
+        all.push(Numbers::new(stand.engine as u16, stand.position as u16, 0, 0, 0));
+    }
+    all
+}
+
+#[test]
+fn no_call_needs_more_stack_than_three_quarters_of_the_promise() {
+    let mut most = Most::default();
+    for (shape, configuration) in shapes() {
+        let words = write::configuration(&configuration);
+        assert!(readable::read(&STANDARD, &words).is_some(), "{shape} is not readable");
+        assert!(words.len() > 7_000 && configuration.depth() > 60, "{shape} is not deep and long");
+        let config = from_words(&words);
+        most.read(&shape, &config);
+        for numbers in steps(&configuration) {
+            most.step(&shape, &config, numbers);
+        }
+    }
+    most.print();
+    let actors = ACTORS.iter().map(|kind| u64::from(*kind));
+    assert!(most.kinds.iter().copied().eq(actors), "accepted kinds {:?}", most.kinds);
+    assert_eq!(most.used.len(), 5, "a call was not made");
+    for (call, (used, shape)) in &most.used {
+        assert!(4 * used <= 3 * promised(), "{call} used {used} bytes of stack ({shape})");
+    }
 }

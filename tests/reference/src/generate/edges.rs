@@ -55,7 +55,8 @@ pub fn nest(way: Way, depth: usize) -> Part {
     }
 }
 
-fn around(way: Way, inner: Part) -> Part {
+/// The process with one more nested around it; two more by `BranchRequest`.
+pub fn around(way: Way, inner: Part) -> Part {
     let condition = || build::variable(1);
     let nil = build::nil;
     match way {

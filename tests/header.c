@@ -1,0 +1,128 @@
+/* What include/sock.h adds to the library's calls: words and values, the inline calls beside the raw ones, overlap, null pointers, the
+ * version. Ends with 1 and a line for each that is not as the header says. Compiled as C and as C++ by tests/examples.sh.
+ */
+#include "sock.h"
+
+#include <stdio.h>
+#include <string.h>
+
+static int failures;
+
+static void check(int holds, const char *what)
+{
+    if (!holds) {
+        fprintf(stderr, "header: %s\n", what);
+        failures++;
+    }
+}
+
+static const uint16_t processes[2][6] = {
+    {0x5800, 0x0000, 0x0000, 0x5020, 0x0880, 0x0000},
+    {0x5800, 0x0000, 0x0000, 0x4020, 0x0000, 0x0000},
+};
+static const struct sock_move ask = {0, 3, 1, 3, 0};
+static uint8_t config[SOCK_BYTES], out[SOCK_BYTES], before[SOCK_BYTES];
+
+/* Engine 0's variable 1 is 1, the engine that it asks; each other value is one that no other variable has. */
+static uint32_t value_of(uint32_t engine, uint32_t variable)
+{
+    return engine == 0 && variable == 1 ? 1 : (32 * engine + variable) << 16 | variable;
+}
+
+/* The worked case's start, with these values; answers how many words there are. */
+static size_t start(void)
+{
+    size_t at = sock_put(config, sock_put(config, 0, 2), 0);
+    for (unsigned engine = 0; engine < 2; engine++) {
+        for (unsigned variable = 0; variable < SOCK_VARIABLES; variable++)
+            at = sock_put_value(config, at, value_of(engine, variable));
+        for (int word = 0; word < 6; word++)
+            at = sock_put(config, at, processes[engine][word]);
+    }
+    return at;
+}
+
+static void words_and_values(size_t words)
+{
+    uint8_t bytes[6] = {0xff, 0xff, 0xff, 0xff, 0xff, 0xff};
+    check(words == 142 && sock_bytes(words) == 284, "words put one after the other");
+    check(sock_put(bytes, 1, 0x1234) == 2 && memcmp(bytes, "\xff\xff\x12\x34\xff\xff", 6) == 0, "a word, the high byte first");
+    check(sock_get(bytes, 1) == 0x1234 && sock_get(bytes, 0) == 0xffff, "a word read");
+    check(sock_put_value(bytes, 0, 0x89abcdef) == 2 && memcmp(bytes, "\x89\xab\xcd\xef\xff\xff", 6) == 0, "a value, the high word first");
+    check(sock_get_value(bytes, 0) == 0x89abcdef && sock_get_value(bytes, 1) == 0xcdefffff, "a value read");
+    for (uint16_t engine = 0; engine < 2; engine++) {
+        struct sock_process_answer process = sock_find_process(config, sock_bytes(words), engine);
+        check(process.count == 6 && sock_get(config, process.first) == 0x5800, "a process found");
+        for (unsigned variable = 0; variable < SOCK_VARIABLES; variable++)
+            check(sock_get_value(config, sock_variable(process, variable)) == value_of(engine, variable), "an engine's variable");
+    }
+}
+
+static void inline_and_raw(size_t length)
+{
+    struct sock_step_answer taken = sock_take_step(ask, config, length, out, sizeof out);
+    uint64_t raw = sock_step(0, 3, 1, 3, 0, config, length, out, sizeof out);
+    check(raw == 0x000a000000010090, "the raw step");
+    check(taken.number == sock_number(raw) && taken.kind == SOCK_SOLICIT && taken.kind == sock_kind(raw), "number and kind");
+    check(taken.serial == 1 && sock_serial(raw) == 1 && taken.fault == 0 && sock_fault(raw) == 0, "serial and fault");
+    check(taken.length == 144 && sock_length(raw) == 144, "length");
+
+    struct sock_ends_answer ends = sock_count_ends(out, sock_bytes(taken.length), 1);
+    raw = sock_ends(out, sock_bytes(taken.length), 1);
+    check(ends.number == SOCK_ACCEPTED && ends.waiters == 1 && ends.workers == 1, "ends");
+    check(sock_number(raw) == SOCK_ACCEPTED && sock_waiters(raw) == 1 && sock_workers(raw) == 1, "the raw ends");
+    check(sock_count_ends(out, sock_bytes(taken.length), 2).number == SOCK_UNKNOWN_SERIAL, "ends of an unknown serial");
+    check(sock_find_process(config, length, 2).count == 0 && sock_process(config, length, 2) == 0, "no such engine");
+
+    check(sock_test_start(config, length).number == SOCK_ACCEPTED && sock_check_start(config, length) == 0, "a start");
+    check(sock_test_start(out, sock_bytes(taken.length)).number == SOCK_NOT_FRESH, "no start");
+    check(sock_test_readable(out, sock_bytes(taken.length)).number == SOCK_ACCEPTED, "readable");
+    check(sock_test_readable(config, length - 1).number == SOCK_UNREADABLE, "odd length");
+    check(strcmp(sock_word(sock_check_readable(config, length - 1)), "unreadable") == 0, "the word for a raw answer");
+    check(strcmp(sock_word(12), "unknown serial") == 0 && strcmp(sock_word(13), "") == 0, "words at the end of their table");
+    check(strcmp(sock_word(SOCK_OVERLAP), "overlap") == 0, "the word for overlap");
+}
+
+static void overlap(size_t length)
+{
+    struct sock_step_answer taken;
+    check(!sock_overlap(config, 2, config + 2, 2) && !sock_overlap(config + 2, 2, config, 2), "side by side");
+    check(sock_overlap(config, 3, config + 2, 2) && sock_overlap(config + 2, 2, config, 3), "one byte in common");
+    check(sock_overlap(config, 9, config + 3, 1) && sock_overlap(config + 3, 1, config, 9), "one in the other");
+    check(!sock_overlap(config, 0, config, 4) && !sock_overlap(config, 4, config, 0), "nothing overlaps no bytes");
+    memcpy(before, config, sizeof config);
+    taken = sock_take_step(ask, config, length, config + length - 1, sizeof config - length);
+    check(taken.number == SOCK_OVERLAP && taken.kind == 0 && taken.serial == 0 && taken.fault == 0 && taken.length == 0, "overlap is refused");
+    check(memcmp(before, config, sizeof config) == 0, "a refusal changes no byte");
+    taken = sock_take_step(ask, config, length, config + length, sizeof config - length);
+    check(taken.number == SOCK_ACCEPTED && taken.length == 144, "an output right behind the configuration");
+    check(memcmp(before, config, length) == 0, "the configuration stays");
+}
+
+static void null_pointers(size_t length)
+{
+    check(sock_check_readable(NULL, 0) == 1 && sock_check_start(NULL, 0) == 1, "checks of nothing");
+    check(sock_number(sock_ends(NULL, 0, 1)) == SOCK_UNREADABLE && sock_process(NULL, 0, 0) == 0, "ends and process of nothing");
+    check(sock_step(0, 3, 1, 3, 0, NULL, 0, out, sizeof out) == (uint64_t)SOCK_UNREADABLE << 56, "a step from nothing");
+    check(sock_step(0, 3, 1, 3, 0, config, length, NULL, 0) == (uint64_t)SOCK_SHORT_PAPER << 56, "a step to nothing");
+    check(sock_step(0, 3, 1, 3, 0, NULL, 0, NULL, 0) == (uint64_t)SOCK_UNREADABLE << 56, "a step from nothing to nothing");
+    check(sock_take_step(ask, NULL, 0, NULL, 0).number == SOCK_UNREADABLE, "the same, inline");
+}
+
+static void version(void)
+{
+    char text[32];
+    sprintf(text, "%d.%d.%d", SOCK_VERSION_MAJOR, SOCK_VERSION_MINOR, SOCK_VERSION_PATCH);
+    check(strcmp(text, SOCK_VERSION) == 0, "the version's numbers and its text");
+}
+
+int main(void)
+{
+    size_t words = start();
+    words_and_values(words);
+    inline_and_raw(sock_bytes(words));
+    overlap(sock_bytes(words));
+    null_pointers(sock_bytes(words));
+    version();
+    return failures != 0;
+}
