@@ -165,7 +165,6 @@ for what in 'examples/worked.hex' '--explain examples/worked.hex' '- <"$scratch/
     ends 3 $none "bin/handover $what >/dev/full" && says 'could'
     ends 3 $none "bin/handover $what >&-"
 done
-echo "start 0" >"$scratch/first.txt"
 for from in '"$scratch/long"' '<"$scratch/long"' '--explain "$scratch/long"'; do
     for ignored in : 'trap "" PIPE'; do
         ends 3 $none "$ignored; { bin/handover $from; echo \$? >\$scratch/status; } | head -n 1 >/dev/null; exit \$(cat \$scratch/status)"
