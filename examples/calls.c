@@ -38,8 +38,8 @@ int main(void)
     struct sock_process_answer process = sock_find_process(config, length, 1);
     printf("engine 1's process: %u words from word %u on\n", (unsigned)process.count, (unsigned)process.first);
 
-    /* The executor in engine 1 replies to the waiter in engine 0; both stand three words into their engines' processes. What it sends is its
-     * variable 0, here a level that was just measured. */
+    /* The executor in engine 1 replies to the waiter in engine 0; both stand three words into their engines' processes. What it sends is
+     * its variable 0, here a level that was just measured. */
     sock_put_value(config, sock_variable(process, 0), 4812);
     struct sock_move reply = {1, 3, 0, 3, 0};
     struct sock_step_answer answer = sock_take_step(reply, config, length, out, sizeof out);

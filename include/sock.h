@@ -93,8 +93,8 @@ enum sock_kind {
 /* The keeper's word for a number, as document 01 has it; "accepted" for 0. Takes what any call or accessor gives as number. */
 static inline const char *sock_word(unsigned number)
 {
-    static const char *const words[] = {"accepted",      "unreadable", "nobody there", "no move",     "no partner", "no fit",        "installing",
-                                        "serials spent", "deep",       "long",         "short paper", "not fresh",  "unknown serial"};
+    static const char *const words[] = {"accepted", "unreadable", "nobody there", "no move", "no partner", "no fit", "installing",
+                                        "serials spent", "deep", "long", "short paper", "not fresh", "unknown serial"};
     if (number == SOCK_OVERLAP)
         return "overlap";
     return number < sizeof words / sizeof *words ? words[number] : "";
@@ -190,7 +190,7 @@ static inline struct sock_step_answer sock_take_step(struct sock_move move, cons
     return taken;
 }
 
-/* ---- Start check: may a run begin here? 0, SOCK_UNREADABLE or SOCK_NOT_FRESH. From a start, every request keeps exactly one reply. ---- */
+/* ---- Start check: may a run begin here? 0, SOCK_UNREADABLE or SOCK_NOT_FRESH. From a start every request keeps exactly one reply. ---- */
 uint8_t sock_check_start(const uint8_t *config, size_t config_length);
 
 /* ---- Readable check: 0 or SOCK_UNREADABLE. ---- */

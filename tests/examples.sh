@@ -67,7 +67,12 @@ done >"$scratch/explained"
 same "explained" examples/explained.txt <"$scratch/explained"
 
 # The file that docs/FORMAT.md has, and what it says that it prints.
-in_format() { awk -v part="$1" '/^## / { now = $0 == "## A whole file" ? "input" : "" } /^It prints:/ { now = "lines" } now == part && sub(/^    /, "")' docs/FORMAT.md; }
+in_format() {
+    awk -v part="$1" '
+        /^## / { now = $0 == "## A whole file" ? "input" : "" }
+        /^It prints:/ { now = "lines" }
+        now == part && sub(/^    /, "")' docs/FORMAT.md
+}
 in_format input >"$scratch/format.hex"
 in_format lines >"$scratch/format.txt"
 ends 0 "$scratch/format.txt" 'bin/handover "$scratch/format.hex"'
@@ -160,10 +165,9 @@ for what in 'examples/worked.hex' '--explain examples/worked.hex' '- <"$scratch/
     ends 3 $none "bin/handover $what >/dev/full" && says 'could'
     ends 3 $none "bin/handover $what >&-"
 done
-echo "start 0" >"$scratch/first.txt"
 for from in '"$scratch/long"' '<"$scratch/long"' '--explain "$scratch/long"'; do
     for ignored in : 'trap "" PIPE'; do
-        ends 3 $none "$ignored; { bin/handover $from; echo \$? >\"\$scratch/status\"; } | head -n 1 >/dev/null; exit \$(cat \"\$scratch/status\")"
+        ends 3 $none "$ignored; { bin/handover $from; echo \$? >\$scratch/status; } | head -n 1 >/dev/null; exit \$(cat \$scratch/status)"
     done
 done
 
@@ -183,9 +187,8 @@ as_text 0 "$mark# a comment\r\n$(printf '%s\n' "$plain" | sed 's/$/ # a comment\
 as_text 0 "$(printf '%s\n' "$plain" | tr 'a-f' 'A-F')"
 as_text 2 "# a comment\r$(printf '%s\n' "$plain" | tr '\n' ' ')\r" && says 'CR alone'
 as_text 2 "$(printf '%s\n' "$plain" | sed 's/^008e/00 8e/')" && says 'line 3: not a word of four hexadecimal digits: 00'
-for text in 8e 08e 0008e 008e0002 0x008e 00zz '008e,' '008e*' '*3' '008e*2*3' '008e*0' '008e*-1' '008e*20000' '\0376\0377' '0\0000\00008e'; do
-    as_text 2 "$text\n"
-done
+for text in 8e 08e 0008e 008e0002 0x008e 00zz 008e, '\0376\0377' '0\0000\00008e'; do as_text 2 "$text\n"; done
+for text in '008e*' '*3' '008e*2*3' '008e*0' '008e*-1' '008e*20000'; do as_text 2 "$text\n"; done
 cp "$scratch/text.hex" "$scratch/OTHER.HEX"
 ends 2 $none 'bin/handover "$scratch/OTHER.HEX"'
 printf '%s\n' "$plain" >"$scratch/name with 'signs' \$HOME \\n.hex"
@@ -225,7 +228,11 @@ printf 'sock:\nhandover: sock io\n' >"$copy/crates.txt"
 cat >"$scratch/path/rt" <<'EOF'
 #!/bin/sh
 echo "$*" >>"$scratch/asked"
-[ ! -e "$scratch/unproved" ] || { echo "rt: sock proved (unchanged since it was last proved)"; echo "rt: handover NOT PROVED (exit 1, 4 s)"; exit 1; }
+if [ -e "$scratch/unproved" ]; then
+    echo "rt: sock proved (unchanged since it was last proved)"
+    echo "rt: handover NOT PROVED (exit 1, 4 s)"
+    exit 1
+fi
 echo "fn sock::table: proved"
 echo "rt: sock proved (3 s)"
 echo "rt: handover proved (17 s)"
@@ -256,9 +263,10 @@ ends 0 $worked "$build" && asked 4
 # What is not proved is not run, though an older program is there; nor is it without rt.
 sleep 0.1
 touch "$scratch/unproved" "$copy/crates.txt"
-ends 2 $none 'cd "$scratch/copy" && PATH=$scratch/path:$PATH bin/handover --example' && says '2 of 2: handover, NOT PROVED' && says 'log says why'
+ends 2 $none 'cd "$scratch/copy" && PATH=$scratch/path:$PATH bin/handover --example'
+says '2 of 2: handover, NOT PROVED' && says 'log says why'
 mkdir "$scratch/few"
-for tool in awk basename cat dirname find head mktemp od pwd readlink rm sed sh tail tee touch; do ln -s "$(command -v $tool)" "$scratch/few/$tool" 2>/dev/null || :; done
+for tool in awk cat dirname find head mktemp od readlink rm sed sh tail tee touch; do ln -s "$(command -v $tool)" "$scratch/few/$tool"; done
 ends 2 $none 'cd "$scratch/copy" && PATH=$scratch/few bin/handover --example' && says 'no rt'
 
 echo "examples: as their files say (compiled by ${used#, })"

@@ -92,7 +92,8 @@ static void overlap(size_t length)
     check(!sock_overlap(config, 0, config, 4) && !sock_overlap(config, 4, config, 0), "nothing overlaps no bytes");
     memcpy(before, config, sizeof config);
     taken = sock_take_step(ask, config, length, config + length - 1, sizeof config - length);
-    check(taken.number == SOCK_OVERLAP && taken.kind == 0 && taken.serial == 0 && taken.fault == 0 && taken.length == 0, "overlap is refused");
+    check(taken.number == SOCK_OVERLAP && taken.kind == SOCK_NIL, "overlap is refused");
+    check(taken.serial == 0 && taken.fault == 0 && taken.length == 0, "the other fields of a refusal are 0");
     check(memcmp(before, config, sizeof config) == 0, "a refusal changes no byte");
     taken = sock_take_step(ask, config, length, config + length, sizeof config - length);
     check(taken.number == SOCK_ACCEPTED && taken.length == 144, "an output right behind the configuration");

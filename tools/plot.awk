@@ -64,7 +64,8 @@ function legend(    k) {
         labels = labels text(left + 200 * (k - 1) + 10, 24, "start", "axis", what[k])
         mark(left + 200 * (k - 1), 44, k, "#444", "length")
     }
-    labels = labels text(left + 10, 48, "start", "axis", "about 200 words") text(left + 210, 48, "start", "axis", "about 2,000, or the shorter")
+    labels = labels text(left + 10, 48, "start", "axis", "about 200 words")
+    labels = labels text(left + 210, 48, "start", "axis", "about 2,000, or the shorter")
     labels = labels text(left + 410, 48, "start", "axis", "up to 8,192, the longest")
 }
 
@@ -74,11 +75,12 @@ END {
         exit 1
     }
     bottom = top + height * rows
-    printf "<svg xmlns=\"http://www.w3.org/2000/svg\" viewBox=\"0 0 %d %d\" font-family=\"sans-serif\" font-size=\"12\">\n", right + 20, bottom + 46
+    printf "<svg xmlns=\"http://www.w3.org/2000/svg\" viewBox=\"0 0 %d %d\"", right + 20, bottom + 46
+    print " font-family=\"sans-serif\" font-size=\"12\">"
     print "<title>Time of a step, in nanoseconds a word</title>"
     print "<rect width=\"100%\" height=\"100%\" fill=\"white\"/>"
     axis(bottom)
     legend()
-    for (i = 1; i < rows; i++) printf "<line x1=\"%d\" y1=\"%d\" x2=\"%d\" y2=\"%d\" stroke=\"#eee\"/>\n", 10, top + height * i, right, top + height * i
+    for (y = top + height; y < bottom; y += height) printf "<line x1=\"10\" y1=\"%d\" x2=\"%d\" y2=\"%d\" stroke=\"#eee\"/>\n", y, right, y
     printf "%s%s</svg>\n", labels, marks
 }
