@@ -1,6 +1,5 @@
-//! What the benchmarks share: configurations of many shapes, a clock, a case for each rule, and a plot.
+//! What the benchmarks share: configurations of many shapes, a clock, and a case for each rule.
 
 pub mod clock;
-pub mod plot;
 pub mod rules;
 pub mod shapes;

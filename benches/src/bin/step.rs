@@ -1,8 +1,7 @@
 //! Times `sock_step`: beside the second implementation, which builds trees, and beside a bare copy of the configuration. Every rule, at
-//! about 200, 2,000 and 8,192 words, and the worst shapes. Prints a table and, given a file's name, draws the times a word there.
+//! about 200, 2,000 and 8,192 words, and the worst shapes. Prints a table, which `tools/plot.awk` draws.
 
 use benches::clock;
-use benches::plot::{self, Point};
 use benches::rules::{by_rule, worst, Case, RULES};
 use reference::Numbers;
 use std::hint::black_box;
@@ -62,6 +61,14 @@ fn time(cases: &[Case], step: Step) -> f64 {
     clock::nanoseconds(pass) / cases.len() as f64
 }
 
+/// Words of a configuration, and nanoseconds a word.
+struct Point {
+    words: f64,
+    proved: f64,
+    tree: f64,
+    copy: f64,
+}
+
 /// Both implementations answer the same, with the number, and write the same.
 fn agree(name: &str, case: &Case, number: u64) {
     let (mut ours, mut theirs) = (vec![0; 16_384], vec![0; 16_384]);
@@ -97,33 +104,23 @@ fn print(name: &str, points: &[Point]) {
     );
 }
 
-fn rules() -> Vec<Point> {
-    let mut all = Vec::new();
+fn rules() {
     for rule in &RULES {
         let cases = |words| (0..20).map(|seed| by_rule(rule, seed, words)).collect::<Vec<_>>();
-        let points = [200, 2_000, 8_192].map(|words| measure(rule.0, &cases(words), 0));
-        print(rule.0, &points);
-        all.extend(points);
+        print(rule.0, &[200, 2_000, 8_192].map(|words| measure(rule.0, &cases(words), 0)));
     }
-    all
 }
 
-fn worst_shapes() -> Vec<Point> {
-    let mut all = Vec::new();
+fn worst_shapes() {
     for ((name, short), (_, long)) in worst(2_000).into_iter().zip(worst(8_192)) {
         let number = if name.starts_with("refused") { 2 } else { 0 };
-        let points = [short, long].map(|case| measure(name, &[case], number));
-        print(name, &points);
-        all.extend(points);
+        print(name, &[short, long].map(|case| measure(name, &[case], number)));
     }
-    all
 }
 
 fn main() {
     println!("| step | words | proved, ns a word | tree, ns a word | times faster | bare copies |");
     println!("|---|---|---|---|---|---|");
-    let points = rules().into_iter().chain(worst_shapes()).collect::<Vec<_>>();
-    if let Some(file) = std::env::args().nth(1) {
-        std::fs::write(file, plot::draw(&points)).expect("the plot's file can be written");
-    }
+    rules();
+    worst_shapes();
 }
