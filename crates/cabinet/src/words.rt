@@ -25,7 +25,7 @@ fn fill(bytes: &[u8], n: usize, ws: &mut [u16]) -> usize
 }
 
 // How many words there are, and the words; none where the length is odd.
-pub fn words_in(bytes: &[u8], ws: &mut [u16]) -> usize
+pub(crate) fn words_in(bytes: &[u8], ws: &mut [u16]) -> usize
     requires { ⌜ length (now bytes) ≤ length (now ws) * 2 ⌝ }
     ensures { λ r. ⌜ (r ≤ length (now (ws .exit))) × (take r (now (ws .exit)) ≡ wordsOrNone (wordsOf (now (bytes .entry)))) ⌝ }
 {

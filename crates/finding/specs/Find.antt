@@ -1,5 +1,5 @@
 -- Finding on positions, as the code goes. The proofs show that this is the definitions' `locate`, with what `plug` then makes of the words;
--- no public contract names it.
+-- no contract of a call names it.
 use Prim.Native.Nat.{ℕ, zero, suc, _+_, _/_, _%_}
 use mathlib.Core.Bool.{Bool, true, false, not, _||_, cond}
 use mathlib.Core.List.{List}

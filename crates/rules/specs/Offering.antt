@@ -1,4 +1,4 @@
--- The rules between two engines on words, as the code goes. No public contract of the library names it.
+-- The rules between two engines on words, as the code goes. No contract of a call names it.
 use Prim.Native.Nat.{ℕ, zero, suc, _+_, _-_, _*_, _/_, _%_}
 use mathlib.Core.Bool.{Bool, true, false, cond}
 use mathlib.Core.List.{List}

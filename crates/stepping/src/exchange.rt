@@ -222,7 +222,7 @@ fn meet(
 }
 
 // The sender a stands in `engine`, the receiver b in `second`. That the places are inside is known of all that was found.
-pub fn between(
+pub(crate) fn between(
     ws: &[u16],
     starts: [usize; 9],
     engine: u16,

@@ -58,7 +58,7 @@ fn taker(kind: usize) -> usize
 }
 
 // Whether the process in `part` of the kind given may send to the one in `other`.
-pub fn fit(
+pub(crate) fn fit(
     part: &[u16],
     values: &[u16],
     other: &[u16],
@@ -98,7 +98,7 @@ pub fn serial_of(part: &[u16], kind: usize, next: u16) -> u16
 }
 
 // What the sender turns into.
-pub fn send(part: &[u16], kind: usize, server: u16, serial: u16, fresh: &mut [u16]) -> Turn
+pub(crate) fn send(part: &[u16], kind: usize, server: u16, serial: u16, fresh: &mut [u16]) -> Turn
     requires { ⌜ server < 8 ⌝ }
     ensures { λ r. ⌜ (r ≡ sendW (now (part .entry)) kind server serial (now (fresh .entry)) .turn) × (now (fresh .exit) ≡ sendW (now (part .entry)) kind server serial (now (fresh .entry)) .fresh) ⌝ }
 {
@@ -109,7 +109,7 @@ pub fn send(part: &[u16], kind: usize, server: u16, serial: u16, fresh: &mut [u1
 }
 
 // What the receiver turns into, given the sender's words and values.
-pub fn receive(
+pub(crate) fn receive(
     part: &[u16],
     values: &[u16],
     other: &[u16],
