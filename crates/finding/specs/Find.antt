@@ -116,3 +116,7 @@ findW (suc d) ws marks target level i =
     (Past (markAt marks i))
     (nodeW (findW d ws marks target (level + 1)) d ws marks target level (getD ws i 0 / 2048) i)))
     (Past 0)
+
+-- levels are counted so far
+abbrev pub atMost : ℕ → ℕ
+atMost levels = cond (ltb levels 32768) levels 32767
