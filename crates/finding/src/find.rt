@@ -54,14 +54,7 @@ fn at_most(levels: usize) -> usize
 
 // The same. A process whose end is marked and that does not have the target is passed at once: where all are marked, the search goes down
 // one way only.
-fn find(
-    ws: &[u16],
-    marks: &[u16],
-    at: usize,
-    target: usize,
-    depth: usize,
-    level: usize,
-) -> Found
+fn find(ws: &[u16], marks: &[u16], at: usize, target: usize, depth: usize, level: usize) -> Found
     requires { ⌜ level + depth < 65536 ⌝ }
     ensures { λ r. ⌜ r ≡ findW depth (now (ws .entry)) (now (marks .entry)) target level at ⌝ }
 {
