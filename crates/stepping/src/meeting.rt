@@ -13,13 +13,10 @@ use rules::turn::Turn;
 use rules::turn::to_nil;
 use rules::turn::word;
 ghost use mathlib.Core.Path.{_≡_};
-ghost use Prim.Native.Nat.{_<_};
-ghost use lib.ListN.{length};
 ghost use Rattle.stepping.specs.Meeting.{addressedW, repliesW, takerOf, fitW, sendW, receiveW, serialW};
 
 // Whether a notify or solicit is sent to the engine that receives.
 fn addressed(part: &[u16], values: &[u16], receiver: usize) -> bool
-    requires { ⌜ length (now values) ≡ 64 ⌝ }
     ensures { λ r. ⌜ r ≡ addressedW (now (part .entry)) (now (values .entry)) receiver ⌝ }
 {
     let z = variable(values, wide(word(part, 1)) / 2048);
@@ -68,7 +65,6 @@ pub(crate) fn fit(
     sender: usize,
     receiver: usize,
 ) -> bool
-    requires { ⌜ length (now values) ≡ 64 ⌝ }
     ensures { λ r. ⌜ r ≡ fitW (now (part .entry)) (now (values .entry)) (now (other .entry)) o kind branch sender receiver ⌝ }
 {
     let w = wide(word(part, 1));
@@ -99,7 +95,6 @@ pub fn serial_of(part: &[u16], kind: usize, next: u16) -> u16
 
 // What the sender turns into.
 pub(crate) fn send(part: &[u16], kind: usize, server: u16, serial: u16, fresh: &mut [u16]) -> Turn
-    requires { ⌜ server < 8 ⌝ }
     ensures { λ r. ⌜ (r ≡ sendW (now (part .entry)) kind server serial (now (fresh .entry)) .turn) × (now (fresh .exit) ≡ sendW (now (part .entry)) kind server serial (now (fresh .entry)) .fresh) ⌝ }
 {
     if kind == 10 {
@@ -119,7 +114,6 @@ pub(crate) fn receive(
     serial: u16,
     fresh: &mut [u16],
 ) -> Turn
-    requires { ⌜ (length (now values) ≡ 64) × (client < 8) ⌝ }
     ensures { λ r. ⌜ (r ≡ receiveW (now (part .entry)) (now (values .entry)) (now (other .entry)) o kind client serial (now (fresh .entry)) .turn) × (now (fresh .exit) ≡ receiveW (now (part .entry)) (now (values .entry)) (now (other .entry)) o kind client serial (now (fresh .entry)) .fresh) ⌝ }
 {
     let v = variable(values, wide(word(part, 0)) % 32);
