@@ -1,34 +1,23 @@
--- The words held are the definitions' words of the bytes, and what is not held is read by no call.
+-- The words held are the definitions' words of the bytes, laid over what was there, and what is not held is read by no call.
 -- Assumes nothing.
 use Prim.Native.Nat.{ℕ, zero, suc, _+_, _*_, _≤_, _<_}
 use native.Mathlib.Omega.{arith}
-use native.Mathlib.Decide.{ℕ-discrete}
 use mathlib.Core.Path.{_≡_, refl, sym, ap, _∙_}
 use mathlib.Core.Bool.{Bool, true, false, cond, _&&_}
 use mathlib.Core.Option.{Option, none, some}
 use mathlib.Core.List.{List, [], _∷_}
 use lib.Dec.{ltb, leb}
-use lib.ListN.{length, getD, set, take}
-use lib.Seq.{getD-set-same, getD-set-other}
+use lib.ListN.{length, getD, set, take, drop}
+use lib.Seq.{take-all, take-at}
 use borrow.Author.Tests.{lt-ltb, le-ltb, ltb-true}
 use Rattle.sock.specs.Rules.{also}
 use Rattle.sock.specs.Bytes.{wordsOf, wordsOrNone, byteCheckReadable, byteCheckStart, byteEnds, packedEnds, packedPart, byteProcess}
-use Rattle.sock.specs.Calls.{unreadable, notFresh, unknownSerial, done, _!_, _>>=_, _>>_, _unless_, passed, Ends, checkReadable, start, checkStart, counted, known, ends, partIn, processPart}
+use Rattle.sock.specs.Calls.{unreadable, notFresh, unknownSerial, done, _!_, _>>=_, _>>_, _unless_, passed, Ends, checkReadable, start, checkStart, counted, known, ends, partIn, processPart, over}
 use Rattle.sock.specs.Configuration.{Config, standard, readConfig, fresh}
 use Rattle.sock.proofs.Configuration.{config-found}
 use Rattle.reading.specs.declared.ends.EndCounts.{EndCounts}
 use Rattle.reading.specs.Answers.{endCounts}
 use Rattle.cabinet.specs.Held.{held, pairAt}
-
--- one more word is in its place
-pub fill-turn :
-    (bytes ws : List ℕ) (i w : ℕ) → i < length ws → w ≡ pairAt bytes i → ((j : ℕ) → j < i → getD ws j 0 ≡ pairAt bytes j) →
-    (j : ℕ) → j < i + 1 → getD (set ws i w) j 0 ≡ pairAt bytes j
-fill-turn bytes ws i w b e f j h = by (ℕ-discrete j i)
-  where
-    by : Dec (j ≡ i) → getD (set ws i w) j 0 ≡ pairAt bytes j
-    by (yes s) = rw s (getD-set-same ws i w 0 b ∙ e)
-    by (no n) = getD-set-other ws i j w 0 n ∙ f j (omega (arith, n))
 
 pair-next : (h l j : ℕ) (bytes : List ℕ) → pairAt (h ∷ l ∷ bytes) (suc j) ≡ pairAt bytes j
 pair-next h l j bytes =
@@ -38,19 +27,67 @@ pair-next h l j bytes =
     let y : getD (h ∷ l ∷ bytes) (suc j * 2 + 1) 0 ≡ getD bytes (j * 2 + 1) 0 = ap (λ (m : ℕ). getD (h ∷ l ∷ bytes) m 0) b in
     ap (λ (m : ℕ). m * 256 + getD (h ∷ l ∷ bytes) (suc j * 2 + 1) 0) x ∙ ap (λ (m : ℕ). getD bytes (j * 2) 0 * 256 + m) y
 
-pub words-of-even :
-    (n : ℕ) (bytes ws : List ℕ) → length bytes ≡ n * 2 → n ≤ length ws → ((j : ℕ) → j < n → getD ws j 0 ≡ pairAt bytes j) →
-    wordsOf bytes ≡ some (take n ws)
-unfolding wordsOf also
-words-of-even zero [] ws e b f = refl
-words-of-even zero (h ∷ bytes) ws e b f = absurd (omega arith)
-words-of-even (suc n) [] ws e b f = absurd (omega arith)
-words-of-even (suc n) (h ∷ []) ws e b f = absurd (omega arith)
-words-of-even (suc n) (h ∷ l ∷ bytes) [] e b f = absurd (omega arith)
-words-of-even (suc n) (h ∷ l ∷ bytes) (w ∷ ws) e b f =
-    let first : w ≡ h * 256 + l = f 0 (omega arith) in
-    let rest = words-of-even n bytes ws (omega arith) (omega arith) (λ j q. f (suc j) (omega arith) ∙ pair-next h l j bytes) in
-    rw (rest, first) refl
+-- of an even number of bytes there are words
+some-words : (n : ℕ) (bytes : List ℕ) → length bytes ≡ n * 2 → wordsOf bytes ≡ some (wordsOrNone (wordsOf bytes))
+unfolding wordsOf wordsOrNone also
+some-words n [] e = refl
+some-words n (h ∷ []) e = absurd (omega arith)
+some-words zero (h ∷ l ∷ bytes) e = absurd (omega arith)
+some-words (suc n) (h ∷ l ∷ bytes) e = rw (some-words n bytes (omega arith)) refl
+
+words-next :
+    (n h l : ℕ) (bytes : List ℕ) → length bytes ≡ n * 2 →
+    wordsOrNone (wordsOf (h ∷ l ∷ bytes)) ≡ (h * 256 + l) ∷ wordsOrNone (wordsOf bytes)
+unfolding wordsOf wordsOrNone also
+words-next n h l bytes e = rw (some-words n bytes e) refl
+
+none-of-none : length (wordsOrNone (wordsOf [])) ≡ 0
+unfolding wordsOf wordsOrNone
+none-of-none = refl
+
+pub words-length : (n : ℕ) (bytes : List ℕ) → length bytes ≡ n * 2 → length (wordsOrNone (wordsOf bytes)) ≡ n
+words-length zero [] e = none-of-none
+words-length zero (h ∷ bytes) e = absurd (omega arith)
+words-length (suc n) [] e = absurd (omega arith)
+words-length (suc n) (h ∷ []) e = absurd (omega arith)
+words-length (suc n) (h ∷ l ∷ bytes) e =
+    let rest : length bytes ≡ n * 2 = omega arith in
+    ap length (words-next n h l bytes rest) ∙ ap suc (words-length n bytes rest)
+
+pub words-at : (n : ℕ) (bytes : List ℕ) → length bytes ≡ n * 2 → (j : ℕ) → j < n → pairAt bytes j ≡ getD (wordsOrNone (wordsOf bytes)) j 0
+words-at zero bytes e j q = absurd (omega arith)
+words-at (suc n) [] e j q = absurd (omega arith)
+words-at (suc n) (h ∷ []) e j q = absurd (omega arith)
+words-at (suc n) (h ∷ l ∷ bytes) e zero q = sym (ap (λ (us : List ℕ). getD us 0 0) (words-next n h l bytes (omega arith)))
+words-at (suc n) (h ∷ l ∷ bytes) e (suc j) q =
+    let rest : length bytes ≡ n * 2 = omega arith in
+    pair-next h l j bytes ∙ words-at n bytes rest j (omega arith) ∙ sym (ap (λ (us : List ℕ). getD us (suc j) 0) (words-next n h l bytes rest))
+
+-- one more word is over the others
+laid-next : (i : ℕ) (us ws : List ℕ) → i < length us → i < length ws → set (over (take i us) ws) i (getD us i 0) ≡ over (take (suc i) us) ws
+laid-next i [] ws a b = absurd (omega arith)
+laid-next i (u ∷ us) [] a b = absurd (omega arith)
+laid-next zero (u ∷ us) (w ∷ ws) a b = refl
+laid-next (suc i) (u ∷ us) (w ∷ ws) a b = ap (λ (l : List ℕ). u ∷ l) (laid-next i us ws (omega arith) (omega arith))
+
+pub fill-turn :
+    (n : ℕ) (bytes ws ws₀ : List ℕ) (i w : ℕ) → length bytes ≡ n * 2 → i < n → i < length ws₀ → w ≡ pairAt bytes i →
+    ws ≡ over (take i (wordsOrNone (wordsOf bytes))) ws₀ → set ws i w ≡ over (take (i + 1) (wordsOrNone (wordsOf bytes))) ws₀
+fill-turn n bytes ws ws₀ i w e a b q f =
+    let us = wordsOrNone (wordsOf bytes) in
+    let inside : i < length us = omega (arith, words-length n bytes e) in
+    let one-more : suc i ≡ i + 1 = omega arith in
+    ap (λ (l : List ℕ). set l i w) f
+    ∙ ap (λ (v : ℕ). set (over (take i us) ws₀) i v) (q ∙ words-at n bytes e i a)
+    ∙ laid-next i us ws₀ inside b
+    ∙ ap (λ (m : ℕ). over (take m us) ws₀) one-more
+
+pub fill-end :
+    (n i : ℕ) (bytes ws ws₀ : List ℕ) → length bytes ≡ n * 2 → i ≡ n → ws ≡ over (take i (wordsOrNone (wordsOf bytes))) ws₀ →
+    ws ≡ over (wordsOrNone (wordsOf bytes)) ws₀
+fill-end n i bytes ws ws₀ e p f =
+    let all : take i (wordsOrNone (wordsOf bytes)) ≡ wordsOrNone (wordsOf bytes) = take-all i _ (omega (arith, words-length n bytes e)) in
+    f ∙ ap (λ (us : List ℕ). over us ws₀) all
 
 pub words-of-odd : (n : ℕ) (bytes : List ℕ) → length bytes ≡ n * 2 + 1 → wordsOf bytes ≡ none
 unfolding wordsOf also
@@ -59,25 +96,48 @@ words-of-odd n (h ∷ []) e = refl
 words-of-odd zero (h ∷ l ∷ bytes) e = absurd (omega arith)
 words-of-odd (suc n) (h ∷ l ∷ bytes) e = rw (words-of-odd n bytes (omega arith)) refl
 
-held-as : (bytes : List ℕ) (b : Bool) → ltb 16384 (length bytes) ≡ b → held bytes ≡ cond b [] (wordsOrNone (wordsOf bytes))
+held-as : (room : ℕ) (bytes : List ℕ) (b : Bool) → ltb (room * 2) (length bytes) ≡ b → held room bytes ≡ cond b [] (wordsOrNone (wordsOf bytes))
 unfolding held
-held-as bytes b e = ap (λ (t : Bool). cond t [] (wordsOrNone (wordsOf bytes))) e
+held-as room bytes b e = ap (λ (t : Bool). cond t [] (wordsOrNone (wordsOf bytes))) e
 
-pub held-long : (bytes : List ℕ) → 16384 < length bytes → [] ≡ held bytes
-held-long bytes b = sym (held-as bytes true (lt-ltb _ _ b))
+-- ---- what the code knows at each return
 
-pub held-short : (bytes : List ℕ) → length bytes ≤ 16384 → wordsOrNone (wordsOf bytes) ≡ held bytes
-held-short bytes b = sym (held-as bytes false (le-ltb _ _ b))
-
-pub odd-none : (n : ℕ) (bytes : List ℕ) → length bytes ≡ n * 2 + 1 → [] ≡ wordsOrNone (wordsOf bytes)
+pub held-odd : (room n : ℕ) (bytes : List ℕ) → length bytes ≡ n * 2 + 1 → [] ≡ held room bytes
 unfolding wordsOrNone
-odd-none n bytes e = sym (ap wordsOrNone (words-of-odd n bytes e))
+held-odd room n bytes e = by (ltb (room * 2) (length bytes)) refl
+  where
+    by : (b : Bool) → ltb (room * 2) (length bytes) ≡ b → [] ≡ held room bytes
+    by true t = sym (held-as room bytes true t)
+    by false t = sym (held-as room bytes false t ∙ ap wordsOrNone (words-of-odd n bytes e))
 
-pub even-words :
-    (n : ℕ) (bytes ws : List ℕ) → length bytes ≡ n * 2 → n ≤ length ws → ((j : ℕ) → j < n → getD ws j 0 ≡ pairAt bytes j) →
-    take n ws ≡ wordsOrNone (wordsOf bytes)
-unfolding wordsOrNone
-even-words n bytes ws e b f = sym (ap wordsOrNone (words-of-even n bytes ws e b f))
+pub held-long : (room n : ℕ) (bytes : List ℕ) → length bytes ≡ n * 2 → room < n → [] ≡ held room bytes
+held-long room n bytes e h = sym (held-as room bytes true (lt-ltb (room * 2) (length bytes) (omega arith)))
+
+pub held-short : (room : ℕ) (bytes : List ℕ) → length bytes ≤ room * 2 → held room bytes ≡ wordsOrNone (wordsOf bytes)
+held-short room bytes h = held-as room bytes false (le-ltb _ _ h)
+
+pub held-all : (room n : ℕ) (bytes : List ℕ) → length bytes ≡ n * 2 → n ≤ room → wordsOrNone (wordsOf bytes) ≡ held room bytes
+held-all room n bytes e h = sym (held-short room bytes (omega arith))
+
+pub none-laid : (us ws : List ℕ) → [] ≡ us → (0 ≡ length us) × (ws ≡ over us ws) × (0 ≤ length ws)
+none-laid us ws e = (ap length e, ap (λ (l : List ℕ). over l ws) e, omega arith)
+
+pub all-laid :
+    (r n room : ℕ) (bytes ws out : List ℕ) → length bytes ≡ n * 2 → n ≤ room → room ≡ length ws →
+    r ≡ n → out ≡ over (wordsOrNone (wordsOf bytes)) ws →
+    (r ≡ length (held room bytes)) × (out ≡ over (held room bytes) ws) × (r ≤ length ws)
+all-laid r n room bytes ws out e h s p q =
+    let same = held-all room n bytes e h in
+    (p ∙ sym (words-length n bytes e) ∙ ap length same, q ∙ ap (λ (l : List ℕ). over l ws) same, omega arith)
+
+-- the first of them are the words held
+pub first-held : (room m : ℕ) (bytes ws out : List ℕ) (r : ℕ) → room ≡ m → r ≡ length (held room bytes) → out ≡ over (held room bytes) ws → take r out ≡ held m bytes
+first-held room m bytes ws out r s p q =
+    let us = held room bytes in
+    ap (λ (k : ℕ). take k out) p
+    ∙ ap (take (length us)) q
+    ∙ take-at us (drop (length us) ws) (length us) refl
+    ∙ ap (λ (k : ℕ). held k bytes) s
 
 -- ---- what is not held is not readable
 
@@ -114,17 +174,17 @@ long-unread bytes none e b = no-words
 long-unread bytes (some ws) e b = no-config ws (omega (arith, e))
 
 -- the words held are read as the definitions' are
-pub read-held : (bytes : List ℕ) → readConfig standard (held bytes) ≡ readConfig standard (wordsOrNone (wordsOf bytes))
+pub read-held : (bytes : List ℕ) → readConfig standard (held 8192 bytes) ≡ readConfig standard (wordsOrNone (wordsOf bytes))
 read-held bytes = by (ltb 16384 (length bytes)) refl
   where
-    by : (b : Bool) → ltb 16384 (length bytes) ≡ b → readConfig standard (held bytes) ≡ readConfig standard (wordsOrNone (wordsOf bytes))
+    by : (b : Bool) → ltb 16384 (length bytes) ≡ b → readConfig standard (held 8192 bytes) ≡ readConfig standard (wordsOrNone (wordsOf bytes))
     by true e =
-        ap (readConfig standard) (held-as bytes true e)
+        ap (readConfig standard) (held-as 8192 bytes true e)
         ∙ no-words
         ∙ sym (long-unread bytes (wordsOf bytes) (length-words bytes) (ltb-true 16384 (length bytes) e))
-    by false e = ap (readConfig standard) (held-as bytes false e)
+    by false e = ap (readConfig standard) (held-as 8192 bytes false e)
 
-module _ (bytes ws : List ℕ) (e : ws ≡ held bytes) where
+module _ (bytes ws : List ℕ) (e : ws ≡ held 8192 bytes) where
   pub read-as : readConfig standard ws ≡ readConfig standard (wordsOrNone (wordsOf bytes))
   read-as = ap (readConfig standard) e ∙ read-held bytes
 

@@ -16,7 +16,7 @@ use Rattle.sock.specs.Bytes.{bytesOf, wordsOf, wordsOrNone, byteStep, packed, b
 use Rattle.stepping.specs.declared.answer.Answer.{Answer}
 use Rattle.stepping.specs.Answers.{answerAs}
 use Rattle.cabinet.specs.Held.{held, packedAs, roomOf}
-use Rattle.cabinet.proofs.Holding.{read-as}
+use Rattle.cabinet.proofs.Holding.{held-short, read-as}
 
 -- ---- the room
 
@@ -169,7 +169,7 @@ step-words-in :
 unfolding byteStep
 step-words-in bytes ws e k room = step-words ws (wordsOf bytes) k room (ap (readConfig standard) e)
 
-step-held : (bytes ws : List ℕ) → ws ≡ held bytes → (k : Numbers) (room : ℕ) → step standard ws k room ≡ byteStep bytes k room
+step-held : (bytes ws : List ℕ) → ws ≡ held 8192 bytes → (k : Numbers) (room : ℕ) → step standard ws k room ≡ byteStep bytes k room
 unfolding byteStep
 step-held bytes ws e k room = step-words ws (wordsOf bytes) k room (read-as bytes ws e)
 
@@ -215,7 +215,7 @@ module _ (ws : List ℕ) (k : Numbers) (r0 out : List ℕ) (a : Answer) (p : a �
       ∙ bytes-done x (sym same-number ∙ h) r0 out
 
 -- with scratch for every result
-module _ (bytes ws : List ℕ) (e : ws ≡ held bytes) (k : Numbers) (out : List ℕ) (m : ℕ) (room : m ≡ roomOf 8192 (length out)) where
+module _ (bytes ws : List ℕ) (e : ws ≡ held 8192 bytes) (k : Numbers) (out : List ℕ) (m : ℕ) (room : m ≡ roomOf 8192 (length out)) where
   whole : step standard ws k m ≡ byteStep bytes k (length out / 2)
   whole = ap (step standard ws k) room ∙ large-same (length out) ws k ∙ step-held bytes ws e k (length out / 2)
 
@@ -228,9 +228,9 @@ module _ (bytes ws : List ℕ) (e : ws ≡ held bytes) (k : Numbers) (out : List
   large-output = ap (λ (y : Result Stepped). bytesAfter y out) whole
 
 -- with scratch for a short configuration
-module _ (bytes ws : List ℕ) (e : ws ≡ wordsOrNone (wordsOf bytes)) (k : Numbers) (m : ℕ) {room : ℕ} (same-room : m ≡ room) where
+module _ (bytes ws : List ℕ) (short : length bytes ≤ 1024) (e : ws ≡ held 512 bytes) (k : Numbers) (m : ℕ) {room : ℕ} (same-room : m ≡ room) where
   small-step : step standard ws k m ≡ byteStep bytes k room
-  small-step = ap (step standard ws k) same-room ∙ step-words-in bytes ws e k room
+  small-step = ap (step standard ws k) same-room ∙ step-words-in bytes ws (e ∙ held-short 512 bytes (omega arith)) k room
 
   pub tried-answer : answerAs (answerOf (step standard ws k m)) ≡ answerAs (answerOf (byteStep bytes k room))
   tried-answer = ap (λ (y : Result Stepped). answerAs (answerOf y)) small-step

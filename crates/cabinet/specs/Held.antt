@@ -1,4 +1,4 @@
--- The words that the calls are handed: those of the bytes, none where the bytes are more than any configuration's.
+-- The words that the calls are handed: those of the bytes, none where there is no room for them, as there is for every configuration.
 use Prim.Native.Nat.{ℕ, _+_, _*_, _/_}
 use mathlib.Core.Bool.{cond}
 use mathlib.Core.List.{List, []}
@@ -7,8 +7,9 @@ use lib.ListN.{length, getD}
 use Rattle.sock.specs.Bytes.{wordsOf, wordsOrNone}
 use Rattle.stepping.specs.declared.answer.Answer.{Answer}
 
-unfoldable pub held : List ℕ → List ℕ
-held bytes = cond (ltb 16384 (length bytes)) [] (wordsOrNone (wordsOf bytes))
+-- in room for so many words
+unfoldable pub held : ℕ → List ℕ → List ℕ
+held room bytes = cond (ltb (room * 2) (length bytes)) [] (wordsOrNone (wordsOf bytes))
 
 abbrev pub pairAt : List ℕ → ℕ → ℕ
 pairAt bytes i = getD bytes (i * 2) 0 * 256 + getD bytes (i * 2 + 1) 0

@@ -1,13 +1,12 @@
 // The step on bytes.
 use crate::words::hold;
-use crate::words::words_in;
 use stepping::answer::Answer;
 use stepping::steps::step;
 ghost use mathlib.Core.Path.{_≡_};
 ghost use Prim.Native.Nat.{_≤_, _*_, _/_, _%_};
 ghost use lib.ListN.{length, take};
 ghost use Rattle.sock.specs.Configuration.{standard};
-ghost use Rattle.sock.specs.Calls.{answerOf, over};
+ghost use Rattle.sock.specs.Calls.{answerOf, over, stepOutput};
 ghost use Rattle.sock.specs.Calls as calls;
 ghost use Rattle.sock.specs.Bytes.{bytesOf, bytesAfter, byteStep, byteAnswer, byteOutput};
 ghost use Rattle.stepping.specs.Answers.{answerAs, numbers};
@@ -70,7 +69,7 @@ fn written(
     out: &mut [u8],
 ) -> Answer
     requires { ⌜ length (now result) * 2 ≤ length (now out) ⌝ }
-    ensures { λ r. ⌜ (r ≡ answerAs (answerOf (calls.step standard (now (ws .entry)) (numbers engine position second place branch) (length (now (result .entry)))))) × (now (out .exit) ≡ bytesAfter (calls.step standard (now (ws .entry)) (numbers engine position second place branch) (length (now (result .entry)))) (now (out .entry))) ⌝ }
+    ensures { λ r. ⌜ (r ≡ answerAs (answerOf (calls.step standard (now (ws .entry)) (numbers engine position second place branch) (length (now (result .entry)))))) × (now (out .exit) ≡ bytesAfter (calls.step standard (now (ws .entry)) (numbers engine position second place branch) (length (now (result .entry)))) (now (out .entry))) × (now (result .exit) ≡ stepOutput standard (now (ws .entry)) (numbers engine position second place branch) (now (result .entry))) ⌝ }
 {
     let a = step(ws, engine, position, second, place, branch, result);
     if a.number == 0 {
@@ -121,7 +120,7 @@ fn small(
     ensures { λ r. ⌜ (r ≡ answerAs (answerOf (byteStep (now (config .entry)) (numbers engine position second place branch) (roomOf 1024 (length (now (out .entry))))))) × (now (out .exit) ≡ bytesAfter (byteStep (now (config .entry)) (numbers engine position second place branch) (roomOf 1024 (length (now (out .entry))))) (now (out .entry))) ⌝ }
 {
     let mut scratch = [0u16; 512];
-    let n = words_in(config, &mut scratch);
+    let n = hold(config, &mut scratch);
     let mut result = [0u16; 1024];
     let room = room_of(out.len(), 1024);
     written(

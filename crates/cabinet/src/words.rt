@@ -1,9 +1,10 @@
 // From bytes to words.
 ghost use mathlib.Core.Path.{_≡_};
-ghost use Prim.Native.Nat.{ℕ, _≤_, _<_, _+_, _*_};
-ghost use lib.ListN.{length, getD, take};
+ghost use Prim.Native.Nat.{_≤_, _+_, _*_};
+ghost use lib.ListN.{length};
 ghost use Rattle.sock.specs.Bytes.{wordsOf, wordsOrNone};
-ghost use Rattle.cabinet.specs.Held.{held, pairAt};
+ghost use Rattle.sock.specs.Calls.{over};
+ghost use Rattle.cabinet.specs.Held.{held};
 
 fn word(high: u8, low: u8) -> u16
     ensures { λ r. ⌜ r ≡ high * 256 + low ⌝ }
@@ -11,10 +12,10 @@ fn word(high: u8, low: u8) -> u16
     (high as u16) * 256 + (low as u16)
 }
 
-// The words of the first `n` pairs of bytes.
+// The words of `n` pairs of bytes.
 fn fill(bytes: &[u8], n: usize, ws: &mut [u16]) -> usize
-    requires { ⌜ (n * 2 ≤ length (now bytes)) × (n ≤ length (now ws)) ⌝ }
-    ensures { λ r. ⌜ (r ≡ n) × ((j : ℕ) → j < n → getD (now (ws .exit)) j 0 ≡ pairAt (now (bytes .entry)) j) ⌝ }
+    requires { ⌜ (length (now bytes) ≡ n * 2) × (n ≤ length (now ws)) ⌝ }
+    ensures { λ r. ⌜ (r ≡ n) × (now (ws .exit) ≡ over (wordsOrNone (wordsOf (now (bytes .entry)))) (now (ws .entry))) ⌝ }
 {
     let mut i = 0;
     while i < n {
@@ -24,25 +25,16 @@ fn fill(bytes: &[u8], n: usize, ws: &mut [u16]) -> usize
     i
 }
 
-// How many words there are, and the words; none where the length is odd.
-pub fn words_in(bytes: &[u8], ws: &mut [u16]) -> usize
-    requires { ⌜ length (now bytes) ≤ length (now ws) * 2 ⌝ }
-    ensures { λ r. ⌜ (r ≤ length (now (ws .exit))) × (take r (now (ws .exit)) ≡ wordsOrNone (wordsOf (now (bytes .entry)))) ⌝ }
+// How many words the bytes are, and the words over the first of `ws`; none where the length is odd, or `ws` has too little room for them.
+pub fn hold(bytes: &[u8], ws: &mut [u16]) -> usize
+    ensures { λ r. ⌜ (r ≡ length (held (length (now (ws .entry))) (now (bytes .entry)))) × (now (ws .exit) ≡ over (held (length (now (ws .entry))) (now (bytes .entry))) (now (ws .entry))) × (r ≤ length (now (ws .entry))) ⌝ }
 {
     let n = bytes.len() / 2;
     if n * 2 != bytes.len() {
         return 0;
     }
-    fill(bytes, n, ws)
-}
-
-// The same; none where there are more than any configuration has.
-pub fn hold(bytes: &[u8], ws: &mut [u16]) -> usize
-    requires { ⌜ length (now ws) ≡ 8192 ⌝ }
-    ensures { λ r. ⌜ (r ≤ 8192) × (take r (now (ws .exit)) ≡ held (now (bytes .entry))) ⌝ }
-{
-    if 16384 < bytes.len() {
+    if ws.len() < n {
         return 0;
     }
-    words_in(bytes, ws)
+    fill(bytes, n, ws)
 }

@@ -1,5 +1,5 @@
 -- Finding on positions, as the code goes. The proofs show that this is the definitions' `locate`, with what `plug` then makes of the words;
--- no public contract names it.
+-- no contract of a call names it.
 use Prim.Native.Nat.{ℕ, zero, suc, _+_, _/_, _%_}
 use mathlib.Core.Bool.{Bool, true, false, not, _||_, cond}
 use mathlib.Core.List.{List}
@@ -116,3 +116,7 @@ findW (suc d) ws marks target level i =
     (Past (markAt marks i))
     (nodeW (findW d ws marks target (level + 1)) d ws marks target level (getD ws i 0 / 2048) i)))
     (Past 0)
+
+-- levels are counted so far
+abbrev pub atMost : ℕ → ℕ
+atMost levels = cond (ltb levels 32768) levels 32767

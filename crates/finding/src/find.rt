@@ -7,7 +7,7 @@ use skipping::skip::skip_list;
 ghost use mathlib.Core.Path.{_≡_};
 ghost use Prim.Native.Nat.{_+_, _/_, _<_};
 ghost use lib.ListN.{length, getD};
-ghost use Rattle.finding.specs.Find.{findW, nodeW, outsideW, cut, shutIn, hereW, inSeqW, inParW, leftW, besideW, inBodyW, inScopeW, scopeOf, levelOf, catcherOf, faultAt, catchesW};
+ghost use Rattle.finding.specs.Find.{atMost, findW, nodeW, outsideW, cut, shutIn, hereW, inSeqW, inParW, leftW, besideW, inBodyW, inScopeW, scopeOf, levelOf, catcherOf, faultAt, catchesW};
 
 // The process at `at`, `level` levels deep. Were it nil, the words a..b and c..d would go; `hollow` tells that a nil would stand at a.
 // `scope` is the head of the nearest scope, `scope_level` its level, `catcher` the head of the scope that stops the fault of a throw; 0
@@ -31,9 +31,9 @@ pub enum Found {
     Past(usize),
 }
 
-// The enabled process whose head is at `target`, in the process at `at`, `level` levels deep; or where that process ends. A process whose
-// end is marked and that does not have the target is passed at once: where all are marked, the search goes down one way only.
-pub fn find(
+// The enabled process whose head is at `target`, in the process at `at`, `level` levels deep; or where that process ends. More levels than
+// 32,767 are counted as so many.
+pub fn locate(
     ws: &[u16],
     marks: &[u16],
     at: usize,
@@ -41,6 +41,20 @@ pub fn find(
     depth: usize,
     level: usize,
 ) -> Found
+    ensures { λ r. ⌜ r ≡ findW (atMost depth) (now (ws .entry)) (now (marks .entry)) target (atMost level) at ⌝ }
+{
+    find(ws, marks, at, target, at_most(depth), at_most(level))
+}
+
+fn at_most(levels: usize) -> usize
+    ensures { λ r. ⌜ (r ≡ atMost levels) × (r < 32768) ⌝ }
+{
+    if levels < 32768 { levels } else { 32767 }
+}
+
+// The same. A process whose end is marked and that does not have the target is passed at once: where all are marked, the search goes down
+// one way only.
+fn find(ws: &[u16], marks: &[u16], at: usize, target: usize, depth: usize, level: usize) -> Found
     requires { ⌜ level + depth < 65536 ⌝ }
     ensures { λ r. ⌜ r ≡ findW depth (now (ws .entry)) (now (marks .entry)) target level at ⌝ }
 {

@@ -57,7 +57,7 @@ some-missing n bytes h =
 pub all-there : (n : ℕ) (bytes : List ℕ) → n ≤ 8192 → n * 2 ≤ length bytes → startWords n bytes ≡ wordsOrNone (wordsOf (take (n * 2) bytes))
 all-there n bytes h l = words-by n bytes false false (le-ltb 8192 n h) (le-ltb (length bytes) (n * 2) l)
 
-pub held-there : (n : ℕ) (bytes : List ℕ) → n ≤ 8192 → n * 2 ≤ length bytes → held (take (n * 2) bytes) ≡ startWords n bytes
+pub held-there : (n : ℕ) (bytes : List ℕ) → n ≤ 8192 → n * 2 ≤ length bytes → held 8192 (take (n * 2) bytes) ≡ startWords n bytes
 unfolding held
 held-there n bytes h l =
     let e : length (take (n * 2) bytes) ≡ n * 2 = length-take-le (n * 2) bytes l in

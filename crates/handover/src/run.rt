@@ -71,7 +71,7 @@ fn last_line(n: usize, bytes: &[u8], line: &mut [u8]) -> usize
 }
 
 // What the bytes of the i-th step, ten or what is left, print, and the words that the next one reads.
-pub fn turn(ws: &mut [u16], n: usize, i: u64, bytes: &[u8], line: &mut [u8]) -> Next
+pub(crate) fn turn(ws: &mut [u16], n: usize, i: u64, bytes: &[u8], line: &mut [u8]) -> Next
     requires { ⌜ (length (now ws) ≡ 8192) × (n ≤ 8192) × (length (now line) ≡ 128) × (i < 18446744073709551615) ⌝ }
     ensures { λ r. ⌜ (r .last ≡ ltb (length (now (bytes .entry))) 10) × (r .number ≡ i + 1) × (r .length ≤ 8192) × (take (r .length) (now (ws .exit)) ≡ turnWords (take n (now (ws .entry))) (now (bytes .entry))) × (r .text ≤ 128) × (take (r .text) (now (line .exit)) ≡ turnLine i (take n (now (ws .entry))) (now (bytes .entry))) ⌝ }
 {

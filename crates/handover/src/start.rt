@@ -53,7 +53,7 @@ fn words_in(n: usize, bytes: &[u8], ws: &mut [u16]) -> usize
 
 // From the word L and the bytes read behind it to the configuration's words and the first line, which is the last unless the check's
 // number is 0. No words are not readable, hence the number 1 where words are missing or too many.
-pub fn begin(n: usize, bytes: &[u8], ws: &mut [u16], line: &mut [u8]) -> Next
+pub(crate) fn begin(n: usize, bytes: &[u8], ws: &mut [u16], line: &mut [u8]) -> Next
     requires { ⌜ (length (now ws) ≡ 8192) × (length (now line) ≡ 128) ⌝ }
     ensures { λ r. ⌜ (r .last ≡ not (eqb (checkStart standard (startWords n (now (bytes .entry)))) 0)) × (r .number ≡ 1) × (r .length ≤ 8192) × (take (r .length) (now (ws .exit)) ≡ startWords n (now (bytes .entry))) × (r .text ≤ 128) × (take (r .text) (now (line .exit)) ≡ startLine (checkStart standard (startWords n (now (bytes .entry))))) ⌝ }
 {

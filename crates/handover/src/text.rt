@@ -31,7 +31,7 @@ fn put_number(n: u64, line: &mut [u8], at: usize) -> usize
 }
 
 // "start" and the check's number.
-pub fn start_line(number: u8, line: &mut [u8]) -> usize
+pub(crate) fn start_line(number: u8, line: &mut [u8]) -> usize
     requires { ⌜ length (now line) ≡ 128 ⌝ }
     ensures { λ r. ⌜ (r ≤ 128) × (take r (now (line .exit)) ≡ startLine number) ⌝ }
 {
@@ -41,7 +41,7 @@ pub fn start_line(number: u8, line: &mut [u8]) -> usize
 }
 
 // "end" and the words of the configuration.
-pub fn end_line(words: usize, line: &mut [u8]) -> usize
+pub(crate) fn end_line(words: usize, line: &mut [u8]) -> usize
     requires { ⌜ length (now line) ≡ 128 ⌝ }
     ensures { λ r. ⌜ (r ≤ 128) × (take r (now (line .exit)) ≡ endLine words) ⌝ }
 {
@@ -50,7 +50,7 @@ pub fn end_line(words: usize, line: &mut [u8]) -> usize
     put(b"\n", line, b)
 }
 
-pub fn cut_line(line: &mut [u8]) -> usize
+pub(crate) fn cut_line(line: &mut [u8]) -> usize
     requires { ⌜ length (now line) ≡ 128 ⌝ }
     ensures { λ r. ⌜ (r ≤ 128) × (take r (now (line .exit)) ≡ cutLine) ⌝ }
 {
@@ -78,7 +78,7 @@ fn put_answer(a: Answer, line: &mut [u8], at: usize) -> usize
 }
 
 // The step's number and what it answers.
-pub fn step_line(i: u64, a: Answer, line: &mut [u8]) -> usize
+pub(crate) fn step_line(i: u64, a: Answer, line: &mut [u8]) -> usize
     requires { ⌜ length (now line) ≡ 128 ⌝ }
     ensures { λ r. ⌜ (r ≤ 128) × (take r (now (line .exit)) ≡ stepLine i (definedAs a)) ⌝ }
 {

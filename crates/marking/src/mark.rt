@@ -1,8 +1,8 @@
 // The reader of what is enabled, which notes where it ends: an enabled process, what follows an enabled one in a seq, and the list of an
 // enabled scope. The marks of a word are told in `skipping::pass`. What is not enabled is read by the reader alone.
-use reading::reader::end;
+use reading::reader::executor_fixed;
 use reading::reader::marked;
-use reading::reader::process;
+use reading::reader::read;
 use reading::reader::wide;
 use reading::tables::head_mask;
 ghost use mathlib.Core.Path.{_≡_};
@@ -42,7 +42,7 @@ fn note_list(marks: &mut [u16], at: usize, e: usize) -> usize
 }
 
 // An enabled process, in a context of those that run.
-pub fn mark(
+pub(crate) fn mark(
     ws: &[u16],
     at: usize,
     depth: usize,
@@ -93,7 +93,7 @@ fn enabled(
         13 => at + 1,
         14 => at + 1,
         16 => executor(ws, at, d, bound, marks),
-        _ => process(ws, at, depth, context, bound),
+        _ => read(ws, at, depth, context, bound),
     }
 }
 
@@ -115,7 +115,7 @@ fn seq(ws: &[u16], at: usize, depth: usize, bound: usize, marks: &mut [u16]) -> 
     if a == 0 {
         return 0;
     }
-    let e = process(ws, a, depth, 0, bound);
+    let e = read(ws, a, depth, 0, bound);
     note(marks, a, e)
 }
 
@@ -162,7 +162,7 @@ fn executor(ws: &[u16], at: usize, depth: usize, bound: usize, marks: &mut [u16]
     requires { ⌜ at < length (now ws) ⌝ }
     ensures { λ r. ⌜ (r ≡ executorEnd (processEnd depth (now (ws .entry)) bound) (now (ws .entry)) bound at) × (now (marks .exit) ≡ executorMarks (marksW depth (now (ws .entry)) bound) (now (ws .entry)) bound at (now (marks .entry))) ⌝ }
 {
-    if end(ws, at, 8192, bound) {
+    if executor_fixed(ws, at, bound) {
         mark(ws, at + 3, depth, 8, bound, marks)
     } else {
         0

@@ -1,4 +1,4 @@
--- Evaluation on words, as the code goes. The proofs show that it is the definitions' evaluation; no public contract names it.
+-- Evaluation on words, as the code goes. The proofs show that it is the definitions' evaluation; no contract of a call names it.
 use Prim.Native.Nat.{ℕ, zero, suc, _+_, _-_, _*_, _/_, _%_}
 use mathlib.Core.Bool.{cond}
 use mathlib.Core.List.{List}

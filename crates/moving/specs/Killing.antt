@@ -1,5 +1,5 @@
 -- Killing on words, as the code goes: where the source ends, where the writing has come to, and the output then. A piece for each kind
--- takes the killing one level down. The proofs show that it is the definitions' killing and climb; no public contract names it.
+-- takes the killing one level down. The proofs show that it is the definitions' killing and climb; no contract of a call names it.
 use Prim.Native.Nat.{ℕ, zero, suc, _+_, _-_, _*_, _/_, _%_}
 use mathlib.Core.Bool.{Bool, true, false, cond}
 use mathlib.Core.List.{List}

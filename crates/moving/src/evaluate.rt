@@ -2,7 +2,7 @@
 use reading::reader::wide;
 ghost use mathlib.Core.Path.{_≡_};
 ghost use Prim.Native.Nat.{_+_, _*_, _<_};
-ghost use lib.ListN.{length};
+ghost use lib.ListN.{length, getD};
 ghost use Rattle.sock.specs.Words.{valueOf};
 ghost use Rattle.moving.specs.Evaluating.{valueIn, operated, constantAt, evaluated};
 
@@ -18,12 +18,24 @@ fn long(high: u16, low: u16) -> u32
     (high as u32) * 65536 + (low as u32)
 }
 
-// The value of a variable among an engine's 32 values, two words each.
+// The word at a position; 0 where there is none.
+fn word(ws: &[u16], at: usize) -> u16
+    ensures { λ r. ⌜ r ≡ getD (now (ws .entry)) at 0 ⌝ }
+{
+    if ws.len() <= at {
+        return 0;
+    }
+    ws[at]
+}
+
+// The value of a variable among values of two words each, of which an engine has 32; a word that is not there counts as 0.
 pub fn variable(values: &[u16], x: usize) -> u32
-    requires { ⌜ (length (now values) ≡ 64) × (x < 32) ⌝ }
     ensures { λ r. ⌜ r ≡ valueIn (now (values .entry)) x ⌝ }
 {
-    long(values[x * 2], values[x * 2 + 1])
+    if values.len() <= x {
+        return 0;
+    }
+    long(word(values, x * 2), word(values, x * 2 + 1))
 }
 
 fn operate(tag: usize, a: u32, b: u32) -> u32
@@ -60,7 +72,6 @@ fn constant(ws: &[u16], at: usize) -> Evaluated
 
 // The expression at `at`, of at most `depth` levels.
 pub fn evaluate(ws: &[u16], values: &[u16], at: usize, depth: usize) -> Evaluated
-    requires { ⌜ length (now values) ≡ 64 ⌝ }
     ensures { λ r. ⌜ r ≡ evaluated depth (now (ws .entry)) (now (values .entry)) at ⌝ }
 {
     if depth == 0 {

@@ -160,12 +160,18 @@ place-back notNil = refl
 place-back guard = refl
 place-back root = refl
 
+number-below : (s : Stratum) (p : Place) → stratumNumber s * 4 + placeNumber p < 12
+number-below (code false) p = omega (arith, place-below p)
+number-below (code true) p = omega (arith, place-below p)
+number-below (running n issued) p = omega (arith, place-below p)
+
 mask-of : (s : Stratum) (p : Place) (k : ℕ) → headMask (numberOf s p) k ≡ cond (allowed s k && placed p k) (spareFor s k - 1) 131071
 unfolding headMask numberOf
 mask-of s p k =
     let over : (stratumNumber s * 4 + placeNumber p) / 4 ≡ stratumNumber s = omega (arith, place-below p) in
     let left : (stratumNumber s * 4 + placeNumber p) % 4 ≡ placeNumber p = omega (arith, place-below p) in
-    rw (over, left, allowed-back s k, place-back p)
+    let known : ltb (stratumNumber s * 4 + placeNumber p) 12 ≡ true = lt-ltb _ _ (number-below s p) in
+    rw (over, left, known, allowed-back s k, place-back p)
 
 pub head-masked :
     (s : Stratum) (p : Place) (h : ℕ) → h < 65536 →

@@ -1,3 +1,4 @@
+pub mod Beyond
 pub mod Checks
 pub mod Combining
 pub mod Contexts

@@ -25,9 +25,9 @@ placeOf (suc (suc (suc p))) = root
 unfoldable pub spareOf : ℕ → ℕ → ℕ
 spareOf s k = cond (eqb k Kind.scope && ltb s 2) 32 (rowOf k .spare)
 
--- the bits of a head, with 65,536 added, that have to be 0; all of them where the kind may not stand
+-- the bits of a head, with 65,536 added, that have to be 0; all of them where the kind may not stand, and in no context, from 12 on
 unfoldable pub headMask : ℕ → ℕ → ℕ
-headMask c k = cond (allowed (stratumOf 0 0 (c / 4)) k && placed (placeOf (c % 4)) k) (spareOf (c / 4) k - 1) 131071
+headMask c k = cond (ltb c 12 && (allowed (stratumOf 0 0 (c / 4)) k && placed (placeOf (c % 4)) k)) (spareOf (c / 4) k - 1) 131071
 
 -- ---- the same, as the code looks it up
 

@@ -1,5 +1,5 @@
 -- The reader on positions, as the code goes: where what begins at a position ends, or 0 if it does not fit. The proofs show that this is
--- the definitions' reader; no public contract names it.
+-- the definitions' reader; no contract of a call names it.
 use Prim.Native.Nat.{ℕ, zero, suc, _+_, _-_, _*_, _/_, _%_}
 use mathlib.Core.Bool.{Bool, true, false, not, _&&_, _||_, cond}
 use mathlib.Core.List.{List, [], _∷_}

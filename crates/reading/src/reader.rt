@@ -133,7 +133,7 @@ fn part(context: usize, how: usize) -> usize
 
 // A process in a context, node by node: the parts of a node that its shape tells are kept for later, the first is read next. Any other
 // node is read whole.
-pub fn process(ws: &[u16], at: usize, depth: usize, context: usize, bound: usize) -> usize
+pub(crate) fn process(ws: &[u16], at: usize, depth: usize, context: usize, bound: usize) -> usize
     requires { ⌜ context < 12 ⌝ }
     ensures { λ r. ⌜ r ≡ processEnd depth (now (ws .entry)) bound context at ⌝ }
 {
@@ -179,6 +179,16 @@ pub fn process(ws: &[u16], at: usize, depth: usize, context: usize, bound: usize
         }
     }
     0
+}
+
+// The same for whoever does not know that there is such a context: nothing stands in one from 12 on.
+pub fn read(ws: &[u16], at: usize, depth: usize, context: usize, bound: usize) -> usize
+    ensures { λ r. ⌜ r ≡ processEnd depth (now (ws .entry)) bound context at ⌝ }
+{
+    if 12 <= context {
+        return 0;
+    }
+    process(ws, at, depth, context, bound)
 }
 
 // A process or an expression.
@@ -341,7 +351,7 @@ fn solicit(ws: &[u16], at: usize, depth: usize, bound: usize) -> usize
 }
 
 // A list whose entries stand in a context; the key wanted has to be there, if it is below 128.
-pub fn list(
+pub(crate) fn list(
     ws: &[u16],
     at: usize,
     depth: usize,
@@ -479,7 +489,7 @@ pub fn marked(ws: &[u16], at: usize, depth: usize, h: usize, fault: usize, bound
 }
 
 // The fixed words of an end: the first clear below `spare` and from there up an engine below n, then a serial of 1 to issued.
-pub fn end(ws: &[u16], at: usize, spare: usize, bound: usize) -> bool
+fn end(ws: &[u16], at: usize, spare: usize, bound: usize) -> bool
     requires { ⌜ (at < length (now ws)) × (0 < spare) ⌝ }
     ensures { λ r. ⌜ r ≡ endAfter (now (ws .entry)) at spare bound ⌝ }
 {
@@ -501,6 +511,16 @@ pub fn end(ws: &[u16], at: usize, spare: usize, bound: usize) -> bool
         return false;
     }
     true
+}
+
+// The fixed words of the executor at `at`, wherever that is.
+pub fn executor_fixed(ws: &[u16], at: usize, bound: usize) -> bool
+    ensures { λ r. ⌜ r ≡ endAfter (now (ws .entry)) at 8192 bound ⌝ }
+{
+    if ws.len() <= at {
+        return false;
+    }
+    end(ws, at, 8192, bound)
 }
 
 fn executor(ws: &[u16], at: usize, depth: usize, bound: usize) -> usize

@@ -1,5 +1,5 @@
 // Where each engine's process begins, once the whole configuration is known to be readable.
-use crate::reader::process;
+use crate::reader::read;
 use crate::reader::wide;
 ghost use mathlib.Core.Path.{_≡_};
 ghost use Prim.Native.Nat.{_<_, _≤_};
@@ -22,9 +22,8 @@ pub fn unreadable() -> Starts
     }
 }
 
-// Every process in one context: 11 as an engine's root, 3 as one that has not begun.
+// Every process in one context: 11 as an engine's root, 3 as one that has not begun; in none, from 12 on, nothing is readable.
 pub fn survey(ws: &[u16], deepest: usize, longest: usize, context: usize) -> Starts
-    requires { ⌜ context < 12 ⌝ }
     ensures { λ r. ⌜ r ≡ surveyed deepest longest context (now (ws .entry)) ⌝ }
 {
     if ws.len() < 2 {
@@ -44,7 +43,7 @@ pub fn survey(ws: &[u16], deepest: usize, longest: usize, context: usize) -> Sta
 }
 
 fn engines(ws: &[u16], deepest: usize, context: usize, n: usize, bound: usize) -> Starts
-    requires { ⌜ (2 ≤ length (now ws)) × (context < 12) × (n ≤ 8) ⌝ }
+    requires { ⌜ (2 ≤ length (now ws)) × (n ≤ 8) ⌝ }
     ensures { λ r. ⌜ r ≡ enginesFrom (processEnd deepest (now (ws .entry)) bound context) (now (ws .entry)) n n 0 2 (replicate 9 0) ⌝ }
 {
     let mut starts = [0usize; 9];
@@ -55,7 +54,7 @@ fn engines(ws: &[u16], deepest: usize, context: usize, n: usize, bound: usize) -
             return unreadable();
         }
         starts[e] = at + 64;
-        at = process(ws, at + 64, deepest, context, bound);
+        at = read(ws, at + 64, deepest, context, bound);
         if at == 0 {
             return unreadable();
         }

@@ -74,9 +74,11 @@ pub fn bit(context: usize) -> usize
 
 // The bits of a head, with 65,536 added, that have to be 0. Where the kind may not stand, all of them.
 pub fn head_mask(context: usize, kind: usize) -> usize
-    requires { ⌜ (context < 12) × (kind < 32) ⌝ }
     ensures { λ r. ⌜ r ≡ headMask context kind ⌝ }
 {
+    if 32 <= kind {
+        return 131071;
+    }
     let p = places(kind * 2 + context / 8);
     if p / 2048 & bit(context) == 0 {
         return 131071;

@@ -1,6 +1,6 @@
 -- What the receiver of a message turns into, on words: a one-way that hears, a request that serves.
 -- Assumes nothing.
-use Prim.Native.Nat.{ℕ, suc, _+_, _*_, _%_, _≤_}
+use Prim.Native.Nat.{ℕ, suc, _+_, _*_, _%_, _<_, _≤_}
 use native.Mathlib.Omega.{arith}
 use mathlib.Core.Path.{_≡_, refl, sym, ap, _∙_}
 use mathlib.Core.Bool.{Bool, true, false, cond}
@@ -196,10 +196,11 @@ module _ (g w : ℕ) (p : Node) (fp : Fits (code false) anywhere p) where
             (sym (drop-drop 1 (length before) ws) ∙ ap (drop 1) request-stands)
 
       pub serve-turns :
-          {next : Option Node} → at ws (o .guard) ≡ g → Stands r o asked next →
+          {next : Option Node} → client < 8 → at ws (o .guard) ≡ g → Stands r o asked next →
           Takes r (followed served next) (serveW ws o client serial v fresh .turn) (serveW ws o client serial v fresh .fresh) (secondOf g) v
       unfolding serveW seqFirst followed seqOf isDone
-      serve-turns h (bareStands e d a b c f) =
+      serve-turns known h (bareStands e d a b c f) =
+          let three-bits : client % 8 ≡ client = omega arith in
           let whole : runWords r ≡ [] ++ (words asked ++ []) = e ∙ sym (append-nil (words asked)) in
           let long : length (words asked) ≡ 2 + length (words p) = omega (arith, ap length asked-words) in
           let mine : runWords r ≡ (g ∷ w ∷ []) ++ (words p ++ []) = e ∙ (asked-words ∙ ap (λ l. g ∷ w ∷ l) (sym (append-nil (words p)))) in
@@ -209,6 +210,7 @@ module _ (g w : ℕ) (p : Node) (fp : Fits (code false) anywhere p) where
             second-place [] [] whole a,
             second-word [] [] whole a,
             third-place [] [] whole a,
+            three-bits,
             three-to fresh 0 near (omega arith),
           )
           (record {
@@ -221,7 +223,8 @@ module _ (g w : ℕ) (p : Node) (fp : Fits (code false) anywhere p) where
             value = refl;
             shallow = omega (arith, served-depth);
           })
-      serve-turns h (branchStands {q = q} before behind e fq dm dq a b c f) =
+      serve-turns known h (branchStands {q = q} before behind e fq dm dq a b c f) =
+          let three-bits : client % 8 ≡ client = omega arith in
           let more = words q ++ behind in
           let long : length (words asked) ≡ 2 + length (words p) = omega (arith, ap length asked-words) in
           let mine : runWords r ≡ (before ++ g ∷ w ∷ []) ++ ((words p ++ words q) ++ behind) =
@@ -242,6 +245,7 @@ module _ (g w : ℕ) (p : Node) (fp : Fits (code false) anywhere p) where
             second-word before more e a,
             third-place before more e a,
             first-place,
+            three-bits,
             three-to fresh 1 near (omega arith),
           )
           (record {

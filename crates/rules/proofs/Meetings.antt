@@ -69,7 +69,7 @@ module _ (issued : ℕ) (ws rest : List ℕ) (r : Run) (stands : ws ≡ runWords
         by false e = rw e (misses (fits-at ws o 7 g h s a k ∙ e))
 
   -- a solicit's head and value, its x and list
-  module _ (client server x : ℕ) (l : Entries) (close : Near (length ws)) (fresh : List ℕ) (near : Near (length fresh))
+  module _ (client server x : ℕ) (low : client < 8) (l : Entries) (close : Near (length ws)) (fresh : List ℕ) (near : Near (length fresh))
       (room : 4 ≤ length fresh) where
     abbrev solicits : Run → ℕ → Exchange
     solicits q y =
@@ -102,7 +102,7 @@ module _ (issued : ℕ) (ws rest : List ℕ) (r : Run) (stands : ws ≡ runWords
             let t :
             Takes r (followed (executor (nameOf h) (w / 2048) client (suc issued) (enable p)) next)
             (serveW ws o client (suc issued) v fresh .turn) (serveW ws o client (suc issued) v fresh .fresh) (secondOf g) v =
-            rw same (serve-turns g w p f client (suc issued) ws rest r stands close o fresh near room v a st) in
+            rw same (serve-turns g w p f client (suc issued) ws rest r stands close o fresh near room v low a st) in
             rw e (meets (fits-at ws o 8 g h s a k ∙ e) (second-below g) t)
         by false e = rw e (misses (fits-at ws o 8 g h s a k ∙ e))
 
@@ -144,7 +144,7 @@ module _ (n issued : ℕ) (ws : List ℕ) (few : n ≤ 8) (small : issued < 6553
       (offers n issued ws few small rest r sound deep stands i)
 
   pub solicit-meets :
-      (i h v client server x : ℕ) (l : Entries) (fresh : List ℕ) → Near (length ws) → Near (length fresh) → 4 ≤ length fresh →
+      (i h v client server x : ℕ) → client < 8 → (l : Entries) (fresh : List ℕ) → Near (length ws) → Near (length fresh) → 4 ≤ length fresh →
       Meets (fitsW ws (offerW ws i) 8 h) r
       (serveW ws (offerW ws i) client (suc issued) v fresh .turn) (serveW ws (offerW ws i) client (suc issued) v fresh .fresh) v
       (λ q y.
@@ -157,8 +157,8 @@ module _ (n issued : ℕ) (ws : List ℕ) (few : n ≤ 8) (small : issued < 6553
         fault = 0;
       })
       (solicited issued client server vs (nameOf h) v x l (offer r i .receives) (offer r i .next))
-  solicit-meets i h v client server x l fresh close near room =
-      serves-when issued ws rest r stands (offerW ws i) h v vs client server x l close fresh near room
+  solicit-meets i h v client server x low l fresh close near room =
+      serves-when issued ws rest r stands (offerW ws i) h v vs client server x low l close fresh near room
       (offers n issued ws few small rest r sound deep stands i)
 
   module _ (h serial client sender receiver : ℕ) (fresh : List ℕ) (room : 1 ≤ length fresh) where

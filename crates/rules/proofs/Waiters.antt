@@ -61,11 +61,12 @@ module _ (n issued : ℕ) (ws : List ℕ) (few : n ≤ 8) (small : issued < 6553
     asks-end = code-end ws f 64 0 deep rest stands ∙ omega (arith, ap length asks-words)
 
     pub ask-turns :
-        (server serial : ℕ) (fresh : List ℕ) → Near (length fresh) → 3 ≤ length fresh →
+        (server serial : ℕ) → server < 8 → (fresh : List ℕ) → Near (length fresh) → 3 ≤ length fresh →
         Takes (act m) (waiter (nameOf h) (nextVariable w) false server serial l) (askW ws server serial fresh .turn)
         (askW ws server serial fresh .fresh) 32 0
     unfolding askW isDone depth exprsDepth
-    ask-turns server serial fresh near room =
+    ask-turns server serial known fresh near room =
+        let three-bits : server % 8 ≡ server = omega arith in
         let full : ws ≡ h ∷ w ∷ (listed l ++ rest) = stands ∙ ap (λ a. a ++ rest) asks-words in
         let first : at ws 0 ≡ h = ap (λ a. at a 0) full in
         let second : at ws 1 ≡ w = ap (λ a. at a 1) full in
@@ -76,7 +77,7 @@ module _ (n issued : ℕ) (ws : List ℕ) (few : n ≤ 8) (small : issued < 6553
         words-waiter (nameOf h) (nextVariable w) false server serial l
         ∙ (ap (λ k. k ∷ (bit false * 32768 + server * 4096) ∷ serial ∷ listed l) (sym (waiter-head h w))
         ∙ ap (λ k. waiterHead h w ∷ k ∷ serial ∷ listed l) (sym (server-word server))) in
-        rw (first, second, asks-end, three-to fresh 0 near (omega arith))
+        rw (first, second, asks-end, three-bits, three-to fresh 0 near (omega arith))
         (record {
           becomes =
               keeps (act m) q 3 2 (2 + length (listed l)) (2 + length (listed l)) 32 0 (h ∷ w ∷ []) (listed l) []

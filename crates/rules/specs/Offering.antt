@@ -1,4 +1,4 @@
--- The rules between two engines on words, as the code goes. No public contract of the library names it.
+-- The rules between two engines on words, as the code goes. No contract of a call names it.
 use Prim.Native.Nat.{ℕ, zero, suc, _+_, _-_, _*_, _/_, _%_}
 use mathlib.Core.Bool.{Bool, true, false, cond}
 use mathlib.Core.List.{List}
@@ -79,12 +79,12 @@ serveW ws o client serial v fresh =
     let h = at ws (o .guard) in
     let s = seqFirst (o .next) fresh in
     turned (keeping (threeTo (s .to)) (onward (o .guard) 2) (o .upto) (o .end) (h % 32) v)
-    (threeW (s .fresh) (s .to) (executorHead h (at ws (onward (o .guard) 1))) (client * 8192) serial)
+    (threeW (s .fresh) (s .to) (executorHead h (at ws (onward (o .guard) 1))) (client % 8 * 8192) serial)
 
 unfoldable pub askW : List ℕ → ℕ → ℕ → List ℕ → Turned
 askW ws server serial fresh =
     turned (keeping (threeTo 0) 2 (partEnd ws 0) (partEnd ws 0) 32 0)
-    (threeW fresh 0 (waiterHead (at ws 0) (at ws 1)) (server * 4096) serial)
+    (threeW fresh 0 (waiterHead (at ws 0) (at ws 1)) (server % 8 * 4096) serial)
 
 unfoldable pub waitsW : List ℕ → ℕ → ℕ → Bool
 waitsW ws h serial = cond (receivesW (at ws 0) 17 h) (eqb (at ws 2) serial) false

@@ -1,4 +1,4 @@
--- What a process turns into alone, on words, as the code goes. No public contract of the library names it.
+-- What a process turns into alone, on words, as the code goes. No contract of a call names it.
 use Prim.Native.Nat.{ℕ, _-_, _/_, _%_}
 use mathlib.Core.Bool.{true, false, cond}
 use mathlib.Core.List.{List}

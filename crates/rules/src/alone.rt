@@ -8,16 +8,14 @@ use crate::turn::word;
 use moving::evaluate::evaluate;
 use moving::write::copy;
 use moving::write::put;
-use reading::reader::process;
+use reading::reader::read;
 use reading::reader::wide;
 use skipping::skip::skip;
 ghost use mathlib.Core.Path.{_≡_};
-ghost use lib.ListN.{length};
 ghost use Rattle.rules.specs.Turning.{assignW, branchW, unrollW, repeatW, levelsLeft};
 
 // x takes the expression's value.
 pub fn assign(part: &[u16], values: &[u16]) -> Turn
-    requires { ⌜ length (now values) ≡ 64 ⌝ }
     ensures { λ r. ⌜ r ≡ assignW (now (part .entry)) (now (values .entry)) ⌝ }
 {
     let e = evaluate(part, values, 1, 64);
@@ -26,7 +24,6 @@ pub fn assign(part: &[u16], values: &[u16]) -> Turn
 
 // An if becomes its first process, or its second.
 pub fn branch(part: &[u16], values: &[u16]) -> Turn
-    requires { ⌜ length (now values) ≡ 64 ⌝ }
     ensures { λ r. ⌜ r ≡ branchW (now (part .entry)) (now (values .entry)) ⌝ }
 {
     let e = evaluate(part, values, 1, 64);
@@ -55,7 +52,6 @@ fn unroll(part: &[u16], from: usize, end: usize, fresh: &mut [u16]) -> Turn
 
 // A true while becomes its body, then itself, which is then one level deeper; a nil body is dropped, so nothing changes.
 pub fn repeat(part: &[u16], values: &[u16], level: usize, bound: usize, fresh: &mut [u16]) -> Turn
-    requires { ⌜ length (now values) ≡ 64 ⌝ }
     ensures { λ r. ⌜ (r ≡ repeatW level bound (now (part .entry)) (now (values .entry)) (now (fresh .entry)) .turn) × (now (fresh .exit) ≡ repeatW level bound (now (part .entry)) (now (values .entry)) (now (fresh .entry)) .fresh) ⌝ }
 {
     let e = evaluate(part, values, 1, 64);
@@ -67,7 +63,7 @@ pub fn repeat(part: &[u16], values: &[u16], level: usize, bound: usize, fresh: &
     if word(part, body) == 0 {
         return keep(0, 0, end, end, 32, 0);
     }
-    if process(part, 0, levels_left(level), 0, bound) == 0 {
+    if read(part, 0, levels_left(level), 0, bound) == 0 {
         return refusal(8);
     }
     unroll(part, body, end, fresh)

@@ -156,15 +156,14 @@ fn three(fresh: &mut [u16], to: usize, a: u16, b: u16, c: u16) -> usize
     put(fresh, u, c)
 }
 
-// A request hears v and becomes an executor.
+// A request hears v and becomes an executor. An engine's number has three bits.
 pub fn serve(part: &[u16], o: Offer, client: u16, serial: u16, v: u32, fresh: &mut [u16]) -> Turn
-    requires { ⌜ client < 8 ⌝ }
     ensures { λ r. ⌜ (r ≡ serveW (now (part .entry)) o client serial v (now (fresh .entry)) .turn) × (now (fresh .exit) ≡ serveW (now (part .entry)) o client serial v (now (fresh .entry)) .fresh) ⌝ }
 {
     let h = word(part, o.guard);
     let y = word(part, further(o.guard, 1));
     let a = seq_first(o.next, fresh);
-    let g = three(fresh, a, executor_head(h, y), client * 8192, serial);
+    let g = three(fresh, a, executor_head(h, y), client % 8 * 8192, serial);
     keep(g, further(o.guard, 2), o.upto, o.end, wide(h) % 32, v)
 }
 
@@ -176,14 +175,13 @@ fn waiter_head(h: u16, w: u16) -> u16
 
 // A solicit becomes a waiter.
 pub fn ask(part: &[u16], server: u16, serial: u16, fresh: &mut [u16]) -> Turn
-    requires { ⌜ server < 8 ⌝ }
     ensures { λ r. ⌜ (r ≡ askW (now (part .entry)) server serial (now (fresh .entry)) .turn) × (now (fresh .exit) ≡ askW (now (part .entry)) server serial (now (fresh .entry)) .fresh) ⌝ }
 {
     let g = three(
         fresh,
         0,
         waiter_head(word(part, 0), word(part, 1)),
-        server * 4096,
+        server % 8 * 4096,
         serial,
     );
     let end = skip(part, 0, 64);

@@ -4,7 +4,7 @@ use handling::take::Taken;
 use handling::take::take;
 use moving::write::copy;
 use moving::write::further;
-use reading::reader::process;
+use reading::reader::read;
 use reading::reader::wide;
 use rules::plan::Plan;
 use rules::plan::become_nil;
@@ -67,7 +67,7 @@ pub fn compensated(
     if t.upto == 0 {
         return become_nil(s, start, start, 0, 32, 0, fresh);
     }
-    if process(ws, t.from, levels_at(s.level), 0, bound) == 0 {
+    if read(ws, t.from, levels_at(s.level), 0, bound) == 0 {
         return refuse(8);
     }
     moved(ws, marks, s, t, fresh)

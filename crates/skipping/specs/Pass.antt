@@ -1,5 +1,5 @@
 -- Passing over by marks, as the code goes. The marks of the word at i stand at i * 2, for the process that begins there, and behind it, for
--- the list; 0 where nothing is known. The proofs show that it ends where the layout does, if the marks are right; no public contract names it.
+-- the list; 0 where nothing is known. The proofs show that it ends where the layout does, if the marks are right; no contract of a call names it.
 use Prim.Native.Nat.{ℕ, _+_, _*_}
 use mathlib.Core.Bool.{cond}
 use mathlib.Core.List.{List}

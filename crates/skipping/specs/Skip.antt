@@ -1,5 +1,5 @@
 -- The skip on positions, as the code goes: where what begins at a position ends, for words that the reader has accepted. The proofs show that
--- it ends where the layout does; no public contract names it.
+-- it ends where the layout does; no contract of a call names it.
 use Prim.Native.Nat.{ℕ, zero, suc, _+_, _*_, _/_, _%_}
 use mathlib.Core.Bool.{Bool, _||_, cond}
 use mathlib.Core.List.{List, [], _∷_}

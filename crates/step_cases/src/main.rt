@@ -1,53 +1,22 @@
 // Reads cases on standard input and prints, a line each, what the step answers: its number, kind, serial, fault and length, and a sum over
 // all words of the output. A case is, in words of two bytes, high first: the count of words, the step's five numbers, the output's
 // length, then the words.
+use cabinet::words::hold;
+use cases::print;
+use cases::sum;
+use cases::take;
+use cases::word;
 ghost use mathlib.Core.Path.{_≡_};
-ghost use Prim.Native.Nat.{_≤_};
-ghost use lib.ListN.{length};
+ghost use Rattle.sock.specs.Configuration.{standard};
+ghost use Rattle.sock.specs.Calls.{stepOutput};
+ghost use Rattle.step_cases.specs.Lent.{numbersOf, lentOutput};
 
 const MOST: usize = 8200;
 
-fn word(high: u8, low: u8) -> u16 {
-    (high as u16) * 256 + (low as u16)
-}
-
-// The words of the first `count` pairs of bytes.
-fn fill(bytes: &[u8; 16400], count: usize, ws: &mut [u16; 8200])
-    requires { ⌜ count ≤ 8200 ⌝ }
-    ensures { λ _. ⌜ length (now (ws .exit)) ≡ length (now (ws .entry)) ⌝ }
-{
-    let mut i = 0;
-    while i < count {
-        ws[i] = word(bytes[i * 2], bytes[i * 2 + 1]);
-        i = i + 1;
-    }
-}
-
-// A sum in which the order of the words counts.
-fn sum(ws: &[u16]) -> u16 {
-    let mut s: u16 = 0;
-    let mut i = 0;
-    while i < ws.len() {
-        s = std::num::wrapping_add_u16(
-            std::num::wrapping_add_u16(std::num::wrapping_add_u16(s, s), s),
-            ws[i],
-        );
-        i = i + 1;
-    }
-    s
-}
-
-fn print(n: u64, last: bool) {
-    io::print_decimal(1, n);
-    if last {
-        io::write_all(1, b"\n");
-    } else {
-        io::write_all(1, b" ");
-    }
-}
-
 // What the step answers on these words, and the sum over its output.
-fn answer(ws: &[u16], head: [u8; 14], out: &mut [u16]) {
+fn answer(ws: &[u16], head: [u8; 14], out: &mut [u16])
+    ensures { λ _. ⌜ now (out .exit) ≡ stepOutput standard (now (ws .entry)) (numbersOf head) (now (out .entry)) ⌝ }
+{
     let a = stepping::steps::step(
         ws,
         word(head[2], head[3]),
@@ -65,23 +34,14 @@ fn answer(ws: &[u16], head: [u8; 14], out: &mut [u16]) {
     print(sum(out) as u64, true);
 }
 
-// The step on the first `count` words, with an output of `room` words.
-fn lend(all: &[u16], count: usize, head: [u8; 14], out: &mut [u16], room: usize) {
-    if all.len() < count {
-        return;
-    }
+// The step with an output of `room` words; none, where there is no such room.
+fn lend(ws: &[u16], head: [u8; 14], out: &mut [u16], room: usize)
+    ensures { λ _. ⌜ now (out .exit) ≡ lentOutput (now (ws .entry)) head room (now (out .entry)) ⌝ }
+{
     if out.len() < room {
         return;
     }
-    answer(&all[..count], head, &mut out[..room]);
-}
-
-// Whether there were `count` bytes to read.
-fn take(bytes: &mut [u8], count: usize) -> bool {
-    if bytes.len() < count {
-        return false;
-    }
-    count <= io::read_full(0, &mut bytes[..count])
+    answer(ws, head, &mut out[..room]);
 }
 
 // One case; whether there was one.
@@ -95,19 +55,14 @@ fn case() -> bool {
         return false;
     }
     let mut bytes = [0u8; 16400];
-    if !take(&mut bytes, count * 2) {
+    let size = count * 2;
+    if !take(&mut bytes, size) {
         return false;
     }
     let mut ws = [0u16; 8200];
-    fill(&bytes, count, &mut ws);
+    let n = hold(&bytes[..size], &mut ws);
     let mut out = [42405u16; 8200];
-    lend(
-        &ws,
-        count,
-        head,
-        &mut out,
-        word(head[12], head[13]) as usize,
-    );
+    lend(&ws[..n], head, &mut out, word(head[12], head[13]) as usize);
     true
 }
 

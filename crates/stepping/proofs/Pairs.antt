@@ -68,7 +68,7 @@ vanishes : (a : Run) (fresh : List ℕ) → Takes a nil (vanishing 32 0) fresh 3
 vanishes a fresh =
     record { becomes = becomes-nil a 32 0 fresh; takes = refl; value = refl; shallow = omega (arith, depth-nil, depth-some a) }
 
-module _ (n issued : ℕ) (few : n ≤ 8) (small : issued < 65536) (e i branch : ℕ)
+module _ (n issued : ℕ) (few : n ≤ 8) (small : issued < 65536) (e i branch : ℕ) (low-e : e < 8) (low-i : i < 8)
     (fresh : List ℕ) (big : Near (length fresh)) (room : 4 ≤ length fresh)
     (part values : List ℕ) (va : List ℕ) (below : AllBelow 4294967296 va) (laid : values ≡ valuesWords va)
     (other : List ℕ) (close : Near (length other))
@@ -174,7 +174,7 @@ module _ (n issued : ℕ) (few : n ≤ 8) (small : issued < 65536) (e i branch :
           issues = refl;
           numbers = refl;
           fails = refl;
-          sender = ask-turns n issued part few small rest h w l f deep stands i (suc issued) fresh big (omega arith);
+          sender = ask-turns n issued part few small rest h w l f deep stands i (suc issued) low-i fresh big (omega arith);
           receiver = k .becomes;
           shallow = k .shallow;
           values = taken vb _ _ x _ low (k .takes) (k .value);
@@ -195,7 +195,7 @@ module _ (n issued : ℕ) (few : n ≤ 8) (small : issued < 65536) (e i branch :
         by true z =
             solicit-found (solicit-fits ∙ ap (λ t. cond t (fitsW other o 8 h) false) z)
             (solicit-meets n issued other few small restB b soundB deepB standsB vb branch h (valueAt va (h % 32)) e i
-            (nextVariable w) l fresh close big room)
+            (nextVariable w) low-e l fresh close big room)
         by false z = misfit (solicit-fits ∙ ap (λ t. cond t (fitsW other o 8 h) false) z)
 
   -- ---- an executor's reply

@@ -140,7 +140,8 @@ module _ (ws : List ℕ) (ok : Words ws) (s : Starts) (known : Known standard ws
         (kind (asNode (la .process))) blank
         (exchange (c .issued) e i branch (engineAt c i .values) (lb .process) m)
     partners-trade m moves =
-        sender-pairs (length (c .engines)) (c .issued) (known .readable .fitting .few) (known .readable .fitting .word) e i branch blank
+        sender-pairs (length (c .engines)) (c .issued) (known .readable .fitting .few) (known .readable .fitting .word) e i branch
+        (omega (arith, known .readable .fitting .few)) (omega (arith, known .readable .fitting .few)) blank
         blank-near (omega (arith, blank-length))
         (lent (sa .at) (length ws) ws) (lent (startOf c e - 64) (startOf c e) ws) (engineAt c e .values)
         (engine-fits _ (known .readable .fitting .engines) e he .bounded) (one-values c (known .readable .fitting) e he ws (known .same))

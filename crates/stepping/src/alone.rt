@@ -15,8 +15,6 @@ use scopes::ending::ended;
 use scopes::installing::installed;
 use scopes::throwing::thrown;
 ghost use mathlib.Core.Path.{_≡_};
-ghost use Prim.Native.Nat.{_<_};
-ghost use lib.ListN.{length};
 ghost use Rattle.stepping.specs.Alone.{turnW, valuedW, scopedW, ruleW, loneW, large, shortW, aloneW};
 
 // Assign, if or while, handed the words from its position on and the engine's values.
@@ -28,7 +26,6 @@ fn turn(
     bound: usize,
     fresh: &mut [u16],
 ) -> Turn
-    requires { ⌜ length (now values) ≡ 64 ⌝ }
     ensures { λ r. ⌜ (r ≡ turnW (now (part .entry)) (now (values .entry)) level kind bound (now (fresh .entry)) .turn) × (now (fresh .exit) ≡ turnW (now (part .entry)) (now (values .entry)) level kind bound (now (fresh .entry)) .fresh) ⌝ }
 {
     if kind == 1 {
@@ -113,7 +110,7 @@ fn lone(
     fresh: &mut [u16],
     out: &mut [u16],
 ) -> Answer
-    ensures { λ r. ⌜ (r ≡ loneW (now (ws .entry)) (now (marks .entry)) start next s kind bound (now (fresh .entry)) (now (out .entry)) .answer) × (now (out .exit) ≡ loneW (now (ws .entry)) (now (marks .entry)) start next s kind bound (now (fresh .entry)) (now (out .entry)) .out) ⌝ }
+    ensures { λ r. ⌜ (r ≡ loneW (now (ws .entry)) (now (marks .entry)) start next s kind bound (now (fresh .entry)) (now (out .entry)) .answer) × (now (out .exit) ≡ loneW (now (ws .entry)) (now (marks .entry)) start next s kind bound (now (fresh .entry)) (now (out .entry)) .out) × (now (fresh .exit) ≡ ruleW (now (ws .entry)) (now (marks .entry)) start s kind bound (now (fresh .entry)) .fresh) ⌝ }
 {
     let p = rule(ws, marks, start, s, kind, bound, fresh);
     one(
@@ -157,7 +154,7 @@ fn short(
     fresh: &mut [u16],
     out: &mut [u16],
 ) -> Answer
-    ensures { λ r. ⌜ (r ≡ shortW (now (ws .entry)) (now (marks .entry)) start next s kind bound (now (fresh .entry)) (now (out .entry)) .answer) × (now (out .exit) ≡ shortW (now (ws .entry)) (now (marks .entry)) start next s kind bound (now (fresh .entry)) (now (out .entry)) .out) ⌝ }
+    ensures { λ r. ⌜ (r ≡ shortW (now (ws .entry)) (now (marks .entry)) start next s kind bound (now (fresh .entry)) (now (out .entry)) .answer) × (now (out .exit) ≡ shortW (now (ws .entry)) (now (marks .entry)) start next s kind bound (now (fresh .entry)) (now (out .entry)) .out) × (now (fresh .exit) ≡ ruleW (now (ws .entry)) (now (marks .entry)) start s kind bound (now (fresh .entry)) .fresh) ⌝ }
 {
     let p = rule(ws, marks, start, s, kind, bound, fresh);
     if 800 < p.g {

@@ -28,7 +28,6 @@ fn sender(
     serial: u16,
     fresh: &mut [u16],
 ) -> Plan
-    requires { ⌜ server < 8 ⌝ }
     ensures { λ r. ⌜ (r ≡ senderW (now (part .entry)) s start kind server serial (now (fresh .entry)) .plan) × (now (fresh .exit) ≡ senderW (now (part .entry)) s start kind server serial (now (fresh .entry)) .fresh) ⌝ }
 {
     let t = send(part, kind, server, serial, fresh);
@@ -47,7 +46,6 @@ fn receiver(
     serial: u16,
     fresh: &mut [u16],
 ) -> Plan
-    requires { ⌜ (length (now values) ≡ 64) × (client < 8) ⌝ }
     ensures { λ r. ⌜ (r ≡ receiverW (now (part .entry)) (now (values .entry)) (now (other .entry)) o s start kind client serial (now (fresh .entry)) .plan) × (now (fresh .exit) ≡ receiverW (now (part .entry)) (now (values .entry)) (now (other .entry)) o s start kind client serial (now (fresh .entry)) .fresh) ⌝ }
 {
     let t = receive(part, values, other, o, kind, client, serial, fresh);
@@ -122,7 +120,7 @@ fn carry(
     kind: usize,
     out: &mut [u16],
 ) -> Answer
-    requires { ⌜ (length (now values) ≡ 64) × (engine < 8) × (second < 8) ⌝ }
+    requires { ⌜ (engine < 8) × (second < 8) ⌝ }
     ensures { λ r. ⌜ (r ≡ carryW (now (ws .entry)) (now (part .entry)) (now (values .entry)) (now (other .entry)) o starts engine second a b kind (now (out .entry)) .answer) × (now (out .exit) ≡ carryW (now (ws .entry)) (now (part .entry)) (now (values .entry)) (now (other .entry)) o starts engine second a b kind (now (out .entry)) .out) ⌝ }
 {
     let e = wide(engine);
@@ -186,7 +184,7 @@ fn meet(
     branch: usize,
     out: &mut [u16],
 ) -> Answer
-    requires { ⌜ (length (now values) ≡ 64) × (engine < 8) × (second < 8) ⌝ }
+    requires { ⌜ (engine < 8) × (second < 8) ⌝ }
     ensures { λ r. ⌜ (r ≡ meetW (now (ws .entry)) (now (part .entry)) (now (values .entry)) (now (other .entry)) starts engine second a b kind branch (now (out .entry)) .answer) × (now (out .exit) ≡ meetW (now (ws .entry)) (now (part .entry)) (now (values .entry)) (now (other .entry)) starts engine second a b kind branch (now (out .entry)) .out) ⌝ }
 {
     let o = offered(other, branch);
@@ -222,7 +220,7 @@ fn meet(
 }
 
 // The sender a stands in `engine`, the receiver b in `second`. That the places are inside is known of all that was found.
-pub fn between(
+pub(crate) fn between(
     ws: &[u16],
     starts: [usize; 9],
     engine: u16,

@@ -13,13 +13,10 @@ use rules::turn::Turn;
 use rules::turn::to_nil;
 use rules::turn::word;
 ghost use mathlib.Core.Path.{_≡_};
-ghost use Prim.Native.Nat.{_<_};
-ghost use lib.ListN.{length};
 ghost use Rattle.stepping.specs.Meeting.{addressedW, repliesW, takerOf, fitW, sendW, receiveW, serialW};
 
 // Whether a notify or solicit is sent to the engine that receives.
 fn addressed(part: &[u16], values: &[u16], receiver: usize) -> bool
-    requires { ⌜ length (now values) ≡ 64 ⌝ }
     ensures { λ r. ⌜ r ≡ addressedW (now (part .entry)) (now (values .entry)) receiver ⌝ }
 {
     let z = variable(values, wide(word(part, 1)) / 2048);
@@ -58,7 +55,7 @@ fn taker(kind: usize) -> usize
 }
 
 // Whether the process in `part` of the kind given may send to the one in `other`.
-pub fn fit(
+pub(crate) fn fit(
     part: &[u16],
     values: &[u16],
     other: &[u16],
@@ -68,7 +65,6 @@ pub fn fit(
     sender: usize,
     receiver: usize,
 ) -> bool
-    requires { ⌜ length (now values) ≡ 64 ⌝ }
     ensures { λ r. ⌜ r ≡ fitW (now (part .entry)) (now (values .entry)) (now (other .entry)) o kind branch sender receiver ⌝ }
 {
     let w = wide(word(part, 1));
@@ -98,8 +94,7 @@ pub fn serial_of(part: &[u16], kind: usize, next: u16) -> u16
 }
 
 // What the sender turns into.
-pub fn send(part: &[u16], kind: usize, server: u16, serial: u16, fresh: &mut [u16]) -> Turn
-    requires { ⌜ server < 8 ⌝ }
+pub(crate) fn send(part: &[u16], kind: usize, server: u16, serial: u16, fresh: &mut [u16]) -> Turn
     ensures { λ r. ⌜ (r ≡ sendW (now (part .entry)) kind server serial (now (fresh .entry)) .turn) × (now (fresh .exit) ≡ sendW (now (part .entry)) kind server serial (now (fresh .entry)) .fresh) ⌝ }
 {
     if kind == 10 {
@@ -109,7 +104,7 @@ pub fn send(part: &[u16], kind: usize, server: u16, serial: u16, fresh: &mut [u1
 }
 
 // What the receiver turns into, given the sender's words and values.
-pub fn receive(
+pub(crate) fn receive(
     part: &[u16],
     values: &[u16],
     other: &[u16],
@@ -119,7 +114,6 @@ pub fn receive(
     serial: u16,
     fresh: &mut [u16],
 ) -> Turn
-    requires { ⌜ (length (now values) ≡ 64) × (client < 8) ⌝ }
     ensures { λ r. ⌜ (r ≡ receiveW (now (part .entry)) (now (values .entry)) (now (other .entry)) o kind client serial (now (fresh .entry)) .turn) × (now (fresh .exit) ≡ receiveW (now (part .entry)) (now (values .entry)) (now (other .entry)) o kind client serial (now (fresh .entry)) .fresh) ⌝ }
 {
     let v = variable(values, wide(word(part, 0)) % 32);

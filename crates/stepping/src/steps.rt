@@ -5,7 +5,7 @@ use crate::answer::refuse;
 use crate::exchange::between;
 use finding::find::Found;
 use finding::find::Spot;
-use finding::find::find;
+use finding::find::locate;
 use marking::survey::survey;
 use moving::write::further;
 use reading::reader::wide;
@@ -15,6 +15,7 @@ ghost use mathlib.Core.Path.{_≡_};
 ghost use Prim.Native.Nat.{_≤_, _<_};
 ghost use Rattle.sock.specs.Configuration.{standard};
 ghost use Rattle.sock.specs.Calls.{stepAnswer, stepOutput};
+ghost use Rattle.marking.specs.Marking.{surveyMarks};
 ghost use Rattle.stepping.specs.Answers.{answerAs, numbers};
 ghost use Rattle.stepping.specs.Stepping.{bodyNil, byKind, movesW, receivingW, noneElse, movingW, manyMarks, stepW};
 
@@ -95,7 +96,7 @@ fn receiving(
         return refuse(4);
     }
     let start = starts[i];
-    match find(ws, marks, start, further(start, wide(place)), 64, 1) {
+    match locate(ws, marks, start, further(start, wide(place)), 64, 1) {
         Found::Past(e) => refuse(4),
         Found::Hit(b) => between(ws, starts, engine, second, a, b, kind, wide(branch), out),
     }
@@ -169,7 +170,7 @@ fn stepped(
     branch: u16,
     out: &mut [u16],
 ) -> Answer
-    ensures { λ r. ⌜ (r ≡ stepW (now (ws .entry)) (now (marks .entry)) engine position second place branch (now (out .entry)) .answer) × (now (out .exit) ≡ stepW (now (ws .entry)) (now (marks .entry)) engine position second place branch (now (out .entry)) .out) ⌝ }
+    ensures { λ r. ⌜ (r ≡ stepW (now (ws .entry)) (now (marks .entry)) engine position second place branch (now (out .entry)) .answer) × (now (out .exit) ≡ stepW (now (ws .entry)) (now (marks .entry)) engine position second place branch (now (out .entry)) .out) × (now (marks .exit) ≡ surveyMarks 64 8192 (now (ws .entry)) (now (marks .entry))) ⌝ }
 {
     let s = survey(ws, 64, 8192, marks);
     let n = s.engines;
@@ -186,7 +187,7 @@ fn stepped(
     let starts = s.starts;
     let start = starts[e];
     let bound = n * 65536 + wide(word(ws, 1));
-    match find(ws, marks, start, further(start, wide(position)), 64, 1) {
+    match locate(ws, marks, start, further(start, wide(position)), 64, 1) {
         Found::Past(p) => refuse(2),
         Found::Hit(a) => moving(
             ws,

@@ -1,5 +1,7 @@
--- `case` lends its arrays whole and reads inside them.
+-- `case` reads and lends inside its arrays.
 -- Assumes nothing.
+use mathlib.Core.Path.{sym}
+use lib.Seq.{length-take-le}
 use borrow.Author.Needs.{needs}
 use Rattle.reading_cases.proofs.case.Statement.{statement}
 use Rattle.reading_cases.proofs.case.Tie as tie
@@ -28,11 +30,11 @@ cast-count c = search needs
 returns-2 : tie.Need-returns-2
 returns-2 c = search needs
 
+mul-size : tie.Need-mul-size
+mul-size c = search needs
+
 slice-aggregate-take-2 : tie.Need-slice-aggregate-take-2
 slice-aggregate-take-2 c = search needs
-
-mul-take : tie.Need-mul-take
-mul-take c = search needs
 
 take-requires-2 : tie.Need-take-requires-2
 take-requires-2 c κs = search needs
@@ -40,11 +42,23 @@ take-requires-2 c κs = search needs
 returns-3 : tie.Need-returns-3
 returns-3 c = search needs
 
-fill-requires : tie.Need-fill-requires
-fill-requires c κs = search needs
+array-share-prefix-bytes : tie.Need-array-share-prefix-bytes
+array-share-prefix-bytes c = search needs
+
+slice-aggregate-hold : tie.Need-slice-aggregate-hold
+slice-aggregate-hold c = sym (length-take-le _ _ (search needs))
+
+slice-aggregate-hold-2 : tie.Need-slice-aggregate-hold-2
+slice-aggregate-hold-2 c = search needs
+
+hold-requires : tie.Need-hold-requires
+hold-requires c κs = search needs
+
+array-share-prefix-ws : tie.Need-array-share-prefix-ws
+array-share-prefix-ws c = search needs
 
 slice-aggregate-answer : tie.Need-slice-aggregate-answer
-slice-aggregate-answer c = search needs
+slice-aggregate-answer c = sym (length-take-le _ _ (search needs))
 
 array-read-word-3 : tie.Need-array-read-word-3
 array-read-word-3 c = search needs
@@ -82,11 +96,15 @@ case-spec =
     word-requires
     cast-count
     returns-2
+    mul-size
     slice-aggregate-take-2
-    mul-take
     take-requires-2
     returns-3
-    fill-requires
+    array-share-prefix-bytes
+    slice-aggregate-hold
+    slice-aggregate-hold-2
+    hold-requires
+    array-share-prefix-ws
     slice-aggregate-answer
     array-read-word-3
     array-read-word-4

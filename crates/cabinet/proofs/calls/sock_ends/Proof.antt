@@ -2,7 +2,7 @@
 -- Assumes nothing.
 use mathlib.Core.Path.{sym, _∙_}
 use lib.Seq.{length-take-le}
-use Rattle.cabinet.proofs.Holding.{ends-as, ends-packed}
+use Rattle.cabinet.proofs.Holding.{first-held, ends-as, ends-packed}
 use borrow.Author.Needs.{needs}
 use Rattle.cabinet.proofs.calls.sock_ends.Statement.{statement}
 use Rattle.cabinet.proofs.calls.sock_ends.Tie as tie
@@ -44,7 +44,7 @@ add-result-2 : tie.Need-add-result-2
 add-result-2 c = search needs
 
 returns : tie.Need-returns
-returns c = ends-packed _ _ (c .before .before .before .ends .ensures) ∙ ends-as _ _ (c .before .before .before .before .before .before .hold .ensures .1) _
+returns c = ends-packed _ _ (c .before .before .before .ends .ensures) ∙ ends-as _ _ (first-held _ 8192 _ _ _ _ (search needs) (c .before .before .before .before .before .before .hold .ensures .0) (c .before .before .before .before .before .before .hold .ensures .1)) _
 
 pub sock-ends-spec : {M : Type 1} → statement M
 sock-ends-spec =

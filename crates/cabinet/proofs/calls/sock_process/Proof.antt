@@ -2,7 +2,7 @@
 -- Assumes nothing.
 use mathlib.Core.Path.{sym, _∙_}
 use lib.Seq.{length-take-le}
-use Rattle.cabinet.proofs.Holding.{process-as}
+use Rattle.cabinet.proofs.Holding.{first-held, process-as}
 use borrow.Author.Needs.{needs}
 use Rattle.cabinet.proofs.calls.sock_process.Statement.{statement}
 use Rattle.cabinet.proofs.calls.sock_process.Tie as tie
@@ -23,7 +23,7 @@ part-requires : tie.Need-part-requires
 part-requires c κs = search needs
 
 returns : tie.Need-returns
-returns c = (c .part .ensures) ∙ process-as _ _ (c .before .before .before .hold .ensures .1) _
+returns c = (c .part .ensures) ∙ process-as _ _ (first-held _ 8192 _ _ _ _ (search needs) (c .before .before .before .hold .ensures .0) (c .before .before .before .hold .ensures .1)) _
 
 pub sock-process-spec : {M : Type 1} → statement M
 sock-process-spec =

@@ -4,6 +4,7 @@ use native.Mathlib.Omega.{arith}
 use mathlib.Core.Path.{sym, ap, _∙_}
 use lib.Seq.{length-take-le}
 use Rattle.cabinet.specs.Held.{packedAs}
+use Rattle.cabinet.proofs.Holding.{first-held}
 use Rattle.cabinet.proofs.Stepping.{part-fits, large-answer, large-output}
 use borrow.Author.Needs.{needs}
 use Rattle.cabinet.proofs.stepping_bytes.large.Statement.{statement}
@@ -44,7 +45,8 @@ same-length c = search needs
 returns : tie.Need-returns
 returns c =
     let r = c .before .before .before .before .before .before .before .before .room-of .ensures in
-    let held = c .before .before .before .before .before .before .before .before .before .before .hold .ensures .1 in
+    let h = c .before .before .before .before .before .before .before .before .before .before .hold .ensures in
+    let held = first-held _ 8192 _ _ _ _ (search needs) (h .0) (h .1) in
     (c .pack .ensures ∙ (ap packedAs (c .before .before .before .before .written .ensures .0) ∙ large-answer _ _ held _ _ _ (length-take-le _ _ (omega (arith, r .1)) ∙ r .0)), c .before .before .before .before .written .ensures .1 ∙ large-output _ _ held _ _ _ (length-take-le _ _ (omega (arith, r .1)) ∙ r .0))
 
 pub large-spec : {M : Type 1} → statement M

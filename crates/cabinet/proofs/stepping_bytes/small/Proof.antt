@@ -3,16 +3,17 @@
 use native.Mathlib.Omega.{arith}
 use mathlib.Core.Path.{sym, _∙_}
 use lib.Seq.{length-take-le}
+use Rattle.cabinet.proofs.Holding.{first-held}
 use Rattle.cabinet.proofs.Stepping.{part-fits, tried-answer, tried-output}
 use borrow.Author.Needs.{needs}
 use Rattle.cabinet.proofs.stepping_bytes.small.Statement.{statement}
 use Rattle.cabinet.proofs.stepping_bytes.small.Tie as tie
 
-slice-aggregate-words-in : tie.Need-slice-aggregate-words-in
-slice-aggregate-words-in c = search needs
+slice-aggregate-hold : tie.Need-slice-aggregate-hold
+slice-aggregate-hold c = search needs
 
-words-in-requires : tie.Need-words-in-requires
-words-in-requires c κs = search needs
+hold-requires : tie.Need-hold-requires
+hold-requires c κs = search needs
 
 room-of-requires : tie.Need-room-of-requires
 room-of-requires c κs = search needs
@@ -40,15 +41,17 @@ same-length c = search needs
 returns : tie.Need-returns
 returns c =
     let r = c .before .before .before .before .before .before .before .room-of .ensures in
-    let words = c .before .before .before .before .before .before .before .before .before .words-in .ensures .1 in
-    (c .before .before .before .written .ensures .0 ∙ tried-answer _ _ words _ _ (length-take-le _ _ (omega (arith, r .1)) ∙ r .0), c .before .before .before .written .ensures .1 ∙ tried-output _ _ words _ _ (length-take-le _ _ (omega (arith, r .1)) ∙ r .0) _)
+    let h = c .before .before .before .before .before .before .before .before .before .hold .ensures in
+    let words = first-held _ 512 _ _ _ _ (search needs) (h .0) (h .1) in
+    let few = c .before .before .before .before .before .before .before .before .before .before .before .before .before .pre in
+    (c .before .before .before .written .ensures .0 ∙ tried-answer _ _ few words _ _ (length-take-le _ _ (omega (arith, r .1)) ∙ r .0), c .before .before .before .written .ensures .1 ∙ tried-output _ _ few words _ _ (length-take-le _ _ (omega (arith, r .1)) ∙ r .0) _)
 
 pub small-spec : {M : Type 1} → statement M
 small-spec =
     tie.close
     (tie.spec
-    slice-aggregate-words-in
-    words-in-requires
+    slice-aggregate-hold
+    hold-requires
     room-of-requires
     array-share-prefix-scratch
     slice-aggregate-written

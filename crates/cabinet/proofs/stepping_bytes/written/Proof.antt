@@ -26,14 +26,14 @@ same-length-2 c = search needs
 
 returns : tie.Need-returns
 returns c =
-    (as-step (c .before .before .before .before .before .before .before .before .before .before .before .before .before .before .before .args .ws .now) _ (c .before .before .before .before .before .before .before .before .before .before .before .before .before .before .before .args .result .now) (c .before .before .before .before .before .before .before .before .before .before .before .before .before .before .before .args .out .now) _ (c .before .before .before .before .before .before .before .before .before .before .step .ensures .0), c .before .before .spread .ensures .1 ∙ law-done (c .before .before .before .before .before .before .before .before .before .before .before .before .before .before .before .args .ws .now) _ (c .before .before .before .before .before .before .before .before .before .before .before .before .before .before .before .args .result .now) (c .before .before .before .before .before .before .before .before .before .before .before .before .before .before .before .args .out .now) _ (c .before .before .before .before .before .before .before .before .before .before .step .ensures .0) (c .before .before .before .before .before .before .if1 .taken) _ (c .before .before .before .before .before .before .before .before .before .before .step .ensures .1))
+    (as-step (c .before .before .before .before .before .before .before .before .before .before .before .before .before .before .before .args .ws .now) _ (c .before .before .before .before .before .before .before .before .before .before .before .before .before .before .before .args .result .now) (c .before .before .before .before .before .before .before .before .before .before .before .before .before .before .before .args .out .now) _ (c .before .before .before .before .before .before .before .before .before .before .step .ensures .0), c .before .before .spread .ensures .1 ∙ law-done (c .before .before .before .before .before .before .before .before .before .before .before .before .before .before .before .args .ws .now) _ (c .before .before .before .before .before .before .before .before .before .before .before .before .before .before .before .args .result .now) (c .before .before .before .before .before .before .before .before .before .before .before .before .before .before .before .args .out .now) _ (c .before .before .before .before .before .before .before .before .before .before .step .ensures .0) (c .before .before .before .before .before .before .if1 .taken) _ (c .before .before .before .before .before .before .before .before .before .before .step .ensures .1), c .before .before .before .before .before .before .before .before .before .before .step .ensures .1)
 
 same-length-3 : tie.Need-same-length-3
 same-length-3 c = search needs
 
 returns-2 : tie.Need-returns-2
 returns-2 c =
-    (as-step (c .before .before .before .before .before .before .before .before .before .args .ws .now) _ (c .before .before .before .before .before .before .before .before .before .args .result .now) (c .before .before .before .before .before .before .before .before .before .args .out .now) _ (c .before .before .before .before .step .ensures .0), law-refused (c .before .before .before .before .before .before .before .before .before .args .ws .now) _ (c .before .before .before .before .before .before .before .before .before .args .result .now) (c .before .before .before .before .before .before .before .before .before .args .out .now) _ (c .before .before .before .before .step .ensures .0) (c .if1 .left))
+    (as-step (c .before .before .before .before .before .before .before .before .before .args .ws .now) _ (c .before .before .before .before .before .before .before .before .before .args .result .now) (c .before .before .before .before .before .before .before .before .before .args .out .now) _ (c .before .before .before .before .step .ensures .0), law-refused (c .before .before .before .before .before .before .before .before .before .args .ws .now) _ (c .before .before .before .before .before .before .before .before .before .args .result .now) (c .before .before .before .before .before .before .before .before .before .args .out .now) _ (c .before .before .before .before .step .ensures .0) (c .if1 .left), c .before .before .before .before .step .ensures .1)
 
 pub written-spec : {M : Type 1} → statement M
 written-spec =

@@ -1,23 +1,24 @@
--- `fill` of `cabinet::words` meets its contract. The loop's invariant: the first i words are in their places.
+-- `fill` of `cabinet::words` meets its contract. The loop's invariant: the first i words are over what was there.
 -- Assumes nothing.
-use Prim.Native.Nat.{ℕ, _-_, _≤_, _<_}
+use Prim.Native.Nat.{ℕ, _-_, _≤_}
 use mathlib.Core.Path.{_≡_, refl}
-use lib.ListN.{length, getD}
+use lib.ListN.{length, take}
 use native.Mathlib.Omega.{arith}
 use borrow.Author.Needs.{needs}
-use Rattle.cabinet.specs.Held.{pairAt}
-use Rattle.cabinet.proofs.Holding.{fill-turn}
+use Rattle.sock.specs.Bytes.{wordsOf, wordsOrNone}
+use Rattle.sock.specs.Calls.{over}
+use Rattle.cabinet.proofs.Holding.{fill-turn, fill-end}
 use Rattle.cabinet.proofs.words.fill.Statement.{statement}
 use Rattle.cabinet.proofs.words.fill.Tie as tie
 
 abbrev Inv-loop : tie.InvT-loop
-Inv-loop bytes n ws₀ i₀ ws i = (i ≤ n) × (length ws ≡ length ws₀) × ((j : ℕ) → j < i → getD ws j 0 ≡ pairAt bytes j)
+Inv-loop bytes n ws₀ i₀ ws i = (i ≤ n) × (length ws ≡ length ws₀) × (ws ≡ over (take i (wordsOrNone (wordsOf bytes))) ws₀)
 
 abbrev μ-loop : tie.MeasureT-loop
 μ-loop bytes n ws₀ i₀ ws i = n - i
 
 loop-holds : tie.Need-loop-holds Inv-loop μ-loop
-loop-holds c = (omega arith, refl, λ j h. absurd (omega arith))
+loop-holds c = (omega arith, refl, refl)
 
 mul-word : tie.Need-mul-word Inv-loop μ-loop
 mul-word c = search needs
@@ -52,7 +53,8 @@ loop-less c = search needs
 loop-again : tie.Need-loop-again Inv-loop μ-loop
 loop-again c =
     let l = c .before .before .before .before .loop in
-    (omega arith, search needs, fill-turn (c .before .before .before .before .before .before .before .args .bytes .now) (l .ws) (l .i) _ (omega (arith, l .inv .1)) (c .word .ensures) (l .inv .2))
+    let a = c .before .before .before .before .before .before .before .args in
+    (omega arith, search needs, fill-turn (a .n) (a .bytes .now) (l .ws) (a .ws .now) (l .i) _ (c .before .before .before .before .before .before .before .pre .0) (c .before .before .before .loop-test .taken) (omega arith) (c .word .ensures) (l .inv .2))
 
 same-length : tie.Need-same-length Inv-loop μ-loop
 same-length c = search needs
@@ -60,8 +62,9 @@ same-length c = search needs
 returns : tie.Need-returns Inv-loop μ-loop
 returns c =
     let l = c .before .loop in
-    let i : l .i ≡ c .before .before .before .before .args .n = omega arith in
-    (i, λ j h. l .inv .2 j (omega (arith, i, h)))
+    let a = c .before .before .before .before .args in
+    let i : l .i ≡ a .n = omega arith in
+    (i, fill-end _ _ (a .bytes .now) _ (a .ws .now) (c .before .before .before .before .pre .0) i (l .inv .2))
 
 pub fill-spec : {M : Type 1} → statement M
 fill-spec =

@@ -4,6 +4,7 @@ use Prim.Native.Nat.{_*_}
 use native.Mathlib.Omega.{arith}
 use mathlib.Core.Path.{sym, _∙_}
 use lib.Seq.{length-take-le}
+use Rattle.cabinet.proofs.Holding.{first-held}
 use Rattle.handover.proofs.Starting.{too-many, some-missing, held-there}
 use borrow.Author.Needs.{needs}
 use Rattle.handover.proofs.start.words_in.Statement.{statement}
@@ -28,7 +29,9 @@ same-length : tie.Need-same-length
 same-length c = search needs
 
 returns-3 : tie.Need-returns-3
-returns-3 c = ((c .before .before .hold .ensures .0), (c .before .before .hold .ensures .1) ∙ held-there (c .before .before .before .before .before .before .before .before .before .args .n) (c .before .before .before .before .before .before .before .before .before .args .bytes .now) (c .before .before .before .before .before .before .if1 .left) (c .before .before .before .before .before .if2 .left))
+returns-3 c =
+    let h = c .before .before .hold .ensures in
+    (omega (arith, h .2), first-held _ 8192 _ _ _ _ (search needs) (h .0) (h .1) ∙ held-there (c .before .before .before .before .before .before .before .before .before .args .n) (c .before .before .before .before .before .before .before .before .before .args .bytes .now) (c .before .before .before .before .before .before .if1 .left) (c .before .before .before .before .before .if2 .left))
 
 pub words-in-spec : {M : Type 1} → statement M
 words-in-spec =

@@ -32,8 +32,8 @@ use Rattle.marking.proofs.mark.listed.Reads as listed-reads
 use Rattle.marking.proofs.mark.note.Reads as note-reads
 use Rattle.marking.proofs.mark.note_list.Reads as note-list-reads
 use Rattle.marking.proofs.mark.plain_par.Reads as plain-par-reads
-use Rattle.reading.proofs.reader.end.Reads as end-reads
-use Rattle.reading.proofs.reader.process.Reads as process-reads
+use Rattle.reading.proofs.reader.executor_fixed.Reads as executor-fixed-reads
+use Rattle.reading.proofs.reader.read.Reads as read-reads
 use Rattle.reading.proofs.reader.wide.Reads as wide-reads
 use Rattle.reading.proofs.tables.head_mask.Reads as head-mask-reads
 use Rattle.marking.proofs.mark.+enabled+executor+mark+par+scope+seq.{statement}
@@ -94,145 +94,145 @@ seq-at t = and 2 seq-kinds.ps (is 2 seq-kinds.ps μ-seq t) seq.Pre
 abbrev seq-below : ℕ → In 2 seq-kinds.ps
 seq-below t = and 2 seq-kinds.ps (falls 2 seq-kinds.ps _<_ μ-seq t) seq.Pre
 
-enabled-returns : (t : ℕ) → enabled-lts.Need-returns (wide-reads.Asked, wide-reads.Learnt, plain-par-reads.Asked, plain-par-reads.Learnt, par-below t, par.Post, head-mask-reads.Asked, head-mask-reads.Learnt, seq-below t, seq.Post, scope-below t, scope.Post, executor-below t, executor.Post, process-reads.Asked, process-reads.Learnt) (enabled-at t) enabled.Post
+enabled-returns : (t : ℕ) → enabled-lts.Need-returns (wide-reads.Asked, wide-reads.Learnt, plain-par-reads.Asked, plain-par-reads.Learnt, par-below t, par.Post, head-mask-reads.Asked, head-mask-reads.Learnt, seq-below t, seq.Post, scope-below t, scope.Post, executor-below t, executor.Post, read-reads.Asked, read-reads.Learnt) (enabled-at t) enabled.Post
 enabled-returns t c = none-deep _ _ _ _ _ _ ((c .if1 .taken))
 
-enabled-returns-2 : (t : ℕ) → enabled-lts.Need-returns-2 (wide-reads.Asked, wide-reads.Learnt, plain-par-reads.Asked, plain-par-reads.Learnt, par-below t, par.Post, head-mask-reads.Asked, head-mask-reads.Learnt, seq-below t, seq.Post, scope-below t, scope.Post, executor-below t, executor.Post, process-reads.Asked, process-reads.Learnt) (enabled-at t) enabled.Post
+enabled-returns-2 : (t : ℕ) → enabled-lts.Need-returns-2 (wide-reads.Asked, wide-reads.Learnt, plain-par-reads.Asked, plain-par-reads.Learnt, par-below t, par.Post, head-mask-reads.Asked, head-mask-reads.Learnt, seq-below t, seq.Post, scope-below t, scope.Post, executor-below t, executor.Post, read-reads.Asked, read-reads.Learnt) (enabled-at t) enabled.Post
 enabled-returns-2 t c = none-left _ _ _ _ _ _ ((c .before .if1 .left)) ((c .if2 .taken))
 
-enabled-mul-wide : (t : ℕ) → enabled-lts.Need-mul-wide (wide-reads.Asked, wide-reads.Learnt, plain-par-reads.Asked, plain-par-reads.Learnt, par-below t, par.Post, head-mask-reads.Asked, head-mask-reads.Learnt, seq-below t, seq.Post, scope-below t, scope.Post, executor-below t, executor.Post, process-reads.Asked, process-reads.Learnt) (enabled-at t) enabled.Post
+enabled-mul-wide : (t : ℕ) → enabled-lts.Need-mul-wide (wide-reads.Asked, wide-reads.Learnt, plain-par-reads.Asked, plain-par-reads.Learnt, par-below t, par.Post, head-mask-reads.Asked, head-mask-reads.Learnt, seq-below t, seq.Post, scope-below t, scope.Post, executor-below t, executor.Post, read-reads.Asked, read-reads.Learnt) (enabled-at t) enabled.Post
 enabled-mul-wide t c = search needs
 
-enabled-shared-slice-read-wide : (t : ℕ) → enabled-lts.Need-shared-slice-read-wide (wide-reads.Asked, wide-reads.Learnt, plain-par-reads.Asked, plain-par-reads.Learnt, par-below t, par.Post, head-mask-reads.Asked, head-mask-reads.Learnt, seq-below t, seq.Post, scope-below t, scope.Post, executor-below t, executor.Post, process-reads.Asked, process-reads.Learnt) (enabled-at t) enabled.Post
+enabled-shared-slice-read-wide : (t : ℕ) → enabled-lts.Need-shared-slice-read-wide (wide-reads.Asked, wide-reads.Learnt, plain-par-reads.Asked, plain-par-reads.Learnt, par-below t, par.Post, head-mask-reads.Asked, head-mask-reads.Learnt, seq-below t, seq.Post, scope-below t, scope.Post, executor-below t, executor.Post, read-reads.Asked, read-reads.Learnt) (enabled-at t) enabled.Post
 enabled-shared-slice-read-wide t c = search needs
 
-enabled-wide-requires : (t : ℕ) → enabled-lts.Need-wide-requires (wide-reads.Asked, wide-reads.Learnt, plain-par-reads.Asked, plain-par-reads.Learnt, par-below t, par.Post, head-mask-reads.Asked, head-mask-reads.Learnt, seq-below t, seq.Post, scope-below t, scope.Post, executor-below t, executor.Post, process-reads.Asked, process-reads.Learnt) (enabled-at t) enabled.Post
+enabled-wide-requires : (t : ℕ) → enabled-lts.Need-wide-requires (wide-reads.Asked, wide-reads.Learnt, plain-par-reads.Asked, plain-par-reads.Learnt, par-below t, par.Post, head-mask-reads.Asked, head-mask-reads.Learnt, seq-below t, seq.Post, scope-below t, scope.Post, executor-below t, executor.Post, read-reads.Asked, read-reads.Learnt) (enabled-at t) enabled.Post
 enabled-wide-requires t c κs = search needs
 
-enabled-sub-d : (t : ℕ) → enabled-lts.Need-sub-d (wide-reads.Asked, wide-reads.Learnt, plain-par-reads.Asked, plain-par-reads.Learnt, par-below t, par.Post, head-mask-reads.Asked, head-mask-reads.Learnt, seq-below t, seq.Post, scope-below t, scope.Post, executor-below t, executor.Post, process-reads.Asked, process-reads.Learnt) (enabled-at t) enabled.Post
+enabled-sub-d : (t : ℕ) → enabled-lts.Need-sub-d (wide-reads.Asked, wide-reads.Learnt, plain-par-reads.Asked, plain-par-reads.Learnt, par-below t, par.Post, head-mask-reads.Asked, head-mask-reads.Learnt, seq-below t, seq.Post, scope-below t, scope.Post, executor-below t, executor.Post, read-reads.Asked, read-reads.Learnt) (enabled-at t) enabled.Post
 enabled-sub-d t c = search needs
 
-enabled-plain-par-requires : (t : ℕ) → enabled-lts.Need-plain-par-requires (wide-reads.Asked, wide-reads.Learnt, plain-par-reads.Asked, plain-par-reads.Learnt, par-below t, par.Post, head-mask-reads.Asked, head-mask-reads.Learnt, seq-below t, seq.Post, scope-below t, scope.Post, executor-below t, executor.Post, process-reads.Asked, process-reads.Learnt) (enabled-at t) enabled.Post
+enabled-plain-par-requires : (t : ℕ) → enabled-lts.Need-plain-par-requires (wide-reads.Asked, wide-reads.Learnt, plain-par-reads.Asked, plain-par-reads.Learnt, par-below t, par.Post, head-mask-reads.Asked, head-mask-reads.Learnt, seq-below t, seq.Post, scope-below t, scope.Post, executor-below t, executor.Post, read-reads.Asked, read-reads.Learnt) (enabled-at t) enabled.Post
 enabled-plain-par-requires t c κs = search needs
 
-enabled-add-par : (t : ℕ) → enabled-lts.Need-add-par (wide-reads.Asked, wide-reads.Learnt, plain-par-reads.Asked, plain-par-reads.Learnt, par-below t, par.Post, head-mask-reads.Asked, head-mask-reads.Learnt, seq-below t, seq.Post, scope-below t, scope.Post, executor-below t, executor.Post, process-reads.Asked, process-reads.Learnt) (enabled-at t) enabled.Post
+enabled-add-par : (t : ℕ) → enabled-lts.Need-add-par (wide-reads.Asked, wide-reads.Learnt, plain-par-reads.Asked, plain-par-reads.Learnt, par-below t, par.Post, head-mask-reads.Asked, head-mask-reads.Learnt, seq-below t, seq.Post, scope-below t, scope.Post, executor-below t, executor.Post, read-reads.Asked, read-reads.Learnt) (enabled-at t) enabled.Post
 enabled-add-par t c = search needs
 
-enabled-par-requires : (t : ℕ) → enabled-lts.Need-par-requires (wide-reads.Asked, wide-reads.Learnt, plain-par-reads.Asked, plain-par-reads.Learnt, par-below t, par.Post, head-mask-reads.Asked, head-mask-reads.Learnt, seq-below t, seq.Post, scope-below t, scope.Post, executor-below t, executor.Post, process-reads.Asked, process-reads.Learnt) (enabled-at t) enabled.Post
+enabled-par-requires : (t : ℕ) → enabled-lts.Need-par-requires (wide-reads.Asked, wide-reads.Learnt, plain-par-reads.Asked, plain-par-reads.Learnt, par-below t, par.Post, head-mask-reads.Asked, head-mask-reads.Learnt, seq-below t, seq.Post, scope-below t, scope.Post, executor-below t, executor.Post, read-reads.Asked, read-reads.Learnt) (enabled-at t) enabled.Post
 enabled-par-requires t c κs = search needs
 
-enabled-same-length : (t : ℕ) → enabled-lts.Need-same-length (wide-reads.Asked, wide-reads.Learnt, plain-par-reads.Asked, plain-par-reads.Learnt, par-below t, par.Post, head-mask-reads.Asked, head-mask-reads.Learnt, seq-below t, seq.Post, scope-below t, scope.Post, executor-below t, executor.Post, process-reads.Asked, process-reads.Learnt) (enabled-at t) enabled.Post
+enabled-same-length : (t : ℕ) → enabled-lts.Need-same-length (wide-reads.Asked, wide-reads.Learnt, plain-par-reads.Asked, plain-par-reads.Learnt, par-below t, par.Post, head-mask-reads.Asked, head-mask-reads.Learnt, seq-below t, seq.Post, scope-below t, scope.Post, executor-below t, executor.Post, read-reads.Asked, read-reads.Learnt) (enabled-at t) enabled.Post
 enabled-same-length t c = search needs
 
-enabled-returns-3 : (t : ℕ) → enabled-lts.Need-returns-3 (wide-reads.Asked, wide-reads.Learnt, plain-par-reads.Asked, plain-par-reads.Learnt, par-below t, par.Post, head-mask-reads.Asked, head-mask-reads.Learnt, seq-below t, seq.Post, scope-below t, scope.Post, executor-below t, executor.Post, process-reads.Asked, process-reads.Learnt) (enabled-at t) enabled.Post
+enabled-returns-3 : (t : ℕ) → enabled-lts.Need-returns-3 (wide-reads.Asked, wide-reads.Learnt, plain-par-reads.Asked, plain-par-reads.Learnt, par-below t, par.Post, head-mask-reads.Asked, head-mask-reads.Learnt, seq-below t, seq.Post, scope-below t, scope.Post, executor-below t, executor.Post, read-reads.Asked, read-reads.Learnt) (enabled-at t) enabled.Post
 enabled-returns-3 t c = par-ends _ _ _ _ _ _ _ ((c .before .before .before .before .before .before .before .before .before .if1 .left)) ((c .before .before .before .before .before .before .before .before .if2 .left)) ((c .before .before .before .before .before .before .wide .ensures .0)) ((c .before .before .before .before .before .before .before .before .before .before .before .before .pre .1 .0)) ((c .before .before .before .before .before .before .before .before .before .before .before .before .pre .1 .1)) (sym ((c .before .before .before .before .before .plain-par .ensures)) ∙ (c .before .before .before .before .if3 .taken)) _ _ ((c .before .before .par .ensures .0)) ((c .before .before .par .ensures .1))
 
-enabled-add-if4 : (t : ℕ) → enabled-lts.Need-add-if4 (wide-reads.Asked, wide-reads.Learnt, plain-par-reads.Asked, plain-par-reads.Learnt, par-below t, par.Post, head-mask-reads.Asked, head-mask-reads.Learnt, seq-below t, seq.Post, scope-below t, scope.Post, executor-below t, executor.Post, process-reads.Asked, process-reads.Learnt) (enabled-at t) enabled.Post
+enabled-add-if4 : (t : ℕ) → enabled-lts.Need-add-if4 (wide-reads.Asked, wide-reads.Learnt, plain-par-reads.Asked, plain-par-reads.Learnt, par-below t, par.Post, head-mask-reads.Asked, head-mask-reads.Learnt, seq-below t, seq.Post, scope-below t, scope.Post, executor-below t, executor.Post, read-reads.Asked, read-reads.Learnt) (enabled-at t) enabled.Post
 enabled-add-if4 t c = search needs
 
-enabled-head-mask-requires : (t : ℕ) → enabled-lts.Need-head-mask-requires (wide-reads.Asked, wide-reads.Learnt, plain-par-reads.Asked, plain-par-reads.Learnt, par-below t, par.Post, head-mask-reads.Asked, head-mask-reads.Learnt, seq-below t, seq.Post, scope-below t, scope.Post, executor-below t, executor.Post, process-reads.Asked, process-reads.Learnt) (enabled-at t) enabled.Post
+enabled-head-mask-requires : (t : ℕ) → enabled-lts.Need-head-mask-requires (wide-reads.Asked, wide-reads.Learnt, plain-par-reads.Asked, plain-par-reads.Learnt, par-below t, par.Post, head-mask-reads.Asked, head-mask-reads.Learnt, seq-below t, seq.Post, scope-below t, scope.Post, executor-below t, executor.Post, read-reads.Asked, read-reads.Learnt) (enabled-at t) enabled.Post
 enabled-head-mask-requires t c κs = search needs
 
-enabled-returns-4 : (t : ℕ) → enabled-lts.Need-returns-4 (wide-reads.Asked, wide-reads.Learnt, plain-par-reads.Asked, plain-par-reads.Learnt, par-below t, par.Post, head-mask-reads.Asked, head-mask-reads.Learnt, seq-below t, seq.Post, scope-below t, scope.Post, executor-below t, executor.Post, process-reads.Asked, process-reads.Learnt) (enabled-at t) enabled.Post
+enabled-returns-4 : (t : ℕ) → enabled-lts.Need-returns-4 (wide-reads.Asked, wide-reads.Learnt, plain-par-reads.Asked, plain-par-reads.Learnt, par-below t, par.Post, head-mask-reads.Asked, head-mask-reads.Learnt, seq-below t, seq.Post, scope-below t, scope.Post, executor-below t, executor.Post, read-reads.Asked, read-reads.Learnt) (enabled-at t) enabled.Post
 enabled-returns-4 t c = refused _ _ _ _ _ _ _ _ ((c .before .before .before .before .before .before .before .if1 .left)) ((c .before .before .before .before .before .before .if2 .left)) ((c .before .before .before .before .wide .ensures .0)) ((c .before .head-mask .ensures)) ((c .if4 .taken))
 
-enabled-add-result : (t : ℕ) → enabled-lts.Need-add-result (wide-reads.Asked, wide-reads.Learnt, plain-par-reads.Asked, plain-par-reads.Learnt, par-below t, par.Post, head-mask-reads.Asked, head-mask-reads.Learnt, seq-below t, seq.Post, scope-below t, scope.Post, executor-below t, executor.Post, process-reads.Asked, process-reads.Learnt) (enabled-at t) enabled.Post
+enabled-add-result : (t : ℕ) → enabled-lts.Need-add-result (wide-reads.Asked, wide-reads.Learnt, plain-par-reads.Asked, plain-par-reads.Learnt, par-below t, par.Post, head-mask-reads.Asked, head-mask-reads.Learnt, seq-below t, seq.Post, scope-below t, scope.Post, executor-below t, executor.Post, read-reads.Asked, read-reads.Learnt) (enabled-at t) enabled.Post
 enabled-add-result t c = search needs
 
-enabled-add-seq : (t : ℕ) → enabled-lts.Need-add-seq (wide-reads.Asked, wide-reads.Learnt, plain-par-reads.Asked, plain-par-reads.Learnt, par-below t, par.Post, head-mask-reads.Asked, head-mask-reads.Learnt, seq-below t, seq.Post, scope-below t, scope.Post, executor-below t, executor.Post, process-reads.Asked, process-reads.Learnt) (enabled-at t) enabled.Post
+enabled-add-seq : (t : ℕ) → enabled-lts.Need-add-seq (wide-reads.Asked, wide-reads.Learnt, plain-par-reads.Asked, plain-par-reads.Learnt, par-below t, par.Post, head-mask-reads.Asked, head-mask-reads.Learnt, seq-below t, seq.Post, scope-below t, scope.Post, executor-below t, executor.Post, read-reads.Asked, read-reads.Learnt) (enabled-at t) enabled.Post
 enabled-add-seq t c = search needs
 
-enabled-seq-requires : (t : ℕ) → enabled-lts.Need-seq-requires (wide-reads.Asked, wide-reads.Learnt, plain-par-reads.Asked, plain-par-reads.Learnt, par-below t, par.Post, head-mask-reads.Asked, head-mask-reads.Learnt, seq-below t, seq.Post, scope-below t, scope.Post, executor-below t, executor.Post, process-reads.Asked, process-reads.Learnt) (enabled-at t) enabled.Post
+enabled-seq-requires : (t : ℕ) → enabled-lts.Need-seq-requires (wide-reads.Asked, wide-reads.Learnt, plain-par-reads.Asked, plain-par-reads.Learnt, par-below t, par.Post, head-mask-reads.Asked, head-mask-reads.Learnt, seq-below t, seq.Post, scope-below t, scope.Post, executor-below t, executor.Post, read-reads.Asked, read-reads.Learnt) (enabled-at t) enabled.Post
 enabled-seq-requires t c κs = search needs
 
-enabled-add-par-2 : (t : ℕ) → enabled-lts.Need-add-par-2 (wide-reads.Asked, wide-reads.Learnt, plain-par-reads.Asked, plain-par-reads.Learnt, par-below t, par.Post, head-mask-reads.Asked, head-mask-reads.Learnt, seq-below t, seq.Post, scope-below t, scope.Post, executor-below t, executor.Post, process-reads.Asked, process-reads.Learnt) (enabled-at t) enabled.Post
+enabled-add-par-2 : (t : ℕ) → enabled-lts.Need-add-par-2 (wide-reads.Asked, wide-reads.Learnt, plain-par-reads.Asked, plain-par-reads.Learnt, par-below t, par.Post, head-mask-reads.Asked, head-mask-reads.Learnt, seq-below t, seq.Post, scope-below t, scope.Post, executor-below t, executor.Post, read-reads.Asked, read-reads.Learnt) (enabled-at t) enabled.Post
 enabled-add-par-2 t c = search needs
 
-enabled-par-requires-2 : (t : ℕ) → enabled-lts.Need-par-requires-2 (wide-reads.Asked, wide-reads.Learnt, plain-par-reads.Asked, plain-par-reads.Learnt, par-below t, par.Post, head-mask-reads.Asked, head-mask-reads.Learnt, seq-below t, seq.Post, scope-below t, scope.Post, executor-below t, executor.Post, process-reads.Asked, process-reads.Learnt) (enabled-at t) enabled.Post
+enabled-par-requires-2 : (t : ℕ) → enabled-lts.Need-par-requires-2 (wide-reads.Asked, wide-reads.Learnt, plain-par-reads.Asked, plain-par-reads.Learnt, par-below t, par.Post, head-mask-reads.Asked, head-mask-reads.Learnt, seq-below t, seq.Post, scope-below t, scope.Post, executor-below t, executor.Post, read-reads.Asked, read-reads.Learnt) (enabled-at t) enabled.Post
 enabled-par-requires-2 t c κs = search needs
 
-enabled-add-result-2 : (t : ℕ) → enabled-lts.Need-add-result-2 (wide-reads.Asked, wide-reads.Learnt, plain-par-reads.Asked, plain-par-reads.Learnt, par-below t, par.Post, head-mask-reads.Asked, head-mask-reads.Learnt, seq-below t, seq.Post, scope-below t, scope.Post, executor-below t, executor.Post, process-reads.Asked, process-reads.Learnt) (enabled-at t) enabled.Post
+enabled-add-result-2 : (t : ℕ) → enabled-lts.Need-add-result-2 (wide-reads.Asked, wide-reads.Learnt, plain-par-reads.Asked, plain-par-reads.Learnt, par-below t, par.Post, head-mask-reads.Asked, head-mask-reads.Learnt, seq-below t, seq.Post, scope-below t, scope.Post, executor-below t, executor.Post, read-reads.Asked, read-reads.Learnt) (enabled-at t) enabled.Post
 enabled-add-result-2 t c = search needs
 
-enabled-scope-requires : (t : ℕ) → enabled-lts.Need-scope-requires (wide-reads.Asked, wide-reads.Learnt, plain-par-reads.Asked, plain-par-reads.Learnt, par-below t, par.Post, head-mask-reads.Asked, head-mask-reads.Learnt, seq-below t, seq.Post, scope-below t, scope.Post, executor-below t, executor.Post, process-reads.Asked, process-reads.Learnt) (enabled-at t) enabled.Post
+enabled-scope-requires : (t : ℕ) → enabled-lts.Need-scope-requires (wide-reads.Asked, wide-reads.Learnt, plain-par-reads.Asked, plain-par-reads.Learnt, par-below t, par.Post, head-mask-reads.Asked, head-mask-reads.Learnt, seq-below t, seq.Post, scope-below t, scope.Post, executor-below t, executor.Post, read-reads.Asked, read-reads.Learnt) (enabled-at t) enabled.Post
 enabled-scope-requires t c κs = search needs
 
-enabled-add-result-3 : (t : ℕ) → enabled-lts.Need-add-result-3 (wide-reads.Asked, wide-reads.Learnt, plain-par-reads.Asked, plain-par-reads.Learnt, par-below t, par.Post, head-mask-reads.Asked, head-mask-reads.Learnt, seq-below t, seq.Post, scope-below t, scope.Post, executor-below t, executor.Post, process-reads.Asked, process-reads.Learnt) (enabled-at t) enabled.Post
+enabled-add-result-3 : (t : ℕ) → enabled-lts.Need-add-result-3 (wide-reads.Asked, wide-reads.Learnt, plain-par-reads.Asked, plain-par-reads.Learnt, par-below t, par.Post, head-mask-reads.Asked, head-mask-reads.Learnt, seq-below t, seq.Post, scope-below t, scope.Post, executor-below t, executor.Post, read-reads.Asked, read-reads.Learnt) (enabled-at t) enabled.Post
 enabled-add-result-3 t c = search needs
 
-enabled-add-result-4 : (t : ℕ) → enabled-lts.Need-add-result-4 (wide-reads.Asked, wide-reads.Learnt, plain-par-reads.Asked, plain-par-reads.Learnt, par-below t, par.Post, head-mask-reads.Asked, head-mask-reads.Learnt, seq-below t, seq.Post, scope-below t, scope.Post, executor-below t, executor.Post, process-reads.Asked, process-reads.Learnt) (enabled-at t) enabled.Post
+enabled-add-result-4 : (t : ℕ) → enabled-lts.Need-add-result-4 (wide-reads.Asked, wide-reads.Learnt, plain-par-reads.Asked, plain-par-reads.Learnt, par-below t, par.Post, head-mask-reads.Asked, head-mask-reads.Learnt, seq-below t, seq.Post, scope-below t, scope.Post, executor-below t, executor.Post, read-reads.Asked, read-reads.Learnt) (enabled-at t) enabled.Post
 enabled-add-result-4 t c = search needs
 
-enabled-executor-requires : (t : ℕ) → enabled-lts.Need-executor-requires (wide-reads.Asked, wide-reads.Learnt, plain-par-reads.Asked, plain-par-reads.Learnt, par-below t, par.Post, head-mask-reads.Asked, head-mask-reads.Learnt, seq-below t, seq.Post, scope-below t, scope.Post, executor-below t, executor.Post, process-reads.Asked, process-reads.Learnt) (enabled-at t) enabled.Post
+enabled-executor-requires : (t : ℕ) → enabled-lts.Need-executor-requires (wide-reads.Asked, wide-reads.Learnt, plain-par-reads.Asked, plain-par-reads.Learnt, par-below t, par.Post, head-mask-reads.Asked, head-mask-reads.Learnt, seq-below t, seq.Post, scope-below t, scope.Post, executor-below t, executor.Post, read-reads.Asked, read-reads.Learnt) (enabled-at t) enabled.Post
 enabled-executor-requires t c κs = search needs
 
-enabled-process-requires : (t : ℕ) → enabled-lts.Need-process-requires (wide-reads.Asked, wide-reads.Learnt, plain-par-reads.Asked, plain-par-reads.Learnt, par-below t, par.Post, head-mask-reads.Asked, head-mask-reads.Learnt, seq-below t, seq.Post, scope-below t, scope.Post, executor-below t, executor.Post, process-reads.Asked, process-reads.Learnt) (enabled-at t) enabled.Post
-enabled-process-requires t c κs = search needs
+enabled-read-requires : (t : ℕ) → enabled-lts.Need-read-requires (wide-reads.Asked, wide-reads.Learnt, plain-par-reads.Asked, plain-par-reads.Learnt, par-below t, par.Post, head-mask-reads.Asked, head-mask-reads.Learnt, seq-below t, seq.Post, scope-below t, scope.Post, executor-below t, executor.Post, read-reads.Asked, read-reads.Learnt) (enabled-at t) enabled.Post
+enabled-read-requires t c κs = search needs
 
-enabled-returns-5 : (t : ℕ) → enabled-lts.Need-returns-5 (wide-reads.Asked, wide-reads.Learnt, plain-par-reads.Asked, plain-par-reads.Learnt, par-below t, par.Post, head-mask-reads.Asked, head-mask-reads.Learnt, seq-below t, seq.Post, scope-below t, scope.Post, executor-below t, executor.Post, process-reads.Asked, process-reads.Learnt) (enabled-at t) enabled.Post
+enabled-returns-5 : (t : ℕ) → enabled-lts.Need-returns-5 (wide-reads.Asked, wide-reads.Learnt, plain-par-reads.Asked, plain-par-reads.Learnt, par-below t, par.Post, head-mask-reads.Asked, head-mask-reads.Learnt, seq-below t, seq.Post, scope-below t, scope.Post, executor-below t, executor.Post, read-reads.Asked, read-reads.Learnt) (enabled-at t) enabled.Post
 unfolding nodeEnd
 enabled-returns-5 t c =
     one-word _ _ _ _ _ _ _ _ ((c .before .before .before .before .before .before .before .before .if1 .left)) ((c .before .before .before .before .before .before .before .if2 .left)) ((c .before .before .before .before .before .wide .ensures .0)) ((c .before .before .head-mask .ensures)) ((c .before .if4 .left)) ((c .before .before .before .before .before .before .before .before .before .before .before .pre .1 .0)) ((c .before .before .before .before .before .before .before .before .before .before .before .pre .1 .1)) 0 ((c .match .keys1)) (λ h e. rw e refl) (λ z. omega arith) (λ z. omega arith) (λ z. omega arith) (λ z. omega arith)
 
-enabled-same-length-2 : (t : ℕ) → enabled-lts.Need-same-length-2 (wide-reads.Asked, wide-reads.Learnt, plain-par-reads.Asked, plain-par-reads.Learnt, par-below t, par.Post, head-mask-reads.Asked, head-mask-reads.Learnt, seq-below t, seq.Post, scope-below t, scope.Post, executor-below t, executor.Post, process-reads.Asked, process-reads.Learnt) (enabled-at t) enabled.Post
+enabled-same-length-2 : (t : ℕ) → enabled-lts.Need-same-length-2 (wide-reads.Asked, wide-reads.Learnt, plain-par-reads.Asked, plain-par-reads.Learnt, par-below t, par.Post, head-mask-reads.Asked, head-mask-reads.Learnt, seq-below t, seq.Post, scope-below t, scope.Post, executor-below t, executor.Post, read-reads.Asked, read-reads.Learnt) (enabled-at t) enabled.Post
 enabled-same-length-2 t c = search needs
 
-enabled-returns-6 : (t : ℕ) → enabled-lts.Need-returns-6 (wide-reads.Asked, wide-reads.Learnt, plain-par-reads.Asked, plain-par-reads.Learnt, par-below t, par.Post, head-mask-reads.Asked, head-mask-reads.Learnt, seq-below t, seq.Post, scope-below t, scope.Post, executor-below t, executor.Post, process-reads.Asked, process-reads.Learnt) (enabled-at t) enabled.Post
+enabled-returns-6 : (t : ℕ) → enabled-lts.Need-returns-6 (wide-reads.Asked, wide-reads.Learnt, plain-par-reads.Asked, plain-par-reads.Learnt, par-below t, par.Post, head-mask-reads.Asked, head-mask-reads.Learnt, seq-below t, seq.Post, scope-below t, scope.Post, executor-below t, executor.Post, read-reads.Asked, read-reads.Learnt) (enabled-at t) enabled.Post
 enabled-returns-6 t c = a-seq _ _ _ _ _ _ _ _ ((c .before .before .before .before .before .before .before .before .before .before .before .before .if1 .left)) ((c .before .before .before .before .before .before .before .before .before .before .before .if2 .left)) ((c .before .before .before .before .before .before .before .before .before .wide .ensures .0)) ((c .before .before .before .before .before .before .head-mask .ensures)) ((c .before .before .before .before .before .if4 .left)) ((c .before .before .before .before .before .before .before .before .before .before .before .before .before .before .before .pre .1 .0)) ((c .before .before .before .before .before .before .before .before .before .before .before .before .before .before .before .pre .1 .1)) _ _ ((c .before .before .before .before .match .keys2)) ((c .before .before .seq .ensures .0)) ((c .before .before .seq .ensures .1))
 
-enabled-same-length-3 : (t : ℕ) → enabled-lts.Need-same-length-3 (wide-reads.Asked, wide-reads.Learnt, plain-par-reads.Asked, plain-par-reads.Learnt, par-below t, par.Post, head-mask-reads.Asked, head-mask-reads.Learnt, seq-below t, seq.Post, scope-below t, scope.Post, executor-below t, executor.Post, process-reads.Asked, process-reads.Learnt) (enabled-at t) enabled.Post
+enabled-same-length-3 : (t : ℕ) → enabled-lts.Need-same-length-3 (wide-reads.Asked, wide-reads.Learnt, plain-par-reads.Asked, plain-par-reads.Learnt, par-below t, par.Post, head-mask-reads.Asked, head-mask-reads.Learnt, seq-below t, seq.Post, scope-below t, scope.Post, executor-below t, executor.Post, read-reads.Asked, read-reads.Learnt) (enabled-at t) enabled.Post
 enabled-same-length-3 t c = search needs
 
-enabled-returns-7 : (t : ℕ) → enabled-lts.Need-returns-7 (wide-reads.Asked, wide-reads.Learnt, plain-par-reads.Asked, plain-par-reads.Learnt, par-below t, par.Post, head-mask-reads.Asked, head-mask-reads.Learnt, seq-below t, seq.Post, scope-below t, scope.Post, executor-below t, executor.Post, process-reads.Asked, process-reads.Learnt) (enabled-at t) enabled.Post
+enabled-returns-7 : (t : ℕ) → enabled-lts.Need-returns-7 (wide-reads.Asked, wide-reads.Learnt, plain-par-reads.Asked, plain-par-reads.Learnt, par-below t, par.Post, head-mask-reads.Asked, head-mask-reads.Learnt, seq-below t, seq.Post, scope-below t, scope.Post, executor-below t, executor.Post, read-reads.Asked, read-reads.Learnt) (enabled-at t) enabled.Post
 enabled-returns-7 t c = a-par _ _ _ _ _ _ _ _ ((c .before .before .before .before .before .before .before .before .before .before .before .before .if1 .left)) ((c .before .before .before .before .before .before .before .before .before .before .before .if2 .left)) ((c .before .before .before .before .before .before .before .before .before .wide .ensures .0)) ((c .before .before .before .before .before .before .head-mask .ensures)) ((c .before .before .before .before .before .if4 .left)) ((c .before .before .before .before .before .before .before .before .before .before .before .before .before .before .before .pre .1 .0)) ((c .before .before .before .before .before .before .before .before .before .before .before .before .before .before .before .pre .1 .1)) _ _ ((c .before .before .before .before .match .keys3)) ((c .before .before .par2 .ensures .0)) ((c .before .before .par2 .ensures .1))
 
-enabled-returns-8 : (t : ℕ) → enabled-lts.Need-returns-8 (wide-reads.Asked, wide-reads.Learnt, plain-par-reads.Asked, plain-par-reads.Learnt, par-below t, par.Post, head-mask-reads.Asked, head-mask-reads.Learnt, seq-below t, seq.Post, scope-below t, scope.Post, executor-below t, executor.Post, process-reads.Asked, process-reads.Learnt) (enabled-at t) enabled.Post
+enabled-returns-8 : (t : ℕ) → enabled-lts.Need-returns-8 (wide-reads.Asked, wide-reads.Learnt, plain-par-reads.Asked, plain-par-reads.Learnt, par-below t, par.Post, head-mask-reads.Asked, head-mask-reads.Learnt, seq-below t, seq.Post, scope-below t, scope.Post, executor-below t, executor.Post, read-reads.Asked, read-reads.Learnt) (enabled-at t) enabled.Post
 unfolding nodeEnd
 enabled-returns-8 t c =
     one-word _ _ _ _ _ _ _ _ ((c .before .before .before .before .before .before .before .before .if1 .left)) ((c .before .before .before .before .before .before .before .if2 .left)) ((c .before .before .before .before .before .wide .ensures .0)) ((c .before .before .head-mask .ensures)) ((c .before .if4 .left)) ((c .before .before .before .before .before .before .before .before .before .before .before .pre .1 .0)) ((c .before .before .before .before .before .before .before .before .before .before .before .pre .1 .1)) 7 ((c .match .keys4)) (λ h e. rw e refl) (λ z. omega arith) (λ z. omega arith) (λ z. omega arith) (λ z. omega arith)
 
-enabled-same-length-4 : (t : ℕ) → enabled-lts.Need-same-length-4 (wide-reads.Asked, wide-reads.Learnt, plain-par-reads.Asked, plain-par-reads.Learnt, par-below t, par.Post, head-mask-reads.Asked, head-mask-reads.Learnt, seq-below t, seq.Post, scope-below t, scope.Post, executor-below t, executor.Post, process-reads.Asked, process-reads.Learnt) (enabled-at t) enabled.Post
+enabled-same-length-4 : (t : ℕ) → enabled-lts.Need-same-length-4 (wide-reads.Asked, wide-reads.Learnt, plain-par-reads.Asked, plain-par-reads.Learnt, par-below t, par.Post, head-mask-reads.Asked, head-mask-reads.Learnt, seq-below t, seq.Post, scope-below t, scope.Post, executor-below t, executor.Post, read-reads.Asked, read-reads.Learnt) (enabled-at t) enabled.Post
 enabled-same-length-4 t c = search needs
 
-enabled-returns-9 : (t : ℕ) → enabled-lts.Need-returns-9 (wide-reads.Asked, wide-reads.Learnt, plain-par-reads.Asked, plain-par-reads.Learnt, par-below t, par.Post, head-mask-reads.Asked, head-mask-reads.Learnt, seq-below t, seq.Post, scope-below t, scope.Post, executor-below t, executor.Post, process-reads.Asked, process-reads.Learnt) (enabled-at t) enabled.Post
+enabled-returns-9 : (t : ℕ) → enabled-lts.Need-returns-9 (wide-reads.Asked, wide-reads.Learnt, plain-par-reads.Asked, plain-par-reads.Learnt, par-below t, par.Post, head-mask-reads.Asked, head-mask-reads.Learnt, seq-below t, seq.Post, scope-below t, scope.Post, executor-below t, executor.Post, read-reads.Asked, read-reads.Learnt) (enabled-at t) enabled.Post
 enabled-returns-9 t c = a-scope _ _ _ _ _ _ _ _ ((c .before .before .before .before .before .before .before .before .before .before .before .before .if1 .left)) ((c .before .before .before .before .before .before .before .before .before .before .before .if2 .left)) ((c .before .before .before .before .before .before .before .before .before .wide .ensures .0)) ((c .before .before .before .before .before .before .head-mask .ensures)) ((c .before .before .before .before .before .if4 .left)) ((c .before .before .before .before .before .before .before .before .before .before .before .before .before .before .before .pre .1 .0)) ((c .before .before .before .before .before .before .before .before .before .before .before .before .before .before .before .pre .1 .1)) _ _ ((c .before .before .before .before .match .keys5)) ((c .before .before .scope .ensures .0)) ((c .before .before .scope .ensures .1))
 
-enabled-returns-10 : (t : ℕ) → enabled-lts.Need-returns-10 (wide-reads.Asked, wide-reads.Learnt, plain-par-reads.Asked, plain-par-reads.Learnt, par-below t, par.Post, head-mask-reads.Asked, head-mask-reads.Learnt, seq-below t, seq.Post, scope-below t, scope.Post, executor-below t, executor.Post, process-reads.Asked, process-reads.Learnt) (enabled-at t) enabled.Post
+enabled-returns-10 : (t : ℕ) → enabled-lts.Need-returns-10 (wide-reads.Asked, wide-reads.Learnt, plain-par-reads.Asked, plain-par-reads.Learnt, par-below t, par.Post, head-mask-reads.Asked, head-mask-reads.Learnt, seq-below t, seq.Post, scope-below t, scope.Post, executor-below t, executor.Post, read-reads.Asked, read-reads.Learnt) (enabled-at t) enabled.Post
 unfolding nodeEnd
 enabled-returns-10 t c =
     one-word _ _ _ _ _ _ _ _ ((c .before .before .before .before .before .before .before .before .if1 .left)) ((c .before .before .before .before .before .before .before .if2 .left)) ((c .before .before .before .before .before .wide .ensures .0)) ((c .before .before .head-mask .ensures)) ((c .before .if4 .left)) ((c .before .before .before .before .before .before .before .before .before .before .before .pre .1 .0)) ((c .before .before .before .before .before .before .before .before .before .before .before .pre .1 .1)) 13 ((c .match .keys6)) (λ h e. rw e refl) (λ z. omega arith) (λ z. omega arith) (λ z. omega arith) (λ z. omega arith)
 
-enabled-returns-11 : (t : ℕ) → enabled-lts.Need-returns-11 (wide-reads.Asked, wide-reads.Learnt, plain-par-reads.Asked, plain-par-reads.Learnt, par-below t, par.Post, head-mask-reads.Asked, head-mask-reads.Learnt, seq-below t, seq.Post, scope-below t, scope.Post, executor-below t, executor.Post, process-reads.Asked, process-reads.Learnt) (enabled-at t) enabled.Post
+enabled-returns-11 : (t : ℕ) → enabled-lts.Need-returns-11 (wide-reads.Asked, wide-reads.Learnt, plain-par-reads.Asked, plain-par-reads.Learnt, par-below t, par.Post, head-mask-reads.Asked, head-mask-reads.Learnt, seq-below t, seq.Post, scope-below t, scope.Post, executor-below t, executor.Post, read-reads.Asked, read-reads.Learnt) (enabled-at t) enabled.Post
 unfolding nodeEnd
 enabled-returns-11 t c =
     one-word _ _ _ _ _ _ _ _ ((c .before .before .before .before .before .before .before .before .if1 .left)) ((c .before .before .before .before .before .before .before .if2 .left)) ((c .before .before .before .before .before .wide .ensures .0)) ((c .before .before .head-mask .ensures)) ((c .before .if4 .left)) ((c .before .before .before .before .before .before .before .before .before .before .before .pre .1 .0)) ((c .before .before .before .before .before .before .before .before .before .before .before .pre .1 .1)) 14 ((c .match .keys7)) (λ h e. rw e refl) (λ z. omega arith) (λ z. omega arith) (λ z. omega arith) (λ z. omega arith)
 
-enabled-same-length-5 : (t : ℕ) → enabled-lts.Need-same-length-5 (wide-reads.Asked, wide-reads.Learnt, plain-par-reads.Asked, plain-par-reads.Learnt, par-below t, par.Post, head-mask-reads.Asked, head-mask-reads.Learnt, seq-below t, seq.Post, scope-below t, scope.Post, executor-below t, executor.Post, process-reads.Asked, process-reads.Learnt) (enabled-at t) enabled.Post
+enabled-same-length-5 : (t : ℕ) → enabled-lts.Need-same-length-5 (wide-reads.Asked, wide-reads.Learnt, plain-par-reads.Asked, plain-par-reads.Learnt, par-below t, par.Post, head-mask-reads.Asked, head-mask-reads.Learnt, seq-below t, seq.Post, scope-below t, scope.Post, executor-below t, executor.Post, read-reads.Asked, read-reads.Learnt) (enabled-at t) enabled.Post
 enabled-same-length-5 t c = search needs
 
-enabled-returns-12 : (t : ℕ) → enabled-lts.Need-returns-12 (wide-reads.Asked, wide-reads.Learnt, plain-par-reads.Asked, plain-par-reads.Learnt, par-below t, par.Post, head-mask-reads.Asked, head-mask-reads.Learnt, seq-below t, seq.Post, scope-below t, scope.Post, executor-below t, executor.Post, process-reads.Asked, process-reads.Learnt) (enabled-at t) enabled.Post
+enabled-returns-12 : (t : ℕ) → enabled-lts.Need-returns-12 (wide-reads.Asked, wide-reads.Learnt, plain-par-reads.Asked, plain-par-reads.Learnt, par-below t, par.Post, head-mask-reads.Asked, head-mask-reads.Learnt, seq-below t, seq.Post, scope-below t, scope.Post, executor-below t, executor.Post, read-reads.Asked, read-reads.Learnt) (enabled-at t) enabled.Post
 enabled-returns-12 t c = an-executor _ _ _ _ _ _ _ _ ((c .before .before .before .before .before .before .before .before .before .before .before .before .if1 .left)) ((c .before .before .before .before .before .before .before .before .before .before .before .if2 .left)) ((c .before .before .before .before .before .before .before .before .before .wide .ensures .0)) ((c .before .before .before .before .before .before .head-mask .ensures)) ((c .before .before .before .before .before .if4 .left)) ((c .before .before .before .before .before .before .before .before .before .before .before .before .before .before .before .pre .1 .0)) ((c .before .before .before .before .before .before .before .before .before .before .before .before .before .before .before .pre .1 .1)) _ _ ((c .before .before .before .before .match .keys8)) ((c .before .before .executor .ensures .0)) ((c .before .before .executor .ensures .1))
 
-enabled-returns-13 : (t : ℕ) → enabled-lts.Need-returns-13 (wide-reads.Asked, wide-reads.Learnt, plain-par-reads.Asked, plain-par-reads.Learnt, par-below t, par.Post, head-mask-reads.Asked, head-mask-reads.Learnt, seq-below t, seq.Post, scope-below t, scope.Post, executor-below t, executor.Post, process-reads.Asked, process-reads.Learnt) (enabled-at t) enabled.Post
-enabled-returns-13 t c = ((c .process .ensures), others _ _ _ _ _ _ _ _ ((c .before .before .before .before .before .before .before .before .before .if1 .left)) ((c .before .before .before .before .before .before .before .before .if2 .left)) ((c .before .before .before .before .before .before .wide .ensures .0)) ((c .before .before .before .head-mask .ensures)) ((c .before .before .if4 .left)) ((c .before .before .before .before .before .before .before .before .before .before .before .before .pre .1 .0)) ((c .before .before .before .before .before .before .before .before .before .before .before .before .pre .1 .1)) _ refl ((c .before .match .rest .0 .0 .0 .0 .0 .0 .1)) ((c .before .match .rest .0 .0 .0 .0 .0 .1)) ((c .before .match .rest .0 .0 .0 .1)) ((c .before .match .rest .1)))
+enabled-returns-13 : (t : ℕ) → enabled-lts.Need-returns-13 (wide-reads.Asked, wide-reads.Learnt, plain-par-reads.Asked, plain-par-reads.Learnt, par-below t, par.Post, head-mask-reads.Asked, head-mask-reads.Learnt, seq-below t, seq.Post, scope-below t, scope.Post, executor-below t, executor.Post, read-reads.Asked, read-reads.Learnt) (enabled-at t) enabled.Post
+enabled-returns-13 t c = ((c .read .ensures), others _ _ _ _ _ _ _ _ ((c .before .before .before .before .before .before .before .before .before .if1 .left)) ((c .before .before .before .before .before .before .before .before .if2 .left)) ((c .before .before .before .before .before .before .wide .ensures .0)) ((c .before .before .before .head-mask .ensures)) ((c .before .before .if4 .left)) ((c .before .before .before .before .before .before .before .before .before .before .before .before .pre .1 .0)) ((c .before .before .before .before .before .before .before .before .before .before .before .before .pre .1 .1)) _ refl ((c .before .match .rest .0 .0 .0 .0 .0 .0 .1)) ((c .before .match .rest .0 .0 .0 .0 .0 .1)) ((c .before .match .rest .0 .0 .0 .1)) ((c .before .match .rest .1)))
 
-executor-end-requires : (t : ℕ) → executor-lts.Need-end-requires (end-reads.Asked, end-reads.Learnt, mark-below t, mark.Post) (executor-at t) executor.Post
-executor-end-requires t c κs = search needs
+executor-executor-fixed-requires : (t : ℕ) → executor-lts.Need-executor-fixed-requires (executor-fixed-reads.Asked, executor-fixed-reads.Learnt, mark-below t, mark.Post) (executor-at t) executor.Post
+executor-executor-fixed-requires t c κs = search needs
 
-executor-add-mark : (t : ℕ) → executor-lts.Need-add-mark (end-reads.Asked, end-reads.Learnt, mark-below t, mark.Post) (executor-at t) executor.Post
+executor-add-mark : (t : ℕ) → executor-lts.Need-add-mark (executor-fixed-reads.Asked, executor-fixed-reads.Learnt, mark-below t, mark.Post) (executor-at t) executor.Post
 executor-add-mark t c = search needs
 
-executor-mark-requires : (t : ℕ) → executor-lts.Need-mark-requires (end-reads.Asked, end-reads.Learnt, mark-below t, mark.Post) (executor-at t) executor.Post
+executor-mark-requires : (t : ℕ) → executor-lts.Need-mark-requires (executor-fixed-reads.Asked, executor-fixed-reads.Learnt, mark-below t, mark.Post) (executor-at t) executor.Post
 executor-mark-requires t c κs = search needs
 
-executor-same-length : (t : ℕ) → executor-lts.Need-same-length (end-reads.Asked, end-reads.Learnt, mark-below t, mark.Post) (executor-at t) executor.Post
+executor-same-length : (t : ℕ) → executor-lts.Need-same-length (executor-fixed-reads.Asked, executor-fixed-reads.Learnt, mark-below t, mark.Post) (executor-at t) executor.Post
 executor-same-length t c = search needs
 
-executor-returns : (t : ℕ) → executor-lts.Need-returns (end-reads.Asked, end-reads.Learnt, mark-below t, mark.Post) (executor-at t) executor.Post
-executor-returns t c = executor-next _ _ _ _ _ _ _ _ (sym ((c .before .before .before .before .if1 .taken)) ∙ (c .before .before .before .before .before .end .ensures)) ((c .before .before .mark .ensures .0)) ((c .before .before .mark .ensures .1))
+executor-returns : (t : ℕ) → executor-lts.Need-returns (executor-fixed-reads.Asked, executor-fixed-reads.Learnt, mark-below t, mark.Post) (executor-at t) executor.Post
+executor-returns t c = executor-next _ _ _ _ _ _ _ _ (sym ((c .before .before .before .before .if1 .taken)) ∙ (c .before .before .before .before .before .executor-fixed .ensures)) ((c .before .before .mark .ensures .0)) ((c .before .before .mark .ensures .1))
 
-executor-returns-2 : (t : ℕ) → executor-lts.Need-returns-2 (end-reads.Asked, end-reads.Learnt, mark-below t, mark.Post) (executor-at t) executor.Post
-executor-returns-2 t c = executor-none _ _ _ _ _ _ (sym ((c .if1 .left)) ∙ (c .before .end .ensures))
+executor-returns-2 : (t : ℕ) → executor-lts.Need-returns-2 (executor-fixed-reads.Asked, executor-fixed-reads.Learnt, mark-below t, mark.Post) (executor-at t) executor.Post
+executor-returns-2 t c = executor-none _ _ _ _ _ _ (sym ((c .if1 .left)) ∙ (c .before .executor-fixed .ensures))
 
 mark-enabled-requires : (t : ℕ) → mark-lts.Need-enabled-requires (enabled-below t, enabled.Post, note-reads.Asked, note-reads.Learnt) (mark-at t) mark.Post
 mark-enabled-requires t c κs = search needs
@@ -293,26 +293,26 @@ scope-same-length t c = search needs
 scope-returns-3 : (t : ℕ) → scope-lts.Need-returns-3 (listed-reads.Asked, listed-reads.Learnt, note-list-reads.Asked, note-list-reads.Learnt, mark-below t, mark.Post) (scope-at t) scope.Post
 scope-returns-3 t c = scope-next _ _ _ _ _ _ _ _ ((c .before .before .before .before .before .before .before .before .before .before .if1 .left)) refl ((c .before .before .before .before .before .before .before .before .before .listed .ensures)) _ _ _ ((c .before .before .before .before .before .before .before .before .if2 .left)) ((c .before .before .before .before .before .before .note-list .ensures .1)) ((c .before .before .mark .ensures .0)) ((c .before .before .mark .ensures .1))
 
-seq-mark-requires : (t : ℕ) → seq-lts.Need-mark-requires (mark-below t, mark.Post, process-reads.Asked, process-reads.Learnt, note-reads.Asked, note-reads.Learnt) (seq-at t) seq.Post
+seq-mark-requires : (t : ℕ) → seq-lts.Need-mark-requires (mark-below t, mark.Post, read-reads.Asked, read-reads.Learnt, note-reads.Asked, note-reads.Learnt) (seq-at t) seq.Post
 seq-mark-requires t c κs = search needs
 
-seq-same-length : (t : ℕ) → seq-lts.Need-same-length (mark-below t, mark.Post, process-reads.Asked, process-reads.Learnt, note-reads.Asked, note-reads.Learnt) (seq-at t) seq.Post
+seq-same-length : (t : ℕ) → seq-lts.Need-same-length (mark-below t, mark.Post, read-reads.Asked, read-reads.Learnt, note-reads.Asked, note-reads.Learnt) (seq-at t) seq.Post
 seq-same-length t c = search needs
 
-seq-returns : (t : ℕ) → seq-lts.Need-returns (mark-below t, mark.Post, process-reads.Asked, process-reads.Learnt, note-reads.Asked, note-reads.Learnt) (seq-at t) seq.Post
+seq-returns : (t : ℕ) → seq-lts.Need-returns (mark-below t, mark.Post, read-reads.Asked, read-reads.Learnt, note-reads.Asked, note-reads.Learnt) (seq-at t) seq.Post
 seq-returns t c = (two-none _ (marksW ((c .before .before .before .before .before .before .before .args .depth)) ((c .before .before .before .before .before .before .before .args .ws .now)) ((c .before .before .before .before .before .before .before .args .bound))) _ _ _ _ ((c .before .before .before .mark .ensures .0)) ((c .before .before .before .mark .ensures .1)) _ ((c .if1 .taken)), seq-none _ _ _ _ _ _ ((c .before .before .before .mark .ensures .0)) ((c .before .before .before .mark .ensures .1)) ((c .if1 .taken)))
 
-seq-process-requires : (t : ℕ) → seq-lts.Need-process-requires (mark-below t, mark.Post, process-reads.Asked, process-reads.Learnt, note-reads.Asked, note-reads.Learnt) (seq-at t) seq.Post
-seq-process-requires t c κs = search needs
+seq-read-requires : (t : ℕ) → seq-lts.Need-read-requires (mark-below t, mark.Post, read-reads.Asked, read-reads.Learnt, note-reads.Asked, note-reads.Learnt) (seq-at t) seq.Post
+seq-read-requires t c κs = search needs
 
-seq-note-requires : (t : ℕ) → seq-lts.Need-note-requires (mark-below t, mark.Post, process-reads.Asked, process-reads.Learnt, note-reads.Asked, note-reads.Learnt) (seq-at t) seq.Post
+seq-note-requires : (t : ℕ) → seq-lts.Need-note-requires (mark-below t, mark.Post, read-reads.Asked, read-reads.Learnt, note-reads.Asked, note-reads.Learnt) (seq-at t) seq.Post
 seq-note-requires t c κs = search needs
 
-seq-same-length-2 : (t : ℕ) → seq-lts.Need-same-length-2 (mark-below t, mark.Post, process-reads.Asked, process-reads.Learnt, note-reads.Asked, note-reads.Learnt) (seq-at t) seq.Post
+seq-same-length-2 : (t : ℕ) → seq-lts.Need-same-length-2 (mark-below t, mark.Post, read-reads.Asked, read-reads.Learnt, note-reads.Asked, note-reads.Learnt) (seq-at t) seq.Post
 seq-same-length-2 t c = search needs
 
-seq-returns-2 : (t : ℕ) → seq-lts.Need-returns-2 (mark-below t, mark.Post, process-reads.Asked, process-reads.Learnt, note-reads.Asked, note-reads.Learnt) (seq-at t) seq.Post
-seq-returns-2 t c = (two-next _ (marksW ((c .before .before .before .before .before .before .before .before .before .before .before .before .args .depth)) ((c .before .before .before .before .before .before .before .before .before .before .before .before .args .ws .now)) ((c .before .before .before .before .before .before .before .before .before .before .before .before .args .bound))) _ _ _ _ ((c .before .before .before .before .before .before .before .before .mark .ensures .0)) ((c .before .before .before .before .before .before .before .before .mark .ensures .1)) _ _ ((c .before .before .before .before .before .if1 .left)) ((c .before .before .note .ensures .0) ∙ (c .before .before .before .before .process .ensures)), seq-next _ _ _ _ _ _ ((c .before .before .before .before .before .before .before .before .mark .ensures .0)) ((c .before .before .before .before .before .before .before .before .mark .ensures .1)) _ _ ((c .before .before .before .before .before .if1 .left)) ((c .before .before .before .before .process .ensures)) ((c .before .before .note .ensures .1)))
+seq-returns-2 : (t : ℕ) → seq-lts.Need-returns-2 (mark-below t, mark.Post, read-reads.Asked, read-reads.Learnt, note-reads.Asked, note-reads.Learnt) (seq-at t) seq.Post
+seq-returns-2 t c = (two-next _ (marksW ((c .before .before .before .before .before .before .before .before .before .before .before .before .args .depth)) ((c .before .before .before .before .before .before .before .before .before .before .before .before .args .ws .now)) ((c .before .before .before .before .before .before .before .before .before .before .before .before .args .bound))) _ _ _ _ ((c .before .before .before .before .before .before .before .before .mark .ensures .0)) ((c .before .before .before .before .before .before .before .before .mark .ensures .1)) _ _ ((c .before .before .before .before .before .if1 .left)) ((c .before .before .note .ensures .0) ∙ (c .before .before .before .before .read .ensures)), seq-next _ _ _ _ _ _ ((c .before .before .before .before .before .before .before .before .mark .ensures .0)) ((c .before .before .before .before .before .before .before .before .mark .ensures .1)) _ _ ((c .before .before .before .before .before .if1 .left)) ((c .before .before .before .before .read .ensures)) ((c .before .before .note .ensures .1)))
 
 pub +enabled+executor+mark+par+scope+seq-spec : {M : Type 1} → statement M
 +enabled+executor+mark+par+scope+seq-spec =
@@ -331,8 +331,8 @@ pub +enabled+executor+mark+par+scope+seq-spec : {M : Type 1} → statement M
       scope.Post,
       executor-below t,
       executor.Post,
-      process-reads.Asked,
-      process-reads.Learnt,
+      read-reads.Asked,
+      read-reads.Learnt,
     )
     (enabled-at t)
     enabled.Post
@@ -360,7 +360,7 @@ pub +enabled+executor+mark+par+scope+seq-spec : {M : Type 1} → statement M
     (enabled-add-result-3 t)
     (enabled-add-result-4 t)
     (enabled-executor-requires t)
-    (enabled-process-requires t)
+    (enabled-read-requires t)
     (enabled-returns-5 t)
     (enabled-same-length-2 t)
     (enabled-returns-6 t)
@@ -375,10 +375,10 @@ pub +enabled+executor+mark+par+scope+seq-spec : {M : Type 1} → statement M
     (enabled-returns-12 t)
     (enabled-returns-13 t))
     (λ t. executor-lts.spec
-    (end-reads.Asked, end-reads.Learnt, mark-below t, mark.Post)
+    (executor-fixed-reads.Asked, executor-fixed-reads.Learnt, mark-below t, mark.Post)
     (executor-at t)
     executor.Post
-    (executor-end-requires t)
+    (executor-executor-fixed-requires t)
     (executor-add-mark t)
     (executor-mark-requires t)
     (executor-same-length t)
@@ -424,8 +424,8 @@ pub +enabled+executor+mark+par+scope+seq-spec : {M : Type 1} → statement M
     λ t. seq-lts.spec (
       mark-below t,
       mark.Post,
-      process-reads.Asked,
-      process-reads.Learnt,
+      read-reads.Asked,
+      read-reads.Learnt,
       note-reads.Asked,
       note-reads.Learnt,
     )
@@ -434,7 +434,7 @@ pub +enabled+executor+mark+par+scope+seq-spec : {M : Type 1} → statement M
     (seq-mark-requires t)
     (seq-same-length t)
     (seq-returns t)
-    (seq-process-requires t)
+    (seq-read-requires t)
     (seq-note-requires t)
     (seq-same-length-2 t)
     (seq-returns-2 t)

@@ -1,50 +1,56 @@
 -- `variable` of `moving::evaluate` meets its contract: the code is its mirror in specs/.
 -- Assumes nothing.
-use Rattle.moving.specs.Evaluating.{valueIn}
-use Rattle.moving.proofs.Tests.{tests}
+use Prim.Native.Nat.{ℕ, _+_, _*_, _≤_}
+use native.Mathlib.Omega.{arith}
+use mathlib.Core.Path.{_≡_}
+use mathlib.Core.List.{List}
+use lib.ListN.{length, List·getD-eq-default}
 use borrow.Author.Needs.{needs}
+use Rattle.moving.specs.Evaluating.{valueIn}
 use Rattle.moving.proofs.evaluate.variable.Statement.{statement}
 use Rattle.moving.proofs.evaluate.variable.Tie as tie
 
-mul-long : tie.Need-mul-long
-mul-long c = search needs
+no-value : (vs : List ℕ) (x : ℕ) → length vs ≤ x → 0 ≡ valueIn vs x
+unfolding valueIn
+no-value vs x h =
+    let high : length vs ≤ x * 2 = omega arith in
+    let low : length vs ≤ x * 2 + 1 = omega arith in
+    simp List·getD-eq-default
 
-mul-long-2 : tie.Need-mul-long-2
-mul-long-2 c = search needs
+returns : tie.Need-returns
+returns c = no-value _ _ (c .if1 .taken)
 
-shared-slice-read-long : tie.Need-shared-slice-read-long
-shared-slice-read-long c = search needs
+mul-word : tie.Need-mul-word
+mul-word c = search needs
 
-mul-long-3 : tie.Need-mul-long-3
-mul-long-3 c = search needs
+word-requires : tie.Need-word-requires
+word-requires c κs = search needs
 
-add-long : tie.Need-add-long
-add-long c = search needs
+mul-word-2 : tie.Need-mul-word-2
+mul-word-2 c = search needs
 
-mul-long-4 : tie.Need-mul-long-4
-mul-long-4 c = search needs
+add-word : tie.Need-add-word
+add-word c = search needs
 
-shared-slice-read-long-2 : tie.Need-shared-slice-read-long-2
-shared-slice-read-long-2 c = search needs
+word-requires-2 : tie.Need-word-requires-2
+word-requires-2 c κs = search needs
 
 long-requires : tie.Need-long-requires
 long-requires c κs = search needs
 
-returns : tie.Need-returns
+returns-2 : tie.Need-returns-2
 unfolding valueIn
-returns c =
-    simp (tests, ← (c .long .ensures))
+returns-2 c = simp (← (c .before .before .word .ensures), ← (c .before .word2 .ensures), ← (c .long .ensures))
 
 pub variable-spec : {M : Type 1} → statement M
 variable-spec =
     tie.close
     (tie.spec
-    mul-long
-    mul-long-2
-    shared-slice-read-long
-    mul-long-3
-    add-long
-    mul-long-4
-    shared-slice-read-long-2
+    returns
+    mul-word
+    word-requires
+    mul-word-2
+    add-word
+    word-requires-2
     long-requires
-    returns)
+    returns-2)

@@ -6,7 +6,8 @@ use lib.ListN.{length, replicate}
 use borrow.Author.Needs.{needs}
 use native.Mathlib.Omega.{arith}
 use native.Mathlib.Nat.{sub-zero}
-use Rattle.reading.proofs.Surveys.{process-inside, no-values, no-process, next-engine, more-words, all-read}
+use Rattle.reading.proofs.Beyond.{read-inside}
+use Rattle.reading.proofs.Surveys.{no-values, no-process, next-engine, more-words, all-read}
 use Rattle.reading.specs.Walk.{processEnd}
 use Rattle.reading.specs.Survey.{enginesFrom}
 use Rattle.reading.proofs.survey.engines.Statement.{statement}
@@ -42,17 +43,17 @@ mul-starts c = search needs
 array-write-starts : tie.Need-array-write-starts Inv-loop μ-loop
 array-write-starts c = search needs
 
-add-process : tie.Need-add-process Inv-loop μ-loop
-add-process c = search needs
+add-read : tie.Need-add-read Inv-loop μ-loop
+add-read c = search needs
 
-process-requires : tie.Need-process-requires Inv-loop μ-loop
-process-requires c κs = search needs
+read-requires : tie.Need-read-requires Inv-loop μ-loop
+read-requires c κs = search needs
 
 unreadable-requires-2 : tie.Need-unreadable-requires-2 Inv-loop μ-loop
 unreadable-requires-2 c κs = search needs
 
 returns-2 : tie.Need-returns-2 Inv-loop μ-loop
-returns-2 c = no-process _ _ _ _ _ _ _ ((c .before .before .before .before .before .loop .inv .0)) _ _ (c .before .before .before .before .loop-test .taken) (c .before .before .before .if1 .left) (c .before .before .process .ensures) (c .before .if2 .taken) (c .unreadable2 .ensures)
+returns-2 c = no-process _ _ _ _ _ _ _ ((c .before .before .before .before .before .loop .inv .0)) _ _ (c .before .before .before .before .loop-test .taken) (c .before .before .before .if1 .left) (c .before .before .read .ensures) (c .before .if2 .taken) (c .unreadable2 .ensures)
 
 add-e : tie.Need-add-e Inv-loop μ-loop
 add-e c = search needs
@@ -62,8 +63,8 @@ loop-less c = search needs
 
 loop-again : tie.Need-loop-again Inv-loop μ-loop
 loop-again c =
-    let inside : (c .before .process .result) ≤ length ((c .before .before .before .before .before .before .args .ws) .now) = rw (c .before .process .ensures) (process-inside _ (λ i. (c .before .before .before .before .before .shared-slice-known .given) i .fits) _ _ _ ((c .before .before .before .before .before .before .pre .1)) _) in
-    (next-engine _ _ _ _ _ _ _ ((c .before .before .before .before .loop .inv .0)) _ (c .before .before .before .loop-test .taken) (c .before .before .if1 .left) (c .before .process .ensures) (c .if2 .left), inside, omega arith)
+    let inside : (c .before .read .result) ≤ length ((c .before .before .before .before .before .before .args .ws) .now) = rw (c .before .read .ensures) (read-inside _ (λ i. (c .before .before .before .before .before .shared-slice-known .given) i .fits) _ _ _ _) in
+    (next-engine _ _ _ _ _ _ _ ((c .before .before .before .before .loop .inv .0)) _ (c .before .before .before .loop-test .taken) (c .before .before .if1 .left) (c .before .read .ensures) (c .if2 .left), inside, omega arith)
 
 unreadable-requires-3 : tie.Need-unreadable-requires-3 Inv-loop μ-loop
 unreadable-requires-3 c κs = search needs
@@ -96,8 +97,8 @@ engines-spec =
     add-starts
     mul-starts
     array-write-starts
-    add-process
-    process-requires
+    add-read
+    read-requires
     unreadable-requires-2
     returns-2
     add-e

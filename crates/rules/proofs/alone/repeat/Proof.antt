@@ -37,8 +37,8 @@ returns-2 c =
 levels-left-requires : tie.Need-levels-left-requires
 levels-left-requires c κs = search needs
 
-process-requires : tie.Need-process-requires
-process-requires c κs = search needs
+read-requires : tie.Need-read-requires
+read-requires c κs = search needs
 
 refusal-requires : tie.Need-refusal-requires
 refusal-requires c κs = search needs
@@ -49,7 +49,7 @@ returns-3 c =
     let f0 = c .before .if3 .taken in
     let f1 = c .before .before .before .before .if2 .left in
     let f2 = c .before .before .before .before .before .before .if1 .left in
-    (simp (tests, ← (c .refusal .ensures), f0, ← (c .before .before .process .ensures), ← (c .before .before .before .levels-left .ensures), f1, ← (c .before .before .before .before .before .word .ensures), f2, ← (c .before .before .before .before .before .before .before .before .skip .ensures), ← (c .before .before .before .before .before .before .before .before .before .evaluate .ensures)), simp (tests, ← (c .refusal .ensures), f0, ← (c .before .before .process .ensures), ← (c .before .before .before .levels-left .ensures), f1, ← (c .before .before .before .before .before .word .ensures), f2, ← (c .before .before .before .before .before .before .before .before .skip .ensures), ← (c .before .before .before .before .before .before .before .before .before .evaluate .ensures)))
+    (simp (tests, ← (c .refusal .ensures), f0, ← (c .before .before .read .ensures), ← (c .before .before .before .levels-left .ensures), f1, ← (c .before .before .before .before .before .word .ensures), f2, ← (c .before .before .before .before .before .before .before .before .skip .ensures), ← (c .before .before .before .before .before .before .before .before .before .evaluate .ensures)), simp (tests, ← (c .refusal .ensures), f0, ← (c .before .before .read .ensures), ← (c .before .before .before .levels-left .ensures), f1, ← (c .before .before .before .before .before .word .ensures), f2, ← (c .before .before .before .before .before .before .before .before .skip .ensures), ← (c .before .before .before .before .before .before .before .before .before .evaluate .ensures)))
 
 unroll-requires : tie.Need-unroll-requires
 unroll-requires c κs = search needs
@@ -63,7 +63,7 @@ returns-4 c =
     let f0 = c .before .before .before .before .if3 .left in
     let f1 = c .before .before .before .before .before .before .before .if2 .left in
     let f2 = c .before .before .before .before .before .before .before .before .before .if1 .left in
-    (simp (tests, ← (c .before .before .unroll .ensures .0), ← (c .before .before .unroll .ensures .1), f0, ← (c .before .before .before .before .before .process .ensures), ← (c .before .before .before .before .before .before .levels-left .ensures), f1, ← (c .before .before .before .before .before .before .before .before .word .ensures), f2, ← (c .before .before .before .before .before .before .before .before .before .before .before .skip .ensures), ← (c .before .before .before .before .before .before .before .before .before .before .before .before .evaluate .ensures)), simp (tests, ← (c .before .before .unroll .ensures .0), ← (c .before .before .unroll .ensures .1), f0, ← (c .before .before .before .before .before .process .ensures), ← (c .before .before .before .before .before .before .levels-left .ensures), f1, ← (c .before .before .before .before .before .before .before .before .word .ensures), f2, ← (c .before .before .before .before .before .before .before .before .before .before .before .skip .ensures), ← (c .before .before .before .before .before .before .before .before .before .before .before .before .evaluate .ensures)))
+    (simp (tests, ← (c .before .before .unroll .ensures .0), ← (c .before .before .unroll .ensures .1), f0, ← (c .before .before .before .before .before .read .ensures), ← (c .before .before .before .before .before .before .levels-left .ensures), f1, ← (c .before .before .before .before .before .before .before .before .word .ensures), f2, ← (c .before .before .before .before .before .before .before .before .before .before .before .skip .ensures), ← (c .before .before .before .before .before .before .before .before .before .before .before .before .evaluate .ensures)), simp (tests, ← (c .before .before .unroll .ensures .0), ← (c .before .before .unroll .ensures .1), f0, ← (c .before .before .before .before .before .read .ensures), ← (c .before .before .before .before .before .before .levels-left .ensures), f1, ← (c .before .before .before .before .before .before .before .before .word .ensures), f2, ← (c .before .before .before .before .before .before .before .before .before .before .before .skip .ensures), ← (c .before .before .before .before .before .before .before .before .before .before .before .before .evaluate .ensures)))
 
 pub repeat-spec : {M : Type 1} → statement M
 repeat-spec =
@@ -77,7 +77,7 @@ repeat-spec =
     keep-requires
     returns-2
     levels-left-requires
-    process-requires
+    read-requires
     refusal-requires
     returns-3
     unroll-requires

@@ -49,8 +49,8 @@ returns-2 c =
 levels-at-requires : tie.Need-levels-at-requires
 levels-at-requires c κs = search needs
 
-process-requires : tie.Need-process-requires
-process-requires c κs = search needs
+read-requires : tie.Need-read-requires
+read-requires c κs = search needs
 
 refuse-requires : tie.Need-refuse-requires
 refuse-requires c κs = search needs
@@ -64,7 +64,7 @@ returns-3 c =
     let f0 = c .before .if3 .taken in
     let f1 = c .before .before .before .before .if2 .left in
     let f2 = c .before .before .before .before .before .before .before .before .before .before .before .before .before .if1 .left in
-    (simp (tests, ← (c .refuse .ensures), f0, ← (c .before .before .process .ensures), ← (c .before .before .before .levels-at .ensures), f1, ← (c .before .before .before .before .before .before .before .before .take .ensures .0), ← (c .before .before .before .before .before .before .before .before .take .ensures .1), ← (c .before .before .before .before .before .before .before .before .before .before .further .ensures), ← (c .before .before .before .before .before .before .before .before .before .before .before .wide .ensures .0), ← (c .before .before .before .before .before .before .before .before .before .before .before .before .word .ensures), f2), simp (tests, ← (c .refuse .ensures), f0, ← (c .before .before .process .ensures), ← (c .before .before .before .levels-at .ensures), f1, ← (c .before .before .before .before .before .before .before .before .take .ensures .0), ← (c .before .before .before .before .before .before .before .before .take .ensures .1), ← (c .before .before .before .before .before .before .before .before .before .before .further .ensures), ← (c .before .before .before .before .before .before .before .before .before .before .before .wide .ensures .0), ← (c .before .before .before .before .before .before .before .before .before .before .before .before .word .ensures), f2))
+    (simp (tests, ← (c .refuse .ensures), f0, ← (c .before .before .read .ensures), ← (c .before .before .before .levels-at .ensures), f1, ← (c .before .before .before .before .before .before .before .before .take .ensures .0), ← (c .before .before .before .before .before .before .before .before .take .ensures .1), ← (c .before .before .before .before .before .before .before .before .before .before .further .ensures), ← (c .before .before .before .before .before .before .before .before .before .before .before .wide .ensures .0), ← (c .before .before .before .before .before .before .before .before .before .before .before .before .word .ensures), f2), simp (tests, ← (c .refuse .ensures), f0, ← (c .before .before .read .ensures), ← (c .before .before .before .levels-at .ensures), f1, ← (c .before .before .before .before .before .before .before .before .take .ensures .0), ← (c .before .before .before .before .before .before .before .before .take .ensures .1), ← (c .before .before .before .before .before .before .before .before .before .before .further .ensures), ← (c .before .before .before .before .before .before .before .before .before .before .before .wide .ensures .0), ← (c .before .before .before .before .before .before .before .before .before .before .before .before .word .ensures), f2))
 
 moved-requires : tie.Need-moved-requires
 moved-requires c κs = search needs
@@ -78,7 +78,7 @@ returns-4 c =
     let f0 = c .before .before .before .before .if3 .left in
     let f1 = c .before .before .before .before .before .before .before .if2 .left in
     let f2 = c .before .before .before .before .before .before .before .before .before .before .before .before .before .before .before .before .if1 .left in
-    (simp (tests, ← (c .before .before .moved .ensures .0), ← (c .before .before .moved .ensures .1), f0, ← (c .before .before .before .before .before .process .ensures), ← (c .before .before .before .before .before .before .levels-at .ensures), f1, ← (c .before .before .before .before .before .before .before .before .before .before .before .take .ensures .0), ← (c .before .before .before .before .before .before .before .before .before .before .before .take .ensures .1), ← (c .before .before .before .before .before .before .before .before .before .before .before .before .before .further .ensures), ← (c .before .before .before .before .before .before .before .before .before .before .before .before .before .before .wide .ensures .0), ← (c .before .before .before .before .before .before .before .before .before .before .before .before .before .before .before .word .ensures), f2), simp (tests, ← (c .before .before .moved .ensures .0), ← (c .before .before .moved .ensures .1), f0, ← (c .before .before .before .before .before .process .ensures), ← (c .before .before .before .before .before .before .levels-at .ensures), f1, ← (c .before .before .before .before .before .before .before .before .before .before .before .take .ensures .0), ← (c .before .before .before .before .before .before .before .before .before .before .before .take .ensures .1), ← (c .before .before .before .before .before .before .before .before .before .before .before .before .before .further .ensures), ← (c .before .before .before .before .before .before .before .before .before .before .before .before .before .before .wide .ensures .0), ← (c .before .before .before .before .before .before .before .before .before .before .before .before .before .before .before .word .ensures), f2))
+    (simp (tests, ← (c .before .before .moved .ensures .0), ← (c .before .before .moved .ensures .1), f0, ← (c .before .before .before .before .before .read .ensures), ← (c .before .before .before .before .before .before .levels-at .ensures), f1, ← (c .before .before .before .before .before .before .before .before .before .before .before .take .ensures .0), ← (c .before .before .before .before .before .before .before .before .before .before .before .take .ensures .1), ← (c .before .before .before .before .before .before .before .before .before .before .before .before .before .further .ensures), ← (c .before .before .before .before .before .before .before .before .before .before .before .before .before .before .wide .ensures .0), ← (c .before .before .before .before .before .before .before .before .before .before .before .before .before .before .before .word .ensures), f2), simp (tests, ← (c .before .before .moved .ensures .0), ← (c .before .before .moved .ensures .1), f0, ← (c .before .before .before .before .before .read .ensures), ← (c .before .before .before .before .before .before .levels-at .ensures), f1, ← (c .before .before .before .before .before .before .before .before .before .before .before .take .ensures .0), ← (c .before .before .before .before .before .before .before .before .before .before .before .take .ensures .1), ← (c .before .before .before .before .before .before .before .before .before .before .before .before .before .further .ensures), ← (c .before .before .before .before .before .before .before .before .before .before .before .before .before .before .wide .ensures .0), ← (c .before .before .before .before .before .before .before .before .before .before .before .before .before .before .before .word .ensures), f2))
 
 pub compensated-spec : {M : Type 1} → statement M
 compensated-spec =
@@ -96,7 +96,7 @@ compensated-spec =
     same-length-2
     returns-2
     levels-at-requires
-    process-requires
+    read-requires
     refuse-requires
     same-length-3
     returns-3

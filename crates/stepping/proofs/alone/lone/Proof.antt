@@ -27,7 +27,7 @@ same-length-2 c = search needs
 returns : tie.Need-returns
 unfolding loneW
 returns c =
-    (simp (tests, ← (c .before .before .one .ensures .0), ← (c .before .before .one .ensures .1), ← (c .before .before .before .before .before .end-before .ensures), ← (c .before .before .before .before .before .before .before .before .rule .ensures .0), ← (c .before .before .before .before .before .before .before .before .rule .ensures .1)), simp (tests, ← (c .before .before .one .ensures .0), ← (c .before .before .one .ensures .1), ← (c .before .before .before .before .before .end-before .ensures), ← (c .before .before .before .before .before .before .before .before .rule .ensures .0), ← (c .before .before .before .before .before .before .before .before .rule .ensures .1)))
+    (simp (tests, ← (c .before .before .one .ensures .0), ← (c .before .before .one .ensures .1), ← (c .before .before .before .before .before .end-before .ensures), ← (c .before .before .before .before .before .before .before .before .rule .ensures .0), ← (c .before .before .before .before .before .before .before .before .rule .ensures .1)), simp (tests, ← (c .before .before .one .ensures .0), ← (c .before .before .one .ensures .1), ← (c .before .before .before .before .before .end-before .ensures), ← (c .before .before .before .before .before .before .before .before .rule .ensures .0), ← (c .before .before .before .before .before .before .before .before .rule .ensures .1)), c .before .before .before .before .before .before .before .before .rule .ensures .1)
 
 pub lone-spec : {M : Type 1} → statement M
 lone-spec =

@@ -44,7 +44,7 @@ returns : tie.Need-returns
 unfolding shortW
 returns c =
     let f0 = c .before .before .before .before .if1 .taken in
-    (simp (tests, ← (c .before .before .before .before .before .before .before .before .rule .ensures .0), f0, ← (c .before .before .roomy .ensures .0), ← (c .before .before .roomy .ensures .1)), simp (tests, ← (c .before .before .before .before .before .before .before .before .rule .ensures .0), f0, ← (c .before .before .roomy .ensures .0), ← (c .before .before .roomy .ensures .1)))
+    (simp (tests, ← (c .before .before .before .before .before .before .before .before .rule .ensures .0), f0, ← (c .before .before .roomy .ensures .0), ← (c .before .before .roomy .ensures .1)), simp (tests, ← (c .before .before .before .before .before .before .before .before .rule .ensures .0), f0, ← (c .before .before .roomy .ensures .0), ← (c .before .before .roomy .ensures .1)), c .before .before .before .before .before .before .before .before .rule .ensures .1)
 
 end-before-requires : tie.Need-end-before-requires
 end-before-requires c κs = search needs
@@ -64,7 +64,7 @@ same-length-4 c = search needs
 returns-2 : tie.Need-returns-2
 returns-2 c =
     let e = kept _ _ _ _ _ _ _ _ _ _ _ _ (c .before .before .before .before .before .before .before .before .before .before .rule .ensures .0) (c .before .before .before .before .before .before .before .before .before .before .rule .ensures .1) (c .before .before .before .before .before .end-before .ensures) (c .before .before .before .before .before .before .if1 .left) in
-    (c .before .before .one .ensures .0 ∙ ap (λ u. u .answer) e, c .before .before .one .ensures .1 ∙ ap (λ u. u .out) e)
+    (c .before .before .one .ensures .0 ∙ ap (λ u. u .answer) e, c .before .before .one .ensures .1 ∙ ap (λ u. u .out) e, c .before .before .before .before .before .before .before .before .before .before .rule .ensures .1)
 
 pub short-spec : {M : Type 1} → statement M
 short-spec =

@@ -67,7 +67,7 @@ issued-of-requires c κs = search needs
 ordered-requires : tie.Need-ordered-requires
 ordered-requires c κs =
     let pre = c .before .before .before .before .before .before .before .before .before .before .before .before .before .before .before .before .before .before .before .before .before .before .pre in
-    (rw (c .before .before .before .before .before .before .before .before .before .before .before .before .before .before .before .before .wide .ensures .0) (pre .1), rw (c .before .before .before .before .before .before .before .before .before .before .before .before .before .before .before .wide2 .ensures .0) (pre .2))
+    (rw (c .before .before .before .before .before .before .before .before .before .before .before .before .before .before .before .before .wide .ensures .0) (pre .0), rw (c .before .before .before .before .before .before .before .before .before .before .before .before .before .before .before .wide2 .ensures .0) (pre .1))
 
 same-length : tie.Need-same-length
 same-length c = search needs

@@ -33,8 +33,8 @@ wide-requires-2 c κs = search needs
 further-requires : tie.Need-further-requires
 further-requires c κs = search needs
 
-find-requires : tie.Need-find-requires
-find-requires c κs = search needs
+locate-requires : tie.Need-locate-requires
+locate-requires c κs = search needs
 
 enum-known-e : tie.Need-enum-known-e
 enum-known-e c = search needs
@@ -56,7 +56,7 @@ returns-2 c =
     let a = c .before .before .before .before .before .before .before .before .before .before .before .before .args in
     let e =
     receiving-past (a .ws .now) (a .marks .now) _ (a .n) (a .engine) (a .a) (a .kind) (a .second) (a .place) (a .branch) (a .out .now) _ _ _ _ _
-    (c .before .before .before .before .before .before .before .before .wide .ensures .0) (c .before .before .before .before .before .before .wide2 .ensures .0) refl (c .before .before .before .before .before .before .before .if1 .left) (c .before .before .before .before .before .further .ensures) (c .before .before .before .before .find .ensures) _ (c .before .before .e .given .1) in
+    (c .before .before .before .before .before .before .before .before .wide .ensures .0) (c .before .before .before .before .before .before .wide2 .ensures .0) refl (c .before .before .before .before .before .before .before .if1 .left) (c .before .before .before .before .before .further .ensures) (c .before .before .before .before .locate .ensures) _ (c .before .before .e .given .1) in
     (c .refuse2 .ensures ∙ ap (λ (w : Answered). w .answer) e, ap (λ (w : Answered). w .out) e)
 
 same-length : tie.Need-same-length
@@ -67,7 +67,7 @@ returns-3 c =
     let a = c .before .before .before .before .before .before .before .before .before .before .before .before .before .before .before .before .args in
     let e =
     receiving-hit (a .ws .now) (a .marks .now) _ (a .n) (a .engine) (a .a) (a .kind) (a .second) (a .place) (a .branch) (a .out .now) _ _ _ _ _
-    (c .before .before .before .before .before .before .before .before .before .before .before .before .wide .ensures .0) (c .before .before .before .before .before .before .before .before .before .before .wide2 .ensures .0) (c .before .before .before .before .wide3 .ensures .0) (c .before .before .before .before .before .before .before .before .before .before .before .if1 .left) (c .before .before .before .before .before .before .before .before .before .further .ensures) (c .before .before .before .before .before .before .before .before .find .ensures) _
+    (c .before .before .before .before .before .before .before .before .before .before .before .before .wide .ensures .0) (c .before .before .before .before .before .before .before .before .before .before .wide2 .ensures .0) (c .before .before .before .before .wide3 .ensures .0) (c .before .before .before .before .before .before .before .before .before .before .before .if1 .left) (c .before .before .before .before .before .before .before .before .before .further .ensures) (c .before .before .before .before .before .before .before .before .locate .ensures) _
     (c .before .before .before .before .before .before .b .given .1) in
     (c .before .before .between .ensures .0 ∙ ap (λ (w : Answered). w .answer) e, c .before .before .between .ensures .1 ∙ ap (λ (w : Answered). w .out) e)
 
@@ -82,7 +82,7 @@ receiving-spec =
     array-read-start
     wide-requires-2
     further-requires
-    find-requires
+    locate-requires
     enum-known-e
     refuse-requires-2
     enum-known-b

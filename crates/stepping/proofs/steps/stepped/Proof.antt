@@ -25,7 +25,7 @@ returns : tie.Need-returns
 unfolding stepW foundW
 returns c =
     let f0 = (c .before .if1 .taken) in
-    (simp (tests, ← ((c .refuse .ensures)), f0, ← ((c .before .before .wide .ensures .0)), ← ((c .before .before .before .before .before .survey .ensures .0))), simp (tests, ← ((c .refuse .ensures)), f0, ← ((c .before .before .wide .ensures .0)), ← ((c .before .before .before .before .before .survey .ensures .0))))
+    (simp (tests, ← ((c .refuse .ensures)), f0, ← ((c .before .before .wide .ensures .0)), ← ((c .before .before .before .before .before .survey .ensures .0))), simp (tests, ← ((c .refuse .ensures)), f0, ← ((c .before .before .wide .ensures .0)), ← ((c .before .before .before .before .before .survey .ensures .0))), c .before .before .before .before .before .survey .ensures .1)
 
 refuse-requires-2 : tie.Need-refuse-requires-2
 refuse-requires-2 c κs = search needs
@@ -38,7 +38,7 @@ unfolding stepW foundW
 returns-2 c =
     let f0 = (c .before .if2 .taken) in
     let f1 = (c .before .before .if1 .left) in
-    (simp (tests, ← ((c .refuse2 .ensures)), f0, f1, ← ((c .before .before .before .wide .ensures .0)), ← ((c .before .before .before .before .before .before .survey .ensures .0))), simp (tests, ← ((c .refuse2 .ensures)), f0, f1, ← ((c .before .before .before .wide .ensures .0)), ← ((c .before .before .before .before .before .before .survey .ensures .0))))
+    (simp (tests, ← ((c .refuse2 .ensures)), f0, f1, ← ((c .before .before .before .wide .ensures .0)), ← ((c .before .before .before .before .before .before .survey .ensures .0))), simp (tests, ← ((c .refuse2 .ensures)), f0, f1, ← ((c .before .before .before .wide .ensures .0)), ← ((c .before .before .before .before .before .before .survey .ensures .0))), c .before .before .before .before .before .before .survey .ensures .1)
 
 refuse-requires-3 : tie.Need-refuse-requires-3
 refuse-requires-3 c κs = search needs
@@ -52,7 +52,7 @@ returns-3 c =
     let e =
     step-beyond (a .ws .now) (a .marks .now) (a .engine) (a .position) (a .second) (a .place) (a .branch) (a .out .now) _ ((c .before .before .before .before .before .before .before .survey .ensures .0)) _ ((c .before .before .before .before .before .before .before .survey .ensures .1)) ((c .before .before .before .if1 .left)) ((c .before .before .if2 .left)) _
     ((c .before .before .before .before .wide .ensures .0)) ((c .before .if3 .taken)) in
-    ((c .refuse3 .ensures) ∙ ap (λ (w : Answered). w .answer) e, ap (λ (w : Answered). w .out) e)
+    ((c .refuse3 .ensures) ∙ ap (λ (w : Answered). w .answer) e, ap (λ (w : Answered). w .out) e, c .before .before .before .before .before .before .before .survey .ensures .1)
 
 mul-start : tie.Need-mul-start
 mul-start c = search needs
@@ -78,8 +78,8 @@ wide-requires-3 c κs = search needs
 further-requires : tie.Need-further-requires
 further-requires c κs = search needs
 
-find-requires : tie.Need-find-requires
-find-requires c κs = search needs
+locate-requires : tie.Need-locate-requires
+locate-requires c κs = search needs
 
 enum-known-p : tie.Need-enum-known-p
 enum-known-p c = search needs
@@ -102,8 +102,8 @@ returns-4 c =
     let e =
     step-past (a .ws .now) (a .marks .now) (a .engine) (a .position) (a .second) (a .place) (a .branch) (a .out .now) _ ((c .before .before .before .before .before .before .before .before .before .before .before .before .before .before .before .before .before .survey .ensures .0)) _ ((c .before .before .before .before .before .before .before .before .before .before .before .before .before .before .before .before .before .survey .ensures .1)) ((c .before .before .before .before .before .before .before .before .before .before .before .before .before .if1 .left)) ((c .before .before .before .before .before .before .before .before .before .before .before .before .if2 .left)) _
     ((c .before .before .before .before .before .before .before .before .before .before .before .before .before .before .wide .ensures .0)) ((c .before .before .before .before .before .before .before .before .before .before .before .if3 .left)) _ _ _ _ _ ((c .before .before .before .before .before .before .before .before .before .word .ensures)) ((c .before .before .before .before .before .before .before .before .wide2 .ensures .0)) ((c .before .before .before .before .before .before .wide3 .ensures .0)) ((c .before .before .before .before .before .further .ensures))
-    ((c .before .before .before .before .find .ensures)) _ ((c .before .before .p .given .1)) in
-    ((c .refuse4 .ensures) ∙ ap (λ (w : Answered). w .answer) e, ap (λ (w : Answered). w .out) e)
+    ((c .before .before .before .before .locate .ensures)) _ ((c .before .before .p .given .1)) in
+    ((c .refuse4 .ensures) ∙ ap (λ (w : Answered). w .answer) e, ap (λ (w : Answered). w .out) e, c .before .before .before .before .before .before .before .before .before .before .before .before .before .before .before .before .before .survey .ensures .1)
 
 same-length-5 : tie.Need-same-length-5
 same-length-5 c = (c .before .before .before .before .before .before .before .before .before .before .before .before .before .before .before .before .before .before .before .before .marks .given)
@@ -117,8 +117,8 @@ returns-5 c =
     let e =
     step-hit (a .ws .now) (a .marks .now) (a .engine) (a .position) (a .second) (a .place) (a .branch) (a .out .now) _ ((c .before .before .before .before .before .before .before .before .before .before .before .before .before .before .before .before .before .before .before .before .before .survey .ensures .0)) _ ((c .before .before .before .before .before .before .before .before .before .before .before .before .before .before .before .before .before .before .before .before .before .survey .ensures .1)) ((c .before .before .before .before .before .before .before .before .before .before .before .before .before .before .before .before .before .if1 .left)) ((c .before .before .before .before .before .before .before .before .before .before .before .before .before .before .before .before .if2 .left)) _
     ((c .before .before .before .before .before .before .before .before .before .before .before .before .before .before .before .before .before .before .wide .ensures .0)) ((c .before .before .before .before .before .before .before .before .before .before .before .before .before .before .before .if3 .left)) _ _ _ _ _ ((c .before .before .before .before .before .before .before .before .before .before .before .before .before .word .ensures)) ((c .before .before .before .before .before .before .before .before .before .before .before .before .wide2 .ensures .0)) ((c .before .before .before .before .before .before .before .before .before .before .wide3 .ensures .0)) ((c .before .before .before .before .before .before .before .before .before .further .ensures))
-    ((c .before .before .before .before .before .before .before .before .find .ensures)) _ ((c .before .before .before .before .before .before .a .given .1)) in
-    ((c .before .before .moving .ensures .0) ∙ ap (λ (w : Answered). w .answer) e, (c .before .before .moving .ensures .1) ∙ ap (λ (w : Answered). w .out) e)
+    ((c .before .before .before .before .before .before .before .before .locate .ensures)) _ ((c .before .before .before .before .before .before .a .given .1)) in
+    ((c .before .before .moving .ensures .0) ∙ ap (λ (w : Answered). w .answer) e, (c .before .before .moving .ensures .1) ∙ ap (λ (w : Answered). w .out) e, c .before .before .before .before .before .before .before .before .before .before .before .before .before .before .before .before .before .before .before .before .before .survey .ensures .1)
 
 pub stepped-spec : {M : Type 1} → statement M
 stepped-spec =
@@ -143,7 +143,7 @@ stepped-spec =
     add-bound
     wide-requires-3
     further-requires
-    find-requires
+    locate-requires
     enum-known-p
     refuse-requires-4
     enum-known-a

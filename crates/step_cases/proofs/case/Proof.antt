@@ -1,0 +1,112 @@
+-- `case` reads and lends inside its arrays.
+-- Assumes nothing.
+use mathlib.Core.Path.{sym}
+use lib.Seq.{length-take-le}
+use borrow.Author.Needs.{needs}
+use Rattle.step_cases.proofs.case.Statement.{statement}
+use Rattle.step_cases.proofs.case.Tie as tie
+
+slice-aggregate-take : tie.Need-slice-aggregate-take
+slice-aggregate-take c = search needs
+
+take-requires : tie.Need-take-requires
+take-requires c κs = search needs
+
+returns : tie.Need-returns
+returns c = search needs
+
+array-read-word : tie.Need-array-read-word
+array-read-word c = search needs
+
+array-read-word-2 : tie.Need-array-read-word-2
+array-read-word-2 c = search needs
+
+word-requires : tie.Need-word-requires
+word-requires c κs = search needs
+
+cast-count : tie.Need-cast-count
+cast-count c = search needs
+
+returns-2 : tie.Need-returns-2
+returns-2 c = search needs
+
+mul-size : tie.Need-mul-size
+mul-size c = search needs
+
+slice-aggregate-take-2 : tie.Need-slice-aggregate-take-2
+slice-aggregate-take-2 c = search needs
+
+take-requires-2 : tie.Need-take-requires-2
+take-requires-2 c κs = search needs
+
+returns-3 : tie.Need-returns-3
+returns-3 c = search needs
+
+array-share-prefix-bytes : tie.Need-array-share-prefix-bytes
+array-share-prefix-bytes c = search needs
+
+slice-aggregate-hold : tie.Need-slice-aggregate-hold
+slice-aggregate-hold c = sym (length-take-le _ _ (search needs))
+
+slice-aggregate-hold-2 : tie.Need-slice-aggregate-hold-2
+slice-aggregate-hold-2 c = search needs
+
+hold-requires : tie.Need-hold-requires
+hold-requires c κs = search needs
+
+array-share-prefix-ws : tie.Need-array-share-prefix-ws
+array-share-prefix-ws c = search needs
+
+slice-aggregate-lend : tie.Need-slice-aggregate-lend
+slice-aggregate-lend c = sym (length-take-le _ _ (search needs))
+
+slice-aggregate-lend-2 : tie.Need-slice-aggregate-lend-2
+slice-aggregate-lend-2 c = search needs
+
+array-read-word-3 : tie.Need-array-read-word-3
+array-read-word-3 c = search needs
+
+array-read-word-4 : tie.Need-array-read-word-4
+array-read-word-4 c = search needs
+
+word-requires-2 : tie.Need-word-requires-2
+word-requires-2 c κs = search needs
+
+cast-lend : tie.Need-cast-lend
+cast-lend c = search needs
+
+lend-requires : tie.Need-lend-requires
+lend-requires c κs = search needs
+
+returns-4 : tie.Need-returns-4
+returns-4 c = search needs
+
+pub case-spec : {M : Type 1} → statement M
+case-spec =
+    tie.close
+    (tie.spec
+    slice-aggregate-take
+    take-requires
+    returns
+    array-read-word
+    array-read-word-2
+    word-requires
+    cast-count
+    returns-2
+    mul-size
+    slice-aggregate-take-2
+    take-requires-2
+    returns-3
+    array-share-prefix-bytes
+    slice-aggregate-hold
+    slice-aggregate-hold-2
+    hold-requires
+    array-share-prefix-ws
+    slice-aggregate-lend
+    slice-aggregate-lend-2
+    array-read-word-3
+    array-read-word-4
+    word-requires-2
+    cast-lend
+    lend-requires
+    returns-4)
