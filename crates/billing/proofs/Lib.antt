@@ -5,3 +5,8 @@ pub mod Going
 pub mod Lists
 pub mod Digits
 pub mod ByteReplies
+pub mod Laws
+pub mod LaidOut
+pub mod Greatest
+pub mod Order
+pub mod Examples
