@@ -53,6 +53,17 @@ int main(void)
     answer = sock_take_step(reply, config, length, config, sizeof config);
     printf("the same, over the configuration: %s\n", sock_word(answer.number));
 
+    /* What engines 2 and 7 owe: two replies of 1 litre at 1 cent per 1,000 litres, each a cent, and one of 1,000 litres at 250. */
+    static uint8_t rates[SOCK_RATE_BYTES], replies[3 * SOCK_REPLY_BYTES];
+    static const uint32_t list[9] = {5, 2, 1, 5, 2, 1, 6, 7, 1000};
+    for (size_t operation = 0; operation < 64; operation++)
+        sock_put_value(rates, 2 * operation, operation == 6 ? 250 : 1);
+    for (size_t number = 0; number < 9; number++)
+        sock_put_value(replies, 2 * number, list[number]);
+    struct sock_bill_answer bill = sock_charge(rates, replies, 3);
+    printf("bill: %s, engine 2 owes %llu, engine 7 owes %llu\n", sock_word(bill.number), (unsigned long long)bill.totals[2],
+           (unsigned long long)bill.totals[7]);
+
     /* The raw call, which a program in another language makes: one number that holds all. */
     printf("packed: %016llx\n", (unsigned long long)sock_step(1, 3, 0, 3, 0, config, length, out, sizeof out));
     return 0;

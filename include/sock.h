@@ -14,7 +14,8 @@
  * Memory. No call allocates, keeps a pointer or reads or writes outside what it is lent, and the library has no variables of its own. A
  * length may be 0; the pointer is then not followed, and may be null. With any other length it must point to so many bytes. Lent memory
  * may stand at any address. A configuration is only read. The output of a step must not overlap it, not by one byte: the proofs take the
- * two to be apart. sock_step cannot see an overlap and its answer then means nothing; sock_take_step refuses it (SOCK_OVERLAP).
+ * two to be apart. sock_step cannot see an overlap and its answer then means nothing; sock_take_step refuses it (SOCK_OVERLAP). The same
+ * holds of a bill's totals, which must not overlap its rates or replies.
  *
  * Threads and signals. Every call may be made from any thread and from a signal handler, also while another call is under way. Two
  * calls may read one configuration at the same time; nobody may write to it, or touch an output, until the call has returned.
@@ -33,9 +34,9 @@ extern "C" {
 
 /* This header's version. The first number rises when a call, an answer or the format changes, the second when something is added. */
 #define SOCK_VERSION_MAJOR 1
-#define SOCK_VERSION_MINOR 0
+#define SOCK_VERSION_MINOR 1
 #define SOCK_VERSION_PATCH 0
-#define SOCK_VERSION "1.0.0"
+#define SOCK_VERSION "1.1.0"
 
 /* The most words and bytes that a configuration has. */
 #define SOCK_WORDS 8192
@@ -64,6 +65,8 @@ enum sock_number {
     SOCK_SHORT_PAPER = 10,    /* the output is shorter than the result */
     SOCK_NOT_FRESH = 11,      /* start check: readable, but not a start */
     SOCK_UNKNOWN_SERIAL = 12, /* ends: the serial is 0 or above issued */
+    SOCK_RATE_TOO_HIGH = 19,  /* bill: a rate is above 1,000,000, or the rates are not 256 bytes */
+    SOCK_LIST_UNFIT = 20,     /* bill: list cut or too long, operation above 63 or engine above 7; or totals of fewer than 64 bytes */
     SOCK_OVERLAP = 255        /* sock_take_step alone: output and configuration overlap, so no call was made */
 };
 
@@ -93,11 +96,25 @@ enum sock_kind {
 /* The keeper's word for a number, as document 01 has it; "accepted" for 0. Takes what any call or accessor gives as number. */
 static inline const char *sock_word(unsigned number)
 {
-    static const char *const words[] = {"accepted", "unreadable", "nobody there", "no move", "no partner", "no fit", "installing",
-                                        "serials spent", "deep", "long", "short paper", "not fresh", "unknown serial"};
-    if (number == SOCK_OVERLAP)
-        return "overlap";
-    return number < sizeof words / sizeof *words ? words[number] : "";
+    switch (number) {
+    case SOCK_ACCEPTED: return "accepted";
+    case SOCK_UNREADABLE: return "unreadable";
+    case SOCK_NOBODY_THERE: return "nobody there";
+    case SOCK_NO_MOVE: return "no move";
+    case SOCK_NO_PARTNER: return "no partner";
+    case SOCK_NO_FIT: return "no fit";
+    case SOCK_INSTALLING: return "installing";
+    case SOCK_SERIALS_SPENT: return "serials spent";
+    case SOCK_DEEP: return "deep";
+    case SOCK_LONG: return "long";
+    case SOCK_SHORT_PAPER: return "short paper";
+    case SOCK_NOT_FRESH: return "not fresh";
+    case SOCK_UNKNOWN_SERIAL: return "unknown serial";
+    case SOCK_RATE_TOO_HIGH: return "rate too high";
+    case SOCK_LIST_UNFIT: return "list cut or too long, operation above 63 or engine above 7";
+    case SOCK_OVERLAP: return "overlap";
+    default: return "";
+    }
 }
 
 /* ---- Words and values of a configuration, counted in words from its start. They test nothing: the words have to be there. ---- */
@@ -256,6 +273,45 @@ static inline struct sock_process_answer sock_find_process(const uint8_t *config
 static inline size_t sock_variable(struct sock_process_answer process, unsigned variable)
 {
     return (size_t)process.first - SOCK_VALUE_WORDS + 2 * (size_t)variable;
+}
+
+/* ---- Bill: what the eight client engines owe for water, in cents. ----
+ *
+ * Numbers have the high byte first. `rates` has 64 numbers of four bytes: for each operation the cents per 1,000 litres, at most 1,000,000.
+ * `replies` has three numbers of four bytes for each delivered reply: operation, client engine, litres (without sign). A reply is charged
+ * litres times rate divided by 1,000, rounded up to a cent.
+ *
+ * 0: `totals` begins with eight numbers of eight bytes, each the sum of that engine's charges; the bytes behind keep what they were. An
+ * empty list gives eight zeros. SOCK_RATE_TOO_HIGH, also for a rate that no reply uses; then SOCK_LIST_UNFIT: no byte of `totals` has
+ * changed.
+ */
+#define SOCK_REPLIES 65535
+#define SOCK_RATE_BYTES 256
+#define SOCK_REPLY_BYTES 12
+#define SOCK_TOTAL_BYTES 64
+uint8_t sock_bill(const uint8_t *rates, size_t rates_length, const uint8_t *replies, size_t replies_length, uint8_t *totals,
+                  size_t totals_length);
+
+struct sock_bill_answer {
+    enum sock_number number;
+    uint64_t totals[SOCK_ENGINES]; /* cents, by client engine; all 0 in a refusal */
+};
+
+/* The bill of `count` replies by a whole tariff of SOCK_RATE_BYTES. */
+static inline struct sock_bill_answer sock_charge(const uint8_t *rates, const uint8_t *replies, size_t count)
+{
+    struct sock_bill_answer bill = {SOCK_LIST_UNFIT, {0, 0, 0, 0, 0, 0, 0, 0}};
+    uint8_t totals[SOCK_TOTAL_BYTES];
+    size_t engine, byte;
+    if (count > SOCK_REPLIES)
+        return bill;
+    bill.number = (enum sock_number)sock_bill(rates, SOCK_RATE_BYTES, replies, SOCK_REPLY_BYTES * count, totals, sizeof totals);
+    if (bill.number != SOCK_ACCEPTED)
+        return bill;
+    for (engine = 0; engine < SOCK_ENGINES; engine++)
+        for (byte = 0; byte < 8; byte++)
+            bill.totals[engine] = bill.totals[engine] << 8 | totals[8 * engine + byte];
+    return bill;
 }
 
 #ifdef __cplusplus

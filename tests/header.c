@@ -110,6 +110,27 @@ static void null_pointers(size_t length)
     check(sock_take_step(ask, NULL, 0, NULL, 0).number == SOCK_UNREADABLE, "the same, inline");
 }
 
+/* The greatest charge of one reply, whose total has more than 32 bits, and what a refusal leaves. */
+static void bills(void)
+{
+    static uint8_t rates[SOCK_RATE_BYTES], reply[SOCK_REPLY_BYTES];
+    struct sock_bill_answer bill;
+    check(sock_charge(rates, NULL, 0).number == SOCK_ACCEPTED, "a bill of no replies");
+    sock_put_value(rates, 2 * 9, 1000000);
+    sock_put_value(reply, 0, 9);
+    sock_put_value(reply, 2, 5);
+    sock_put_value(reply, 4, 0xffffffff);
+    bill = sock_charge(rates, reply, 1);
+    check(bill.number == SOCK_ACCEPTED && bill.totals[5] == 4294967295000u && bill.totals[4] == 0, "the greatest charge");
+    check(sock_charge(rates, reply, SOCK_REPLIES + 1).number == SOCK_LIST_UNFIT, "more replies than a bill takes");
+    sock_put_value(reply, 2, 8);
+    bill = sock_charge(rates, reply, 1);
+    check(bill.number == SOCK_LIST_UNFIT && bill.totals[5] == 0, "an engine that is none");
+    sock_put_value(rates, 0, 1000001);
+    check(sock_charge(rates, reply, 1).number == SOCK_RATE_TOO_HIGH, "a rate too high, before all else");
+    check(strcmp(sock_word(19), "rate too high") == 0 && *sock_word(13) == 0, "the words of numbers");
+}
+
 static void version(void)
 {
     char text[32];
@@ -124,6 +145,7 @@ int main(void)
     inline_and_raw(sock_bytes(words));
     overlap(sock_bytes(words));
     null_pointers(sock_bytes(words));
+    bills();
     version();
     return failures != 0;
 }

@@ -18,7 +18,7 @@ pub struct Input<'a> {
     pub config: &'a [u8],
 }
 
-/// A call, without its configuration.
+/// A call, without its configuration; a bill has none, and is given by lengths.
 #[derive(Clone, Copy, Debug)]
 pub enum Call {
     CheckStart,
@@ -26,6 +26,7 @@ pub enum Call {
     Ends { serial: u16 },
     Process { engine: u16 },
     Step { numbers: Numbers, output: usize },
+    Bill { rates: usize, replies: usize, totals: usize },
 }
 
 /// Bytes of a configuration that are printed; the seed gives the others.

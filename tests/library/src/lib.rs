@@ -1,12 +1,15 @@
 //! Compares the five calls that the static library exports for C with the second implementation:
 //! the answer's 64 bits, every byte of the output, and that nothing else changes.
 //!
+//! `billing` does the same for the bill, which reads no configuration.
+//!
 //! `exported` declares the calls, `memory` and `guard` lend them configurations and outputs,
 //! `compare` makes one call on both sides, `walk` makes the calls of a run, `bytes` and
 //! `outputs` give inputs and output lengths, `counts` says what was met. `painted` measures the
 //! stack that a call needs, on the configurations of `deep`. All is deterministic; a difference
 //! prints the class, seed and step of the input, the call and the bytes.
 
+pub mod billing;
 pub mod bytes;
 pub mod compare;
 pub mod counts;

@@ -4,6 +4,7 @@
 //!
 //! Words become trees (`read`, `readable`), rules change trees (`alone`, `pair`, with `fault`,
 //! `handlers` and `context`), trees become words (`write`), and `calls` ties them together.
+//! `billing` is document 02's change j, and stands by itself.
 //!
 //! Decisions where document 01 leaves room:
 //! - Parts of trees are shared (`Rc`), so that a result of millions of words can be measured
@@ -18,6 +19,7 @@
 //!   in its line, in place of "end" and the length.
 
 pub mod alone;
+pub mod billing;
 pub mod build;
 pub mod bytes;
 pub mod calls;

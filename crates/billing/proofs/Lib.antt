@@ -1,0 +1,13 @@
+pub mod Tests
+pub mod Bounds
+pub mod Adding
+pub mod Summing
+pub mod Going
+pub mod Lists
+pub mod Digits
+pub mod ByteReplies
+pub mod Laws
+pub mod LaidOut
+pub mod Greatest
+pub mod Order
+pub mod Examples
