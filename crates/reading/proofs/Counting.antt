@@ -76,7 +76,7 @@ counted-bounded i j e w k h b (goes p q) = rw (ne-eqb e 0 (omega arith)) (aCount
 
 serial-below : (ws : List ℕ) (i serial : ℕ) → serialAt ws i serial < 2
 unfolding serialAt
-serial-below ws i serial = bit-below (leb 3 (length ws - i) && eqb serial (at ws (i + 2)))
+serial-below ws i serial = search bit-below
 
 later : {ws : List ℕ} {i j : ℕ} {t : Counted} → i ≤ j → Bounded ws j t → Bounded ws i t
 later h noCount = noCount
