@@ -9,7 +9,7 @@ ghost use mathlib.Core.Bool.{not};
 ghost use lib.Dec.{eqb};
 ghost use lib.ListN.{length, take};
 ghost use Rattle.sock.specs.Configuration.{standard};
-ghost use Rattle.sock.specs.Calls.{checkStart};
+ghost use Rattle.sock.specs.Calls.{checkStart, over};
 ghost use Rattle.sock.specs.Bytes.{startLine};
 ghost use Rattle.handover.specs.Printed.{countIn, wantedFor, startWords};
 
@@ -39,7 +39,7 @@ pub fn wanted(n: usize) -> usize
 // How many words there are, and the words; none where they are too many or some are missing.
 fn words_in(n: usize, bytes: &[u8], ws: &mut [u16]) -> usize
     requires { ⌜ length (now ws) ≡ 8192 ⌝ }
-    ensures { λ r. ⌜ (r ≤ 8192) × (take r (now (ws .exit)) ≡ startWords n (now (bytes .entry))) ⌝ }
+    ensures { λ r. ⌜ (r ≤ 8192) × (take r (now (ws .exit)) ≡ startWords n (now (bytes .entry))) × (now (ws .exit) ≡ over (startWords n (now (bytes .entry))) (now (ws .entry))) ⌝ }
 {
     if 8192 < n {
         return 0;
@@ -55,7 +55,7 @@ fn words_in(n: usize, bytes: &[u8], ws: &mut [u16]) -> usize
 // number is 0. No words are not readable, hence the number 1 where words are missing or too many.
 pub(crate) fn begin(n: usize, bytes: &[u8], ws: &mut [u16], line: &mut [u8]) -> Next
     requires { ⌜ (length (now ws) ≡ 8192) × (length (now line) ≡ 128) ⌝ }
-    ensures { λ r. ⌜ (r .last ≡ not (eqb (checkStart standard (startWords n (now (bytes .entry)))) 0)) × (r .number ≡ 1) × (r .length ≤ 8192) × (take (r .length) (now (ws .exit)) ≡ startWords n (now (bytes .entry))) × (r .text ≤ 128) × (take (r .text) (now (line .exit)) ≡ startLine (checkStart standard (startWords n (now (bytes .entry))))) ⌝ }
+    ensures { λ r. ⌜ (r .last ≡ not (eqb (checkStart standard (startWords n (now (bytes .entry)))) 0)) × (r .number ≡ 1) × (r .length ≤ 8192) × (take (r .length) (now (ws .exit)) ≡ startWords n (now (bytes .entry))) × (r .text ≤ 128) × (take (r .text) (now (line .exit)) ≡ startLine (checkStart standard (startWords n (now (bytes .entry))))) × (now (ws .exit) ≡ over (startWords n (now (bytes .entry))) (now (ws .entry))) ⌝ }
 {
     let length = words_in(n, bytes, ws);
     let number = check_start(&ws[..length]);

@@ -37,7 +37,7 @@ returns : tie.Need-returns
 returns c =
     let w = (c .before .before .before .before .before .before .before .before .words-in .ensures) in
     let n = (c .before .before .before .before .check-start .ensures) ∙ ap (checkStart standard) (w .1) in
-    (ap (λ (m : ℕ). not (eqb m 0)) n, refl, w .0, w .1, (c .before .before .start-line .ensures .0), (c .before .before .start-line .ensures .1) ∙ ap startLine n)
+    (ap (λ (m : ℕ). not (eqb m 0)) n, refl, w .0, w .1, (c .before .before .start-line .ensures .0), (c .before .before .start-line .ensures .1) ∙ ap startLine n, w .2)
 
 pub begin-spec : {M : Type 1} → statement M
 begin-spec =
