@@ -1,6 +1,6 @@
 // The calls on bytes.
 use crate::words::hold;
-use reading::reader::wide;
+use layout::number::wide;
 use reading::survey::survey;
 ghost use mathlib.Core.Path.{_≡_};
 ghost use Rattle.sock.specs.Bytes.{byteCheckReadable, byteCheckStart, byteEnds, packedPart, byteProcess};

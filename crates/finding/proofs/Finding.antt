@@ -8,7 +8,7 @@ use mathlib.Core.List.{List}
 use borrow.Author.Tests.{lt-ltb, eq-eqb, ne-eqb}
 use lib.Dec.{ltb, eqb}
 use lib.ListN.{length, getD}
-use Rattle.skipping.specs.Pass.{markAt, passEnd}
+use Rattle.skipping.specs.Pass.{noteAt, passEnd}
 use Rattle.finding.specs.declared.find.Spot.{Spot}
 use Rattle.finding.specs.declared.find.Found.{Found}
 use Rattle.finding.specs.declared.find.Found.the-variants.{Hit, Past}
@@ -20,94 +20,94 @@ pred-suc d = omega arith
 plus-one : (d : ℕ) → d + 1 ≡ suc d
 plus-one d = omega arith
 
-pub find-none : (d : ℕ) (ws marks : List ℕ) (target level i : ℕ) → d ≡ 0 → Past 0 ≡ findW d ws marks target level i
+pub find-none : (d : ℕ) (ws notes : List ℕ) (target level i : ℕ) → d ≡ 0 → Past 0 ≡ findW d ws notes target level i
 unfolding findW
-find-none d ws marks target level i h = rw h
+find-none d ws notes target level i h = rw h
 
 pub find-step :
-    (d : ℕ) (ws marks : List ℕ) (target level i : ℕ) →
+    (d : ℕ) (ws notes : List ℕ) (target level i : ℕ) →
     (d ≡ 0 → ⊥) →
-    findW d ws marks target level i
+    findW d ws notes target level i
     ≡ cond (ltb i (length ws))
     (cond (eqb i target)
-    (hereW d ws marks level i)
-    (cond (outsideW i target (markAt marks i))
-    (Past (markAt marks i))
-    (nodeW (findW (d - 1) ws marks target (level + 1)) (d - 1) ws marks target level (getD ws i 0 / 2048) i)))
+    (hereW d ws notes level i)
+    (cond (outsideW i target (noteAt notes i))
+    (Past (noteAt notes i))
+    (nodeW (findW (d - 1) ws notes target (level + 1)) (d - 1) ws notes target level (getD ws i 0 / 2048) i)))
     (Past 0)
 unfolding findW
-find-step zero ws marks target level i h = absurd (h refl)
-find-step (suc d) ws marks target level i h = rw (pred-suc d)
+find-step zero ws notes target level i h = absurd (h refl)
+find-step (suc d) ws notes target level i h = rw (pred-suc d)
 
 pub find-here :
-    (d : ℕ) (ws marks : List ℕ) (target level i : ℕ) (r : Found) →
+    (d : ℕ) (ws notes : List ℕ) (target level i : ℕ) (r : Found) →
     (d ≡ 0 → ⊥) →
     i < length ws →
     i ≡ target →
-    r ≡ hereW d ws marks level i →
-    r ≡ findW d ws marks target level i
-find-here d ws marks target level i r p q s t =
-    t ∙ sym (find-step d ws marks target level i p ∙ simp (lt-ltb i (length ws) q, eq-eqb i target s))
+    r ≡ hereW d ws notes level i →
+    r ≡ findW d ws notes target level i
+find-here d ws notes target level i r p q s t =
+    t ∙ sym (find-step d ws notes target level i p ∙ simp (lt-ltb i (length ws) q, eq-eqb i target s))
 
 -- what is marked and does not have the target
 pub find-outside :
-    (d : ℕ) (ws marks : List ℕ) (target level i e : ℕ) (b : Bool) →
+    (d : ℕ) (ws notes : List ℕ) (target level i e : ℕ) (b : Bool) →
     (d ≡ 0 → ⊥) →
     i < length ws →
     (i ≡ target → ⊥) →
-    e ≡ markAt marks i →
+    e ≡ noteAt notes i →
     b ≡ outsideW i target e →
     b ≡ true →
-    Past e ≡ findW d ws marks target level i
-find-outside d ws marks target level i e b p q s m o t =
-    sym (find-step d ws marks target level i p ∙ simp (lt-ltb i (length ws) q, ne-eqb i target s, ← m, ← o, t))
+    Past e ≡ findW d ws notes target level i
+find-outside d ws notes target level i e b p q s m o t =
+    sym (find-step d ws notes target level i p ∙ simp (lt-ltb i (length ws) q, ne-eqb i target s, ← m, ← o, t))
 
 -- what the target may be in
 pub find-node :
-    (d : ℕ) (ws marks : List ℕ) (target level i e : ℕ) (b : Bool) (r : Found) →
+    (d : ℕ) (ws notes : List ℕ) (target level i e : ℕ) (b : Bool) (r : Found) →
     (d ≡ 0 → ⊥) →
     i < length ws →
     (i ≡ target → ⊥) →
-    e ≡ markAt marks i →
+    e ≡ noteAt notes i →
     b ≡ outsideW i target e →
     b ≡ false →
-    r ≡ nodeW (findW (d - 1) ws marks target (level + 1)) (d - 1) ws marks target level (getD ws i 0 / 2048) i →
-    r ≡ findW d ws marks target level i
-find-node d ws marks target level i e b r p q s m o f t =
-    t ∙ sym (find-step d ws marks target level i p ∙ simp (lt-ltb i (length ws) q, ne-eqb i target s, ← m, ← o, f))
+    r ≡ nodeW (findW (d - 1) ws notes target (level + 1)) (d - 1) ws notes target level (getD ws i 0 / 2048) i →
+    r ≡ findW d ws notes target level i
+find-node d ws notes target level i e b r p q s m o f t =
+    t ∙ sym (find-step d ws notes target level i p ∙ simp (lt-ltb i (length ws) q, ne-eqb i target s, ← m, ← o, f))
 
 -- any other kind
 pub node-other :
-    (sub : ℕ → Found) (d : ℕ) (ws marks : List ℕ) (target level i w e : ℕ) →
+    (sub : ℕ → Found) (d : ℕ) (ws notes : List ℕ) (target level i w e : ℕ) →
     w ≡ getD ws i 0 →
     (w / 2048 ≡ 2 → ⊥) →
     (w / 2048 ≡ 3 → ⊥) →
     (w / 2048 ≡ 11 → ⊥) →
     (w / 2048 ≡ 16 → ⊥) →
-    e ≡ passEnd (d + 1) ws marks i →
-    Past e ≡ nodeW sub d ws marks target level (getD ws i 0 / 2048) i
+    e ≡ passEnd (d + 1) ws notes i →
+    Past e ≡ nodeW sub d ws notes target level (getD ws i 0 / 2048) i
 unfolding nodeW
-node-other sub d ws marks target level i w e v k2 k3 k11 k16 t =
-    let end : e ≡ passEnd (suc d) ws marks i = t ∙ ap (λ k. passEnd k ws marks i) (plus-one d) in
+node-other sub d ws notes target level i w e v k2 k3 k11 k16 t =
+    let end : e ≡ passEnd (suc d) ws notes i = t ∙ ap (λ k. passEnd k ws notes i) (plus-one d) in
     sym (simp (← v, ne-eqb (w / 2048) 2 k2, ne-eqb (w / 2048) 3 k3, ne-eqb (w / 2048) 11 k11, ne-eqb (w / 2048) 16 k16, end))
 
 -- the first of a seq becomes nil, before a nil and before any other
 pub seq-hollow :
-    (d : ℕ) (ws marks : List ℕ) (i : ℕ) (f : Found) (s : Spot) →
+    (d : ℕ) (ws notes : List ℕ) (i : ℕ) (f : Found) (s : Spot) →
     f ≡ Hit s →
     s .closed ≡ false →
     s .d < length ws →
     getD ws (s .d) 0 ≡ 0 →
-    Hit (cut s i (s .d + 1) (s .d + 1) (s .d + 1) true) ≡ inSeqW d ws marks i f
+    Hit (cut s i (s .d + 1) (s .d + 1) (s .d + 1) true) ≡ inSeqW d ws notes i f
 unfolding inSeqW seqSpot
-seq-hollow d ws marks i f s e c l z = sym (simp (e, c, lt-ltb (s .d) (length ws) l, z))
+seq-hollow d ws notes i f s e c l z = sym (simp (e, c, lt-ltb (s .d) (length ws) l, z))
 
 pub seq-shut :
-    (d : ℕ) (ws marks : List ℕ) (i : ℕ) (f : Found) (s : Spot) →
+    (d : ℕ) (ws notes : List ℕ) (i : ℕ) (f : Found) (s : Spot) →
     f ≡ Hit s →
     s .closed ≡ false →
     s .d < length ws →
     (getD ws (s .d) 0 ≡ 0 → ⊥) →
-    Hit (cut s i (s .d) (s .d) (s .d) false) ≡ inSeqW d ws marks i f
+    Hit (cut s i (s .d) (s .d) (s .d) false) ≡ inSeqW d ws notes i f
 unfolding inSeqW seqSpot
-seq-shut d ws marks i f s e c l z = sym (simp (e, c, lt-ltb (s .d) (length ws) l, ne-eqb (getD ws (s .d) 0) 0 z))
+seq-shut d ws notes i f s e c l z = sym (simp (e, c, lt-ltb (s .d) (length ws) l, ne-eqb (getD ws (s .d) 0) 0 z))

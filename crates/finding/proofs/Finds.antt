@@ -90,12 +90,12 @@ spot-shut : (ws : List ℕ) (i : ℕ) (s : Spot) → s .d < length ws → (getD 
 unfolding seqSpot
 spot-shut ws i s p q = rw (lt-ltb (s .d) (length ws) p, ne-eqb (getD ws (s .d) 0) 0 q)
 
-module _ (f target : ℕ) (ws marks : List ℕ) (d i level : ℕ) where
+module _ (f target : ℕ) (ws notes : List ℕ) (d i level : ℕ) where
   -- ---- a seq
 
   module _ (a : Run) (q : Node) (fits : Fits (code false) anywhere q) (inside : i + 1 + size a < length ws)
       (second : getD ws (i + 1 + size a) 0 ≡ headWord q)
-      (read : passEnd d ws marks (i + 1 + size a) ≡ i + 1 + size a + length (words q)) where
+      (read : passEnd d ws notes (i + 1 + size a) ≡ i + 1 + size a + length (words q)) where
     seq-open :
         (l : Located) (s : Spot) →
         T (not (s .closed)) →
@@ -126,10 +126,10 @@ module _ (f target : ℕ) (ws marks : List ℕ) (d i level : ℕ) where
     pub seq-agrees :
         {o : Option Located} {x : Found} →
         Agrees f target a (i + 1) (level + 1) o x →
-        Agrees f target (seq a q) i level (lifted (seqFrame q ∷ []) o) (inSeqW d ws marks i x)
+        Agrees f target (seq a q) i level (lifted (seqFrame q ∷ []) o) (inSeqW d ws notes i x)
     unfolding lifted inSeqW stopped
     seq-agrees (misses {e = e} p) =
-        let end : passEnd d ws marks e ≡ i + size (seq a q) = ap (passEnd d ws marks) p ∙ (read ∙ omega (arith, size-seq a q)) in
+        let end : passEnd d ws notes e ≡ i + size (seq a q) = ap (passEnd d ws notes) p ∙ (read ∙ omega (arith, size-seq a q)) in
         misses end
     seq-agrees (hits {l = l} {s = s} sub) =
         cond-case (Agrees f target (seq a q) i level (some (behind (seqFrame q ∷ []) l))) (s .closed)

@@ -23,9 +23,9 @@ use Rattle.sock.proofs.Running.{asNode-fits}
 use Rattle.sock.proofs.Nodes.{depth-some}
 use Rattle.sock.proofs.Measures.{words-scope, depth-seq, depth-par, depth-scope, depth-executor}
 use Rattle.skipping.specs.Skip.{skipList}
-use Rattle.skipping.specs.Pass.{markAt, passEnd, passList}
+use Rattle.skipping.specs.Pass.{noteAt, passEnd, passList}
 use Rattle.skipping.proofs.Skips.{wanted-end}
-use Rattle.skipping.proofs.Marks.{Right, RightMark, pass-run, pass-code, pass-entries}
+use Rattle.skipping.proofs.Notes.{Right, RightNote, pass-run, pass-code, pass-entries}
 use Rattle.finding.specs.declared.find.Spot.{Spot}
 use Rattle.finding.specs.declared.find.Found.{Found}
 use Rattle.finding.specs.declared.find.Found.the-variants.{Hit, Past}
@@ -57,25 +57,25 @@ node-head (node h f es b ps) rest = (_, refl)
 
 -- ---- the search, one level
 
-module _ (sub : ℕ → Found) (d : ℕ) (ws marks : List ℕ) (target level k i : ℕ) where
-  node-seq : k ≡ 2 → nodeW sub d ws marks target level k i ≡ inSeqW d ws marks i (sub (i + 1))
+module _ (sub : ℕ → Found) (d : ℕ) (ws notes : List ℕ) (target level k i : ℕ) where
+  node-seq : k ≡ 2 → nodeW sub d ws notes target level k i ≡ inSeqW d ws notes i (sub (i + 1))
   unfolding nodeW
   node-seq e = rw e
 
-  node-par : k ≡ 3 → nodeW sub d ws marks target level k i ≡ inParW sub i
+  node-par : k ≡ 3 → nodeW sub d ws notes target level k i ≡ inParW sub i
   unfolding nodeW
   node-par e = rw e
 
-  node-scope : k ≡ 11 → nodeW sub d ws marks target level k i ≡ inScopeW d ws target level i (sub (passList d ws marks (i + 2)))
+  node-scope : k ≡ 11 → nodeW sub d ws notes target level k i ≡ inScopeW d ws target level i (sub (passList d ws notes (i + 2)))
   unfolding nodeW
   node-scope e = rw e
 
-  node-executor : k ≡ 16 → nodeW sub d ws marks target level k i ≡ inBodyW (sub (i + 3))
+  node-executor : k ≡ 16 → nodeW sub d ws notes target level k i ≡ inBodyW (sub (i + 3))
   unfolding nodeW
   node-executor e = rw e
 
   node-other :
-      eqb k 2 ≡ false → eqb k 3 ≡ false → eqb k 11 ≡ false → eqb k 16 ≡ false → nodeW sub d ws marks target level k i ≡ Past (passEnd (suc d) ws marks i)
+      eqb k 2 ≡ false → eqb k 3 ≡ false → eqb k 11 ≡ false → eqb k 16 ≡ false → nodeW sub d ws notes target level k i ≡ Past (passEnd (suc d) ws notes i)
   unfolding nodeW
   node-other p q r s = rw (p, q, r, s)
 
@@ -125,7 +125,7 @@ outside-marked r i k e ends o = (end, by (ltb k i) (ltb k e) refl refl)
     by false true p q = absurd (true≢false (sym o ∙ not-outside i k e (ltb-false k i p) (ltb-true k e q)))
     by false false p q = within-past r i k (omega (arith, ltb-false k e q, end))
 
-module _ (n issued : ℕ) (few : n ≤ 8) (small : issued < 65536) (ws marks : List ℕ) (right : Right ws marks) (target : ℕ) where
+module _ (n issued : ℕ) (few : n ≤ 8) (small : issued < 65536) (ws notes : List ℕ) (right : Right ws notes) (target : ℕ) where
   at-head : (m : Node) (i : ℕ) (rest : List ℕ) → drop i ws ≡ words m ++ rest → (getD ws i 0 ≡ headWord m) × (i < length ws)
   at-head m i rest e =
       let h = node-head m rest in
@@ -140,11 +140,11 @@ module _ (n issued : ℕ) (few : n ≤ 8) (small : issued < 65536) (ws marks : L
   here-agrees :
       {r : Run} (f t d i level : ℕ) →
       i ≡ t →
-      passEnd (suc d) ws marks i ≡ i + size r →
-      Agrees f t r i level (within r i t) (hereW (suc d) ws marks level i)
+      passEnd (suc d) ws notes i ≡ i + size r →
+      Agrees f t r i level (within r i t) (hereW (suc d) ws notes level i)
   unfolding hereW
   here-agrees {r} f t d i level p e =
-      rw (← p, within-here r i) (hits (here-spotted f r i level (passEnd (suc d) ws marks i) e))
+      rw (← p, within-here r i) (hits (here-spotted f r i level (passEnd (suc d) ws notes i) e))
 
   -- what is passed at once, as the target is outside it
   outside-agrees :
@@ -152,11 +152,11 @@ module _ (n issued : ℕ) (few : n ≤ 8) (small : issued < 65536) (ws marks : L
       Sound n issued r →
       (i level : ℕ) (rest : List ℕ) →
       drop i ws ≡ runWords r ++ rest →
-      outsideW i target (markAt marks i) ≡ true →
-      Agrees (faultAt ws target) target r i level (within r i target) (Past (markAt marks i))
-  unfolding RightMark runWords size
+      outsideW i target (noteAt notes i) ≡ true →
+      Agrees (faultAt ws target) target r i level (within r i target) (Past (noteAt notes i))
+  unfolding RightNote runWords size
   outside-agrees {r} s i level rest e o =
-      let out = outside-marked r i target (markAt marks i) (right .of-process i _ _ _ (asNode-fits few small s {p = anywhere} tt) rest e) o in
+      let out = outside-marked r i target (noteAt notes i) (right .of-process i _ _ _ (asNode-fits few small s {p = anywhere} tt) rest e) o in
       rw (out .1) (misses (out .0))
 
   opened :
@@ -167,8 +167,8 @@ module _ (n issued : ℕ) (few : n ≤ 8) (small : issued < 65536) (ws marks : L
       drop i ws ≡ runWords r ++ rest →
       ((i ≡ target → ⊥) →
       Agrees (faultAt ws target) target r i level (within r i target)
-      (nodeW (findW d ws marks target (level + 1)) d ws marks target level (getD ws i 0 / 2048) i)) →
-      Agrees (faultAt ws target) target r i level (within r i target) (findW (suc d) ws marks target level i)
+      (nodeW (findW d ws notes target (level + 1)) d ws notes target level (getD ws i 0 / 2048) i)) →
+      Agrees (faultAt ws target) target r i level (within r i target) (findW (suc d) ws notes target level i)
   unfolding findW
   opened {r} s d i level rest dp e k = rw (lt-ltb i (length ws) (at-run s i rest e .1)) (by (eqb i target) refl)
     where
@@ -176,18 +176,18 @@ module _ (n issued : ℕ) (few : n ≤ 8) (small : issued < 65536) (ws marks : L
           (b : Bool) →
           eqb i target ≡ b →
           Agrees (faultAt ws target) target r i level (within r i target)
-          (cond b (hereW (suc d) ws marks level i)
-          (cond (outsideW i target (markAt marks i)) (Past (markAt marks i))
-          (nodeW (findW d ws marks target (level + 1)) d ws marks target level (getD ws i 0 / 2048) i)))
-      by true q = here-agrees (faultAt ws target) target d i level (eqb-true i target q) (pass-run ws marks right n issued few small s (suc d) i dp rest e)
-      by false q = by-mark (outsideW i target (markAt marks i)) refl
+          (cond b (hereW (suc d) ws notes level i)
+          (cond (outsideW i target (noteAt notes i)) (Past (noteAt notes i))
+          (nodeW (findW d ws notes target (level + 1)) d ws notes target level (getD ws i 0 / 2048) i)))
+      by true q = here-agrees (faultAt ws target) target d i level (eqb-true i target q) (pass-run ws notes right n issued few small s (suc d) i dp rest e)
+      by false q = by-mark (outsideW i target (noteAt notes i)) refl
         where
           by-mark :
               (b : Bool) →
-              outsideW i target (markAt marks i) ≡ b →
+              outsideW i target (noteAt notes i) ≡ b →
               Agrees (faultAt ws target) target r i level (within r i target)
-              (cond b (Past (markAt marks i))
-              (nodeW (findW d ws marks target (level + 1)) d ws marks target level (getD ws i 0 / 2048) i))
+              (cond b (Past (noteAt notes i))
+              (nodeW (findW d ws notes target (level + 1)) d ws notes target level (getD ws i 0 / 2048) i))
           by-mark true o = outside-agrees s i level rest e o
           by-mark false o = k (eqb-false i target q)
 
@@ -203,16 +203,16 @@ module _ (n issued : ℕ) (few : n ≤ 8) (small : issued < 65536) (ws marks : L
       eqb (runKind r) 11 ≡ false →
       eqb (runKind r) 16 ≡ false →
       ((i ≡ target → ⊥) → within r i target ≡ none) →
-      Agrees (faultAt ws target) target r i level (within r i target) (findW (suc d) ws marks target level i)
+      Agrees (faultAt ws target) target r i level (within r i target) (findW (suc d) ws notes target level i)
   other-agrees {r} s d i level rest dp e k2 k3 k11 k16 w =
       opened s d i level rest dp e λ ne.
       let kind = at-run s i rest e .0 in
       rw (
         w ne,
-        node-other (findW d ws marks target (level + 1)) d ws marks target level (getD ws i 0 / 2048) i (ap (λ k. eqb k 2) kind ∙ k2) (ap (λ k. eqb k 3) kind ∙ k3)
+        node-other (findW d ws notes target (level + 1)) d ws notes target level (getD ws i 0 / 2048) i (ap (λ k. eqb k 2) kind ∙ k2) (ap (λ k. eqb k 3) kind ∙ k3)
             (ap (λ k. eqb k 11) kind ∙ k11) (ap (λ k. eqb k 16) kind ∙ k16),
       )
-      (misses (pass-run ws marks right n issued few small s (suc d) i dp rest e))
+      (misses (pass-run ws notes right n issued few small s (suc d) i dp rest e))
 
   -- whether the scope at i stops the fault
   scope-catches :
@@ -251,7 +251,7 @@ module _ (n issued : ℕ) (few : n ≤ 8) (small : issued < 65536) (ws marks : L
       0 < i →
       runDepth r ≤ d →
       drop i ws ≡ runWords r ++ rest →
-      Agrees (faultAt ws target) target r i level (within r i target) (findW d ws marks target level i)
+      Agrees (faultAt ws target) target r i level (within r i target) (findW d ws notes target level i)
   unfolding runDepth inParW
   finds {r} s zero i level rest pos dp e = absurd (omega (arith, depth-some (asNode r)))
   finds nilSound (suc d) i level rest pos dp e =
@@ -264,19 +264,19 @@ module _ (n issued : ℕ) (few : n ≤ 8) (small : issued < 65536) (ws marks : L
       let head = at-head q (i + 1 + size a) rest second in
       rw (
         within-seq i target ne a q,
-        node-seq (findW d ws marks target (level + 1)) d ws marks target level (getD ws i 0 / 2048) i (at-run (seqSound g t coded) i rest e .0),
+        node-seq (findW d ws notes target (level + 1)) d ws notes target level (getD ws i 0 / 2048) i (at-run (seqSound g t coded) i rest e .0),
       )
-      (seq-agrees (faultAt ws target) target ws marks d i level a q coded (head .1) (head .0)
-      (pass-code ws marks right coded d (i + 1 + size a) (omega arith) rest second)
+      (seq-agrees (faultAt ws target) target ws notes d i level a q coded (head .1) (head .0)
+      (pass-code ws notes right coded d (i + 1 + size a) (omega arith) rest second)
       (finds g d (i + 1) (level + 1) (words q ++ rest) (omega arith) (omega arith) first))
   finds (parSound {a = a} {b = b} g t k u) (suc d) i level rest pos dp e =
       opened (parSound g t k u) d i level rest dp e λ ne.
       let deep : suc (max (runDepth a) (runDepth b)) ≤ suc d = rw (depth-par a b) at dp in
       rw (
         within-par i target ne a b,
-        node-par (findW d ws marks target (level + 1)) d ws marks target level (getD ws i 0 / 2048) i (at-run (parSound g t k u) i rest e .0),
+        node-par (findW d ws notes target (level + 1)) d ws notes target level (getD ws i 0 / 2048) i (at-run (parSound g t k u) i rest e .0),
       )
-      (par-agrees (faultAt ws target) target ws marks d i level a b t u (findW d ws marks target (level + 1))
+      (par-agrees (faultAt ws target) target ws notes d i level a b t u (findW d ws notes target (level + 1))
       (finds g d (i + 1) (level + 1) (runWords b ++ rest) (omega arith) (omega arith) (inner ws rest (around-left a b i u) e))
       (finds k d (i + 1 + size a) (level + 1) rest (omega arith) (omega arith) (inner ws rest (around-right a b i t) e)))
   finds (scopeSound {name = name} {mark = mark} {zombie = zombie} {h = h} {a = a} named m listed g) (suc d) i level rest pos dp e =
@@ -285,15 +285,15 @@ module _ (n issued : ℕ) (few : n ≤ 8) (small : issued < 65536) (ws marks : L
       let body : drop (i + (3 + length (entriesWords h))) ws ≡ runWords a ++ rest = inner ws rest (around-scope name mark zombie h a i) e in
       let whole = scope-words name mark zombie h a rest in
       let list : drop (i + 2) ws ≡ count h ∷ (entriesWords h ++ (runWords a ++ rest)) = drop-on ws i (i + 2) (_ ∷ _ ∷ []) _ (omega arith) (e ∙ whole) in
-      let end : passList d ws marks (i + 2) ≡ i + (3 + length (entriesWords h)) =
-      pass-entries ws marks right listed d (i + 2) (omega arith) (runWords a ++ rest) list ∙ omega arith in
+      let end : passList d ws notes (i + 2) ≡ i + (3 + length (entriesWords h)) =
+      pass-entries ws notes right listed d (i + 2) (omega arith) (runWords a ++ rest) list ∙ omega arith in
       rw (
         within-scope i target ne name mark zombie h a,
-        node-scope (findW d ws marks target (level + 1)) d ws marks target level (getD ws i 0 / 2048) i
+        node-scope (findW d ws notes target (level + 1)) d ws notes target level (getD ws i 0 / 2048) i
             (at-run (scopeSound {mark = mark} {zombie = zombie} named m listed g) i rest e .0),
         end,
       )
-      (scope-agrees (faultAt ws target) target ws marks d i level name mark zombie h a pos
+      (scope-agrees (faultAt ws target) target ws notes d i level name mark zombie h a pos
       (λ low.
       scope-catcher d i zombie h low
       (scope-catches d i (faultAt ws target) name mark zombie h (runWords a ++ rest) named low listed (omega arith)
@@ -304,9 +304,9 @@ module _ (n issued : ℕ) (few : n ≤ 8) (small : issued < 65536) (ws marks : L
       let deep : suc (runDepth a) ≤ suc d = rw (depth-executor o y client serial a) at dp in
       rw (
         within-executor i target ne o y client serial a,
-        node-executor (findW d ws marks target (level + 1)) d ws marks target level (getD ws i 0 / 2048) i (at-run (executorSound bo by be g) i rest e .0),
+        node-executor (findW d ws notes target (level + 1)) d ws notes target level (getD ws i 0 / 2048) i (at-run (executorSound bo by be g) i rest e .0),
       )
-      (executor-agrees (faultAt ws target) target ws marks d i level o y client serial a
+      (executor-agrees (faultAt ws target) target ws notes d i level o y client serial a
       (finds g d (i + 3) (level + 1) rest (omega arith) (omega arith) (inner ws rest (around-executor o y client serial a i) e)))
   finds (waiterSound {o = o} {x = x} {server = server} {serial = serial} {dead = dead} {l = l} bo bx be g) (suc d) i level rest pos dp e =
       other-agrees (waiterSound bo bx be g) d i level rest dp e refl refl refl refl λ ne. within-waiter i target ne o x dead server serial l
@@ -320,11 +320,11 @@ module _ (n issued : ℕ) (few : n ≤ 8) (small : issued < 65536) (ws marks : L
   -- ---- what the search answers
 
   module _ {r : Run} (s : Sound n issued r) (d i level : ℕ) (rest : List ℕ) (pos : 0 < i) (deep : runDepth r ≤ d) (at : drop i ws ≡ runWords r ++ rest) where
-    pub missed : within r i target ≡ none → findW d ws marks target level i ≡ Past (i + size r)
+    pub missed : within r i target ≡ none → findW d ws notes target level i ≡ Past (i + size r)
     missed e = agrees-none (finds s d i level rest pos deep at) e
 
     pub found :
         (l : Located) →
         within r i target ≡ some l →
-        (spot : Spot) × ((findW d ws marks target level i ≡ Hit spot) × Spotted (faultAt ws target) target r i level l spot)
+        (spot : Spot) × ((findW d ws notes target level i ≡ Hit spot) × Spotted (faultAt ws target) target r i level l spot)
     found l e = agrees-some (finds s d i level rest pos deep at) e

@@ -5,23 +5,25 @@ use mathlib.Core.Bool.{Bool, true, false, not, _||_, cond}
 use mathlib.Core.List.{List}
 use lib.Dec.{ltb, leb, eqb}
 use lib.ListN.{length, getD}
+use Rattle.sock.specs.Kind
+use Rattle.sock.specs.Words.{kindOf, nameOf, zombieOf}
 use Rattle.skipping.specs.Skip.{skipList}
-use Rattle.skipping.specs.Pass.{markAt, passEnd, passList}
+use Rattle.skipping.specs.Pass.{noteAt, passEnd, passList}
 use Rattle.finding.specs.declared.find.Spot.{Spot}
 use Rattle.finding.specs.declared.find.Found.{Found}
 use Rattle.finding.specs.declared.find.Found.the-variants.{Hit, Past}
 
 -- a spot where a nil stands or goes: at the process itself, and as it goes on outwards
 unfoldable pub hereW : ℕ → List ℕ → List ℕ → ℕ → ℕ → Found
-hereW d ws marks level i =
+hereW d ws notes level i =
     Hit
     (record {
       at = i;
       level = level;
       a = i;
-      b = passEnd d ws marks i;
-      c = passEnd d ws marks i;
-      d = passEnd d ws marks i;
+      b = passEnd d ws notes i;
+      c = passEnd d ws notes i;
+      d = passEnd d ws notes i;
       hollow = true;
       closed = false;
       scope = 0;
@@ -43,8 +45,8 @@ seqSpot ws i s =
     (Past 0)
 
 unfoldable pub inSeqW : ℕ → List ℕ → List ℕ → ℕ → Found → Found
-inSeqW d ws marks i (Past e) = Past (passEnd d ws marks e)
-inSeqW d ws marks i (Hit s) = cond (s .closed) (Hit s) (seqSpot ws i s)
+inSeqW d ws notes i (Past e) = Past (passEnd d ws notes e)
+inSeqW d ws notes i (Hit s) = cond (s .closed) (Hit s) (seqSpot ws i s)
 
 -- a side of a par
 unfoldable pub leftW : ℕ → Spot → Found
@@ -78,10 +80,10 @@ levelOf level scope inner = cond (eqb scope 0) level inner
 
 -- the fault that the process at `target` throws; 128 if it is no throw
 unfoldable pub faultAt : List ℕ → ℕ → ℕ
-faultAt ws target = cond (eqb (getD ws target 0 / 2048) 13) (getD ws target 0 / 32 % 64) 128
+faultAt ws target = cond (eqb (kindOf (getD ws target 0)) Kind.throw) (nameOf (getD ws target 0)) 128
 
 unfoldable pub catchesW : ℕ → List ℕ → ℕ → ℕ → Bool
-catchesW d ws i fault = eqb (getD ws i 0 / 4 % 2) 1 || not (eqb (skipList d ws fault (i + 2)) 0)
+catchesW d ws i fault = eqb (zombieOf (getD ws i 0)) 1 || not (eqb (skipList d ws fault (i + 2)) 0)
 
 unfoldable pub catcherOf : ℕ → List ℕ → ℕ → ℕ → ℕ → ℕ
 catcherOf d ws target i catcher =
@@ -95,26 +97,26 @@ inScopeW d ws target level i (Hit s) =
 
 -- by kind; `sub` finds one level down, in what begins at a position
 unfoldable pub nodeW : (ℕ → Found) → ℕ → List ℕ → List ℕ → ℕ → ℕ → ℕ → ℕ → Found
-nodeW sub d ws marks target level k i =
-    cond (eqb k 2) (inSeqW d ws marks i (sub (i + 1)))
-    (cond (eqb k 3) (inParW sub i)
-    (cond (eqb k 11) (inScopeW d ws target level i (sub (passList d ws marks (i + 2))))
-    (cond (eqb k 16) (inBodyW (sub (i + 3)))
-    (Past (passEnd (suc d) ws marks i)))))
+nodeW sub d ws notes target level k i =
+    cond (eqb k Kind.seq) (inSeqW d ws notes i (sub (i + 1)))
+    (cond (eqb k Kind.par) (inParW sub i)
+    (cond (eqb k Kind.scope) (inScopeW d ws target level i (sub (passList d ws notes (i + 2))))
+    (cond (eqb k Kind.executor) (inBodyW (sub (i + 3)))
+    (Past (passEnd (suc d) ws notes i)))))
 
 -- whether `target` is outside i..e; no, if e is 0: the end is not known
 unfoldable pub outsideW : ℕ → ℕ → ℕ → Bool
 outsideW i target e = cond (eqb e 0) false (cond (ltb target i) true (leb e target))
 
 unfoldable pub findW : ℕ → List ℕ → List ℕ → ℕ → ℕ → ℕ → Found
-findW zero ws marks target level i = Past 0
-findW (suc d) ws marks target level i =
+findW zero ws notes target level i = Past 0
+findW (suc d) ws notes target level i =
     cond (ltb i (length ws))
     (cond (eqb i target)
-    (hereW (suc d) ws marks level i)
-    (cond (outsideW i target (markAt marks i))
-    (Past (markAt marks i))
-    (nodeW (findW d ws marks target (level + 1)) d ws marks target level (getD ws i 0 / 2048) i)))
+    (hereW (suc d) ws notes level i)
+    (cond (outsideW i target (noteAt notes i))
+    (Past (noteAt notes i))
+    (nodeW (findW d ws notes target (level + 1)) d ws notes target level (kindOf (getD ws i 0)) i)))
     (Past 0)
 
 -- levels are counted so far

@@ -1,6 +1,7 @@
 // Finding an enabled process by its position: the cut that its end would make, the nearest scope, and the scope that catches its fault.
-use reading::reader::wide;
-use skipping::pass::mark_at;
+use layout::kind;
+use layout::number::wide;
+use skipping::pass::note_at;
 use skipping::pass::pass;
 use skipping::pass::pass_list;
 use skipping::skip::skip_list;
@@ -35,15 +36,15 @@ pub enum Found {
 // 32,767 are counted as so many.
 pub fn locate(
     ws: &[u16],
-    marks: &[u16],
+    notes: &[u16],
     at: usize,
     target: usize,
     depth: usize,
     level: usize,
 ) -> Found
-    ensures { λ r. ⌜ r ≡ findW (atMost depth) (now (ws .entry)) (now (marks .entry)) target (atMost level) at ⌝ }
+    ensures { λ r. ⌜ r ≡ findW (atMost depth) (now (ws .entry)) (now (notes .entry)) target (atMost level) at ⌝ }
 {
-    find(ws, marks, at, target, at_most(depth), at_most(level))
+    find(ws, notes, at, target, at_most(depth), at_most(level))
 }
 
 fn at_most(levels: usize) -> usize
@@ -54,9 +55,9 @@ fn at_most(levels: usize) -> usize
 
 // The same. A process whose end is marked and that does not have the target is passed at once: where all are marked, the search goes down
 // one way only.
-fn find(ws: &[u16], marks: &[u16], at: usize, target: usize, depth: usize, level: usize) -> Found
+fn find(ws: &[u16], notes: &[u16], at: usize, target: usize, depth: usize, level: usize) -> Found
     requires { ⌜ level + depth < 65536 ⌝ }
-    ensures { λ r. ⌜ r ≡ findW depth (now (ws .entry)) (now (marks .entry)) target level at ⌝ }
+    ensures { λ r. ⌜ r ≡ findW depth (now (ws .entry)) (now (notes .entry)) target level at ⌝ }
 {
     if depth == 0 {
         return Found::Past(0);
@@ -65,33 +66,33 @@ fn find(ws: &[u16], marks: &[u16], at: usize, target: usize, depth: usize, level
         return Found::Past(0);
     }
     if at == target {
-        return here(ws, marks, at, depth, level);
+        return here(ws, notes, at, depth, level);
     }
-    let e = mark_at(marks, at);
+    let e = note_at(notes, at);
     if outside(at, target, e) {
         return Found::Past(e);
     }
-    node(ws, marks, at, target, depth - 1, level)
+    node(ws, notes, at, target, depth - 1, level)
 }
 
 // By the kind of the process at `at`, whose parts are `depth` levels deep at most; the target is not its head.
-fn node(ws: &[u16], marks: &[u16], at: usize, target: usize, depth: usize, level: usize) -> Found
+fn node(ws: &[u16], notes: &[u16], at: usize, target: usize, depth: usize, level: usize) -> Found
     requires { ⌜ (level + 1 + depth < 65536) × (at < length (now ws)) ⌝ }
-    ensures { λ r. ⌜ r ≡ nodeW (findW depth (now (ws .entry)) (now (marks .entry)) target (level + 1)) depth (now (ws .entry)) (now (marks .entry)) target level (getD (now (ws .entry)) at 0 / 2048) at ⌝ }
+    ensures { λ r. ⌜ r ≡ nodeW (findW depth (now (ws .entry)) (now (notes .entry)) target (level + 1)) depth (now (ws .entry)) (now (notes .entry)) target level (getD (now (ws .entry)) at 0 / 2048) at ⌝ }
 {
     match wide(ws[at]) / 2048 {
-        2 => {
-            let f = find(ws, marks, at + 1, target, depth, level + 1);
-            in_seq(ws, marks, at, f, depth)
+        kind::SEQ => {
+            let f = find(ws, notes, at + 1, target, depth, level + 1);
+            in_seq(ws, notes, at, f, depth)
         }
-        3 => in_par(ws, marks, at, target, depth, level + 1),
-        11 => {
-            let body = pass_list(ws, marks, at + 2, depth);
-            let f = find(ws, marks, body, target, depth, level + 1);
+        kind::PAR => in_par(ws, notes, at, target, depth, level + 1),
+        kind::SCOPE => {
+            let body = pass_list(ws, notes, at + 2, depth);
+            let f = find(ws, notes, body, target, depth, level + 1);
             in_scope(ws, at, target, level, f, depth)
         }
-        16 => in_body(find(ws, marks, at + 3, target, depth, level + 1)),
-        _ => Found::Past(pass(ws, marks, at, depth + 1)),
+        kind::EXECUTOR => in_body(find(ws, notes, at + 3, target, depth, level + 1)),
+        _ => Found::Past(pass(ws, notes, at, depth + 1)),
     }
 }
 
@@ -109,10 +110,10 @@ fn outside(at: usize, target: usize, end: usize) -> bool
 }
 
 // The process itself.
-fn here(ws: &[u16], marks: &[u16], at: usize, depth: usize, level: usize) -> Found
-    ensures { λ r. ⌜ r ≡ hereW depth (now (ws .entry)) (now (marks .entry)) level at ⌝ }
+fn here(ws: &[u16], notes: &[u16], at: usize, depth: usize, level: usize) -> Found
+    ensures { λ r. ⌜ r ≡ hereW depth (now (ws .entry)) (now (notes .entry)) level at ⌝ }
 {
-    let e = pass(ws, marks, at, depth);
+    let e = pass(ws, notes, at, depth);
     Found::Hit(Spot {
         at,
         level,
@@ -167,11 +168,11 @@ fn shut(s: Spot, scope: usize, level: usize, catcher: usize) -> Spot
 }
 
 // The first of a seq becoming nil, the second takes the seq's place; a nil second goes on.
-fn in_seq(ws: &[u16], marks: &[u16], at: usize, f: Found, depth: usize) -> Found
-    ensures { λ r. ⌜ r ≡ inSeqW depth (now (ws .entry)) (now (marks .entry)) at f ⌝ }
+fn in_seq(ws: &[u16], notes: &[u16], at: usize, f: Found, depth: usize) -> Found
+    ensures { λ r. ⌜ r ≡ inSeqW depth (now (ws .entry)) (now (notes .entry)) at f ⌝ }
 {
     match f {
-        Found::Past(e) => Found::Past(pass(ws, marks, e, depth)),
+        Found::Past(e) => Found::Past(pass(ws, notes, e, depth)),
         Found::Hit(s) => {
             if s.closed {
                 return Found::Hit(s);
@@ -189,13 +190,13 @@ fn in_seq(ws: &[u16], marks: &[u16], at: usize, f: Found, depth: usize) -> Found
 }
 
 // A side of a par becoming nil, the other takes the par's place.
-fn in_par(ws: &[u16], marks: &[u16], at: usize, target: usize, depth: usize, level: usize) -> Found
+fn in_par(ws: &[u16], notes: &[u16], at: usize, target: usize, depth: usize, level: usize) -> Found
     requires { ⌜ (level + depth < 65536) × (at < length (now ws)) ⌝ }
-    ensures { λ r. ⌜ r ≡ inParW (findW depth (now (ws .entry)) (now (marks .entry)) target level) at ⌝ }
+    ensures { λ r. ⌜ r ≡ inParW (findW depth (now (ws .entry)) (now (notes .entry)) target level) at ⌝ }
 {
-    match find(ws, marks, at + 1, target, depth, level) {
+    match find(ws, notes, at + 1, target, depth, level) {
         Found::Hit(s) => left(at, s),
-        Found::Past(e) => beside(at, e, find(ws, marks, e, target, depth, level)),
+        Found::Past(e) => beside(at, e, find(ws, notes, e, target, depth, level)),
     }
 }
 
@@ -287,7 +288,11 @@ fn fault_at(ws: &[u16], target: usize) -> usize
         return 128;
     }
     let w = wide(ws[target]);
-    if w / 2048 == 13 { w / 32 % 64 } else { 128 }
+    if w / 2048 == kind::THROW {
+        w / 32 % 64
+    } else {
+        128
+    }
 }
 
 // Whether the scope at `at` stops a fault: its list has it, or the scope is a zombie.

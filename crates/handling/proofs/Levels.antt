@@ -7,7 +7,7 @@ use mathlib.Core.Bool.{cond}
 use mathlib.Core.List.{List}
 use lib.Dec.{leb, eqb}
 use lib.ListN.{length, getD}
-use Rattle.moving.specs.Writing.{onward}
+use Rattle.layout.specs.Positions.{onward}
 use Rattle.handling.specs.Measuring.{measured, operandLevels, expressionLevels, partsLevels, entriesLevels, nodeLevels, codeLevels}
 use Rattle.handling.specs.declared.measure.Measured.{Measured}
 

@@ -17,7 +17,8 @@ use Rattle.sock.proofs.Fits.{Fits, FitsEntries, emptyFits, entryFitsOn}
 use Rattle.sock.proofs.Positions.{at-head, at-past}
 use Rattle.skipping.specs.Skip.{skipEnd}
 use Rattle.skipping.proofs.Skips.{code-end}
-use Rattle.moving.specs.Writing.{onward, pasted, pastedEnd}
+use Rattle.layout.specs.Positions.{onward}
+use Rattle.moving.specs.Writing.{pasted, pastedEnd}
 use Rattle.moving.proofs.Laid.{Near, onward-near, Laid, laid-copy, copy-end}
 
 pub record FirstEntry (ws : List ℕ) (i k : ℕ) (p : Node) (behind : List ℕ) : Type 0 where

@@ -20,7 +20,7 @@ use Rattle.sock.proofs.Nodes.{fixed-length}
 use Rattle.sock.proofs.ByKind.{head-tests}
 use Rattle.sock.proofs.Positions.{At, at-head, at-past}
 use Rattle.handling.specs.declared.measure.Measured.{Measured}
-use Rattle.moving.specs.Writing.{onward}
+use Rattle.layout.specs.Positions.{onward}
 use Rattle.handling.specs.Measuring.{measured, operandLevels, expressionLevels, partsLevels, expressedLevels, entriesLevels, listLevels, nodeLevels, codeLevels}
 use Rattle.moving.proofs.Evaluates.{operator-tag}
 use Rattle.moving.proofs.Laid.{Near, onward-near}

@@ -20,7 +20,7 @@ use Rattle.sock.proofs.Fields.{From, end, _then_, fact-at, four}
 use Rattle.sock.proofs.Nodes.{fixed-length}
 use Rattle.sock.proofs.ByKind.{head-tests}
 use Rattle.sock.proofs.Positions.{At, at-head}
-use Rattle.moving.specs.Writing.{onward}
+use Rattle.layout.specs.Positions.{onward}
 use Rattle.moving.proofs.Laid.{Near, onward-near}
 use Rattle.handling.specs.declared.measure.Measured.{Measured}
 use Rattle.handling.specs.declared.replace.Old.{Old}

@@ -5,7 +5,8 @@ use mathlib.Core.List.{List}
 use lib.Dec.{eqb}
 use lib.ListN.{getD, set}
 use Rattle.skipping.specs.Skip.{skipEnd}
-use Rattle.moving.specs.Writing.{onward, pasted, pastedEnd}
+use Rattle.layout.specs.Positions.{onward}
+use Rattle.moving.specs.Writing.{pasted, pastedEnd}
 use Rattle.handling.specs.declared.take.Passing.{Passing}
 use Rattle.handling.specs.declared.take.Taken.{Taken}
 

@@ -1,10 +1,11 @@
 // How deep expressions and code are.
-use moving::write::further;
-use reading::reader::wide;
+use layout::kind;
+use layout::number::further;
+use layout::number::wide;
 ghost use mathlib.Core.Path.{_≡_};
 ghost use Prim.Native.Nat.{_<_, max};
 ghost use lib.ListN.{length};
-ghost use Rattle.moving.specs.Writing.{onward};
+ghost use Rattle.layout.specs.Positions.{onward};
 ghost use Rattle.handling.specs.Measuring.{measured, expressionLevels, codeLevels, partsLevels, expressedLevels, listLevels};
 
 // Where a process or an expression ends, and how many levels it has.
@@ -75,22 +76,22 @@ pub fn code_levels(ws: &[u16], at: usize, depth: usize) -> Measured
     }
     let h = wide(ws[at]);
     match h / 2048 {
-        0 => leaf(at),
-        1 => expressed(ws, at + 1, 0, depth - 1),
-        2 => parts(ws, at + 1, 0, 2, depth - 1),
-        3 => parts(ws, at + 1, 0, 2, depth - 1),
-        4 => expressed(ws, at + 1, 2, depth - 1),
-        5 => expressed(ws, at + 1, 1, depth - 1),
-        6 => parts(ws, at + 1, 0, h % 2048 * 2, depth - 1),
-        7 => leaf(at),
-        8 => parts(ws, further(at, 2), 0, 1, depth - 1),
-        9 => Measured {
+        kind::NIL => leaf(at),
+        kind::ASSIGN => expressed(ws, at + 1, 0, depth - 1),
+        kind::SEQ => parts(ws, at + 1, 0, 2, depth - 1),
+        kind::PAR => parts(ws, at + 1, 0, 2, depth - 1),
+        kind::IF => expressed(ws, at + 1, 2, depth - 1),
+        kind::WHILE => expressed(ws, at + 1, 1, depth - 1),
+        kind::CHOICE => parts(ws, at + 1, 0, h % 2048 * 2, depth - 1),
+        kind::ONE_WAY => leaf(at),
+        kind::REQUEST => parts(ws, further(at, 2), 0, 1, depth - 1),
+        kind::NOTIFY => Measured {
             end: further(at, 2),
             levels: 1,
         },
-        10 => list_levels(ws, further(at, 2), depth - 1),
-        11 => parts(ws, further(at, 3), 0, 1, depth - 1),
-        12 => list_levels(ws, at + 1, depth - 1),
+        kind::SOLICIT => list_levels(ws, further(at, 2), depth - 1),
+        kind::SCOPE => parts(ws, further(at, 3), 0, 1, depth - 1),
+        kind::INST => list_levels(ws, at + 1, depth - 1),
         _ => leaf(at),
     }
 }

@@ -2,11 +2,14 @@
 use crate::measure::code_levels;
 use crate::measure::expression_levels;
 use crate::measure::larger;
+use layout::head;
+use layout::kind;
+use layout::number::further;
+use layout::number::less_one;
+use layout::number::wide;
 use moving::write::copy;
 use moving::write::down;
-use moving::write::further;
 use moving::write::put;
-use reading::reader::wide;
 ghost use mathlib.Core.Path.{_≡_};
 ghost use Prim.Native.Nat.{_-_};
 ghost use Rattle.handling.specs.Measuring.{expressionLevels, codeLevels};
@@ -61,18 +64,18 @@ pub fn replace(ws: &[u16], at: usize, old: Old, depth: usize, out: &mut [u16], t
     }
     let h = wide(ws[at]);
     match h / 2048 {
-        0 => Rebuilt {
+        kind::NIL => Rebuilt {
             end: further(at, 1),
             to: put(out, to, 0),
             nil: true,
             levels: 1,
         },
-        1 => other(ws, at, depth, out, to),
-        2 => in_seq(ws, at, old, depth - 1, out, to),
-        3 => in_par(ws, at, old, depth - 1, out, to),
-        4 => condition(ws, at, 2, old, depth - 1, out, to),
-        5 => condition(ws, at, 1, old, depth - 1, out, to),
-        6 => kept(
+        kind::ASSIGN => other(ws, at, depth, out, to),
+        kind::SEQ => in_seq(ws, at, old, depth - 1, out, to),
+        kind::PAR => in_par(ws, at, old, depth - 1, out, to),
+        kind::IF => condition(ws, at, 2, old, depth - 1, out, to),
+        kind::WHILE => condition(ws, at, 1, old, depth - 1, out, to),
+        kind::CHOICE => kept(
             ws,
             at,
             further(at, 1),
@@ -83,15 +86,15 @@ pub fn replace(ws: &[u16], at: usize, old: Old, depth: usize, out: &mut [u16], t
             out,
             to,
         ),
-        7 => other(ws, at, depth, out, to),
-        8 => kept(ws, at, further(at, 2), 1, 1, old, depth - 1, out, to),
-        9 => other(ws, at, depth, out, to),
-        10 => other(ws, at, depth, out, to),
-        11 => kept(ws, at, further(at, 3), 1, 1, old, depth - 1, out, to),
-        12 => other(ws, at, depth, out, to),
-        13 => other(ws, at, depth, out, to),
-        14 => other(ws, at, depth, out, to),
-        15 => in_place(ws, at, old, out, to),
+        kind::ONE_WAY => other(ws, at, depth, out, to),
+        kind::REQUEST => kept(ws, at, further(at, 2), 1, 1, old, depth - 1, out, to),
+        kind::NOTIFY => other(ws, at, depth, out, to),
+        kind::SOLICIT => other(ws, at, depth, out, to),
+        kind::SCOPE => kept(ws, at, further(at, 3), 1, 1, old, depth - 1, out, to),
+        kind::INST => other(ws, at, depth, out, to),
+        kind::THROW => other(ws, at, depth, out, to),
+        kind::COMP => other(ws, at, depth, out, to),
+        kind::CH => in_place(ws, at, old, out, to),
         _ => other(ws, at, depth, out, to),
     }
 }
@@ -125,7 +128,7 @@ fn other(ws: &[u16], at: usize, depth: usize, out: &mut [u16], to: usize) -> Reb
 fn in_seq(ws: &[u16], at: usize, old: Old, depth: usize, out: &mut [u16], to: usize) -> Rebuilt
     ensures { λ r. ⌜ (r ≡ seqW (replaceW depth (now (ws .entry)) old) at (now (out .entry)) to .answer) × (now (out .exit) ≡ seqW (replaceW depth (now (ws .entry)) old) at (now (out .entry)) to .out) ⌝ }
 {
-    let t = put(out, to, 4096);
+    let t = put(out, to, head::SEQ);
     let p = replace(ws, further(at, 1), old, depth, out, t);
     let e = p.end;
     if p.nil {
@@ -144,7 +147,7 @@ fn in_seq(ws: &[u16], at: usize, old: Old, depth: usize, out: &mut [u16], to: us
 fn in_par(ws: &[u16], at: usize, old: Old, depth: usize, out: &mut [u16], to: usize) -> Rebuilt
     ensures { λ r. ⌜ (r ≡ parW (replaceW depth (now (ws .entry)) old) at (now (out .entry)) to .answer) × (now (out .exit) ≡ parW (replaceW depth (now (ws .entry)) old) at (now (out .entry)) to .out) ⌝ }
 {
-    let t = put(out, to, 6144);
+    let t = put(out, to, head::PAR);
     let p = replace(ws, further(at, 1), old, depth, out, t);
     let e = p.end;
     if p.nil {
@@ -167,12 +170,6 @@ fn in_par(ws: &[u16], at: usize, old: Old, depth: usize, out: &mut [u16], to: us
         nil: false,
         levels: further(larger(p.levels, q.levels), 1),
     }
-}
-
-pub fn less_one(n: usize) -> usize
-    ensures { λ r. ⌜ r ≡ n - 1 ⌝ }
-{
-    if n == 0 { 0 } else { n - 1 }
 }
 
 // An if or a while: its condition, then its parts.

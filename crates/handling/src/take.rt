@@ -1,10 +1,10 @@
 // A scope's list without the entry of a key, into scratch.
-use crate::replace::less_one;
-use crate::update::word;
+use layout::number::further;
+use layout::number::less_one;
+use layout::number::wide;
+use layout::number::word;
 use moving::write::copy;
-use moving::write::further;
 use moving::write::put;
-use reading::reader::wide;
 use skipping::skip::skip;
 ghost use mathlib.Core.Path.{_≡_};
 ghost use Rattle.handling.specs.Taking.{lessIf, passW, takeW};

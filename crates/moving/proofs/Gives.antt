@@ -17,8 +17,9 @@ use Rattle.sock.specs.Frames.{isDone, parOf}
 use Rattle.sock.specs.Rules.{also}
 use Rattle.sock.proofs.Measures.{words-par, size-seq, size-par}
 use Rattle.skipping.specs.Pass.{passEnd}
-use Rattle.moving.specs.Writing.{onward, lowered}
-use Rattle.moving.specs.Killing.{Killed, Walk, made, goes, seqOn, seqW, goneW, lessOne, rightOn, rightW, leftOn, parW}
+use Rattle.layout.specs.Positions.{onward}
+use Rattle.moving.specs.Writing.{lowered}
+use Rattle.moving.specs.Killing.{Killed, Walk, made, goes, seqOn, seqW, goneW, rightOn, rightW, leftOn, parW}
 use Rattle.moving.proofs.Laid.{Near, onward-near, Laid, laid-put, laid-then, laid-again, laid-less, laid-down}
 
 -- r, which ends at e, is killed to s; twice the room of r is enough
@@ -54,9 +55,9 @@ module _ {r : Run} {out : List ℕ} {to e : ℕ} {k : Killed} where
 abbrev pub Does : Walk → ℕ → Run → Option Run → Type 0
 Does sub at r o = (out : List ℕ) (to : ℕ) → to + 2 * size r ≤ length out → Near (length out) → Gives r out to (at + size r) (sub at out to) o
 
--- where r is seen to become nil, it does, and marks pass over it
+-- where r is seen to become nil, it does, and notes pass over it
 abbrev pub Vanishes : ℕ → List ℕ → List ℕ → ℕ → Run → Option Run → Type 0
-Vanishes d ws marks at r o = goneW ws at ≡ true → (o ≡ some nil) × (passEnd d ws marks at ≡ at + size r)
+Vanishes d ws notes at r o = goneW ws at ≡ true → (o ≡ some nil) × (passEnd d ws notes at ≡ at + size r)
 
 -- ---- on to what follows
 
@@ -71,22 +72,22 @@ goes-on k next e q h = rw (q, ne-eqb e 0 (λ z. omega arith))
 -- ---- seq: the first of it, up to the end of the second
 
 pub seq-gives :
-    {a : Run} {q : Node} {o : Option Run} (d : ℕ) (sub : Walk) (ws marks : List ℕ) (at : ℕ) →
+    {a : Run} {q : Node} {o : Option Run} (d : ℕ) (sub : Walk) (ws notes : List ℕ) (at : ℕ) →
     Does sub (at + 1) a o →
-    passEnd d ws marks (at + 1 + size a) ≡ at + 1 + size a + length (words q) →
+    passEnd d ws notes (at + 1 + size a) ≡ at + 1 + size a + length (words q) →
     (out : List ℕ) (to : ℕ) → to + 2 * size (seq a q) ≤ length out → Near (length out) →
-    Gives (seq a q) out to (at + size (seq a q)) (seqW d sub ws marks (at + 1) out to) o
+    Gives (seq a q) out to (at + size (seq a q)) (seqW d sub ws notes (at + 1) out to) o
 unfolding seqW seqOn
-seq-gives {a} {q} d sub ws marks at f c out to room near =
+seq-gives {a} {q} d sub ws notes at f c out to room near =
     let z = size-seq a q in
     by (f out to (omega arith) near)
   where
-    by : {o : Option Run} {k : Killed} → Gives a out to (at + 1 + size a) k o → Gives (seq a q) out to (at + size (seq a q)) (seqOn d ws marks k) o
+    by : {o : Option Run} {k : Killed} → Gives a out to (at + 1 + size a) k o → Gives (seq a q) out to (at + size (seq a q)) (seqOn d ws notes k) o
     by {k = k} (stops e) = stops (goes-stops k _ e)
     by {k = k} (gives {s} g) =
-        rw (goes-on k (made (passEnd d ws marks (k .moved .end)) (k .moved .to) (k .moved .nil) (k .out)) (at + 1 + size a) (g .ends) (omega arith))
+        rw (goes-on k (made (passEnd d ws notes (k .moved .end)) (k .moved .to) (k .moved .nil) (k .out)) (at + 1 + size a) (g .ends) (omega arith))
         (gives (record {
-          ends = ap (passEnd d ws marks) (g .ends) ∙ c ∙ (let z = size-seq a q in let e : at + 1 + size a + length (words q) ≡ at + size (seq a q) = omega arith in e);
+          ends = ap (passEnd d ws notes) (g .ends) ∙ c ∙ (let z = size-seq a q in let e : at + 1 + size a + length (words q) ≡ at + size (seq a q) = omega arith in e);
           done = g .done;
           reaches = g .reaches;
           laid = g .laid;
@@ -111,9 +112,8 @@ gives-within z (stops e) = stops e
 gives-within z (gives g) =
     gives (record { ends = g .ends; done = g .done; reaches = g .reaches; laid = g .laid; small = let y = g .small in omega arith })
 
-less-one : (to n : ℕ) → lessOne (to + 1 + n) ≡ to + n
-unfolding lessOne
-less-one to n = rw (ne-eqb (to + 1 + n) 0 (λ z. omega arith)) (let e : to + 1 + n - 1 ≡ to + n = omega arith in e)
+less-one : (to n : ℕ) → to + 1 + n - 1 ≡ to + n
+less-one to n = omega arith
 
 also-all : (o : Option Run) → also o (λ s. some s) ≡ o
 unfolding also
@@ -121,7 +121,7 @@ also-all none = refl
 also-all (some s) = refl
 
 module _
-    (a b : Run) (d : ℕ) (sub : Walk) (ws marks : List ℕ) (at : ℕ) (out : List ℕ) (to : ℕ)
+    (a b : Run) (d : ℕ) (sub : Walk) (ws notes : List ℕ) (at : ℕ) (out : List ℕ) (to : ℕ)
     (room : to + 2 * size (par a b) ≤ length out) (near : Near (length out))
   where
     -- the left side stands killed, with the par's head
@@ -145,7 +145,7 @@ module _
               Laid out to (6144 ∷ (runWords a' ++ runWords b')) (k .out) →
               at + 1 + size a + size b ≡ at + size (par a b) →
               Gives (par a b) out to (at + size (par a b))
-              (cond x (made (k .moved .end) (lessOne (to + 1 + size a')) 0 (lowered (k .out) (to + 1) (to + 1 + size a'))) (made (k .moved .end) (k .moved .to) 0 (k .out)))
+              (cond x (made (k .moved .end) (to + 1 + size a' - 1) 0 (lowered (k .out) (to + 1) (to + 1 + size a'))) (made (k .moved .end) (k .moved .to) 0 (k .out)))
               (some (cond x a' (par a' b')))
           by true w y all e =
               let z = size-par a b in
@@ -171,8 +171,8 @@ module _
       beside-gives :
           {o : Option Run} →
           Does sub (at + 1 + size a) b o →
-          Vanishes d ws marks (at + 1 + size a) b o →
-          Gives (par a b) out to (at + size (par a b)) (rightW d sub ws marks (at + 1 + size a) mid (to + 1) (to + 1 + size a')) (also o λ b'. some (cond (isDone b') a' (par a' b')))
+          Vanishes d ws notes (at + 1 + size a) b o →
+          Gives (par a b) out to (at + size (par a b)) (rightW d sub ws notes (at + 1 + size a) mid (to + 1) (to + 1 + size a')) (also o λ b'. some (cond (isDone b') a' (par a' b')))
       unfolding rightW also size isDone
       beside-gives {o} fb v = by (goneW ws (at + 1 + size a)) refl
         where
@@ -180,7 +180,7 @@ module _
               (x : Bool) → goneW ws (at + 1 + size a) ≡ x →
               Gives (par a b) out to (at + size (par a b))
               (cond x
-              (made (passEnd d ws marks (at + 1 + size a)) (lessOne (to + 1 + size a')) 0 (lowered mid (to + 1) (to + 1 + size a')))
+              (made (passEnd d ws notes (at + 1 + size a)) (to + 1 + size a' - 1) 0 (lowered mid (to + 1) (to + 1 + size a')))
               (rightOn (to + 1) (to + 1 + size a') (sub (at + 1 + size a) mid (to + 1 + size a'))))
               (also o λ b'. some (cond (isDone b') a' (par a' b')))
           by true g =
@@ -201,10 +201,10 @@ module _
     left-gives :
         {oa ob : Option Run} {k : Killed} {start : List ℕ} →
         Does sub (at + 1 + size a) b ob →
-        Vanishes d ws marks (at + 1 + size a) b ob →
+        Vanishes d ws notes (at + 1 + size a) b ob →
         Laid out to (6144 ∷ []) start →
         Gives a start (to + 1) (at + 1 + size a) k oa →
-        Gives (par a b) out to (at + size (par a b)) (leftOn d sub ws marks (to + 1) to k) (also oa λ a'. also ob λ b'. some (parOf a' b'))
+        Gives (par a b) out to (at + size (par a b)) (leftOn d sub ws notes (to + 1) to k) (also oa λ a'. also ob λ b'. some (parOf a' b'))
     unfolding leftOn also parOf
     left-gives {k = k} fb vb first (stops e) = stops (goes-stops k _ e)
     left-gives {ob = ob} {k} fb vb first (gives {s = a'} g) =
@@ -219,7 +219,7 @@ module _
             Laid out to (6144 ∷ runWords a') (k .out) →
             at + 1 + size a + size b ≡ at + size (par a b) →
             Gives (par a b) out to (at + size (par a b))
-            (cond x (sub (at + 1 + size a) (k .out) to) (rightW d sub ws marks (at + 1 + size a) (k .out) (to + 1) (to + 1 + size a')))
+            (cond x (sub (at + 1 + size a) (k .out) to) (rightW d sub ws notes (at + 1 + size a) (k .out) (to + 1) (to + 1 + size a')))
             (also ob λ b'. some (cond x b' (cond (isDone b') a' (par a' b'))))
         by true w y all e =
             let z = size-par a b in
@@ -230,17 +230,17 @@ module _
     pub par-gives :
         {oa ob : Option Run} →
         Does sub (at + 1) a oa →
-        Vanishes d ws marks (at + 1) a oa →
+        Vanishes d ws notes (at + 1) a oa →
         Does sub (at + 1 + size a) b ob →
-        Vanishes d ws marks (at + 1 + size a) b ob →
-        Gives (par a b) out to (at + size (par a b)) (parW d sub ws marks (at + 1) out to) (also oa λ a'. also ob λ b'. some (parOf a' b'))
+        Vanishes d ws notes (at + 1 + size a) b ob →
+        Gives (par a b) out to (at + size (par a b)) (parW d sub ws notes (at + 1) out to) (also oa λ a'. also ob λ b'. some (parOf a' b'))
     unfolding parW also parOf isDone
     par-gives {oa} {ob} fa va fb vb = by (goneW ws (at + 1)) refl
       where
         by :
             (x : Bool) → goneW ws (at + 1) ≡ x →
             Gives (par a b) out to (at + size (par a b))
-            (cond x (sub (passEnd d ws marks (at + 1)) out to) (leftOn d sub ws marks (onward to 1) to (sub (at + 1) (set out to 6144) (onward to 1))))
+            (cond x (sub (passEnd d ws notes (at + 1)) out to) (leftOn d sub ws notes (onward to 1) to (sub (at + 1) (set out to 6144) (onward to 1))))
             (also oa λ a'. also ob λ b'. some (parOf a' b'))
         by true g =
             let z = size-par a b in

@@ -1,4 +1,4 @@
--- Killing on words, with marks that are right, is the definitions' killing, of what does not hold the position; and from a throw at the
+-- Killing on words, with notes that are right, is the definitions' killing, of what does not hold the position; and from a throw at the
 -- position it is the climb.
 -- Assumes nothing.
 use Prim.Native.Nat.{ℕ, zero, suc, _+_, _*_, _/_, _≤_, _<_}
@@ -22,7 +22,7 @@ use Rattle.sock.proofs.ByKind.{runKind, kind-asNode, done-kind, code-kind}
 use Rattle.sock.proofs.Measures.{words-seq, words-par, words-scope, words-executor, size-seq, depth-seq, depth-par, depth-scope, depth-executor}
 use Rattle.sock.proofs.Located.{size-positive}
 use Rattle.skipping.specs.Pass.{passEnd, passList}
-use Rattle.skipping.proofs.Marks.{Right, pass-code, pass-run, pass-entries}
+use Rattle.skipping.proofs.Notes.{Right, pass-code, pass-run, pass-entries}
 use Rattle.moving.specs.Killing.{goneKind, goneW, stuckW, vanishedW, kindW, killW}
 use Rattle.moving.proofs.Laid.{Near}
 use Rattle.moving.proofs.Places.{stands-within, word-at, drop-behind, drop-after}
@@ -84,17 +84,17 @@ module _ {n issued : ℕ} where
 
 -- ---- by kind
 
-module _ (ws marks : List ℕ) (f hole d : ℕ) where
+module _ (ws notes : List ℕ) (f hole d : ℕ) where
   kill-at :
       (at : ℕ) (out : List ℕ) (to k : ℕ) → at < length ws → getD ws at 0 / 2048 ≡ k →
-      killW (suc d) ws marks f hole at out to ≡ kindW (suc d) d (killW d ws marks f hole) ws marks f hole k at out to
+      killW (suc d) ws notes f hole at out to ≡ kindW (suc d) d (killW d ws notes f hole) ws notes f hole k at out to
   unfolding killW
   kill-at at out to k h e = rw (lt-leb (length ws) at h, e)
 
   -- of any other kind but inst
   vanishing :
       (k at : ℕ) (out : List ℕ) (to : ℕ) → eqb k 2 ≡ false → eqb k 3 ≡ false → eqb k 11 ≡ false → k < 16 →
-      kindW (suc d) d (killW d ws marks f hole) ws marks f hole k at out to ≡ cond (eqb k 12) (stuckW out) (vanishedW (suc d) ws marks at out to)
+      kindW (suc d) d (killW d ws notes f hole) ws notes f hole k at out to ≡ cond (eqb k 12) (stuckW out) (vanishedW (suc d) ws notes at out to)
   unfolding kindW
   vanishing k at out to a b c h =
       rw (a, b, c, ne-eqb k 16 (λ q. omega arith), ne-eqb k 17 (λ q. omega arith), ne-eqb k 18 (λ q. omega arith))
@@ -115,7 +115,7 @@ not-inst k = go (eqb k 2) (eqb k 3) (eqb k 11) (eqb k 12) _
     go false true c true x q = sym q
     go true b c true x q = sym q
 
-module _ (ws marks : List ℕ) (right : Right ws marks) (n issued : ℕ) (few : n ≤ 8) (small : issued < 65536) (f : ℕ) (bf : f < 64) (hole : ℕ) where
+module _ (ws notes : List ℕ) (right : Right ws notes) (n issued : ℕ) (few : n ≤ 8) (small : issued < 65536) (f : ℕ) (bf : f < 64) (hole : ℕ) where
   -- the list of a scope, and its body
   scope-parts :
       (name : ℕ) (mark : Mark) (zombie : Bool) (h : Entries) (a : Run) (at : ℕ) (rest : List ℕ) → drop at ws ≡ runWords (scope name mark zombie h a) ++ rest →
@@ -129,27 +129,27 @@ module _ (ws marks : List ℕ) (right : Right ws marks) (n issued : ℕ) (few : 
 
   scope-list :
       {h : Entries} → FitsEntries true zero h → (d at : ℕ) → entriesDepth h ≤ d → (rest : List ℕ) → drop (at + 2) ws ≡ (count h ∷ entriesWords h) ++ rest →
-      passList d ws marks (at + 2) ≡ at + 3 + length (entriesWords h)
+      passList d ws notes (at + 2) ≡ at + 3 + length (entriesWords h)
   scope-list {h} fh d at l rest e =
-      pass-entries ws marks right fh d (at + 2) l rest e
+      pass-entries ws notes right fh d (at + 2) l rest e
       ∙ (let q : at + 2 + 1 + length (entriesWords h) ≡ at + 3 + length (entriesWords h) = omega arith in q)
 
   act-gives :
       (x : Bool) (m : Node) (d at : ℕ) (out : List ℕ) (to : ℕ) → to + 2 * size (act m) ≤ length out → Near (length out) →
-      passEnd (suc d) ws marks at ≡ at + size (act m) →
-      Gives (act m) out to (at + size (act m)) (cond x (stuckW out) (vanishedW (suc d) ws marks at out to)) (guarded (not x) (some nil))
+      passEnd (suc d) ws notes at ≡ at + size (act m) →
+      Gives (act m) out to (at + size (act m)) (cond x (stuckW out) (vanishedW (suc d) ws notes at out to)) (guarded (not x) (some nil))
   unfolding guarded
   act-gives true m d at out to room near e = stops refl
-  act-gives false m d at out to room near e = vanish-gives (act m) (suc d) ws marks at out to e room near
+  act-gives false m d at out to room near e = vanish-gives (act m) (suc d) ws notes at out to e room near
 
-  -- what is seen to become nil does, and marks pass over it
+  -- what is seen to become nil does, and notes pass over it
   gone-nil :
       {r : Run} → Sound n issued r → (d at : ℕ) → runDepth r ≤ d → (rest : List ℕ) → drop at ws ≡ runWords r ++ rest →
-      Vanishes d ws marks at r (killed f hole r at)
+      Vanishes d ws notes at r (killed f hole r at)
   unfolding killed goneKind guarded
   gone-nil {r} s d at h rest e g =
       let k : goneKind (runKind r) ≡ true = gone-kind ws at (runKind r) (run-inside ws rest at r e) (run-kind ws rest at r e s) g in
-      (by s k, pass-run ws marks right n issued few small s d at h rest e)
+      (by s k, pass-run ws notes right n issued few small s d at h rest e)
     where
       never : false ≡ true → ⊥
       never q = let y : _≡_ {A = ℕ} 0 1 = cc in omega arith
@@ -166,72 +166,72 @@ module _ (ws marks : List ℕ) (right : Right ws marks) (n issued : ℕ) (few : 
 
   kills :
       {r : Run} → Sound n issued r → (d at : ℕ) → runDepth r ≤ d → (rest : List ℕ) → drop at ws ≡ runWords r ++ rest →
-      Does (killW d ws marks f hole) at r (killed f hole r at)
+      Does (killW d ws notes f hole) at r (killed f hole r at)
   unfolding killed kindW runDepth
   kills {r} s zero at h rest e out to room near = absurd (omega (arith, depth-positive (asNode r)))
   kills {r} nilSound (suc d) at h rest e out to room near =
       let s : Sound n issued nil = nilSound in
-      rw (kill-at ws marks f hole d at out to 0 (run-inside ws rest at nil e) (run-kind ws rest at nil e s))
-      (vanish-gives nil (suc d) ws marks at out to (pass-run ws marks right n issued few small nilSound (suc d) at h rest e) room near)
+      rw (kill-at ws notes f hole d at out to 0 (run-inside ws rest at nil e) (run-kind ws rest at nil e s))
+      (vanish-gives nil (suc d) ws notes at out to (pass-run ws notes right n issued few small nilSound (suc d) at h rest e) room near)
   kills (seqSound {a} {q} ga t fq) (suc d) at h rest e out to room near =
       let z = size-seq a q in
       let y = depth-seq a q in
       let own : drop (at + 1) ws ≡ runWords a ++ (words q ++ rest) =
       drop-after ws (_ ∷ []) (runWords a ++ words q) rest at (e ∙ ap (λ l. l ++ rest) (words-seq a q)) ∙ append-assoc (runWords a) (words q) rest in
       let second : drop (at + 1 + size a) ws ≡ words q ++ rest = run-behind ws (words q ++ rest) (at + 1) a own in
-      rw (kill-at ws marks f hole d at out to 2 (run-inside ws rest at (seq a q) e) (run-kind ws rest at (seq a q) e {n = n} {issued = issued} (seqSound ga t fq)))
-      (seq-gives d (killW d ws marks f hole) ws marks at (kills ga d (at + 1) (omega arith) (words q ++ rest) own) (pass-code ws marks right fq d (at + 1 + size a) (omega arith) rest second) out to room near)
+      rw (kill-at ws notes f hole d at out to 2 (run-inside ws rest at (seq a q) e) (run-kind ws rest at (seq a q) e {n = n} {issued = issued} (seqSound ga t fq)))
+      (seq-gives d (killW d ws notes f hole) ws notes at (kills ga d (at + 1) (omega arith) (words q ++ rest) own) (pass-code ws notes right fq d (at + 1 + size a) (omega arith) rest second) out to room near)
   kills (parSound {a} {b} ga t gb u) (suc d) at h rest e out to room near =
       let y = depth-par a b in
       let left : drop (at + 1) ws ≡ runWords a ++ (runWords b ++ rest) =
       drop-after ws (_ ∷ []) (runWords a ++ runWords b) rest at (e ∙ ap (λ l. l ++ rest) (words-par a b)) ∙ append-assoc (runWords a) (runWords b) rest in
       let beside : drop (at + 1 + size a) ws ≡ runWords b ++ rest = run-behind ws (runWords b ++ rest) (at + 1) a left in
-      rw (kill-at ws marks f hole d at out to 3 (run-inside ws rest at (par a b) e) (run-kind ws rest at (par a b) e (parSound ga t gb u)))
-      (par-gives a b d (killW d ws marks f hole) ws marks at out to room near
+      rw (kill-at ws notes f hole d at out to 3 (run-inside ws rest at (par a b) e) (run-kind ws rest at (par a b) e (parSound ga t gb u)))
+      (par-gives a b d (killW d ws notes f hole) ws notes at out to room near
       (kills ga d (at + 1) (omega arith) (runWords b ++ rest) left) (gone-nil ga d (at + 1) (omega arith) (runWords b ++ rest) left)
       (kills gb d (at + 1 + size a) (omega arith) rest beside) (gone-nil gb d (at + 1 + size a) (omega arith) rest beside))
   kills (scopeSound {name} {mark} {zombie = true} {h = l} {a} bn m fl ga) (suc d) at h rest e out to room near =
       let y = depth-scope name mark true l a in
       let s = scope-parts name mark true l a at rest e in
-      rw (kill-at ws marks f hole d at out to 11 (run-inside ws rest at (scope name mark true l a) e) (run-kind ws rest at (scope name mark true l a) e (scopeSound bn m fl ga)))
-      (dead-gives d (killW d ws marks f hole) ws marks rest name mark l a hole at bn (scope-list fl d at (omega arith) (runWords a ++ rest) (s .0)) out to near
+      rw (kill-at ws notes f hole d at out to 11 (run-inside ws rest at (scope name mark true l a) e) (run-kind ws rest at (scope name mark true l a) e (scopeSound bn m fl ga)))
+      (dead-gives d (killW d ws notes f hole) ws notes rest name mark l a hole at bn (scope-list fl d at (omega arith) (runWords a ++ rest) (s .0)) out to near
       (kills ga d (at + 3 + length (entriesWords l)) (omega arith) rest (s .1)) e room)
   kills (scopeSound {name} {mark} {zombie = false} {h = l} {a} bn m fl ga) (suc d) at h rest e out to room near =
       let y = depth-scope name mark false l a in
       let s = scope-parts name mark false l a at rest e in
       let body : ℕ = at + 3 + length (entriesWords l) in
       let done : eqb (getD ws body 0) 0 ≡ isDone a = ap (λ w. eqb w 0) (run-head ws rest body a (s .1)) ∙ head-done ga in
-      rw (kill-at ws marks f hole d at out to 11 (run-inside ws rest at (scope name mark false l a) e) (run-kind ws rest at (scope name mark false l a) e (scopeSound bn m fl ga)))
-      (turned-gives d (killW d ws marks f hole) ws marks rest name mark l a hole at bn (scope-list fl d at (omega arith) (runWords a ++ rest) (s .0)) out to near
+      rw (kill-at ws notes f hole d at out to 11 (run-inside ws rest at (scope name mark false l a) e) (run-kind ws rest at (scope name mark false l a) e (scopeSound bn m fl ga)))
+      (turned-gives d (killW d ws notes f hole) ws notes rest name mark l a hole at bn (scope-list fl d at (omega arith) (runWords a ++ rest) (s .0)) out to near
       (kills ga d body (omega arith) rest (s .1)) e done room)
   kills (executorSound {o} {y} {client} {serial} {a} bo bv t ga) (suc d) at h rest e out to room near =
       let z = depth-executor o y client serial a in
       let body : drop (at + 3) ws ≡ runWords a ++ rest =
       drop-after ws (_ ∷ _ ∷ _ ∷ []) (runWords a) rest at (e ∙ ap (λ l. l ++ rest) (words-executor o y client serial a)) in
-      rw (kill-at ws marks f hole d at out to 16 (run-inside ws rest at (executor o y client serial a) e) (run-kind ws rest at (executor o y client serial a) e (executorSound bo bv t ga)))
-      (executor-gives ws rest o y client serial f a at bo bv bf e (killW d ws marks f hole) out to room near (kills ga d (at + 3) (omega arith) rest body))
+      rw (kill-at ws notes f hole d at out to 16 (run-inside ws rest at (executor o y client serial a) e) (run-kind ws rest at (executor o y client serial a) e (executorSound bo bv t ga)))
+      (executor-gives ws rest o y client serial f a at bo bv bf e (killW d ws notes f hole) out to room near (kills ga d (at + 3) (omega arith) rest body))
   kills (waiterSound {o} {x} {server} {serial} {dead} {l} bo bx t fl) (suc d) at h rest e out to room near =
       let s : Sound n issued (waiter o x dead server serial l) = waiterSound bo bx t fl in
       let b : server < 8 = omega (arith, end-tests n issued server serial t) in
-      rw (kill-at ws marks f hole d at out to 17 (run-inside ws rest at (waiter o x dead server serial l) e) (run-kind ws rest at (waiter o x dead server serial l) e s))
-      (waiter-gives ws rest at out to near marks (suc d) o x dead server serial l b e (pass-run ws marks right n issued few small s (suc d) at h rest e) room)
+      rw (kill-at ws notes f hole d at out to 17 (run-inside ws rest at (waiter o x dead server serial l) e) (run-kind ws rest at (waiter o x dead server serial l) e s))
+      (waiter-gives ws rest at out to near notes (suc d) o x dead server serial l b e (pass-run ws notes right n issued few small s (suc d) at h rest e) room)
   kills (noticeSound {o} {f = g} {client} {serial} bo bg t) (suc d) at h rest e out to room near =
       let s : Sound n issued (notice o g client serial) = noticeSound bo bg t in
-      rw (kill-at ws marks f hole d at out to 18 (run-inside ws rest at (notice o g client serial) e) (run-kind ws rest at (notice o g client serial) e s))
+      rw (kill-at ws notes f hole d at out to 18 (run-inside ws rest at (notice o g client serial) e) (run-kind ws rest at (notice o g client serial) e s))
       (kept-gives ws rest at out to near o g client serial e room)
   kills (actSound {p = m} t g) (suc d) at h rest e out to room near =
       let s : Sound n issued (act m) = actSound t g in
       let k = plain-kind (kind m) t in
       rw (
-        kill-at ws marks f hole d at out to (kind m) (run-inside ws rest at (act m) e) (run-kind ws rest at (act m) e s),
-        vanishing ws marks f hole d (kind m) at out to (k .1) (k .2) (k .3) (omega (arith, code-kind g)),
+        kill-at ws notes f hole d at out to (kind m) (run-inside ws rest at (act m) e) (run-kind ws rest at (act m) e s),
+        vanishing ws notes f hole d (kind m) at out to (k .1) (k .2) (k .3) (omega (arith, code-kind g)),
       )
-      (act-gives (eqb (kind m) 12) m d at out to room near (pass-run ws marks right n issued few small s (suc d) at h rest e))
+      (act-gives (eqb (kind m) 12) m d at out to room near (pass-run ws notes right n issued few small s (suc d) at h rest e))
 
 -- ---- the definitions' killing, and their climb
 
 module _
-    (ws marks : List ℕ) (right : Right ws marks) (n issued : ℕ) (few : n ≤ 8) (small : issued < 65536) (f : ℕ) (bf : f < 64)
+    (ws notes : List ℕ) (right : Right ws notes) (n issued : ℕ) (few : n ≤ 8) (small : issued < 65536) (f : ℕ) (bf : f < 64)
     {r : Run} (s : Sound n issued r)
     (d at : ℕ) (shallow : runDepth r ≤ d) (rest : List ℕ) (stands : drop at ws ≡ runWords r ++ rest)
     (out : List ℕ) (to : ℕ) (room : to + 2 * size r ≤ length out) (near : Near (length out))
@@ -239,11 +239,11 @@ module _
     -- the position is not inside
     pub kill-beside :
         (hole : ℕ) → (at < hole → hole < at + size r → ⊥) →
-        Gives r out to (at + size r) (killW d ws marks f hole at out to) (kill f r)
-    kill-beside hole h = rw (killed-beside f hole r at h) at (kills ws marks right n issued few small f bf hole s d at shallow rest stands out to room near)
+        Gives r out to (at + size r) (killW d ws notes f hole at out to) (kill f r)
+    kill-beside hole h = rw (killed-beside f hole r at h) at (kills ws notes right n issued few small f bf hole s d at shallow rest stands out to room near)
 
     -- a throw stands at the position, and no scope around it is a zombie or holds the fault
     pub kill-climb :
         (p : ℕ) (l : Located) → locate r p [] ≡ some l → Throws (l .process) → T (free f (l .frames)) →
-        Gives r out to (at + size r) (killW d ws marks f (at + p) at out to) (climb f (l .frames) nil)
-    kill-climb p l e t u = rw (killed-climb f r p at l e t u) at (kills ws marks right n issued few small f bf (at + p) s d at shallow rest stands out to room near)
+        Gives r out to (at + size r) (killW d ws notes f (at + p) at out to) (climb f (l .frames) nil)
+    kill-climb p l e t u = rw (killed-climb f r p at l e t u) at (kills ws notes right n issued few small f bf (at + p) s d at shallow rest stands out to room near)

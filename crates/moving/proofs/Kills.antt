@@ -9,21 +9,22 @@ use lib.Dec.{leb}
 use lib.ListN.{length, getD, set}
 use borrow.Author.Tests.{le-ltb, lt-leb, ne-eqb}
 use Rattle.skipping.specs.Pass.{passEnd, passList}
-use Rattle.moving.specs.Writing.{onward, pasted, pastedEnd, lowered}
-use Rattle.moving.specs.Killing.{Killed, Walk, stuckW, made, goes, noticeHead, noticeWord, noticeW, executorOn, executorW, headFor, liveOn, liveW, goneW, leftOn, parW, lessOne, rightOn, rightW, scopeAt, scopeW, kindW, killW}
+use Rattle.layout.specs.Positions.{onward}
+use Rattle.moving.specs.Writing.{pasted, pastedEnd, lowered}
+use Rattle.moving.specs.Killing.{Killed, Walk, stuckW, made, goes, noticeHead, noticeWord, noticeW, executorOn, executorW, headFor, liveOn, liveW, goneW, leftOn, parW, rightOn, rightW, scopeAt, scopeW, kindW, killW}
 use Rattle.moving.specs.declared.kill.Moved.{Moved}
 
 pred-suc : (d : ℕ) → suc d - 1 ≡ d
 pred-suc d = omega arith
 
 pub kill-step :
-    (d : ℕ) (ws marks : List ℕ) (fault hole i : ℕ) (out : List ℕ) (to : ℕ) →
+    (d : ℕ) (ws notes : List ℕ) (fault hole i : ℕ) (out : List ℕ) (to : ℕ) →
     (d ≡ 0 → ⊥) →
-    killW d ws marks fault hole i out to
-    ≡ cond (leb (length ws) i) (stuckW out) (kindW d (d - 1) (killW (d - 1) ws marks fault hole) ws marks fault hole (getD ws i 0 / 2048) i out to)
+    killW d ws notes fault hole i out to
+    ≡ cond (leb (length ws) i) (stuckW out) (kindW d (d - 1) (killW (d - 1) ws notes fault hole) ws notes fault hole (getD ws i 0 / 2048) i out to)
 unfolding killW
-kill-step zero ws marks fault hole i out to h = absurd (h refl)
-kill-step (suc d) ws marks fault hole i out to h = rw (pred-suc d)
+kill-step zero ws notes fault hole i out to h = absurd (h refl)
+kill-step (suc d) ws notes fault hole i out to h = rw (pred-suc d)
 
 -- a notice's three words one after the other
 pub notice-made :
@@ -89,73 +90,73 @@ live-made sub ws hole i body out to b h one start p next headed last e1 e2 e3 e4
 
 -- a par whose left side just becomes nil
 pub par-gone :
-    (below : ℕ) (sub : Walk) (ws marks : List ℕ) (i : ℕ) (out : List ℕ) (to e : ℕ) (r : Moved) (last : List ℕ) →
+    (below : ℕ) (sub : Walk) (ws notes : List ℕ) (i : ℕ) (out : List ℕ) (to e : ℕ) (r : Moved) (last : List ℕ) →
     goneW ws i ≡ true →
-    e ≡ passEnd below ws marks i →
+    e ≡ passEnd below ws notes i →
     r ≡ sub e out to .moved →
     last ≡ sub e out to .out →
-    both r last ≡ parW below sub ws marks i out to
+    both r last ≡ parW below sub ws notes i out to
 unfolding parW
-par-gone below sub ws marks i out to e r last g h x y = rw (g, ← h, x, y)
+par-gone below sub ws notes i out to e r last g h x y = rw (g, ← h, x, y)
 
 -- a par whose left side is killed to nil, or not
 module _
-    (below : ℕ) (sub : Walk) (ws marks : List ℕ) (i : ℕ) (out : List ℕ) (to one : ℕ) (start : List ℕ) (p : Moved) (next : List ℕ) (r : Moved) (last : List ℕ)
+    (below : ℕ) (sub : Walk) (ws notes : List ℕ) (i : ℕ) (out : List ℕ) (to one : ℕ) (start : List ℕ) (p : Moved) (next : List ℕ) (r : Moved) (last : List ℕ)
     (g : goneW ws i ≡ false) (a : one ≡ onward to 1) (b : start ≡ set out to 6144)
     (c : p ≡ sub i start one .moved) (d : next ≡ sub i start one .out) (e : p .end ≡ 0 → ⊥)
   where
     pub par-right :
-        p .nil ≡ 1 → r ≡ sub (p .end) next to .moved → last ≡ sub (p .end) next to .out → both r last ≡ parW below sub ws marks i out to
+        p .nil ≡ 1 → r ≡ sub (p .end) next to .moved → last ≡ sub (p .end) next to .out → both r last ≡ parW below sub ws notes i out to
     unfolding parW leftOn goes
     par-right n x y = rw (g, ← a, ← b, ← c, ← d, ne-eqb (p .end) 0 e, n, x, y)
 
     pub par-both :
         (p .nil ≡ 1 → ⊥) →
-        r ≡ rightW below sub ws marks (p .end) next one (p .to) .moved →
-        last ≡ rightW below sub ws marks (p .end) next one (p .to) .out →
-        both r last ≡ parW below sub ws marks i out to
+        r ≡ rightW below sub ws notes (p .end) next one (p .to) .moved →
+        last ≡ rightW below sub ws notes (p .end) next one (p .to) .out →
+        both r last ≡ parW below sub ws notes i out to
     unfolding parW leftOn goes
     par-both n x y = rw (g, ← a, ← b, ← c, ← d, ne-eqb (p .end) 0 e, ne-eqb (p .nil) 1 n, x, y)
 
 -- the right side of a par, which just becomes nil
 pub right-gone :
-    (below : ℕ) (sub : Walk) (ws marks : List ℕ) (i : ℕ) (out : List ℕ) (one to e less : ℕ) (last : List ℕ) →
+    (below : ℕ) (sub : Walk) (ws notes : List ℕ) (i : ℕ) (out : List ℕ) (one to e less : ℕ) (last : List ℕ) →
     goneW ws i ≡ true →
-    e ≡ passEnd below ws marks i →
-    less ≡ lessOne to →
+    e ≡ passEnd below ws notes i →
+    less ≡ to - 1 →
     last ≡ lowered out one to →
-    made e less 0 last ≡ rightW below sub ws marks i out one to
+    made e less 0 last ≡ rightW below sub ws notes i out one to
 unfolding rightW
-right-gone below sub ws marks i out one to e less last g h x y = rw (g, ← h, x, y)
+right-gone below sub ws notes i out one to e less last g h x y = rw (g, ← h, x, y)
 
 -- the right side of a par, killed to nil or not
 module _
-    (below : ℕ) (sub : Walk) (ws marks : List ℕ) (i : ℕ) (out : List ℕ) (one to : ℕ) (q : Moved) (next : List ℕ)
+    (below : ℕ) (sub : Walk) (ws notes : List ℕ) (i : ℕ) (out : List ℕ) (one to : ℕ) (q : Moved) (next : List ℕ)
     (g : goneW ws i ≡ false) (c : q ≡ sub i out to .moved) (d : next ≡ sub i out to .out) (e : q .end ≡ 0 → ⊥)
   where
     pub right-nil :
-        (less : ℕ) (last : List ℕ) → q .nil ≡ 1 → less ≡ lessOne to → last ≡ lowered next one to →
-        made (q .end) less 0 last ≡ rightW below sub ws marks i out one to
+        (less : ℕ) (last : List ℕ) → q .nil ≡ 1 → less ≡ to - 1 → last ≡ lowered next one to →
+        made (q .end) less 0 last ≡ rightW below sub ws notes i out one to
     unfolding rightW rightOn goes
     right-nil less last n x y = rw (g, ← c, ← d, ne-eqb (q .end) 0 e, n, x, y)
 
-    pub right-stays : (q .nil ≡ 1 → ⊥) → made (q .end) (q .to) 0 next ≡ rightW below sub ws marks i out one to
+    pub right-stays : (q .nil ≡ 1 → ⊥) → made (q .end) (q .to) 0 next ≡ rightW below sub ws notes i out one to
     unfolding rightW rightOn goes
     right-stays n = rw (g, ← c, ← d, ne-eqb (q .end) 0 e, ne-eqb (q .nil) 1 n)
 
 -- a live scope with nil body
 pub scope-stuck :
-    (d : ℕ) (sub : Walk) (ws marks : List ℕ) (hole i : ℕ) (out : List ℕ) (to body h w : ℕ) →
+    (d : ℕ) (sub : Walk) (ws notes : List ℕ) (hole i : ℕ) (out : List ℕ) (to body h w : ℕ) →
     i < length ws →
-    body ≡ passList d ws marks (i + 2) →
+    body ≡ passList d ws notes (i + 2) →
     (body ≡ 0 → ⊥) →
     body < length ws →
     h ≡ getD ws i 0 →
     (h / 4 % 2 ≡ 1 → ⊥) →
     w ≡ getD ws body 0 →
     w ≡ 0 →
-    stuckW out ≡ scopeW d sub ws marks hole i out to
+    stuckW out ≡ scopeW d sub ws notes hole i out to
 unfolding scopeW scopeAt
-scope-stuck d sub ws marks hole i out to body h w e1 e2 e3 e4 e5 e6 e7 e8 =
+scope-stuck d sub ws notes hole i out to body h w e1 e2 e3 e4 e5 e6 e7 e8 =
     rw
     (lt-leb (length ws) i e1, ← e2, ne-eqb body 0 e3, lt-leb (length ws) body e4, ← e5, ne-eqb (h / 4 % 2) 1 e6, ← e7, e8)

@@ -9,7 +9,8 @@ use mathlib.Core.List.{List, [], _∷_, _++_, append-assoc}
 use lib.ListN.{length, take, drop, set, length-append, length-drop, length-set}
 use lib.Seq.{length-take-le, take-take, take-at, drop-at, take-add, take-suc-set, take-set-lt, length-paste, take-paste}
 use borrow.Author.Tests.{le-ltb, lt-leb, ne-eqb}
-use Rattle.moving.specs.Writing.{onward, pasted, pastedEnd, lowered}
+use Rattle.layout.specs.Positions.{onward}
+use Rattle.moving.specs.Writing.{pasted, pastedEnd, lowered}
 
 -- ---- places that the writers count as they are
 

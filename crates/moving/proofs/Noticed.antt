@@ -28,11 +28,11 @@ use Rattle.moving.proofs.Gives.{Gives, stops, gives, Does, goes-stops, 
 -- ---- what becomes nil
 
 pub vanish-gives :
-    (r : Run) (d : ℕ) (ws marks : List ℕ) (at : ℕ) (out : List ℕ) (to : ℕ) →
-    passEnd d ws marks at ≡ at + size r → to + 2 * size r ≤ length out → Near (length out) →
-    Gives r out to (at + size r) (vanishedW d ws marks at out to) (some nil)
+    (r : Run) (d : ℕ) (ws notes : List ℕ) (at : ℕ) (out : List ℕ) (to : ℕ) →
+    passEnd d ws notes at ≡ at + size r → to + 2 * size r ≤ length out → Near (length out) →
+    Gives r out to (at + size r) (vanishedW d ws notes at out to) (some nil)
 unfolding vanishedW isDone
-vanish-gives r d ws marks at out to e room near =
+vanish-gives r d ws notes at out to e room near =
     let p = size-positive r in
     gives (record {
       ends = e;
@@ -69,13 +69,13 @@ module _ (ws rest : List ℕ) (at : ℕ) (out : List ℕ) (to : ℕ) (near : Nea
   dead-word dead server b = omega (arith, bit-below dead)
 
   pub waiter-gives :
-      (marks : List ℕ) (d o x : ℕ) (dead : Bool) (server serial : ℕ) (l : Entries) → server < 8 →
+      (notes : List ℕ) (d o x : ℕ) (dead : Bool) (server serial : ℕ) (l : Entries) → server < 8 →
       drop at ws ≡ runWords (waiter o x dead server serial l) ++ rest →
-      passEnd d ws marks at ≡ at + size (waiter o x dead server serial l) →
+      passEnd d ws notes at ≡ at + size (waiter o x dead server serial l) →
       to + 2 * size (waiter o x dead server serial l) ≤ length out →
-      Gives (waiter o x dead server serial l) out to (at + size (waiter o x dead server serial l)) (waiterW d ws marks at out to) (some (waiter o x true server serial l))
+      Gives (waiter o x dead server serial l) out to (at + size (waiter o x dead server serial l)) (waiterW d ws notes at out to) (some (waiter o x true server serial l))
   unfolding waiterW isDone size
-  waiter-gives marks d o x dead server serial l b e q room =
+  waiter-gives notes d o x dead server serial l b e q room =
       let r : Run = waiter o x dead server serial l in
       let s : Run = waiter o x true server serial l in
       let z : size r ≡ 4 + length (entriesWords l) = size-waiter o x dead server serial l in

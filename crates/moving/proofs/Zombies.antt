@@ -149,14 +149,14 @@ module _
 
 -- the whole
 module _
-    (d : ℕ) (sub : Walk) (ws marks rest : List ℕ) (name : ℕ) (mark : Mark) (h : Entries) (a : Run) (hole at : ℕ) (b : name < 64)
-    (lists : passList d ws marks (at + 2) ≡ at + 3 + length (entriesWords h))
+    (d : ℕ) (sub : Walk) (ws notes rest : List ℕ) (name : ℕ) (mark : Mark) (h : Entries) (a : Run) (hole at : ℕ) (b : name < 64)
+    (lists : passList d ws notes (at + 2) ≡ at + 3 + length (entriesWords h))
     (out : List ℕ) (to : ℕ) (near : Near (length out)) {oa : Option Run} (fa : Does sub (at + 3 + length (entriesWords h)) a oa)
   where
     pub dead-gives :
         drop at ws ≡ runWords (scope name mark true h a) ++ rest →
         to + 2 * size (scope name mark true h a) ≤ length out →
-        Gives (scope name mark true h a) out to (at + size (scope name mark true h a)) (scopeW d sub ws marks hole at out to) (also oa λ a'. some (scope name mark true h a))
+        Gives (scope name mark true h a) out to (at + size (scope name mark true h a)) (scopeW d sub ws notes hole at out to) (also oa λ a'. some (scope name mark true h a))
     unfolding scopeW scopeAt zombieW
     dead-gives e room =
         let z = size-scope name mark true h a in
@@ -176,7 +176,7 @@ module _
         drop at ws ≡ runWords (scope name mark false h a) ++ rest →
         eqb (getD ws (at + 3 + length (entriesWords h)) 0) 0 ≡ isDone a →
         to + 2 * size (scope name mark false h a) ≤ length out →
-        Gives (scope name mark false h a) out to (at + size (scope name mark false h a)) (scopeW d sub ws marks hole at out to)
+        Gives (scope name mark false h a) out to (at + size (scope name mark false h a)) (scopeW d sub ws notes hole at out to)
         (guarded (not (isDone a)) (also oa λ a'. some (scope name (markAround hole at (at + 3 + length (entriesWords h) + size a)) true h a')))
     unfolding scopeW scopeAt liveW guarded
     turned-gives e done room =

@@ -5,8 +5,11 @@ use mathlib.Core.Bool.{Bool, true, false, cond}
 use mathlib.Core.List.{List}
 use lib.Dec.{ltb, leb, eqb}
 use lib.ListN.{length, getD, set}
+use Rattle.sock.specs.Kind
+use Rattle.sock.specs.Words.{kindOf, zombieOf}
 use Rattle.skipping.specs.Pass.{passEnd, passList}
-use Rattle.moving.specs.Writing.{onward, pasted, pastedEnd, lowered}
+use Rattle.layout.specs.Positions.{onward}
+use Rattle.moving.specs.Writing.{pasted, pastedEnd, lowered}
 use Rattle.moving.specs.declared.kill.Moved.{Moved}
 
 -- what killing gives: the code's answer, and the output afterwards
@@ -58,67 +61,64 @@ deadWord w = 32768 + w % 32768
 -- ---- those without parts that are killed
 
 unfoldable pub waiterW : ℕ → List ℕ → List ℕ → Walk
-waiterW d ws marks i out to =
+waiterW d ws notes i out to =
     cond (leb (length ws) i) (stuckW out)
     (cond (ltb (length ws - i) 2) (stuckW out)
-    (cond (eqb (passEnd d ws marks i) 0) (stuckW out)
-    (made (passEnd d ws marks i) (pastedEnd ws i (passEnd d ws marks i) to) 0
-    (set (pasted ws i (passEnd d ws marks i) out to) (onward to 1) (deadWord (at ws (i + 1)))))))
+    (cond (eqb (passEnd d ws notes i) 0) (stuckW out)
+    (made (passEnd d ws notes i) (pastedEnd ws i (passEnd d ws notes i) to) 0
+    (set (pasted ws i (passEnd d ws notes i) out to) (onward to 1) (deadWord (at ws (i + 1)))))))
 
 unfoldable pub keptW : List ℕ → Walk
 keptW ws i out to = cond (leb (length ws) i) (stuckW out) (made (i + 3) (pastedEnd ws i (i + 3) to) 0 (pasted ws i (i + 3) out to))
 
 unfoldable pub vanishedW : ℕ → List ℕ → List ℕ → Walk
-vanishedW d ws marks i out to = made (passEnd d ws marks i) (onward to 1) 1 (set out to 0)
+vanishedW d ws notes i out to = made (passEnd d ws notes i) (onward to 1) 1 (set out to 0)
 
 -- ---- seq and par
 
 unfoldable pub seqOn : ℕ → List ℕ → List ℕ → Killed → Killed
-seqOn d ws marks k = goes k (made (passEnd d ws marks (k .moved .end)) (k .moved .to) (k .moved .nil) (k .out))
+seqOn d ws notes k = goes k (made (passEnd d ws notes (k .moved .end)) (k .moved .to) (k .moved .nil) (k .out))
 
 unfoldable pub seqW : ℕ → Walk → List ℕ → List ℕ → Walk
-seqW d sub ws marks i out to = seqOn d ws marks (sub i out to)
+seqW d sub ws notes i out to = seqOn d ws notes (sub i out to)
 
 -- whether what is of a kind, or stands at a position, just becomes nil
 unfoldable pub goneKind : ℕ → Bool
 goneKind kind =
-    cond (eqb kind 2) false
-    (cond (eqb kind 3) false
-    (cond (eqb kind 11) false
-    (cond (eqb kind 12) false
-    (cond (eqb kind 16) false
-    (cond (eqb kind 17) false
-    (cond (eqb kind 18) false true))))))
+    cond (eqb kind Kind.seq) false
+    (cond (eqb kind Kind.par) false
+    (cond (eqb kind Kind.scope) false
+    (cond (eqb kind Kind.inst) false
+    (cond (eqb kind Kind.executor) false
+    (cond (eqb kind Kind.waiter) false
+    (cond (eqb kind Kind.notice) false true))))))
 
 unfoldable pub goneW : List ℕ → ℕ → Bool
-goneW ws i = cond (leb (length ws) i) false (goneKind (at ws i / 2048))
-
-unfoldable pub lessOne : ℕ → ℕ
-lessOne n = cond (eqb n 0) 0 (n - 1)
+goneW ws i = cond (leb (length ws) i) false (goneKind (kindOf (at ws i)))
 
 -- the right side is killed too; the left stands at one..to
 unfoldable pub rightOn : ℕ → ℕ → Killed → Killed
 rightOn one to k =
     goes k
     (cond (eqb (k .moved .nil) 1)
-    (made (k .moved .end) (lessOne to) 0 (lowered (k .out) one to))
+    (made (k .moved .end) (to - 1) 0 (lowered (k .out) one to))
     (made (k .moved .end) (k .moved .to) 0 (k .out)))
 
 unfoldable pub rightW : ℕ → Walk → List ℕ → List ℕ → ℕ → List ℕ → ℕ → ℕ → Killed
-rightW d sub ws marks i out one to =
-    cond (goneW ws i) (made (passEnd d ws marks i) (lessOne to) 0 (lowered out one to)) (rightOn one to (sub i out to))
+rightW d sub ws notes i out one to =
+    cond (goneW ws i) (made (passEnd d ws notes i) (to - 1) 0 (lowered out one to)) (rightOn one to (sub i out to))
 
 -- the left side is killed
 unfoldable pub leftOn : ℕ → Walk → List ℕ → List ℕ → ℕ → ℕ → Killed → Killed
-leftOn d sub ws marks one to k =
+leftOn d sub ws notes one to k =
     goes k
     (cond (eqb (k .moved .nil) 1)
     (sub (k .moved .end) (k .out) to)
-    (rightW d sub ws marks (k .moved .end) (k .out) one (k .moved .to)))
+    (rightW d sub ws notes (k .moved .end) (k .out) one (k .moved .to)))
 
 unfoldable pub parW : ℕ → Walk → List ℕ → List ℕ → Walk
-parW d sub ws marks i out to =
-    cond (goneW ws i) (sub (passEnd d ws marks i) out to) (leftOn d sub ws marks (onward to 1) to (sub i (set out to 6144) (onward to 1)))
+parW d sub ws notes i out to =
+    cond (goneW ws i) (sub (passEnd d ws notes i) out to) (leftOn d sub ws notes (onward to 1) to (sub i (set out to 6144) (onward to 1)))
 
 -- ---- scope
 
@@ -146,12 +146,12 @@ unfoldable pub scopeAt : Walk → List ℕ → ℕ → ℕ → ℕ → List ℕ 
 scopeAt sub ws hole i body out to =
     cond (eqb body 0) (stuckW out)
     (cond (leb (length ws) body) (stuckW out)
-    (cond (eqb (at ws i / 4 % 2) 1) (zombieW sub ws i body out to)
+    (cond (eqb (zombieOf (at ws i)) 1) (zombieW sub ws i body out to)
     (cond (eqb (at ws body) 0) (stuckW out) (liveW sub ws hole i body out to))))
 
 unfoldable pub scopeW : ℕ → Walk → List ℕ → List ℕ → ℕ → Walk
-scopeW d sub ws marks hole i out to =
-    cond (leb (length ws) i) (stuckW out) (scopeAt sub ws hole i (passList d ws marks (i + 2)) out to)
+scopeW d sub ws notes hole i out to =
+    cond (leb (length ws) i) (stuckW out) (scopeAt sub ws hole i (passList d ws notes (i + 2)) out to)
 
 -- ---- executor
 
@@ -175,16 +175,16 @@ executorW sub ws fault i out to =
 
 -- `d` levels, `sub` one less
 unfoldable pub kindW : ℕ → ℕ → Walk → List ℕ → List ℕ → ℕ → ℕ → ℕ → Walk
-kindW d below sub ws marks fault hole kind i out to =
-    cond (eqb kind 2) (seqW below sub ws marks (i + 1) out to)
-    (cond (eqb kind 3) (parW below sub ws marks (i + 1) out to)
-    (cond (eqb kind 11) (scopeW below sub ws marks hole i out to)
-    (cond (eqb kind 12) (stuckW out)
-    (cond (eqb kind 16) (executorW sub ws fault i out to)
-    (cond (eqb kind 17) (waiterW d ws marks i out to)
-    (cond (eqb kind 18) (keptW ws i out to) (vanishedW d ws marks i out to)))))))
+kindW d below sub ws notes fault hole kind i out to =
+    cond (eqb kind Kind.seq) (seqW below sub ws notes (i + 1) out to)
+    (cond (eqb kind Kind.par) (parW below sub ws notes (i + 1) out to)
+    (cond (eqb kind Kind.scope) (scopeW below sub ws notes hole i out to)
+    (cond (eqb kind Kind.inst) (stuckW out)
+    (cond (eqb kind Kind.executor) (executorW sub ws fault i out to)
+    (cond (eqb kind Kind.waiter) (waiterW d ws notes i out to)
+    (cond (eqb kind Kind.notice) (keptW ws i out to) (vanishedW d ws notes i out to)))))))
 
 unfoldable pub killW : ℕ → List ℕ → List ℕ → ℕ → ℕ → Walk
-killW zero ws marks fault hole i out to = stuckW out
-killW (suc d) ws marks fault hole i out to =
-    cond (leb (length ws) i) (stuckW out) (kindW (suc d) d (killW d ws marks fault hole) ws marks fault hole (at ws i / 2048) i out to)
+killW zero ws notes fault hole i out to = stuckW out
+killW (suc d) ws notes fault hole i out to =
+    cond (leb (length ws) i) (stuckW out) (kindW (suc d) d (killW d ws notes fault hole) ws notes fault hole (kindOf (at ws i)) i out to)

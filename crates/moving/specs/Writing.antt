@@ -5,10 +5,7 @@ use mathlib.Core.List.{List}
 use lib.Dec.{ltb, leb, eqb}
 use lib.ListN.{length, drop}
 use lib.Seq.{paste}
-
--- `n` places further, up to a figure that no output reaches
-unfoldable pub onward : ℕ → ℕ → ℕ
-onward to n = cond (leb 1152921504606846976 to) to (cond (leb 1152921504606846976 n) to (to + n))
+use Rattle.layout.specs.Positions.{onward}
 
 -- the words from..upto of ws over the output from `to` on
 unfoldable pub pasted : List ℕ → ℕ → ℕ → List ℕ → ℕ → List ℕ

@@ -1,5 +1,6 @@
 // Values and expressions on words. Sum and difference run round.
-use reading::reader::wide;
+use layout::number::wide;
+use layout::number::word;
 ghost use mathlib.Core.Path.{_≡_};
 ghost use Prim.Native.Nat.{_+_, _*_, _<_};
 ghost use lib.ListN.{length, getD};
@@ -16,16 +17,6 @@ fn long(high: u16, low: u16) -> u32
     ensures { λ r. ⌜ r ≡ valueOf high low ⌝ }
 {
     (high as u32) * 65536 + (low as u32)
-}
-
-// The word at a position; 0 where there is none.
-fn word(ws: &[u16], at: usize) -> u16
-    ensures { λ r. ⌜ r ≡ getD (now (ws .entry)) at 0 ⌝ }
-{
-    if ws.len() <= at {
-        return 0;
-    }
-    ws[at]
 }
 
 // The value of a variable among values of two words each, of which an engine has 32; a word that is not there counts as 0.

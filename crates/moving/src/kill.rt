@@ -1,15 +1,18 @@
 // Killing with a fault, into scratch. A scope around the position `hole`, from which a fault climbs, turns zombie with mark 0, any other
-// one with mark 2; but for that the climb does what killing does. What it need not look into it passes over by the marks noted of it, not
+// one with mark 2; but for that the climb does what killing does. What it need not look into it passes over by the notes noted of it, not
 // word by word. Total: what does not fit can't be killed.
 use crate::write::copy;
 use crate::write::down;
-use crate::write::further;
 use crate::write::put;
-use reading::reader::wide;
+use layout::head;
+use layout::kind;
+use layout::number::further;
+use layout::number::less_one;
+use layout::number::wide;
 use skipping::pass::pass;
 use skipping::pass::pass_list;
 ghost use mathlib.Core.Path.{_≡_};
-ghost use Rattle.moving.specs.Killing.{stopped, lessOne, ownZombie, plainZombie, headFor, noticeHead, noticeWord, deadWord};
+ghost use Rattle.moving.specs.Killing.{stopped, ownZombie, plainZombie, headFor, noticeHead, noticeWord, deadWord};
 ghost use Rattle.moving.specs.Killing.{noticeW, waiterW, keptW, vanishedW, killW, goneW, seqW, parW, rightW, scopeW, zombieW, liveW, executorW};
 
 // Where the source ends and where the writing has come to; `nil` is 1 if only nil was written, else 0, a number since the bytes behind a
@@ -32,7 +35,7 @@ fn stuck() -> Moved
 
 pub fn kill(
     ws: &[u16],
-    marks: &[u16],
+    notes: &[u16],
     at: usize,
     fault: u16,
     hole: usize,
@@ -40,7 +43,7 @@ pub fn kill(
     out: &mut [u16],
     to: usize,
 ) -> Moved
-    ensures { λ r. ⌜ (r ≡ killW depth (now (ws .entry)) (now (marks .entry)) fault hole at (now (out .entry)) to .moved) × (now (out .exit) ≡ killW depth (now (ws .entry)) (now (marks .entry)) fault hole at (now (out .entry)) to .out) ⌝ }
+    ensures { λ r. ⌜ (r ≡ killW depth (now (ws .entry)) (now (notes .entry)) fault hole at (now (out .entry)) to .moved) × (now (out .exit) ≡ killW depth (now (ws .entry)) (now (notes .entry)) fault hole at (now (out .entry)) to .out) ⌝ }
 {
     if depth == 0 {
         return stuck();
@@ -49,21 +52,21 @@ pub fn kill(
         return stuck();
     }
     match wide(ws[at]) / 2048 {
-        2 => kill_seq(ws, marks, at + 1, fault, hole, depth - 1, out, to),
-        3 => kill_par(ws, marks, at + 1, fault, hole, depth - 1, out, to),
-        11 => kill_scope(ws, marks, at, fault, hole, depth - 1, out, to),
-        12 => stuck(),
-        16 => kill_executor(ws, marks, at, fault, hole, depth - 1, out, to),
-        17 => kill_waiter(ws, marks, at, depth, out, to),
-        18 => keep(ws, at, out, to),
-        _ => vanish(ws, marks, at, depth, out, to),
+        kind::SEQ => kill_seq(ws, notes, at + 1, fault, hole, depth - 1, out, to),
+        kind::PAR => kill_par(ws, notes, at + 1, fault, hole, depth - 1, out, to),
+        kind::SCOPE => kill_scope(ws, notes, at, fault, hole, depth - 1, out, to),
+        kind::INST => stuck(),
+        kind::EXECUTOR => kill_executor(ws, notes, at, fault, hole, depth - 1, out, to),
+        kind::WAITER => kill_waiter(ws, notes, at, depth, out, to),
+        kind::NOTICE => keep(ws, at, out, to),
+        _ => vanish(ws, notes, at, depth, out, to),
     }
 }
 
 // A seq keeps its first, killed.
 fn kill_seq(
     ws: &[u16],
-    marks: &[u16],
+    notes: &[u16],
     at: usize,
     fault: u16,
     hole: usize,
@@ -71,14 +74,14 @@ fn kill_seq(
     out: &mut [u16],
     to: usize,
 ) -> Moved
-    ensures { λ r. ⌜ (r ≡ seqW depth (killW depth (now (ws .entry)) (now (marks .entry)) fault hole) (now (ws .entry)) (now (marks .entry)) at (now (out .entry)) to .moved) × (now (out .exit) ≡ seqW depth (killW depth (now (ws .entry)) (now (marks .entry)) fault hole) (now (ws .entry)) (now (marks .entry)) at (now (out .entry)) to .out) ⌝ }
+    ensures { λ r. ⌜ (r ≡ seqW depth (killW depth (now (ws .entry)) (now (notes .entry)) fault hole) (now (ws .entry)) (now (notes .entry)) at (now (out .entry)) to .moved) × (now (out .exit) ≡ seqW depth (killW depth (now (ws .entry)) (now (notes .entry)) fault hole) (now (ws .entry)) (now (notes .entry)) at (now (out .entry)) to .out) ⌝ }
 {
-    let p = kill(ws, marks, at, fault, hole, depth, out, to);
+    let p = kill(ws, notes, at, fault, hole, depth, out, to);
     if p.end == 0 {
         return stuck();
     }
     Moved {
-        end: pass(ws, marks, p.end, depth),
+        end: pass(ws, notes, p.end, depth),
         to: p.to,
         nil: p.nil,
     }
@@ -92,13 +95,13 @@ fn gone(ws: &[u16], at: usize) -> bool
         return false;
     }
     match wide(ws[at]) / 2048 {
-        2 => false,
-        3 => false,
-        11 => false,
-        12 => false,
-        16 => false,
-        17 => false,
-        18 => false,
+        kind::SEQ => false,
+        kind::PAR => false,
+        kind::SCOPE => false,
+        kind::INST => false,
+        kind::EXECUTOR => false,
+        kind::WAITER => false,
+        kind::NOTICE => false,
         _ => true,
     }
 }
@@ -106,7 +109,7 @@ fn gone(ws: &[u16], at: usize) -> bool
 // A par without its sides that are nil. A left side that just becomes nil is passed over, so it takes no call and no word.
 fn kill_par(
     ws: &[u16],
-    marks: &[u16],
+    notes: &[u16],
     at: usize,
     fault: u16,
     hole: usize,
@@ -114,27 +117,27 @@ fn kill_par(
     out: &mut [u16],
     to: usize,
 ) -> Moved
-    ensures { λ r. ⌜ (r ≡ parW depth (killW depth (now (ws .entry)) (now (marks .entry)) fault hole) (now (ws .entry)) (now (marks .entry)) at (now (out .entry)) to .moved) × (now (out .exit) ≡ parW depth (killW depth (now (ws .entry)) (now (marks .entry)) fault hole) (now (ws .entry)) (now (marks .entry)) at (now (out .entry)) to .out) ⌝ }
+    ensures { λ r. ⌜ (r ≡ parW depth (killW depth (now (ws .entry)) (now (notes .entry)) fault hole) (now (ws .entry)) (now (notes .entry)) at (now (out .entry)) to .moved) × (now (out .exit) ≡ parW depth (killW depth (now (ws .entry)) (now (notes .entry)) fault hole) (now (ws .entry)) (now (notes .entry)) at (now (out .entry)) to .out) ⌝ }
 {
     if gone(ws, at) {
-        let right = pass(ws, marks, at, depth);
-        return kill(ws, marks, right, fault, hole, depth, out, to);
+        let right = pass(ws, notes, at, depth);
+        return kill(ws, notes, right, fault, hole, depth, out, to);
     }
-    let one = put(out, to, 6144);
-    let p = kill(ws, marks, at, fault, hole, depth, out, one);
+    let one = put(out, to, head::PAR);
+    let p = kill(ws, notes, at, fault, hole, depth, out, one);
     if p.end == 0 {
         return stuck();
     }
     if p.nil == 1 {
-        return kill(ws, marks, p.end, fault, hole, depth, out, to);
+        return kill(ws, notes, p.end, fault, hole, depth, out, to);
     }
-    kill_right(ws, marks, p.end, fault, hole, depth, out, one, p.to)
+    kill_right(ws, notes, p.end, fault, hole, depth, out, one, p.to)
 }
 
 // The right side of a par whose left stands killed at one..to; if it just becomes nil, it too is passed over.
 fn kill_right(
     ws: &[u16],
-    marks: &[u16],
+    notes: &[u16],
     at: usize,
     fault: u16,
     hole: usize,
@@ -143,17 +146,17 @@ fn kill_right(
     one: usize,
     to: usize,
 ) -> Moved
-    ensures { λ r. ⌜ (r ≡ rightW depth (killW depth (now (ws .entry)) (now (marks .entry)) fault hole) (now (ws .entry)) (now (marks .entry)) at (now (out .entry)) one to .moved) × (now (out .exit) ≡ rightW depth (killW depth (now (ws .entry)) (now (marks .entry)) fault hole) (now (ws .entry)) (now (marks .entry)) at (now (out .entry)) one to .out) ⌝ }
+    ensures { λ r. ⌜ (r ≡ rightW depth (killW depth (now (ws .entry)) (now (notes .entry)) fault hole) (now (ws .entry)) (now (notes .entry)) at (now (out .entry)) one to .moved) × (now (out .exit) ≡ rightW depth (killW depth (now (ws .entry)) (now (notes .entry)) fault hole) (now (ws .entry)) (now (notes .entry)) at (now (out .entry)) one to .out) ⌝ }
 {
     if gone(ws, at) {
         down(out, one, to);
         return Moved {
-            end: pass(ws, marks, at, depth),
+            end: pass(ws, notes, at, depth),
             to: less_one(to),
             nil: 0,
         };
     }
-    let q = kill(ws, marks, at, fault, hole, depth, out, to);
+    let q = kill(ws, notes, at, fault, hole, depth, out, to);
     if q.end == 0 {
         return stuck();
     }
@@ -172,18 +175,9 @@ fn kill_right(
     }
 }
 
-fn less_one(n: usize) -> usize
-    ensures { λ r. ⌜ r ≡ lessOne n ⌝ }
-{
-    if n == 0 {
-        return 0;
-    }
-    n - 1
-}
-
 fn kill_scope(
     ws: &[u16],
-    marks: &[u16],
+    notes: &[u16],
     at: usize,
     fault: u16,
     hole: usize,
@@ -191,12 +185,12 @@ fn kill_scope(
     out: &mut [u16],
     to: usize,
 ) -> Moved
-    ensures { λ r. ⌜ (r ≡ scopeW depth (killW depth (now (ws .entry)) (now (marks .entry)) fault hole) (now (ws .entry)) (now (marks .entry)) hole at (now (out .entry)) to .moved) × (now (out .exit) ≡ scopeW depth (killW depth (now (ws .entry)) (now (marks .entry)) fault hole) (now (ws .entry)) (now (marks .entry)) hole at (now (out .entry)) to .out) ⌝ }
+    ensures { λ r. ⌜ (r ≡ scopeW depth (killW depth (now (ws .entry)) (now (notes .entry)) fault hole) (now (ws .entry)) (now (notes .entry)) hole at (now (out .entry)) to .moved) × (now (out .exit) ≡ scopeW depth (killW depth (now (ws .entry)) (now (notes .entry)) fault hole) (now (ws .entry)) (now (notes .entry)) hole at (now (out .entry)) to .out) ⌝ }
 {
     if ws.len() <= at {
         return stuck();
     }
-    let body = pass_list(ws, marks, at + 2, depth);
+    let body = pass_list(ws, notes, at + 2, depth);
     if body == 0 {
         return stuck();
     }
@@ -204,18 +198,18 @@ fn kill_scope(
         return stuck();
     }
     if wide(ws[at]) / 4 % 2 == 1 {
-        return kill_zombie(ws, marks, at, body, fault, hole, depth, out, to);
+        return kill_zombie(ws, notes, at, body, fault, hole, depth, out, to);
     }
     if wide(ws[body]) == 0 {
         return stuck();
     }
-    kill_live(ws, marks, at, body, fault, hole, depth, out, to)
+    kill_live(ws, notes, at, body, fault, hole, depth, out, to)
 }
 
 // A zombie stays as it is, if its body can be killed.
 fn kill_zombie(
     ws: &[u16],
-    marks: &[u16],
+    notes: &[u16],
     at: usize,
     body: usize,
     fault: u16,
@@ -224,9 +218,9 @@ fn kill_zombie(
     out: &mut [u16],
     to: usize,
 ) -> Moved
-    ensures { λ r. ⌜ (r ≡ zombieW (killW depth (now (ws .entry)) (now (marks .entry)) fault hole) (now (ws .entry)) at body (now (out .entry)) to .moved) × (now (out .exit) ≡ zombieW (killW depth (now (ws .entry)) (now (marks .entry)) fault hole) (now (ws .entry)) at body (now (out .entry)) to .out) ⌝ }
+    ensures { λ r. ⌜ (r ≡ zombieW (killW depth (now (ws .entry)) (now (notes .entry)) fault hole) (now (ws .entry)) at body (now (out .entry)) to .moved) × (now (out .exit) ≡ zombieW (killW depth (now (ws .entry)) (now (notes .entry)) fault hole) (now (ws .entry)) at body (now (out .entry)) to .out) ⌝ }
 {
-    let p = kill(ws, marks, body, fault, hole, depth, out, to);
+    let p = kill(ws, notes, body, fault, hole, depth, out, to);
     if p.end == 0 {
         return stuck();
     }
@@ -240,7 +234,7 @@ fn kill_zombie(
 // A live scope turns zombie, with no marked fault, its list as it is and its body killed.
 fn kill_live(
     ws: &[u16],
-    marks: &[u16],
+    notes: &[u16],
     at: usize,
     body: usize,
     fault: u16,
@@ -249,10 +243,10 @@ fn kill_live(
     out: &mut [u16],
     to: usize,
 ) -> Moved
-    ensures { λ r. ⌜ (r ≡ liveW (killW depth (now (ws .entry)) (now (marks .entry)) fault hole) (now (ws .entry)) hole at body (now (out .entry)) to .moved) × (now (out .exit) ≡ liveW (killW depth (now (ws .entry)) (now (marks .entry)) fault hole) (now (ws .entry)) hole at body (now (out .entry)) to .out) ⌝ }
+    ensures { λ r. ⌜ (r ≡ liveW (killW depth (now (ws .entry)) (now (notes .entry)) fault hole) (now (ws .entry)) hole at body (now (out .entry)) to .moved) × (now (out .exit) ≡ liveW (killW depth (now (ws .entry)) (now (notes .entry)) fault hole) (now (ws .entry)) hole at body (now (out .entry)) to .out) ⌝ }
 {
     let b = copy(ws, at, body, out, to);
-    let p = kill(ws, marks, body, fault, hole, depth, out, b);
+    let p = kill(ws, notes, body, fault, hole, depth, out, b);
     if p.end == 0 {
         return stuck();
     }
@@ -296,7 +290,7 @@ fn plain_zombie(h: u16) -> u16
 // An executor becomes its killed body par a notice.
 fn kill_executor(
     ws: &[u16],
-    marks: &[u16],
+    notes: &[u16],
     at: usize,
     fault: u16,
     hole: usize,
@@ -304,13 +298,13 @@ fn kill_executor(
     out: &mut [u16],
     to: usize,
 ) -> Moved
-    ensures { λ r. ⌜ (r ≡ executorW (killW depth (now (ws .entry)) (now (marks .entry)) fault hole) (now (ws .entry)) fault at (now (out .entry)) to .moved) × (now (out .exit) ≡ executorW (killW depth (now (ws .entry)) (now (marks .entry)) fault hole) (now (ws .entry)) fault at (now (out .entry)) to .out) ⌝ }
+    ensures { λ r. ⌜ (r ≡ executorW (killW depth (now (ws .entry)) (now (notes .entry)) fault hole) (now (ws .entry)) fault at (now (out .entry)) to .moved) × (now (out .exit) ≡ executorW (killW depth (now (ws .entry)) (now (notes .entry)) fault hole) (now (ws .entry)) fault at (now (out .entry)) to .out) ⌝ }
 {
     if ws.len() <= at {
         return stuck();
     }
-    let one = put(out, to, 6144);
-    let p = kill(ws, marks, at + 3, fault, hole, depth, out, one);
+    let one = put(out, to, head::PAR);
+    let p = kill(ws, notes, at + 3, fault, hole, depth, out, one);
     if p.end == 0 {
         return stuck();
     }
@@ -355,13 +349,13 @@ fn notice_word(fault: u16, client: u16) -> u16
 // A waiter turns dead.
 fn kill_waiter(
     ws: &[u16],
-    marks: &[u16],
+    notes: &[u16],
     at: usize,
     depth: usize,
     out: &mut [u16],
     to: usize,
 ) -> Moved
-    ensures { λ r. ⌜ (r ≡ waiterW depth (now (ws .entry)) (now (marks .entry)) at (now (out .entry)) to .moved) × (now (out .exit) ≡ waiterW depth (now (ws .entry)) (now (marks .entry)) at (now (out .entry)) to .out) ⌝ }
+    ensures { λ r. ⌜ (r ≡ waiterW depth (now (ws .entry)) (now (notes .entry)) at (now (out .entry)) to .moved) × (now (out .exit) ≡ waiterW depth (now (ws .entry)) (now (notes .entry)) at (now (out .entry)) to .out) ⌝ }
 {
     if ws.len() <= at {
         return stuck();
@@ -369,7 +363,7 @@ fn kill_waiter(
     if ws.len() - at < 2 {
         return stuck();
     }
-    let e = pass(ws, marks, at, depth);
+    let e = pass(ws, notes, at, depth);
     if e == 0 {
         return stuck();
     }
@@ -403,11 +397,11 @@ fn keep(ws: &[u16], at: usize, out: &mut [u16], to: usize) -> Moved
 }
 
 // All else becomes nil.
-fn vanish(ws: &[u16], marks: &[u16], at: usize, depth: usize, out: &mut [u16], to: usize) -> Moved
-    ensures { λ r. ⌜ (r ≡ vanishedW depth (now (ws .entry)) (now (marks .entry)) at (now (out .entry)) to .moved) × (now (out .exit) ≡ vanishedW depth (now (ws .entry)) (now (marks .entry)) at (now (out .entry)) to .out) ⌝ }
+fn vanish(ws: &[u16], notes: &[u16], at: usize, depth: usize, out: &mut [u16], to: usize) -> Moved
+    ensures { λ r. ⌜ (r ≡ vanishedW depth (now (ws .entry)) (now (notes .entry)) at (now (out .entry)) to .moved) × (now (out .exit) ≡ vanishedW depth (now (ws .entry)) (now (notes .entry)) at (now (out .entry)) to .out) ⌝ }
 {
     Moved {
-        end: pass(ws, marks, at, depth),
+        end: pass(ws, notes, at, depth),
         to: put(out, to, 0),
         nil: 1,
     }

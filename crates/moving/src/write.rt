@@ -1,23 +1,12 @@
 // Writing words one after the other. The writers are total: where there is no room, or no such words, the output stays as it is; the place
 // is counted on all the same, up to a figure that no output reaches.
+use layout::number::further;
 ghost use mathlib.Core.Path.{_≡_};
 ghost use Prim.Native.Nat.{_+_, _≤_};
 ghost use lib.ListN.{length, drop, set};
 ghost use lib.Seq.{paste};
-ghost use Rattle.moving.specs.Writing.{onward, pasted, pastedEnd, lowered};
-
-// `n` places further.
-pub fn further(to: usize, n: usize) -> usize
-    ensures { λ r. ⌜ r ≡ onward to n ⌝ }
-{
-    if 1152921504606846976 <= to {
-        return to;
-    }
-    if 1152921504606846976 <= n {
-        return to;
-    }
-    to + n
-}
+ghost use Rattle.layout.specs.Positions.{onward};
+ghost use Rattle.moving.specs.Writing.{pasted, pastedEnd, lowered};
 
 // One word; the place behind it.
 pub fn put(out: &mut [u16], to: usize, w: u16) -> usize

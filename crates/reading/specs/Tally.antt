@@ -5,7 +5,8 @@ use mathlib.Core.Bool.{Bool, true, false, _&&_, cond}
 use mathlib.Core.List.{List}
 use lib.Dec.{leb, ltb, eqb}
 use lib.ListN.{length, getD}
-use Rattle.sock.specs.Words.{bit}
+use Rattle.sock.specs.Kind
+use Rattle.sock.specs.Words.{bit, kindOf}
 use Rattle.reading.specs.declared.ends.Counted.{Counted}
 use Rattle.reading.specs.Walk.{at, listEnd, processEnd}
 
@@ -41,12 +42,12 @@ executorTally tal ws serial i = counted (tal (i + 3) .end) (tal (i + 3) .waiters
 
 unfoldable pub nodeTally : (ℕ → Counted) → (ℕ → ℕ → ℕ) → (ℕ → ℕ) → List ℕ → ℕ → ℕ → ℕ → Counted
 nodeTally tal sub skip ws serial k i =
-    cond (eqb k 2) (seqTally tal sub (i + 1))
-    (cond (eqb k 3) (parTally tal (i + 1))
-    (cond (eqb k 11) (scopeTally tal sub ws (i + 2))
-    (cond (eqb k 16) (executorTally tal ws serial i)
-    (cond (eqb k 17) (counted (skip i) (serialAt ws i serial) 0)
-    (cond (eqb k 18) (counted (skip i) 0 (serialAt ws i serial))
+    cond (eqb k Kind.seq) (seqTally tal sub (i + 1))
+    (cond (eqb k Kind.par) (parTally tal (i + 1))
+    (cond (eqb k Kind.scope) (scopeTally tal sub ws (i + 2))
+    (cond (eqb k Kind.executor) (executorTally tal ws serial i)
+    (cond (eqb k Kind.waiter) (counted (skip i) (serialAt ws i serial) 0)
+    (cond (eqb k Kind.notice) (counted (skip i) 0 (serialAt ws i serial))
     (counted (skip i) 0 0))))))
 
 -- the ends of a serial in the process at i
@@ -54,7 +55,7 @@ unfoldable pub tallyAt : ℕ → List ℕ → ℕ → ℕ → ℕ → Counted
 tallyAt zero ws serial bound i = uncounted
 tallyAt (suc d) ws serial bound i =
     cond (ltb i (length ws))
-    (nodeTally (tallyAt d ws serial bound) (processEnd d ws bound) (processEnd (suc d) ws bound 8) ws serial (at ws i / 2048) i)
+    (nodeTally (tallyAt d ws serial bound) (processEnd d ws bound) (processEnd (suc d) ws bound 8) ws serial (kindOf (at ws i)) i)
     uncounted
 
 -- ---- over the engines, of which `left` are still to come

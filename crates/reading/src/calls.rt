@@ -1,6 +1,6 @@
 // The calls that only read: readable check, start check, process of an engine.
-use crate::reader::wide;
 use crate::survey::survey;
+use layout::number::wide;
 ghost use mathlib.Core.Path.{_≡_};
 ghost use Prim.Native.Nat.{ℕ, _<_};
 ghost use lib.Dec.{eqb};

@@ -2,8 +2,9 @@
 // passes over code by reading it.
 use crate::reader::list;
 use crate::reader::process;
-use crate::reader::wide;
 use crate::survey::survey;
+use layout::kind;
+use layout::number::wide;
 ghost use mathlib.Core.Path.{_≡_};
 ghost use Prim.Native.Nat.{_<_, _≤_};
 ghost use lib.ListN.{length};
@@ -73,16 +74,16 @@ fn tally(ws: &[u16], at: usize, depth: usize, serial: usize, bound: usize) -> Co
     }
     let d = depth - 1;
     match wide(ws[at]) / 2048 {
-        2 => tally_seq(ws, at + 1, d, serial, bound),
-        3 => tally_par(ws, at + 1, d, serial, bound),
-        11 => tally_scope(ws, at + 2, d, serial, bound),
-        16 => tally_executor(ws, at, d, serial, bound),
-        17 => count(
+        kind::SEQ => tally_seq(ws, at + 1, d, serial, bound),
+        kind::PAR => tally_par(ws, at + 1, d, serial, bound),
+        kind::SCOPE => tally_scope(ws, at + 2, d, serial, bound),
+        kind::EXECUTOR => tally_executor(ws, at, d, serial, bound),
+        kind::WAITER => count(
             process(ws, at, depth, 8, bound),
             serial_at(ws, at, serial),
             0,
         ),
-        18 => count(
+        kind::NOTICE => count(
             process(ws, at, depth, 8, bound),
             0,
             serial_at(ws, at, serial),

@@ -4,6 +4,8 @@
 use crate::tables::bit;
 use crate::tables::head_mask;
 use crate::tables::shape;
+use layout::kind;
+use layout::number::wide;
 ghost use mathlib.Core.Path.{_≡_};
 ghost use Prim.Native.Nat.{_+_, _%_, _<_};
 ghost use mathlib.Core.Bool.{_&&_, _||_};
@@ -13,12 +15,6 @@ ghost use Rattle.reading.specs.Walk.{exprEnd, constantEnd, operationEnd,
 ghost use Rattle.reading.specs.Walk.{choiceEnd, fixedAfter, requestEnd, notifyEnd, solicitEnd, listEnd, keyAt, entryContext};
 ghost use Rattle.reading.specs.Walk.{scopeEnd, restingEnd, markedEnd, endAfter, executorEnd, waiterEnd, noticeEnd};
 ghost use Rattle.reading.specs.Walk.{slotOf, fitsAt, partOf, itemEnd};
-
-pub fn wide(w: u16) -> usize
-    ensures { λ r. ⌜ (r ≡ w) × (r < 65536) ⌝ }
-{
-    w as usize
-}
 
 // An expression of at most `depth` levels.
 pub fn expression(ws: &[u16], at: usize, depth: usize) -> usize
@@ -222,10 +218,10 @@ fn node(ws: &[u16], at: usize, depth: usize, context: usize, bound: usize) -> us
     let d = depth - 1;
     let c = rest_context(context);
     match k {
-        0 => at + 1,
-        1 => expression(ws, at + 1, d),
-        2 => two(ws, at + 1, d, same_context(context) + 1, c, bound),
-        3 => two(
+        kind::NIL => at + 1,
+        kind::ASSIGN => expression(ws, at + 1, d),
+        kind::SEQ => two(ws, at + 1, d, same_context(context) + 1, c, bound),
+        kind::PAR => two(
             ws,
             at + 1,
             d,
@@ -233,21 +229,21 @@ fn node(ws: &[u16], at: usize, depth: usize, context: usize, bound: usize) -> us
             same_context(context) + 1,
             bound,
         ),
-        4 => branch(ws, at + 1, d, c, bound),
-        5 => repeat(ws, at + 1, d, c, bound),
-        6 => choice(ws, at + 1, d, c, h % 2048, bound),
-        7 => at + 1,
-        8 => request(ws, at, d, c, bound),
-        9 => notify(ws, at),
-        10 => solicit(ws, at, d, bound),
-        11 => scope(ws, at, d, context, h, bound),
-        12 => list(ws, at + 1, d, 4, 128, bound),
-        13 => at + 1,
-        14 => at + 1,
-        15 => at + 1,
-        16 => executor(ws, at, d, bound),
-        17 => waiter(ws, at, d, bound),
-        18 => notice(ws, at, bound),
+        kind::IF => branch(ws, at + 1, d, c, bound),
+        kind::WHILE => repeat(ws, at + 1, d, c, bound),
+        kind::CHOICE => choice(ws, at + 1, d, c, h % 2048, bound),
+        kind::ONE_WAY => at + 1,
+        kind::REQUEST => request(ws, at, d, c, bound),
+        kind::NOTIFY => notify(ws, at),
+        kind::SOLICIT => solicit(ws, at, d, bound),
+        kind::SCOPE => scope(ws, at, d, context, h, bound),
+        kind::INST => list(ws, at + 1, d, 4, 128, bound),
+        kind::THROW => at + 1,
+        kind::COMP => at + 1,
+        kind::CH => at + 1,
+        kind::EXECUTOR => executor(ws, at, d, bound),
+        kind::WAITER => waiter(ws, at, d, bound),
+        kind::NOTICE => notice(ws, at, bound),
         _ => 0,
     }
 }

@@ -1,6 +1,6 @@
 // Where each engine's process begins, once the whole configuration is known to be readable.
 use crate::reader::read;
-use crate::reader::wide;
+use layout::number::wide;
 ghost use mathlib.Core.Path.{_≡_};
 ghost use Prim.Native.Nat.{_<_, _≤_};
 ghost use lib.ListN.{length, replicate};

@@ -20,7 +20,7 @@ use Rattle.sock.specs.Rules.{followed}
 use Rattle.sock.proofs.Fits.{Fits}
 use Rattle.sock.proofs.Running.{enable-asNode}
 use Rattle.sock.proofs.Measures.{words-seq, words-executor, depth-nil, depth-seq, depth-executor}
-use Rattle.moving.specs.Writing.{onward}
+use Rattle.layout.specs.Positions.{onward}
 use Rattle.moving.proofs.Laid.{Near, onward-near, Laid, laid-put, laid-then}
 use Rattle.rules.specs.declared.turn.Turn.{Turn}
 use Rattle.rules.specs.declared.pair.Offer.{Offer}

@@ -4,7 +4,9 @@ use mathlib.Core.Bool.{Bool, true, false, cond}
 use mathlib.Core.List.{List}
 use lib.Dec.{leb, ltb, eqb}
 use lib.ListN.{set}
-use Rattle.moving.specs.Writing.{onward}
+use Rattle.sock.specs.Kind
+use Rattle.sock.specs.Words.{kindOf, countOf}
+use Rattle.layout.specs.Positions.{onward}
 use Rattle.rules.specs.Turning.{Turned, turned, vanishing, keeping, at, partW, partEnd}
 use Rattle.rules.specs.declared.turn.Turn.{Turn}
 use Rattle.rules.specs.declared.pair.Offer.{Offer}
@@ -31,7 +33,7 @@ unfoldable pub choiceW : List ℕ → ℕ → ℕ → Offer
 choiceW ws count i = cond (eqb i 0) noOffer (cond (ltb count i) noOffer (chosenW ws (branchAt ws (i - 1) 1)))
 
 unfoldable pub offerW : List ℕ → ℕ → Offer
-offerW ws i = cond (eqb (at ws 0 / 2048) 6) (choiceW ws (at ws 0 % 2048) i) (bareW ws i)
+offerW ws i = cond (eqb (kindOf (at ws 0)) Kind.choice) (choiceW ws (countOf (at ws 0)) i) (bareW ws i)
 
 unfoldable pub receivesW : ℕ → ℕ → ℕ → Bool
 receivesW g kind h = cond (eqb (g / 2048) kind) (cond (eqb (g / 32 % 64) (h / 32 % 64)) true false) false

@@ -4,12 +4,14 @@ use crate::turn::keep;
 use crate::turn::refusal;
 use crate::turn::to_nil;
 use crate::turn::to_part;
-use crate::turn::word;
+use layout::head;
+use layout::limit::FUEL;
+use layout::number::wide;
+use layout::number::word;
 use moving::evaluate::evaluate;
 use moving::write::copy;
 use moving::write::put;
 use reading::reader::read;
-use reading::reader::wide;
 use skipping::skip::skip;
 ghost use mathlib.Core.Path.{_≡_};
 ghost use Rattle.rules.specs.Turning.{assignW, branchW, unrollW, repeatW, levelsLeft};
@@ -18,7 +20,7 @@ ghost use Rattle.rules.specs.Turning.{assignW, branchW, unrollW, repeatW
 pub fn assign(part: &[u16], values: &[u16]) -> Turn
     ensures { λ r. ⌜ r ≡ assignW (now (part .entry)) (now (values .entry)) ⌝ }
 {
-    let e = evaluate(part, values, 1, 64);
+    let e = evaluate(part, values, 1, FUEL);
     to_nil(wide(word(part, 0)) / 64 % 32, e.value)
 }
 
@@ -26,9 +28,9 @@ pub fn assign(part: &[u16], values: &[u16]) -> Turn
 pub fn branch(part: &[u16], values: &[u16]) -> Turn
     ensures { λ r. ⌜ r ≡ branchW (now (part .entry)) (now (values .entry)) ⌝ }
 {
-    let e = evaluate(part, values, 1, 64);
-    let q = skip(part, e.end, 64);
-    let end = skip(part, q, 64);
+    let e = evaluate(part, values, 1, FUEL);
+    let q = skip(part, e.end, FUEL);
+    let end = skip(part, q, FUEL);
     if e.value == 0 {
         return to_part(part, q, end, end, 32, 0);
     }
@@ -45,7 +47,7 @@ fn levels_left(level: usize) -> usize
 fn unroll(part: &[u16], from: usize, end: usize, fresh: &mut [u16]) -> Turn
     ensures { λ r. ⌜ (r ≡ unrollW (now (part .entry)) from end (now (fresh .entry)) .turn) × (now (fresh .exit) ≡ unrollW (now (part .entry)) from end (now (fresh .entry)) .fresh) ⌝ }
 {
-    put(fresh, 0, 4096);
+    put(fresh, 0, head::SEQ);
     let g = copy(part, from, end, fresh, 1);
     keep(g, 0, end, end, 32, 0)
 }
@@ -54,9 +56,9 @@ fn unroll(part: &[u16], from: usize, end: usize, fresh: &mut [u16]) -> Turn
 pub fn repeat(part: &[u16], values: &[u16], level: usize, bound: usize, fresh: &mut [u16]) -> Turn
     ensures { λ r. ⌜ (r ≡ repeatW level bound (now (part .entry)) (now (values .entry)) (now (fresh .entry)) .turn) × (now (fresh .exit) ≡ repeatW level bound (now (part .entry)) (now (values .entry)) (now (fresh .entry)) .fresh) ⌝ }
 {
-    let e = evaluate(part, values, 1, 64);
+    let e = evaluate(part, values, 1, FUEL);
     let body = e.end;
-    let end = skip(part, body, 64);
+    let end = skip(part, body, FUEL);
     if e.value == 0 {
         return to_nil(32, 0);
     }

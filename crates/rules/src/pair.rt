@@ -3,10 +3,13 @@ use crate::turn::Turn;
 use crate::turn::keep;
 use crate::turn::to_nil;
 use crate::turn::to_part;
-use crate::turn::word;
-use moving::write::further;
+use layout::head;
+use layout::kind;
+use layout::limit::FUEL;
+use layout::number::further;
+use layout::number::wide;
+use layout::number::word;
 use moving::write::put;
-use reading::reader::wide;
 use skipping::skip::skip;
 ghost use mathlib.Core.Path.{_≡_};
 ghost use Prim.Native.Nat.{_<_};
@@ -40,7 +43,7 @@ fn bare(part: &[u16], branch: usize) -> Offer
     if branch != 0 {
         return nothing();
     }
-    let end = skip(part, 0, 64);
+    let end = skip(part, 0, FUEL);
     Offer {
         some: true,
         guard: 0,
@@ -57,8 +60,8 @@ fn branch_at(part: &[u16], before: usize) -> usize
     let mut at = 1;
     let mut left = before;
     while 0 < left {
-        let p = skip(part, at, 64);
-        at = skip(part, p, 64);
+        let p = skip(part, at, FUEL);
+        at = skip(part, p, FUEL);
         left = left - 1;
     }
     at
@@ -75,9 +78,9 @@ fn chosen(part: &[u16], count: usize, branch: usize) -> Offer
         return nothing();
     }
     let guard = branch_at(part, branch - 1);
-    let next = skip(part, guard, 64);
-    let upto = skip(part, next, 64);
-    let end = skip(part, 0, 64);
+    let next = skip(part, guard, FUEL);
+    let upto = skip(part, next, FUEL);
+    let end = skip(part, 0, FUEL);
     Offer {
         some: true,
         guard,
@@ -91,7 +94,7 @@ pub fn offered(part: &[u16], branch: usize) -> Offer
     ensures { λ r. ⌜ r ≡ offerW (now (part .entry)) branch ⌝ }
 {
     let h = wide(word(part, 0));
-    if h / 2048 == 6 {
+    if h / 2048 == kind::CHOICE {
         return chosen(part, h % 2048, branch);
     }
     bare(part, branch)
@@ -144,7 +147,7 @@ fn seq_first(next: usize, fresh: &mut [u16]) -> usize
     if next == 0 {
         return 0;
     }
-    put(fresh, 0, 4096)
+    put(fresh, 0, head::SEQ)
 }
 
 // Three words from a place on.
@@ -184,7 +187,7 @@ pub fn ask(part: &[u16], server: u16, serial: u16, fresh: &mut [u16]) -> Turn
         server % 8 * 4096,
         serial,
     );
-    let end = skip(part, 0, 64);
+    let end = skip(part, 0, FUEL);
     keep(g, 2, end, end, 32, 0)
 }
 
@@ -222,8 +225,8 @@ pub fn awaits(
 pub fn answer(part: &[u16], v: u32, fresh: &mut [u16]) -> Turn
     ensures { λ r. ⌜ (r ≡ answerW (now (part .entry)) v (now (fresh .entry)) .turn) × (now (fresh .exit) ≡ answerW (now (part .entry)) v (now (fresh .entry)) .fresh) ⌝ }
 {
-    let g = put(fresh, 0, 24576);
-    let end = skip(part, 0, 64);
+    let g = put(fresh, 0, head::INST);
+    let end = skip(part, 0, FUEL);
     keep(g, 3, end, end, wide(word(part, 0)) % 32, v)
 }
 
@@ -241,6 +244,6 @@ pub fn fail(part: &[u16], w: u16, fresh: &mut [u16]) -> Turn
         return to_nil(32, 0);
     }
     let g = put(fresh, 0, throw_head(w));
-    let end = skip(part, 0, 64);
+    let end = skip(part, 0, FUEL);
     keep(g, end, end, end, 32, 0)
 }

@@ -1,7 +1,7 @@
 // What a rule makes of an engine: the words of its process that change, and a value.
 use crate::turn::Turn;
 use finding::find::Spot;
-use moving::write::further;
+use layout::number::further;
 use moving::write::put;
 ghost use mathlib.Core.Path.{_≡_};
 ghost use Rattle.rules.specs.Planning.{refusedPlan, hollowW, nilW, plainW};

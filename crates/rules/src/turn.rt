@@ -1,4 +1,5 @@
 // What a process turns into, in words: fresh ones, then a part of its own.
+use layout::number::word;
 ghost use mathlib.Core.Path.{_≡_};
 ghost use lib.ListN.{getD};
 ghost use Rattle.rules.specs.Turning.{refused, vanishing, keeping, partW};
@@ -59,16 +60,6 @@ pub fn keep(fresh: usize, from: usize, upto: usize, end: usize, x: usize, v: u32
         x,
         v,
     }
-}
-
-// The word at a position; 0 where there is none.
-pub fn word(part: &[u16], at: usize) -> u16
-    ensures { λ r. ⌜ r ≡ getD (now (part .entry)) at 0 ⌝ }
-{
-    if part.len() <= at {
-        return 0;
-    }
-    part[at]
 }
 
 // Its own process from..upto, which may be nil.

@@ -23,7 +23,7 @@ use Rattle.sock.proofs.Running.{enable-asNode, enable-done}
 use Rattle.sock.proofs.Measures.{words-act}
 use Rattle.reading.specs.Walk.{processEnd}
 use Rattle.reading.proofs.Combining.{Words}
-use Rattle.skipping.proofs.Marks.{Right}
+use Rattle.skipping.proofs.Notes.{Right}
 use Rattle.finding.specs.declared.find.Spot.{Spot}
 use Rattle.finding.proofs.Framing.{scoped, region, nearest-self}
 use Rattle.finding.proofs.Spots.{Spotted}
@@ -57,7 +57,7 @@ node-some : (x : Node) → 0 < length (words x)
 unfolding words
 node-some (node a b c d e) = omega arith
 
-module _ (f target : ℕ) (r : Run) (start : ℕ) (l : Located) (s : Spot) (ws marks : List ℕ) (right : Right ws marks)
+module _ (f target : ℕ) (r : Run) (start : ℕ) (l : Located) (s : Spot) (ws notes : List ℕ) (right : Right ws notes)
     (words-at : drop start ws ≡ runWords r ++ drop (start + size r) ws)
     (spotted : Spotted f target r start 1 l s) (near : Near (length ws)) {n issued : ℕ} (frames : SoundFrames n issued (l .frames))
     (deep : runDepth r ≤ 64)
@@ -106,7 +106,7 @@ module _ (f target : ℕ) (r : Run) (start : ℕ) (l : Located) (s : Spot) (ws m
   stays-nil made same e c =
       rw (← (gone e c)) (nil-ruled f target r start l s ws words-at spotted near frames deep made (omega arith) (rw same big))
 
-  bare : T (not (scoped (l .frames))) → Result (compensatedW bound ws marks start s fresh)
+  bare : T (not (scoped (l .frames))) → Result (compensatedW bound ws notes start s fresh)
   unfolding compensatedW handler
   bare t =
       let z = scope-none f target r start 1 l s ws (drop (start + size r) ws) words-at spotted t in
@@ -197,8 +197,8 @@ module _ (f target : ℕ) (r : Run) (start : ℕ) (l : Located) (s : Spot) (ws m
       handler-made : part to (to + length (words m)) (pasted ws from upto (took .out) to) ≡ words m
       handler-made = laid-part (omega (arith, room-enough, taking .keeps)) pasting refl
 
-      moves : Plans ws start (start + size r) (movedW ws marks s (took .answer) (took .out) .plan)
-          (movedW ws marks s (took .answer) (took .out) .fresh)
+      moves : Plans ws start (start + size r) (movedW ws notes s (took .answer) (took .out) .plan)
+          (movedW ws notes s (took .answer) (took .out) .fresh)
           (plug changed (enable m))
       unfolding movedW
       moves =
@@ -206,7 +206,7 @@ module _ (f target : ℕ) (r : Run) (start : ℕ) (l : Located) (s : Spot) (ws m
           let before = list-before f target r start l s ws words-at spotted near frames deep t in
           rw (
             to-list f target r start l s ws words-at spotted near frames deep t,
-            list-ends f target r start l s ws words-at spotted near frames deep t marks right,
+            list-ends f target r start l s ws words-at spotted near frames deep t notes right,
             spotted .at,
             onward-near target 1 (length ws) near (omega (arith, inside, one-inside)),
             pasted-to,
@@ -235,7 +235,7 @@ module _ (f target : ℕ) (r : Run) (start : ℕ) (l : Located) (s : Spot) (ws m
       -- if there are levels left for it
       placed : (b : Bool) → leb (depth m) (levelsAt (s .level)) ≡ b →
           Result (cond (eqb (cond b (from + length (words m)) 0) 0) (planned (refusedPlan 8) (took .out))
-          (movedW ws marks s (took .answer) (took .out)))
+          (movedW ws notes s (took .answer) (took .out)))
       unfolding movedW
       placed false e =
           let low = level-low f target r start l s ws words-at spotted near frames deep in (
@@ -271,7 +271,7 @@ module _ (f target : ℕ) (r : Run) (start : ℕ) (l : Located) (s : Spot) (ws m
             refl,
           )
 
-    under : (b : Bool) → holds k es ≡ b → Result (compensatedW bound ws marks start s fresh)
+    under : (b : Bool) → holds k es ≡ b → Result (compensatedW bound ws notes start s fresh)
     unfolding compensatedW
     under b e =
         let first = list-first f target r start l s ws words-at spotted near frames deep t in
@@ -280,7 +280,7 @@ module _ (f target : ℕ) (r : Run) (start : ℕ) (l : Located) (s : Spot) (ws m
         by : (b : Bool) → holds k es ≡ b →
             Result (cond (eqb (took .answer .upto) 0) (nilW s start start 0 32 0 (took .out))
             (cond (eqb (processEnd (levelsAt (s .level)) ws bound 0 (took .answer .from)) 0) (planned (refusedPlan 8) (took .out))
-            (movedW ws marks s (took .answer) (took .out))))
+            (movedW ws notes s (took .answer) (took .out))))
         by true e =
             let x : Stands ws (took .answer .from) (took .answer .upto) m = stands e in
             rw (
@@ -294,12 +294,12 @@ module _ (f target : ℕ) (r : Run) (start : ℕ) (l : Located) (s : Spot) (ws m
 
   -- the rule
   pub compensates :
-      (let u = compensatedW (n * 65536 + issued) ws marks start s fresh in
+      (let u = compensatedW (n * 65536 + issued) ws notes start s fresh in
       Ruled ws start (start + size r) (u .plan) (u .fresh)
       (some (plug (onNearest (without (scopeKey (nameOf h))) (l .frames)) (enable (handler (scopeKey (nameOf h)) (nearest (l .frames))))))
       × (u .plan .x ≡ 32))
   compensates = by (scoped (l .frames)) refl
     where
-      by : (b : Bool) → scoped (l .frames) ≡ b → Result (compensatedW bound ws marks start s fresh)
+      by : (b : Bool) → scoped (l .frames) ≡ b → Result (compensatedW bound ws notes start s fresh)
       by true e = under (rw e tt) (holds k es) refl
       by false e = bare (rw e tt)

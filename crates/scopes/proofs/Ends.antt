@@ -16,7 +16,7 @@ use Rattle.sock.specs.Handlers.{handler, update}
 use Rattle.sock.specs.Frames.{Located, plug, onNearest}
 use Rattle.sock.specs.Rules.{ending}
 use Rattle.sock.proofs.Fits.{FitsEntries, Sound, SoundFrames}
-use Rattle.skipping.proofs.Marks.{Right}
+use Rattle.skipping.proofs.Notes.{Right}
 use Rattle.finding.specs.declared.find.Spot.{Spot}
 use Rattle.finding.proofs.Framing.{scoped, nearest-self}
 use Rattle.finding.proofs.Spots.{Spotted}
@@ -31,7 +31,7 @@ use Rattle.scopes.proofs.Resumes.{resumes}
 use Rattle.scopes.proofs.Promotes.{promotes}
 use Rattle.scopes.proofs.Scratch.{Roomy}
 
-module _ (f target : ℕ) (r : Run) (start : ℕ) (l : Located) (s : Spot) (ws marks : List ℕ) (right : Right ws marks)
+module _ (f target : ℕ) (r : Run) (start : ℕ) (l : Located) (s : Spot) (ws notes : List ℕ) (right : Right ws notes)
     (words-at : drop start ws ≡ runWords r ++ drop (start + size r) ws)
     (spotted : Spotted f target r start 1 l s) (near : Near (length ws)) {n issued : ℕ} (frames : SoundFrames n issued (l .frames))
     (deep : runDepth r ≤ 64)
@@ -39,7 +39,7 @@ module _ (f target : ℕ) (r : Run) (start : ℕ) (l : Located) (s : Spot) (ws m
     (fresh : List ℕ) (room : Roomy ws fresh) (big : Near (length fresh)) (sound : Sound n issued r) where
   abbrev Result : ℕ → Mark → Bool → Entries → Type 0
   Result name mark zombie h =
-      (let u = endedW ws marks start s fresh in
+      (let u = endedW ws notes start s fresh in
       Ruled ws start (start + size r) (u .plan) (u .fresh) (some (ending name mark zombie h (l .frames))) × (u .plan .x ≡ 32))
 
   module _ (name : ℕ) (mark : Mark) (zombie : Bool) (h : Entries) (is : l .process ≡ scope name mark zombie h nil) where
@@ -56,7 +56,7 @@ module _ (f target : ℕ) (r : Run) (start : ℕ) (l : Located) (s : Spot) (ws m
   live :
       (name : ℕ) (h : Entries) → l .process ≡ scope name unmarked false h nil →
       (let u =
-      cond (eqb (s .scope) 0) (nilW s start start 0 32 0 fresh) (endingW ws marks s (scopeKey name) fresh) in
+      cond (eqb (s .scope) 0) (nilW s start start 0 32 0 fresh) (endingW ws notes s (scopeKey name) fresh) in
       Ruled ws start (start + size r) (u .plan) (u .fresh)
       (some
       (plug (onNearest (λ outer. update outer (entry (scopeKey name) (handler (scopeKey name) h) noEntries)) (l .frames)) nil))
@@ -65,7 +65,7 @@ module _ (f target : ℕ) (r : Run) (start : ℕ) (l : Located) (s : Spot) (ws m
     where
       by : (c : Bool) → scoped (l .frames) ≡ c →
           (let u =
-          cond (eqb (s .scope) 0) (nilW s start start 0 32 0 fresh) (endingW ws marks s (scopeKey name) fresh) in
+          cond (eqb (s .scope) 0) (nilW s start start 0 32 0 fresh) (endingW ws notes s (scopeKey name) fresh) in
           Ruled ws start (start + size r) (u .plan) (u .fresh)
           (some
           (plug (onNearest (λ outer. update outer (entry (scopeKey name) (handler (scopeKey name) h) noEntries)) (l .frames)) nil))
@@ -74,7 +74,7 @@ module _ (f target : ℕ) (r : Run) (start : ℕ) (l : Located) (s : Spot) (ws m
           let t : T (scoped (l .frames)) = rw e tt in
           let first = list-first f target r start l s ws words-at spotted near frames deep t in
           rw (ne-eqb (s .scope) 0 (λ z. omega arith))
-          (promotes f target r start l s ws marks right words-at spotted near frames deep few small short fresh room name unmarked false h is
+          (promotes f target r start l s ws notes right words-at spotted near frames deep few small short fresh room name unmarked false h is
           (low name unmarked false h is) (fit name unmarked false h is) t)
       by false e =
           let t : T (not (scoped (l .frames))) = rw e tt in
@@ -95,7 +95,7 @@ module _ (f target : ℕ) (r : Run) (start : ℕ) (l : Located) (s : Spot) (ws m
         head-at f target r start l s ws words-at spotted near frames deep name (faulted x) zombie h is,
         head-mark name (faulted x) zombie b,
       )
-      (resumes f target r start l s ws marks right words-at spotted near frames deep few small short fresh room big name (faulted x) zombie h is b
+      (resumes f target r start l s ws notes right words-at spotted near frames deep few small short fresh room big name (faulted x) zombie h is b
       (fit name (faulted x) zombie h is) x)
   ends name ownName zombie h is =
       let b = low name ownName zombie h is in
@@ -104,7 +104,7 @@ module _ (f target : ℕ) (r : Run) (start : ℕ) (l : Located) (s : Spot) (ws m
         head-at f target r start l s ws words-at spotted near frames deep name ownName zombie h is,
         head-mark name ownName zombie b,
       )
-      (resumes f target r start l s ws marks right words-at spotted near frames deep few small short fresh room big name ownName zombie h is b
+      (resumes f target r start l s ws notes right words-at spotted near frames deep few small short fresh room big name ownName zombie h is b
       (fit name ownName zombie h is) (scopeKey name))
   ends name unmarked true h is =
       let b = low name unmarked true h is in

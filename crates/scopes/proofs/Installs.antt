@@ -21,13 +21,13 @@ use Rattle.sock.proofs.Located.{wrap, size-positive}
 use Rattle.sock.proofs.Measures.{words-act, size-nil, depth-nil, depth-act}
 use Rattle.sock.proofs.Positions.{at-head}
 use Rattle.sock.proofs.Shrinking.{NoLarger, plug-shrinks}
-use Rattle.skipping.proofs.Marks.{Right}
+use Rattle.skipping.proofs.Notes.{Right}
 use Rattle.finding.specs.declared.find.Spot.{Spot}
 use Rattle.finding.proofs.Framing.{scoped, region, outside, nearest-self}
 use Rattle.finding.proofs.Pieces.{hole}
 use Rattle.finding.proofs.Spots.{Spotted}
 use Rattle.finding.proofs.Edits.{process-at, list-at, region-changed, scope-none}
-use Rattle.moving.specs.Writing.{onward}
+use Rattle.layout.specs.Positions.{onward}
 use Rattle.moving.proofs.Laid.{Near, near-of, onward-near}
 use Rattle.handling.specs.Updating.{Update, updateW}
 use Rattle.handling.proofs.Replaces.{replaces}
@@ -57,7 +57,7 @@ hole-short : (b : Bool) → length (hole b) ≤ 1
 hole-short true = omega arith
 hole-short false = omega arith
 
-module _ (f target : ℕ) (r : Run) (start : ℕ) (l : Located) (s : Spot) (ws marks : List ℕ) (right : Right ws marks)
+module _ (f target : ℕ) (r : Run) (start : ℕ) (l : Located) (s : Spot) (ws notes : List ℕ) (right : Right ws notes)
     (words-at : drop start ws ≡ runWords r ++ drop (start + size r) ws)
     (spotted : Spotted f target r start 1 l s) (near : Near (length ws)) {n issued : ℕ} (frames : SoundFrames n issued (l .frames))
     (deep : runDepth r ≤ 64)
@@ -87,7 +87,7 @@ module _ (f target : ℕ) (r : Run) (start : ℕ) (l : Located) (s : Spot) (ws m
   abbrev Result : Planned → Type 0
   Result u = Spacious u fresh → Ruled ws start (start + size r) (u .plan) (u .fresh) (some (plug changed nil)) × (u .plan .x ≡ 32)
 
-  bare : T (not (scoped (l .frames))) → Result (installedW ws marks start s fresh)
+  bare : T (not (scoped (l .frames))) → Result (installedW ws notes start s fresh)
   unfolding installedW
   bare t =
       let z = scope-none f target r start 1 l s ws (drop (start + size r) ws) words-at spotted t in
@@ -172,7 +172,7 @@ module _ (f target : ℕ) (r : Run) (start : ℕ) (l : Located) (s : Spot) (ws m
     to-near = near-of (made .answer .to + 1) (omega (arith, updating .reaches, not-huge))
 
     spared :
-        Spacious (updatedW ws marks s (s .scope + 2) (made .answer .to) (made .out)) fresh → made .answer .to ≤ 8192 →
+        Spacious (updatedW ws notes s (s .scope + 2) (made .answer .to) (made .out)) fresh → made .answer .to ≤ 8192 →
         made .answer .to + 130 ≤ length fresh
     unfolding updatedW nilW
     spared w low =
@@ -184,11 +184,11 @@ module _ (f target : ℕ) (r : Run) (start : ℕ) (l : Located) (s : Spot) (ws m
     -- if there are levels left for it
     placed :
         (b : Bool) → ltb 64 (suc (outside (l .frames)) + made .answer .levels) ≡ b →
-        Result (cond b (planned (refusedPlan 8) (made .out)) (updatedW ws marks s (s .scope + 2) (made .answer .to) (made .out)))
+        Result (cond b (planned (refusedPlan 8) (made .out)) (updatedW ws notes s (s .scope + 2) (made .answer .to) (made .out)))
     unfolding updatedW nilW
     placed true e = λ w. (tooDeep refl (changed-deep (ltb-true 64 (suc (outside (l .frames)) + made .answer .levels) e)), refl)
     placed false e = λ w.
-        rw (list-ends f target r start l s ws words-at spotted near frames deep t marks right) (
+        rw (list-ends f target r start l s ws words-at spotted near frames deep t notes right) (
           ruled refl
               (list-plans f target r start l s ws words-at spotted near frames deep t change (made .answer .to) (made .out)
               (updating .reaches)
@@ -198,7 +198,7 @@ module _ (f target : ℕ) (r : Run) (start : ℕ) (l : Located) (s : Spot) (ws m
           refl,
         )
 
-    under : Result (installedW ws marks start s fresh)
+    under : Result (installedW ws notes start s fresh)
     unfolding installedW
     under =
         let first = list-first f target r start l s ws words-at spotted near frames deep t in
@@ -212,12 +212,12 @@ module _ (f target : ℕ) (r : Run) (start : ℕ) (l : Located) (s : Spot) (ws m
         (placed (ltb 64 (suc (outside (l .frames)) + made .answer .levels)) refl)
 
   pub installs :
-      (let u = installedW ws marks start s fresh in
+      (let u = installedW ws notes start s fresh in
       Spacious u fresh →
       Ruled ws start (start + size r) (u .plan) (u .fresh) (some (plug (onNearest (λ x. update x new) (l .frames)) nil))
       × (u .plan .x ≡ 32))
   installs = by (scoped (l .frames)) refl
     where
-      by : (b : Bool) → scoped (l .frames) ≡ b → Result (installedW ws marks start s fresh)
+      by : (b : Bool) → scoped (l .frames) ≡ b → Result (installedW ws notes start s fresh)
       by true e = under (rw e tt)
       by false e = bare (rw e tt)

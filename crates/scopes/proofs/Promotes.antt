@@ -25,7 +25,7 @@ use Rattle.sock.proofs.Frames.{nearest-fits, nearest-sound}
 use Rattle.sock.proofs.Located.{wrap, size-positive}
 use Rattle.sock.proofs.Measures.{size-nil, depth-nil}
 use Rattle.sock.proofs.Shrinking.{NoLarger, plug-shrinks}
-use Rattle.skipping.proofs.Marks.{Right}
+use Rattle.skipping.proofs.Notes.{Right}
 use Rattle.finding.specs.declared.find.Spot.{Spot}
 use Rattle.finding.proofs.Framing.{scoped, outside}
 use Rattle.finding.proofs.Spots.{Spotted}
@@ -58,7 +58,7 @@ outside-less (rightFrame b ∷ fs) t = let r = outside-less fs t in omega arith
 outside-less (scopeFrame name mark zombie h ∷ fs) t = omega arith
 outside-less (executorFrame o y client serial ∷ fs) t = let r = outside-less fs t in omega arith
 
-module _ (f target : ℕ) (r : Run) (start : ℕ) (l : Located) (s : Spot) (ws marks : List ℕ) (right : Right ws marks)
+module _ (f target : ℕ) (r : Run) (start : ℕ) (l : Located) (s : Spot) (ws notes : List ℕ) (right : Right ws notes)
     (words-at : drop start ws ≡ runWords r ++ drop (start + size r) ws)
     (spotted : Spotted f target r start 1 l s) (near : Near (length ws)) {n issued : ℕ} (frames : SoundFrames n issued (l .frames))
     (deep : runDepth r ≤ 64)
@@ -138,10 +138,10 @@ module _ (f target : ℕ) (r : Run) (start : ℕ) (l : Located) (s : Spot) (ws m
   -- once the new list stands in the fresh words
   placed :
       (to : ℕ) (out : List ℕ) → to ≡ 1 + length (entriesWords (change es)) → length out ≡ length fresh →
-      (to ≤ 8192 → take to out ≡ count (change es) ∷ entriesWords (change es)) → Result (updatedW ws marks s (s .scope + 2) to out)
+      (to ≤ 8192 → take to out ≡ count (change es) ∷ entriesWords (change es)) → Result (updatedW ws notes s (s .scope + 2) to out)
   unfolding updatedW nilW
   placed to out reaches keeps laid =
-      rw (list-ends f target r start l s ws words-at spotted near frames deep t marks right) (
+      rw (list-ends f target r start l s ws words-at spotted near frames deep t notes right) (
         ruled refl
             (list-plans f target r start l s ws words-at spotted near frames deep t change to out reaches
             (near-of (to + 1) (omega (arith, not-huge))) (λ x. omega (arith, not-huge))
@@ -169,7 +169,7 @@ module _ (f target : ℕ) (r : Run) (start : ℕ) (l : Located) (s : Spot) (ws m
       takes ws near 64 k (nearest-fits frames)
       (list-deep f target r start l s ws words-at spotted near frames deep t) (s .scope + 2) (a .0) (a .1) (taken .out)
 
-  drops : m ≡ nilNode → Result (updatedW ws marks s (s .scope + 2) (dropped .answer .to) (dropped .out))
+  drops : m ≡ nilNode → Result (updatedW ws notes s (s .scope + 2) (dropped .answer .to) (dropped .out))
   drops e =
       let same : change es ≡ without k es = ap (λ p. update es (entry k p noEntries)) e ∙ update-nil k es (omega arith) in
       placed (dropped .answer .to) (dropped .out) (rw same (dropping .reaches)) (dropping .keeps ∙ taking .keeps)
@@ -210,13 +210,13 @@ module _ (f target : ℕ) (r : Run) (start : ℕ) (l : Located) (s : Spot) (ws m
         (s .scope + 2) (a .0) (a .1) (from - 1) (entry-at .0) (entry-at .1) (taken .out)
         (near-of (1 + length (entriesWords (change es)) + 2 * 64 + 2) (omega (arith, not-huge)))
 
-    gives : Result (updatedW ws marks s (s .scope + 2) (given .answer .to) (given .out))
+    gives : Result (updatedW ws notes s (s .scope + 2) (given .answer .to) (given .out))
     gives =
         placed (given .answer .to) (given .out) (giving .reaches) (giving .keeps ∙ taking .keeps)
         (λ x. ap (λ i. take i (given .out)) (giving .reaches) ∙ giving .laid (omega (arith, giving .reaches, taking .keeps, not-huge)))
 
   pub promotes :
-      (let u = endingW ws marks s (scopeKey name) fresh in
+      (let u = endingW ws notes s (scopeKey name) fresh in
       Ruled ws start (start + size r) (u .plan) (u .fresh)
       (some
       (plug (onNearest (λ outer. update outer (entry (scopeKey name) (handler (scopeKey name) h) noEntries)) (l .frames)) nil))
@@ -230,7 +230,7 @@ module _ (f target : ℕ) (r : Run) (start : ℕ) (l : Located) (s : Spot) (ws m
       (by (holds k h) refl)
     where
       by : (b : Bool) → holds k h ≡ b →
-          Result (updatedW ws marks s (s .scope + 2)
+          Result (updatedW ws notes s (s .scope + 2)
           (promotedTo ws (s .scope + 2) (taken .answer) k (taken .out))
           (promotedW ws (s .scope + 2) (taken .answer) k (taken .out)))
       by true e =

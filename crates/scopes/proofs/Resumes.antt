@@ -19,11 +19,11 @@ use Rattle.sock.proofs.Fits.{Fits, FitsEntries, SoundFrames}
 use Rattle.sock.proofs.Handlers.{handler-fits}
 use Rattle.sock.proofs.Running.{enable-asNode}
 use Rattle.sock.proofs.Measures.{words-scope, depth-scope}
-use Rattle.skipping.proofs.Marks.{Right}
+use Rattle.skipping.proofs.Notes.{Right}
 use Rattle.finding.specs.declared.find.Spot.{Spot}
 use Rattle.finding.proofs.Spots.{Spotted}
 use Rattle.finding.proofs.Edits.{edited, swap-plain}
-use Rattle.moving.specs.Writing.{onward}
+use Rattle.layout.specs.Positions.{onward}
 use Rattle.moving.proofs.Laid.{Near, onward-near, Laid, laid-put, laid-then, laid-copy, copy-end}
 use Rattle.handling.specs.Taking.{Took, takeW}
 use Rattle.handling.proofs.Takes.{Takes, takes, Stands}
@@ -84,7 +84,7 @@ module _ (ws : List ℕ) (k : ℕ) (h : Entries) (lent : List ℕ) (t : Took) (t
             onward-near to 1 (length out) big (omega arith),
           )
 
-module _ (f target : ℕ) (r : Run) (start : ℕ) (l : Located) (s : Spot) (ws marks : List ℕ) (right : Right ws marks)
+module _ (f target : ℕ) (r : Run) (start : ℕ) (l : Located) (s : Spot) (ws notes : List ℕ) (right : Right ws notes)
     (words-at : drop start ws ≡ runWords r ++ drop (start + size r) ws)
     (spotted : Spotted f target r start 1 l s) (near : Near (length ws)) {n issued : ℕ} (frames : SoundFrames n issued (l .frames))
     (deep : runDepth r ≤ 64)
@@ -169,7 +169,7 @@ module _ (f target : ℕ) (r : Run) (start : ℕ) (l : Located) (s : Spot) (ws m
   end = target + 4 + length (entriesWords h)
 
   plans :
-      Plans ws start (start + size r) (resumedW ws marks start (s .at) k fresh .plan) (resumedW ws marks start (s .at) k fresh .fresh)
+      Plans ws start (start + size r) (resumedW ws notes start (s .at) k fresh .plan) (resumedW ws notes start (s .at) k fresh .fresh)
       (plug (l .frames) q)
   unfolding resumedW size isDone
   plans =
@@ -183,7 +183,7 @@ module _ (f target : ℕ) (r : Run) (start : ℕ) (l : Located) (s : Spot) (ws m
         head-at f target r start l s ws words-at spotted near frames deep name mark zombie h is,
         head-cleared name mark zombie low,
         to-own f target r start l s ws words-at spotted near frames deep name mark zombie h is,
-        own-ends f target r start l s ws words-at spotted near frames deep name mark zombie h is marks right fit,
+        own-ends f target r start l s ws words-at spotted near frames deep name mark zombie h is notes right fit,
         ends-at,
         behind-two ws (target + 2) k marked (omega (arith, marked-length)),
         to-is,
@@ -229,7 +229,7 @@ module _ (f target : ℕ) (r : Run) (start : ℕ) (l : Located) (s : Spot) (ws m
       ))
 
   pub resumes :
-      (let u = resumedW ws marks start (s .at) k fresh in
+      (let u = resumedW ws notes start (s .at) k fresh in
       Ruled ws start (start + size r) (u .plan) (u .fresh)
       (some (plug (l .frames) (scope name unmarked zombie (without k h) (enable (handler k h)))))
       × (u .plan .x ≡ 32))

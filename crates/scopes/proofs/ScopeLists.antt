@@ -15,13 +15,13 @@ use Rattle.sock.proofs.Frames.{nearest-fits}
 use Rattle.sock.proofs.Located.{wrap, size-positive}
 use Rattle.sock.proofs.Measures.{depth-nil}
 use Rattle.skipping.specs.Pass.{passList}
-use Rattle.skipping.proofs.Marks.{Right, pass-entries}
+use Rattle.skipping.proofs.Notes.{Right, pass-entries}
 use Rattle.finding.specs.declared.find.Spot.{Spot}
 use Rattle.finding.proofs.Framing.{scoped, region}
 use Rattle.finding.proofs.Pieces.{Swap}
 use Rattle.finding.proofs.Spots.{Spotted}
 use Rattle.finding.proofs.Edits.{region-nearest, list-at, list-order}
-use Rattle.moving.specs.Writing.{onward}
+use Rattle.layout.specs.Positions.{onward}
 use Rattle.moving.proofs.Laid.{Near, onward-near}
 use Rattle.rules.specs.Turning.{vanishing}
 use Rattle.rules.specs.Planning.{nilW, plainW}
@@ -111,8 +111,8 @@ module _ (f target : ℕ) (r : Run) (start : ℕ) (l : Located) (s : Spot) (ws :
     to-list = onward-near (s .scope) 2 (length ws) near (omega (arith, list-inside))
 
     pub list-ends :
-        (marks : List ℕ) → Right ws marks → passList 64 ws marks (s .scope + 2) ≡ s .scope + 2 + length (region (l .frames))
-    list-ends marks right =
+        (notes : List ℕ) → Right ws notes → passList 64 ws notes (s .scope + 2) ≡ s .scope + 2 + length (region (l .frames))
+    list-ends notes right =
         let a = list-at f target r start 1 l s ws (drop (start + size r) ws) words spotted t in
-        pass-entries ws marks right (nearest-fits frames) 64 (s .scope + 2) list-deep (a .0) (a .1)
+        pass-entries ws notes right (nearest-fits frames) 64 (s .scope + 2) list-deep (a .0) (a .1)
         ∙ omega (arith, region-length)

@@ -19,11 +19,11 @@ use Rattle.sock.proofs.Located.{wrap}
 use Rattle.sock.proofs.Measures.{words-nil, words-scope, depth-nil, depth-scope}
 use Rattle.sock.proofs.Positions.{At, at-head}
 use Rattle.skipping.specs.Pass.{passList}
-use Rattle.skipping.proofs.Marks.{Right, pass-entries}
+use Rattle.skipping.proofs.Notes.{Right, pass-entries}
 use Rattle.finding.specs.declared.find.Spot.{Spot}
 use Rattle.finding.proofs.Spots.{Spotted}
 use Rattle.finding.proofs.Edits.{process-at}
-use Rattle.moving.specs.Writing.{onward}
+use Rattle.layout.specs.Positions.{onward}
 use Rattle.moving.proofs.Laid.{Near, onward-near}
 use Rattle.scopes.specs.Ending.{clearedW, keyAtW}
 use Rattle.scopes.proofs.ScopeLists.{whole-inside, frames-deep, process-inside}
@@ -168,10 +168,10 @@ module _ (f target : ℕ) (r : Run) (start : ℕ) (l : Located) (s : Spot) (ws :
   pub own-list : (rest : List ℕ) × (drop (target + 2) ws ≡ count h ∷ (entriesWords h ++ rest))
   own-list = ((0 ∷ []) ++ more, ap (λ i. drop i ws) (let z : target + 2 ≡ target + 1 + 1 = omega arith in z) ∙ second .next)
 
-  pub own-ends : (marks : List ℕ) → Right ws marks → FitsEntries true zero h →
-      passList 64 ws marks (target + 2) ≡ target + 3 + length (entriesWords h)
-  own-ends marks right g =
-      pass-entries ws marks right g 64 (target + 2) (omega (arith, its-place)) (own-list .0) (own-list .1) ∙ omega arith
+  pub own-ends : (notes : List ℕ) → Right ws notes → FitsEntries true zero h →
+      passList 64 ws notes (target + 2) ≡ target + 3 + length (entriesWords h)
+  own-ends notes right g =
+      pass-entries ws notes right g 64 (target + 2) (omega (arith, its-place)) (own-list .0) (own-list .1) ∙ omega arith
 
   pub own-key : name < 64 → keyAtW ws (s .at) ≡ markKey name mark
   unfolding keyAtW

@@ -1,4 +1,4 @@
--- The law of throw: with marks that are right, what the plan makes of an engine's process is the climb of the fault.
+-- The law of throw: with notes that are right, what the plan makes of an engine's process is the climb of the fault.
 -- Assumes nothing.
 use Prim.Native.Nat.{ℕ, zero, _+_, _-_, _*_, _/_, _≤_, _<_}
 use native.Mathlib.Omega.{arith}
@@ -23,7 +23,7 @@ use Rattle.sock.proofs.Frames.{locate-sound}
 use Rattle.sock.proofs.Located.{wrap, located-wraps, located-before, size-positive}
 use Rattle.sock.proofs.Measures.{words-scope, words-act, size-scope, depth-nil, depth-scope}
 use Rattle.skipping.proofs.Skips.{wanted-end}
-use Rattle.skipping.proofs.Marks.{Right, pass-entries}
+use Rattle.skipping.proofs.Notes.{Right, pass-entries}
 use Rattle.finding.specs.declared.find.Spot.{Spot}
 use Rattle.finding.specs.Find.{faultAt}
 use Rattle.finding.proofs.Within.{within, within-locate}
@@ -31,7 +31,7 @@ use Rattle.finding.proofs.Edits.{edited, swap-plain, process-at}
 use Rattle.finding.proofs.Stops.{catches, Standing, nowhere, somewhere}
 use Rattle.finding.proofs.Spots.{Spotted}
 use Rattle.finding.proofs.Search.{found}
-use Rattle.moving.specs.Writing.{onward}
+use Rattle.layout.specs.Positions.{onward}
 use Rattle.moving.specs.Killing.{Killed}
 use Rattle.moving.proofs.Laid.{Near, near-of, onward-near, Laid, laid-put, laid-then, laid-copy, copy-end}
 use Rattle.moving.proofs.Places.{stands-within, word-at, drop-behind, drop-after}
@@ -99,7 +99,7 @@ whole-edited ws fr start e =
     let y : e - e ≡ 0 = omega arith in
     rw (x, y)
 
-module _ (ws marks : List ℕ) (right : Right ws marks) (n issued : ℕ) (few : n ≤ 8) (small : issued < 65536)
+module _ (ws notes : List ℕ) (right : Right ws notes) (n issued : ℕ) (few : n ≤ 8) (small : issued < 65536)
     {r : Run} (sound : Sound n issued r)
     (start : ℕ) (words : drop start ws ≡ runWords r ++ drop (start + size r) ws) (pos : 0 < start)
     (deep : runDepth r ≤ 64) (short : length ws ≤ 8192) (fresh : List ℕ) (large : Roomy ws fresh) (near : Near (length fresh))
@@ -135,14 +135,14 @@ module _ (ws marks : List ℕ) (right : Right ws marks) (n issued : ℕ) (few : 
         ∙ ap (λ x. take start ws ++ (x ++ drop (start + size r) ws)) begins)
 
     pub uncaught-ruled :
-        (let u = uncaughtW ws marks start f target fresh in
+        (let u = uncaughtW ws notes start f target fresh in
         Ruled ws start (start + size r) (u .plan) (u .fresh) (climb f (l .frames) nil) × (u .plan .x ≡ 32))
     unfolding uncaughtW
     uncaught-ruled =
         let h : start ≤ target = within-from r start target l place in
         let e : locate r (target - start) [] ≡ some l = sym (within-locate r start target h) ∙ place in
         let z : start + (target - start) ≡ target = omega arith in
-        let g = kill-climb ws marks right n issued few small f low sound 64 start deep (drop (start + size r) ws) words fresh 0
+        let g = kill-climb ws notes right n issued few small f low sound 64 start deep (drop (start + size r) ws) words fresh 0
         (omega (arith, inside)) near
         (target - start) l e throws passes in
         uncaught-by (rw z at g) (climb-deep (target - start) l e)
@@ -181,7 +181,7 @@ module _ (ws marks : List ℕ) (right : Right ws marks) (n issued : ℕ) (few : 
     -- the scope in the words
     spot : (s : Spot) × Spotted (faultAt ws c) c r start 1 (record { frames = outer; process = whole }) s
     spot =
-        let g = found n issued few small ws marks right c sound 64 start 1
+        let g = found n issued few small ws notes right c sound 64 start 1
         (drop (start + size r) ws) pos deep words _ stopping in
         (g .0, g .1 .1)
 
@@ -246,11 +246,11 @@ module _ (ws marks : List ℕ) (right : Right ws marks) (n issued : ℕ) (few : 
     one-on : onward c 1 ≡ c + 1
     one-on = onward-near c 1 (length ws) near-words (omega (arith, body-inside))
 
-    body-at : bodyW ws marks c ≡ body
+    body-at : bodyW ws notes c ≡ body
     unfolding bodyW
     body-at =
         rw two-on
-        (pass-entries ws marks right (parts .1) 64 (c + 2) (parts-deep .0) (runWords a ++ stands .0) list-stands
+        (pass-entries ws notes right (parts .1) 64 (c + 2) (parts-deep .0) (runWords a ++ stands .0) list-stands
         ∙ (let z : c + 2 + 1 + length (entriesWords h) ≡ body = omega arith in z))
 
     listed-at : listedW ws c f ≡ holds f h
@@ -348,12 +348,12 @@ module _ (ws marks : List ℕ) (right : Right ws marks) (n issued : ℕ) (few : 
         ∙ also-same (climb f inner nil) (λ p. climb-stops f name mark zombie h outer p catching)
 
     pub caught-ruled :
-        (let u = caughtW ws marks start c f target fresh in
+        (let u = caughtW ws notes start c f target fresh in
         Ruled ws start (start + size r) (u .plan) (u .fresh) (climb f (inner ++ scopeFrame name mark zombie h ∷ outer) nil)
         × (u .plan .x ≡ 32))
     unfolding caughtW
     caught-ruled =
-        let g = kill-climb ws marks right n issued few small f low (parts .2) 64 body (parts-deep .1) (stands .0) body-stands
+        let g = kill-climb ws notes right n issued few small f low (parts .2) 64 body (parts-deep .1) (stands .0) body-stands
         (openedW ws c body f fresh)
         (length (own marked)) (omega (arith, opened-laid .keeps, small-parts)) (rw (opened-laid .keeps) near) (offset inner)
         (record { frames = inner; process = m }) (locate-offset inner m) throws passes in
@@ -367,8 +367,8 @@ module _ (ws marks : List ℕ) (right : Right ws marks) (n issued : ℕ) (few : 
       (throws : Throws (l .process)) where
     thrown-by :
         {o : Option Located} {k : ℕ} → Standing r start o k → Sought f (l .frames) (l .process) o →
-        (let u = cond (eqb k 0) (uncaughtW ws marks start f target fresh)
-        (caughtW ws marks start k f target fresh) in
+        (let u = cond (eqb k 0) (uncaughtW ws notes start f target fresh)
+        (caughtW ws notes start k f target fresh) in
         Ruled ws start (start + size r) (u .plan) (u .fresh) (climb f (l .frames) nil) × (u .plan .x ≡ 32))
     thrown-by nowhere (unstopped t) = uncaught-ruled target l place throws t
     thrown-by (somewhere {k = k} h e) (stoppedBy {l = g} w) =
@@ -380,13 +380,13 @@ module _ (ws marks : List ℕ) (right : Right ws marks) (n issued : ℕ) (few : 
 
     pub climb-ruled :
         faultW ws target ≡ f →
-        (let u = thrownW ws marks start s fresh in
+        (let u = thrownW ws notes start s fresh in
         Ruled ws start (start + size r) (u .plan) (u .fresh) (climb f (l .frames) nil) × (u .plan .x ≡ 32))
     unfolding thrownW
     climb-ruled e = rw (spotted .at, e) (thrown-by (spotted .catcher low) (sought f (l .frames) (l .process)))
 
 -- a throw that was found
-module _ (ws marks : List ℕ) (right : Right ws marks) (n issued : ℕ) (few : n ≤ 8) (small : issued < 65536)
+module _ (ws notes : List ℕ) (right : Right ws notes) (n issued : ℕ) (few : n ≤ 8) (small : issued < 65536)
     {r : Run} (sound : Sound n issued r)
     (start : ℕ) (words : drop start ws ≡ runWords r ++ drop (start + size r) ws) (pos : 0 < start)
     (deep : runDepth r ≤ 64) (short : length ws ≤ 8192) (fresh : List ℕ) (large : Roomy ws fresh) (near : Near (length fresh))
@@ -394,7 +394,7 @@ module _ (ws marks : List ℕ) (right : Right ws marks) (n issued : ℕ) (few : 
     (spotted : Spotted (faultAt ws target) target r start 1 l s) where
   pub thrown-ruled :
       (m : Node) → l .process ≡ act m → kind m ≡ 13 →
-      (let u = thrownW ws marks start s fresh in
+      (let u = thrownW ws notes start s fresh in
       Ruled ws start (start + size r) (u .plan) (u .fresh) (climb (nameOf (headWord m)) (l .frames) nil) × (u .plan .x ≡ 32))
   unfolding faultAt faultW
   thrown-ruled m e k =
@@ -402,6 +402,6 @@ module _ (ws marks : List ℕ) (right : Right ws marks) (n issued : ℕ) (few : 
       let w : getD ws target 0 ≡ headWord m = head-on ws target m (p .0) (p .1 ∙ ap (λ x. x ++ p .0) (ap runWords e ∙ words-act m)) in
       let v : faultAt ws target ≡ nameOf (headWord m) =
       (let z : getD ws target 0 / 2048 ≡ 13 = ap kindOf w ∙ k in rw (eq-eqb (getD ws target 0 / 2048) 13 z) (ap nameOf w)) in
-      climb-ruled ws marks right n issued few small sound start words pos deep short fresh large near (nameOf (headWord m))
+      climb-ruled ws notes right n issued few small sound start words pos deep short fresh large near (nameOf (headWord m))
       (name-below (headWord m)) target l s place
       (rw v at spotted) (rw e k) (ap nameOf w)

@@ -5,7 +5,8 @@ use mathlib.Core.List.{List, _++_}
 use lib.Dec.{ltb, eqb}
 use lib.ListN.{length, getD, set, take, drop}
 use Rattle.skipping.specs.Pass.{passList}
-use Rattle.moving.specs.Writing.{onward, pasted, pastedEnd}
+use Rattle.layout.specs.Positions.{onward}
+use Rattle.moving.specs.Writing.{pasted, pastedEnd}
 use Rattle.finding.specs.declared.find.Spot.{Spot}
 use Rattle.handling.specs.declared.take.Taken.{Taken}
 use Rattle.handling.specs.Taking.{Took, takeW}
@@ -37,9 +38,9 @@ unfoldable pub takenW : List ℕ → Taken → List ℕ → ℕ → List ℕ
 takenW ws t fresh to = cond (eqb (t .upto) 0) (set fresh to 0) (pasted ws (t .from) (t .upto) fresh to)
 
 unfoldable pub resumedW : List ℕ → List ℕ → ℕ → ℕ → ℕ → List ℕ → Planned
-resumedW ws marks start at key fresh =
+resumedW ws notes start at key fresh =
     let t = takeBehindW ws (onward at 2) key (set (set fresh 0 (clearedW (getD ws at 0))) 1 0) in
-    let end = onward (passList 64 ws marks (onward at 2)) 1 in
+    let end = onward (passList 64 ws notes (onward at 2)) 1 in
     planned
     (record {
       number = 0;
@@ -65,16 +66,16 @@ promotedW ws l t key fresh =
     cond (eqb (t .upto) 0) (takeW 64 ws l key fresh .out) (updateByW 64 ws l (t .from - 1) 1 fresh .out)
 
 unfoldable pub endingW : List ℕ → List ℕ → Spot → ℕ → List ℕ → Planned
-endingW ws marks s key fresh =
+endingW ws notes s key fresh =
     let t = takeW 64 ws (onward (s .at) 2) key fresh in
     let l = onward (s .scope) 2 in
-    updatedW ws marks s l (promotedTo ws l (t .answer) key (t .out)) (promotedW ws l (t .answer) key (t .out))
+    updatedW ws notes s l (promotedTo ws l (t .answer) key (t .out)) (promotedW ws l (t .answer) key (t .out))
 
 unfoldable pub endedW : List ℕ → List ℕ → ℕ → Spot → List ℕ → Planned
-endedW ws marks start s fresh =
+endedW ws notes start s fresh =
     let h = getD ws (s .at) 0 in
     let key = keyAtW ws (s .at) in
-    cond (ltb 0 (h / 8 % 4)) (resumedW ws marks start (s .at) key fresh)
+    cond (ltb 0 (h / 8 % 4)) (resumedW ws notes start (s .at) key fresh)
     (cond (eqb (h / 4 % 2) 1) (nilW s start start 0 32 0 fresh)
     (cond (eqb (s .scope) 0) (nilW s start start 0 32 0 fresh)
-    (endingW ws marks s key fresh)))
+    (endingW ws notes s key fresh)))

@@ -7,7 +7,8 @@ use lib.ListN.{getD, set}
 use Rattle.skipping.specs.Skip.{skipList}
 use Rattle.skipping.specs.Pass.{passList}
 use Rattle.finding.specs.declared.find.Spot.{Spot}
-use Rattle.moving.specs.Writing.{onward, pasted, pastedEnd}
+use Rattle.layout.specs.Positions.{onward}
+use Rattle.moving.specs.Writing.{pasted, pastedEnd}
 use Rattle.moving.specs.Killing.{Killed, killW}
 use Rattle.moving.specs.declared.kill.Moved.{Moved}
 use Rattle.rules.specs.declared.plan.Plan.{Plan}
@@ -26,7 +27,7 @@ unfoldable pub clearedBy : ℕ → ℕ → Killed → Planned
 clearedBy start a k = planned (clearedW start a (k .moved)) (k .out)
 
 unfoldable pub uncaughtW : List ℕ → List ℕ → ℕ → ℕ → ℕ → List ℕ → Planned
-uncaughtW ws marks start fault i fresh = clearedBy start start (killW 64 ws marks fault i start fresh 0)
+uncaughtW ws notes start fault i fresh = clearedBy start start (killW 64 ws notes fault i start fresh 0)
 
 -- a scope's head with mark 1, and the word behind it
 abbrev pub faultedHead : ℕ → ℕ
@@ -48,7 +49,7 @@ markedW ws c fault fresh =
 
 -- where the body of the scope at c begins
 unfoldable pub bodyW : List ℕ → List ℕ → ℕ → ℕ
-bodyW ws marks c = passList 64 ws marks (onward c 2)
+bodyW ws notes c = passList 64 ws notes (onward c 2)
 
 -- all of it but the body
 unfoldable pub openedTo : List ℕ → ℕ → ℕ → ℕ
@@ -58,11 +59,11 @@ unfoldable pub openedW : List ℕ → ℕ → ℕ → ℕ → List ℕ → List 
 openedW ws c body fault fresh = pasted ws (onward c 2) body (markedW ws c fault fresh) 2
 
 unfoldable pub caughtW : List ℕ → List ℕ → ℕ → ℕ → ℕ → ℕ → List ℕ → Planned
-caughtW ws marks start c fault i fresh =
-    let body = bodyW ws marks c in
-    clearedBy start c (killW 64 ws marks fault i body (openedW ws c body fault fresh) (openedTo ws c body))
+caughtW ws notes start c fault i fresh =
+    let body = bodyW ws notes c in
+    clearedBy start c (killW 64 ws notes fault i body (openedW ws c body fault fresh) (openedTo ws c body))
 
 unfoldable pub thrownW : List ℕ → List ℕ → ℕ → Spot → List ℕ → Planned
-thrownW ws marks start s fresh =
-    cond (eqb (s .catcher) 0) (uncaughtW ws marks start (faultW ws (s .at)) (s .at) fresh)
-    (caughtW ws marks start (s .catcher) (faultW ws (s .at)) (s .at) fresh)
+thrownW ws notes start s fresh =
+    cond (eqb (s .catcher) 0) (uncaughtW ws notes start (faultW ws (s .at)) (s .at) fresh)
+    (caughtW ws notes start (s .catcher) (faultW ws (s .at)) (s .at) fresh)

@@ -1,17 +1,18 @@
 // A scope whose body is nil: with a mark it runs the handler under its key, else it ends.
 use crate::installing::updated;
 use finding::find::Spot;
-use handling::replace::less_one;
 use handling::take::Taken;
 use handling::take::take;
 use handling::update::update_by;
+use layout::limit::FUEL;
+use layout::number::further;
+use layout::number::less_one;
+use layout::number::wide;
+use layout::number::word;
 use moving::write::copy;
-use moving::write::further;
 use moving::write::put;
-use reading::reader::wide;
 use rules::plan::Plan;
 use rules::plan::become_nil;
-use rules::turn::word;
 use skipping::pass::pass_list;
 ghost use mathlib.Core.Path.{_≡_};
 ghost use Rattle.scopes.specs.Ending.{clearedW, keyAtW, takeBehindW, takenTo, takenW, resumedW, promotedTo, promotedW, endingW, endedW};
@@ -45,7 +46,7 @@ fn take_behind(ws: &[u16], list: usize, key: usize, fresh: &mut [u16]) -> Taken
             upto: 0,
         };
     }
-    take(ws, list, key, 64, &mut fresh[2..])
+    take(ws, list, key, FUEL, &mut fresh[2..])
 }
 
 // What was taken out, or nil where nothing was; the place behind it.
@@ -63,13 +64,13 @@ fn put_taken(ws: &[u16], t: Taken, fresh: &mut [u16], to: usize) -> usize
 // The scope at `at` with no mark, without the handler under the key, and that as its body.
 fn resumed(
     ws: &[u16],
-    marks: &[u16],
+    notes: &[u16],
     start: usize,
     at: usize,
     key: usize,
     fresh: &mut [u16],
 ) -> Plan
-    ensures { λ r. ⌜ (r ≡ resumedW (now (ws .entry)) (now (marks .entry)) start at key (now (fresh .entry)) .plan) × (now (fresh .exit) ≡ resumedW (now (ws .entry)) (now (marks .entry)) start at key (now (fresh .entry)) .fresh) ⌝ }
+    ensures { λ r. ⌜ (r ≡ resumedW (now (ws .entry)) (now (notes .entry)) start at key (now (fresh .entry)) .plan) × (now (fresh .exit) ≡ resumedW (now (ws .entry)) (now (notes .entry)) start at key (now (fresh .entry)) .fresh) ⌝ }
 {
     let h = cleared(word(ws, at));
     put(fresh, 0, h);
@@ -78,7 +79,7 @@ fn resumed(
     let t = take_behind(ws, l, key, fresh);
     let to = further(2, t.to);
     let g = put_taken(ws, t, fresh, to);
-    let end = further(pass_list(ws, marks, l, 64), 1);
+    let end = further(pass_list(ws, notes, l, FUEL), 1);
     Plan {
         number: 0,
         l: start,
@@ -99,32 +100,32 @@ fn promoted(ws: &[u16], l: usize, t: Taken, key: usize, fresh: &mut [u16]) -> us
     ensures { λ r. ⌜ (r ≡ promotedTo (now (ws .entry)) l t key (now (fresh .entry))) × (now (fresh .exit) ≡ promotedW (now (ws .entry)) l t key (now (fresh .entry))) ⌝ }
 {
     if t.upto == 0 {
-        let u = take(ws, l, key, 64, fresh);
+        let u = take(ws, l, key, FUEL, fresh);
         return u.to;
     }
-    let u = update_by(ws, l, less_one(t.from), 1, 64, fresh);
+    let u = update_by(ws, l, less_one(t.from), 1, FUEL, fresh);
     u.to
 }
 
 // The scope becomes nil, and the nearest is updated by its name and the handler under it.
-fn ending(ws: &[u16], marks: &[u16], s: Spot, key: usize, fresh: &mut [u16]) -> Plan
-    ensures { λ r. ⌜ (r ≡ endingW (now (ws .entry)) (now (marks .entry)) s key (now (fresh .entry)) .plan) × (now (fresh .exit) ≡ endingW (now (ws .entry)) (now (marks .entry)) s key (now (fresh .entry)) .fresh) ⌝ }
+fn ending(ws: &[u16], notes: &[u16], s: Spot, key: usize, fresh: &mut [u16]) -> Plan
+    ensures { λ r. ⌜ (r ≡ endingW (now (ws .entry)) (now (notes .entry)) s key (now (fresh .entry)) .plan) × (now (fresh .exit) ≡ endingW (now (ws .entry)) (now (notes .entry)) s key (now (fresh .entry)) .fresh) ⌝ }
 {
-    let t = take(ws, further(s.at, 2), key, 64, fresh);
+    let t = take(ws, further(s.at, 2), key, FUEL, fresh);
     let l = further(s.scope, 2);
     let f = promoted(ws, l, t, key, fresh);
-    updated(ws, marks, s, l, f, fresh)
+    updated(ws, notes, s, l, f, fresh)
 }
 
 // The scope with nil body at `s`, in the engine's process that begins at `start`.
-pub fn ended(ws: &[u16], marks: &[u16], start: usize, s: Spot, fresh: &mut [u16]) -> Plan
-    ensures { λ r. ⌜ (r ≡ endedW (now (ws .entry)) (now (marks .entry)) start s (now (fresh .entry)) .plan) × (now (fresh .exit) ≡ endedW (now (ws .entry)) (now (marks .entry)) start s (now (fresh .entry)) .fresh) ⌝ }
+pub fn ended(ws: &[u16], notes: &[u16], start: usize, s: Spot, fresh: &mut [u16]) -> Plan
+    ensures { λ r. ⌜ (r ≡ endedW (now (ws .entry)) (now (notes .entry)) start s (now (fresh .entry)) .plan) × (now (fresh .exit) ≡ endedW (now (ws .entry)) (now (notes .entry)) start s (now (fresh .entry)) .fresh) ⌝ }
 {
     let at = s.at;
     let h = wide(word(ws, at));
     let key = key_at(ws, at);
     if 0 < h / 8 % 4 {
-        return resumed(ws, marks, start, at, key, fresh);
+        return resumed(ws, notes, start, at, key, fresh);
     }
     if h / 4 % 2 == 1 {
         return become_nil(s, start, start, 0, 32, 0, fresh);
@@ -132,5 +133,5 @@ pub fn ended(ws: &[u16], marks: &[u16], start: usize, s: Spot, fresh: &mut [u16]
     if s.scope == 0 {
         return become_nil(s, start, start, 0, 32, 0, fresh);
     }
-    ending(ws, marks, s, key, fresh)
+    ending(ws, notes, s, key, fresh)
 }

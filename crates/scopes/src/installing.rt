@@ -1,7 +1,8 @@
 // inst: the nearest scope's list is updated by its own.
 use finding::find::Spot;
 use handling::update::update;
-use moving::write::further;
+use layout::limit::FUEL;
+use layout::number::further;
 use rules::plan::Plan;
 use rules::plan::become_nil;
 use rules::plan::refuse;
@@ -20,26 +21,26 @@ fn too_deep(level: usize, levels: usize) -> bool
 }
 
 // The list at `l` becomes the first `f` fresh words, the process nil.
-pub fn updated(ws: &[u16], marks: &[u16], s: Spot, l: usize, f: usize, fresh: &mut [u16]) -> Plan
-    ensures { λ r. ⌜ (r ≡ updatedW (now (ws .entry)) (now (marks .entry)) s l f (now (fresh .entry)) .plan) × (now (fresh .exit) ≡ updatedW (now (ws .entry)) (now (marks .entry)) s l f (now (fresh .entry)) .fresh) ⌝ }
+pub fn updated(ws: &[u16], notes: &[u16], s: Spot, l: usize, f: usize, fresh: &mut [u16]) -> Plan
+    ensures { λ r. ⌜ (r ≡ updatedW (now (ws .entry)) (now (notes .entry)) s l f (now (fresh .entry)) .plan) × (now (fresh .exit) ≡ updatedW (now (ws .entry)) (now (notes .entry)) s l f (now (fresh .entry)) .fresh) ⌝ }
 {
-    let m = pass_list(ws, marks, l, 64);
+    let m = pass_list(ws, notes, l, FUEL);
     become_nil(s, l, m, f, 32, 0, fresh)
 }
 
 // The inst at `s`, in the engine's process that begins at `start`.
-pub fn installed(ws: &[u16], marks: &[u16], start: usize, s: Spot, fresh: &mut [u16]) -> Plan
-    ensures { λ r. ⌜ (r ≡ installedW (now (ws .entry)) (now (marks .entry)) start s (now (fresh .entry)) .plan) × (now (fresh .exit) ≡ installedW (now (ws .entry)) (now (marks .entry)) start s (now (fresh .entry)) .fresh) ⌝ }
+pub fn installed(ws: &[u16], notes: &[u16], start: usize, s: Spot, fresh: &mut [u16]) -> Plan
+    ensures { λ r. ⌜ (r ≡ installedW (now (ws .entry)) (now (notes .entry)) start s (now (fresh .entry)) .plan) × (now (fresh .exit) ≡ installedW (now (ws .entry)) (now (notes .entry)) start s (now (fresh .entry)) .fresh) ⌝ }
 {
     if s.scope == 0 {
         return become_nil(s, start, start, 0, 32, 0, fresh);
     }
     let scope = s.scope;
     let l = further(scope, 2);
-    let u = update(ws, l, further(s.at, 1), 64, fresh);
+    let u = update(ws, l, further(s.at, 1), FUEL, fresh);
     if too_deep(s.scope_level, u.levels) {
         return refuse(8);
     }
     let f = u.to;
-    updated(ws, marks, s, l, f, fresh)
+    updated(ws, notes, s, l, f, fresh)
 }

@@ -1,14 +1,15 @@
 // Throw: its fault climbs from the position to the scope that stops it, or through all of the engine's process.
 use finding::find::Spot;
+use layout::limit::FUEL;
+use layout::number::further;
+use layout::number::wide;
+use layout::number::word;
 use moving::kill::Moved;
 use moving::kill::kill;
 use moving::write::copy;
-use moving::write::further;
 use moving::write::put;
-use reading::reader::wide;
 use rules::plan::Plan;
 use rules::plan::refuse;
-use rules::turn::word;
 use skipping::pass::pass_list;
 use skipping::skip::skip_list;
 ghost use mathlib.Core.Path.{_≡_};
@@ -46,15 +47,15 @@ fn cleared(start: usize, a: usize, k: Moved) -> Plan
 // No scope stops the fault.
 fn uncaught(
     ws: &[u16],
-    marks: &[u16],
+    notes: &[u16],
     start: usize,
     fault: u16,
     at: usize,
     fresh: &mut [u16],
 ) -> Plan
-    ensures { λ r. ⌜ (r ≡ uncaughtW (now (ws .entry)) (now (marks .entry)) start fault at (now (fresh .entry)) .plan) × (now (fresh .exit) ≡ uncaughtW (now (ws .entry)) (now (marks .entry)) start fault at (now (fresh .entry)) .fresh) ⌝ }
+    ensures { λ r. ⌜ (r ≡ uncaughtW (now (ws .entry)) (now (notes .entry)) start fault at (now (fresh .entry)) .plan) × (now (fresh .exit) ≡ uncaughtW (now (ws .entry)) (now (notes .entry)) start fault at (now (fresh .entry)) .fresh) ⌝ }
 {
-    let k = kill(ws, marks, start, fault, at, 64, fresh, 0);
+    let k = kill(ws, notes, start, fault, at, FUEL, fresh, 0);
     cleared(start, start, k)
 }
 
@@ -96,10 +97,10 @@ fn marked(ws: &[u16], c: usize, fault: u16, fresh: &mut [u16]) -> usize
 }
 
 // Where its body begins.
-fn body_at(ws: &[u16], marks: &[u16], c: usize) -> usize
-    ensures { λ r. ⌜ r ≡ bodyW (now (ws .entry)) (now (marks .entry)) c ⌝ }
+fn body_at(ws: &[u16], notes: &[u16], c: usize) -> usize
+    ensures { λ r. ⌜ r ≡ bodyW (now (ws .entry)) (now (notes .entry)) c ⌝ }
 {
-    pass_list(ws, marks, further(c, 2), 64)
+    pass_list(ws, notes, further(c, 2), FUEL)
 }
 
 // All of it but the body.
@@ -113,27 +114,27 @@ fn opened(ws: &[u16], c: usize, body: usize, fault: u16, fresh: &mut [u16]) -> u
 // The scope at `c` stops the fault: its body becomes what climbs out of it.
 fn caught(
     ws: &[u16],
-    marks: &[u16],
+    notes: &[u16],
     start: usize,
     c: usize,
     fault: u16,
     at: usize,
     fresh: &mut [u16],
 ) -> Plan
-    ensures { λ r. ⌜ (r ≡ caughtW (now (ws .entry)) (now (marks .entry)) start c fault at (now (fresh .entry)) .plan) × (now (fresh .exit) ≡ caughtW (now (ws .entry)) (now (marks .entry)) start c fault at (now (fresh .entry)) .fresh) ⌝ }
+    ensures { λ r. ⌜ (r ≡ caughtW (now (ws .entry)) (now (notes .entry)) start c fault at (now (fresh .entry)) .plan) × (now (fresh .exit) ≡ caughtW (now (ws .entry)) (now (notes .entry)) start c fault at (now (fresh .entry)) .fresh) ⌝ }
 {
-    let body = body_at(ws, marks, c);
+    let body = body_at(ws, notes, c);
     let t = opened(ws, c, body, fault, fresh);
-    let k = kill(ws, marks, body, fault, at, 64, fresh, t);
+    let k = kill(ws, notes, body, fault, at, FUEL, fresh, t);
     cleared(start, c, k)
 }
 
-pub fn thrown(ws: &[u16], marks: &[u16], start: usize, s: Spot, fresh: &mut [u16]) -> Plan
-    ensures { λ r. ⌜ (r ≡ thrownW (now (ws .entry)) (now (marks .entry)) start s (now (fresh .entry)) .plan) × (now (fresh .exit) ≡ thrownW (now (ws .entry)) (now (marks .entry)) start s (now (fresh .entry)) .fresh) ⌝ }
+pub fn thrown(ws: &[u16], notes: &[u16], start: usize, s: Spot, fresh: &mut [u16]) -> Plan
+    ensures { λ r. ⌜ (r ≡ thrownW (now (ws .entry)) (now (notes .entry)) start s (now (fresh .entry)) .plan) × (now (fresh .exit) ≡ thrownW (now (ws .entry)) (now (notes .entry)) start s (now (fresh .entry)) .fresh) ⌝ }
 {
     let fault = fault_at(ws, s.at);
     if s.catcher == 0 {
-        return uncaught(ws, marks, start, fault, s.at, fresh);
+        return uncaught(ws, notes, start, fault, s.at, fresh);
     }
-    caught(ws, marks, start, s.catcher, fault, s.at, fresh)
+    caught(ws, notes, start, s.catcher, fault, s.at, fresh)
 }

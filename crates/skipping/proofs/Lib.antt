@@ -1,5 +1,5 @@
 pub mod Forms
-pub mod Marks
+pub mod Notes
 pub mod Passes
 pub mod Passing
 pub mod Skips

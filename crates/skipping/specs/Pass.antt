@@ -1,5 +1,5 @@
--- Passing over by marks, as the code goes. The marks of the word at i stand at i * 2, for the process that begins there, and behind it, for
--- the list; 0 where nothing is known. The proofs show that it ends where the layout does, if the marks are right; no contract of a call names it.
+-- Passing over by notes, as the code goes. The notes of the word at i stand at i * 2, for the process that begins there, and behind it, for
+-- the list; 0 where nothing is known. The proofs show that it ends where the layout does, if the notes are right; no contract of a call names it.
 use Prim.Native.Nat.{ℕ, _+_, _*_}
 use mathlib.Core.Bool.{cond}
 use mathlib.Core.List.{List}
@@ -7,14 +7,14 @@ use lib.Dec.{eqb}
 use lib.ListN.{getD}
 use Rattle.skipping.specs.Skip.{skipEnd, skipList}
 
-unfoldable pub markAt : List ℕ → ℕ → ℕ
-markAt marks i = getD marks (i * 2) 0
+unfoldable pub noteAt : List ℕ → ℕ → ℕ
+noteAt notes i = getD notes (i * 2) 0
 
-unfoldable pub listMarkAt : List ℕ → ℕ → ℕ
-listMarkAt marks i = getD marks (i * 2 + 1) 0
+unfoldable pub listNoteAt : List ℕ → ℕ → ℕ
+listNoteAt notes i = getD notes (i * 2 + 1) 0
 
 unfoldable pub passEnd : ℕ → List ℕ → List ℕ → ℕ → ℕ
-passEnd d ws marks i = cond (eqb (markAt marks i) 0) (skipEnd d ws i) (markAt marks i)
+passEnd d ws notes i = cond (eqb (noteAt notes i) 0) (skipEnd d ws i) (noteAt notes i)
 
 unfoldable pub passList : ℕ → List ℕ → List ℕ → ℕ → ℕ
-passList d ws marks i = cond (eqb (listMarkAt marks i) 0) (skipList d ws 128 i) (listMarkAt marks i)
+passList d ws notes i = cond (eqb (listNoteAt notes i) 0) (skipList d ws 128 i) (listNoteAt notes i)

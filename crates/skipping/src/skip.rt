@@ -1,7 +1,7 @@
 // Passing over what the reader has accepted: where a process, a list or an expression ends. Nothing is tested but that words are left, so an
 // answer says something only of words that were read.
+use layout::number::wide;
 use reading::reader::met_by;
-use reading::reader::wide;
 ghost use mathlib.Core.Path.{_≡_};
 ghost use Prim.Native.Nat.{_<_};
 ghost use Rattle.skipping.specs.Skip.{formOf, exprForm, exprSkip, behindBy, skipEnd, skipList};

@@ -7,7 +7,7 @@ use mathlib.Core.Bool.{Bool, true, false, cond}
 use mathlib.Core.List.{List}
 use lib.Dec.{eqb, leb, lit<}
 use lib.ListN.{length, getD, set, length-set, length-replicate}
-use Rattle.moving.specs.Writing.{onward}
+use Rattle.layout.specs.Positions.{onward}
 use Rattle.moving.proofs.Laid.{Near, near-of}
 use Rattle.rules.specs.declared.pair.Offer.{Offer}
 use Rattle.rules.specs.declared.turn.Turn.{Turn}

@@ -22,10 +22,10 @@ use Rattle.reading.specs.declared.survey.Starts.{Starts}
 use Rattle.reading.specs.Survey.{surveyed}
 use Rattle.reading.proofs.Combining.{Words}
 use Rattle.reading.proofs.Known.{Known, survey-known, survey-unknown, few-engines, known-issued}
-use Rattle.skipping.proofs.Marks.{Right}
-use Rattle.marking.specs.Marking.{surveyMarks}
-use Rattle.marking.proofs.Marked.{survey-right}
-use Rattle.moving.specs.Writing.{onward}
+use Rattle.skipping.proofs.Notes.{Right}
+use Rattle.noting.specs.Noting.{surveyNotes}
+use Rattle.noting.proofs.Noted.{survey-right}
+use Rattle.layout.specs.Positions.{onward}
 use Rattle.finding.specs.declared.find.Spot.{Spot}
 use Rattle.finding.specs.declared.find.Found.{Found}
 use Rattle.finding.specs.Find.{findW}
@@ -56,16 +56,16 @@ looked-up :
     at ws 1 ≡ issued →
     stepW ws blank e position i place branch out
     ≡ cond (leb n e) (answered (refusing 2) out)
-    (foundW ws (surveyMarks 64 8192 ws blank) (s .starts) n e i place branch (n * 65536 + issued) out
-    (findW 64 ws (surveyMarks 64 8192 ws blank) (onward (getD (s .starts) e 0) position) 1 (getD (s .starts) e 0)))
+    (foundW ws (surveyNotes 64 8192 ws blank) (s .starts) n e i place branch (n * 65536 + issued) out
+    (findW 64 ws (surveyNotes 64 8192 ws blank) (onward (getD (s .starts) e 0) position) 1 (getD (s .starts) e 0)))
 unfolding stepW
 looked-up ws blank e position i place branch out s n issued q z more few w = rw (← q, z, ne-eqb n 0 more, le-ltb 8 n few, w)
 
 module _ (ws : List ℕ) (ok : Words ws) (k : Numbers) (position-low : k .position < 65536) (place-low : k .secondPosition < 65536) (out : List ℕ) (blank : List ℕ) (blank-right : Right ws blank) where
-  abbrev marks : List ℕ
-  marks = surveyMarks 64 8192 ws blank
+  abbrev notes : List ℕ
+  notes = surveyNotes 64 8192 ws blank
 
-  right : Right ws marks
+  right : Right ws notes
   right = survey-right 64 8192 (lit< tt) ws ok blank blank-right
 
   -- ---- a configuration that is known
@@ -97,7 +97,7 @@ module _ (ws : List ℕ) (ok : Words ws) (k : Numbers) (position-low : k .positi
 
       receiving-law :
           (m : Message) → moveOf (engineAt c (k .engine) .values) (l .frames) (l .process) ≡ sends m →
-          receivingW ws marks (s .starts) n (k .engine) sp (kind (asNode (l .process))) (k .second) (k .secondPosition) (k .branch) out
+          receivingW ws notes (s .starts) n (k .engine) sp (kind (asNode (l .process))) (k .second) (k .secondPosition) (k .branch) out
           ≡ given ((noPartner ! enabledAt c (k .second) (k .secondPosition)) >>= λ b. pairOf c k a b m (length out)) out
       unfolding receivingW partnerW _!_ _>>=_
       receiving-law m moves = by (leb n (k .second)) refl
@@ -113,27 +113,27 @@ module _ (ws : List ℕ) (ok : Words ws) (k : Numbers) (position-low : k .positi
               (b : Bool) → leb n (k .second) ≡ b →
               cond b (answered (refusing 4) out)
               (partnerW ws (s .starts) (k .engine) (k .second) sp (kind (asNode (l .process))) (k .branch) out
-              (findW 64 ws marks (onward (getD (s .starts) (k .second) 0) (k .secondPosition)) 1 (getD (s .starts) (k .second) 0)))
+              (findW 64 ws notes (onward (getD (s .starts) (k .second) 0) (k .secondPosition)) 1 (getD (s .starts) (k .second) 0)))
               ≡ given ((noPartner ! enabledAt c (k .second) (k .secondPosition)) >>= λ b. pairOf c k a b m (length out)) out
           by true q = rw (seeks-none ws ok s known (k .second) (k .secondPosition) (leb-true n (k .second) q)) (sym (given-refused noPartner out))
           by false q =
               let h : k .second < n = leb-false n (k .second) q in
               let first : getD (s .starts) (k .second) 0 ≡ startOf c (k .second) = known .starts (k .second) (omega arith) in
-              rw first (seek _ _ (seeks ws ok s known (k .second) h (k .secondPosition) place-low marks right))
+              rw first (seek _ _ (seeks ws ok s known (k .second) h (k .secondPosition) place-low notes right))
 
-      moving-law : movingW ws marks (s .starts) n (k .engine) sp (k .second) (k .secondPosition) (k .branch) bound out ≡ given (after c k a (length out)) out
+      moving-law : movingW ws notes (s .starts) n (k .engine) sp (k .second) (k .secondPosition) (k .branch) bound out ≡ given (after c k a (length out)) out
       unfolding movingW
       moving-law =
           rw kind-at
-          (by (moveOf (engineAt c (k .engine) .values) (l .frames) (l .process)) (movesW ws marks (sp .at) (kind (asNode (l .process)))) refl
-          (known-moving ws ok s known (k .engine) (found .inside) target l sp (found .place) (found .spotted) marks right))
+          (by (moveOf (engineAt c (k .engine) .values) (l .frames) (l .process)) (movesW ws notes (sp .at) (kind (asNode (l .process)))) refl
+          (known-moving ws ok s known (k .engine) (found .inside) target l sp (found .place) (found .spotted) notes right))
         where
           by :
               (m : Move) (j : ℕ) → moveOf (engineAt c (k .engine) .values) (l .frames) (l .process) ≡ m → Moving m j →
               cond (eqb j 0) (answered (refusing 3) out)
-              (cond (eqb j 2) (receivingW ws marks (s .starts) n (k .engine) sp (kind (asNode (l .process))) (k .second) (k .secondPosition) (k .branch) out)
+              (cond (eqb j 2) (receivingW ws notes (s .starts) n (k .engine) sp (kind (asNode (l .process))) (k .second) (k .secondPosition) (k .branch) out)
               (cond (noneElse (k .second) (k .secondPosition) (k .branch))
-              (aloneW ws marks (getD (s .starts) (k .engine) 0) (getD (s .starts) (k .engine + 1) 0) sp (kind (asNode (l .process))) bound out)
+              (aloneW ws notes (getD (s .starts) (k .engine) 0) (getD (s .starts) (k .engine + 1) 0) sp (kind (asNode (l .process))) bound out)
               (answered (refusing 3) out)))
               ≡ given (after c k a (length out)) out
           by _ _ q stays = rw (after-stuck c k a (length out) q) (sym (given-refused noMove out))
@@ -141,22 +141,22 @@ module _ (ws : List ℕ) (ok : Words ws) (k : Numbers) (position-low : k .positi
             where
               go :
                   (b : Bool) →
-                  cond b (aloneW ws marks (getD (s .starts) (k .engine) 0) (getD (s .starts) (k .engine + 1) 0) sp (kind (asNode (l .process))) bound out) (answered (refusing 3) out)
+                  cond b (aloneW ws notes (getD (s .starts) (k .engine) 0) (getD (s .starts) (k .engine + 1) 0) sp (kind (asNode (l .process))) bound out) (answered (refusing 3) out)
                   ≡ given (cond b (loneOf c a vs o (length out)) (refused noMove)) out
-              go true = lone-law ws ok s known (k .engine) target l sp found marks right vs o q kind-low out
+              go true = lone-law ws ok s known (k .engine) target l sp found notes right vs o q kind-low out
               go false = sym (given-refused noMove out)
           by _ _ q (asks {m = m}) = rw (after-sends c k a (length out) m q) (receiving-law m q)
 
     -- the search in the first engine
-    known-law : (k .engine < n) → foundW ws marks (s .starts) n (k .engine) (k .second) (k .secondPosition) (k .branch) bound out
-        (findW 64 ws marks (onward (startOf c (k .engine)) (k .position)) 1 (startOf c (k .engine)))
+    known-law : (k .engine < n) → foundW ws notes (s .starts) n (k .engine) (k .second) (k .secondPosition) (k .branch) bound out
+        (findW 64 ws notes (onward (startOf c (k .engine)) (k .position)) 1 (startOf c (k .engine)))
         ≡ given ((nobodyThere ! enabledAt c (k .engine) (k .position)) >>= λ a. after c k a (length out)) out
     unfolding foundW _!_ _>>=_
-    known-law h = by _ _ (seeks ws ok s known (k .engine) h (k .position) position-low marks right)
+    known-law h = by _ _ (seeks ws ok s known (k .engine) h (k .position) position-low notes right)
       where
         by :
             (f : Found) (o : Option Place) → Seeks ws ok s known (k .engine) (k .position) (startOf c (k .engine) + k .position) f o →
-            foundW ws marks (s .starts) n (k .engine) (k .second) (k .secondPosition) (k .branch) bound out f
+            foundW ws notes (s .starts) n (k .engine) (k .second) (k .secondPosition) (k .branch) bound out f
             ≡ given ((nobodyThere ! o) >>= λ a. after c k a (length out)) out
         by _ _ unseen = sym (given-refused nobodyThere out)
         by _ _ (seen {l = l} {sp = sp} y) = moving-law _ l sp y
@@ -174,8 +174,8 @@ module _ (ws : List ℕ) (ok : Words ws) (k : Numbers) (position-low : k .positi
         by :
             (b : Bool) → leb n (k .engine) ≡ b →
             cond b (answered (refusing 2) out)
-            (foundW ws marks (s .starts) n (k .engine) (k .second) (k .secondPosition) (k .branch) bound out
-            (findW 64 ws marks (onward (getD (s .starts) (k .engine) 0) (k .position)) 1 (getD (s .starts) (k .engine) 0)))
+            (foundW ws notes (s .starts) n (k .engine) (k .second) (k .secondPosition) (k .branch) bound out
+            (findW 64 ws notes (onward (getD (s .starts) (k .engine) 0) (k .position)) 1 (getD (s .starts) (k .engine) 0)))
             ≡ given ((nobodyThere ! enabledAt c (k .engine) (k .position)) >>= λ a. after c k a (length out)) out
         by true y = rw (seeks-none ws ok s known (k .engine) (k .position) (leb-true n (k .engine) y)) none-there
           where

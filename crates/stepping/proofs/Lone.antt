@@ -32,7 +32,7 @@ use Rattle.reading.specs.declared.survey.Starts.{Starts}
 use Rattle.reading.proofs.Combining.{Words}
 use Rattle.reading.proofs.Known.{Known}
 use Rattle.reading.specs.Walk.{processEnd}
-use Rattle.skipping.proofs.Marks.{Right}
+use Rattle.skipping.proofs.Notes.{Right}
 use Rattle.moving.specs.Writing.{pasted, pastedEnd}
 use Rattle.moving.specs.Evaluating.{evaluated}
 use Rattle.moving.proofs.Laid.{Near, near-of, near-below}
@@ -167,8 +167,8 @@ module _ (ws : List ℕ) (ok : Words ws) (n issued : ℕ) (few : n ≤ 8) (small
   bound = n * 65536 + issued
 
   module _ (vs : List ℕ) (below : AllBelow 4294967296 vs) (values : part (start - 64) start ws ≡ valuesWords vs)
-      (marks : List ℕ) (right : Right ws marks) (fresh : List ℕ) (room : Roomy ws fresh)
-      (wide : Spacious (ruleW ws marks start s (kind (asNode (l .process))) bound fresh) fresh) (big : Near (length fresh)) where
+      (notes : List ℕ) (right : Right ws notes) (fresh : List ℕ) (room : Roomy ws fresh)
+      (wide : Spacious (ruleW ws notes start s (kind (asNode (l .process))) bound fresh) fresh) (big : Near (length fresh)) where
     -- what the rule makes, if it moves alone
     abbrev Makes : Planned → Move → Type 0
     Makes u stuck = Unit {0}
@@ -183,11 +183,11 @@ module _ (ws : List ℕ) (ok : Words ws) (n issued : ℕ) (few : n ≤ 8) (small
 
     made-scope : (name : ℕ) (mark : Mark) (zombie : Bool) (h : Entries) (a : Run) → l .process ≡ scope name mark zombie h a →
         (b : Bool) → isDone a ≡ b →
-        Makes (ruleW ws marks start s 11 bound fresh) (cond b (alone vs (some (ending name mark zombie h (l .frames)))) stuck)
+        Makes (ruleW ws notes start s 11 bound fresh) (cond b (alone vs (some (ending name mark zombie h (l .frames)))) stuck)
     unfolding ruleW scopedW
     made-scope name mark zombie h a is false e = tt
     made-scope name mark zombie h a is true e =
-        still _ _ (ends (faultAt ws target) target r start l s ws marks right words-at spotted near (standing .frames) deep (omega arith)
+        still _ _ (ends (faultAt ws target) target r start l s ws notes right words-at spotted near (standing .frames) deep (omega arith)
         few small short fresh room big sound name mark zombie h (is ∙ ap (scope name mark zombie h) (done-nil a e)))
 
     made-executor : (b : Bool) (u : Planned) (m : Message) → Makes u (cond b (sends m) stuck)
@@ -197,7 +197,7 @@ module _ (ws : List ℕ) (ok : Words ws) (n issued : ℕ) (few : n ≤ 8) (small
     -- assign, if and while
     plain-rule : (k : ℕ) → k ≤ 6 →
         (let t = turnW (drop (s .at) ws) (valuesWords vs) (s .level) k bound fresh in
-        ruleW ws marks start s k bound fresh ≡ plainW s start (t .turn) (t .fresh))
+        ruleW ws notes start s k bound fresh ≡ plainW s start (t .turn) (t .fresh))
     unfolding ruleW valuedW
     plain-rule k h =
         let fits = whole-inside (faultAt ws target) target r start l s ws words-at spotted near (standing .frames) deep in
@@ -226,7 +226,7 @@ module _ (ws : List ℕ) (ok : Words ws) (n issued : ℕ) (few : n ≤ 8) (small
     node-deep m is = omega (arith, process-deep, its-level, ap runDepth is ∙ depth-act m)
 
     made-assign : (h : ℕ) (e : Expr) → FitsExpr e → l .process ≡ act (node h [] (e ∷ []) absent noParts) →
-        Makes (ruleW ws marks start s 1 bound fresh) (alone (set vs (variableOf h) (evaluate vs e)) (some (plug (l .frames) nil)))
+        Makes (ruleW ws notes start s 1 bound fresh) (alone (set vs (variableOf h) (evaluate vs e)) (some (plug (l .frames) nil)))
     unfolding turnW
     made-assign h e g is =
         let m : Node = node h [] (e ∷ []) absent noParts in
@@ -242,7 +242,7 @@ module _ (ws : List ℕ) (ok : Words ws) (n issued : ℕ) (few : n ≤ 8) (small
 
     made-branch : (h : ℕ) (e : Expr) (p q : Node) → FitsExpr e → Fits (code false) anywhere p → Fits (code false) anywhere q →
         l .process ≡ act (node h [] (e ∷ []) absent (p & q & noParts)) →
-        Makes (ruleW ws marks start s 4 bound fresh) (alone vs (some (plug (l .frames) (enable (cond (isTrue (evaluate vs e)) p q)))))
+        Makes (ruleW ws notes start s 4 bound fresh) (alone vs (some (plug (l .frames) (enable (cond (isTrue (evaluate vs e)) p q)))))
     unfolding turnW depth
     made-branch h e p q g fp fq is =
         let m : Node = node h [] (e ∷ []) absent (p & q & noParts) in
@@ -260,7 +260,7 @@ module _ (ws : List ℕ) (ok : Words ws) (n issued : ℕ) (few : n ≤ 8) (small
     made-repeat : (h : ℕ) (e : Expr) (p : Node) → kindOf h ≡ 5 → FitsExpr e → Fits (code false) anywhere p →
         Fits (code false) anywhere (node h [] (e ∷ []) absent (p & noParts)) →
         l .process ≡ act (node h [] (e ∷ []) absent (p & noParts)) →
-        Makes (ruleW ws marks start s 5 bound fresh)
+        Makes (ruleW ws notes start s 5 bound fresh)
         (alone vs
         (some (plug (l .frames) (cond (isTrue (evaluate vs e)) (seqOf (enable p) (node h [] (e ∷ []) absent (p & noParts))) nil))))
     unfolding turnW
@@ -285,33 +285,33 @@ module _ (ws : List ℕ) (ok : Words ws) (n issued : ℕ) (few : n ≤ 8) (small
 
     -- inst, throw and comp
     made-install : (h : ℕ) (new : Entries) → kindOf h ≡ 12 → FitsEntries false zero new → l .process ≡ act (node h [] [] (list new) noParts) →
-        Makes (ruleW ws marks start s 12 bound fresh) (alone vs (some (plug (onNearest (λ x. update x new) (l .frames)) nil)))
+        Makes (ruleW ws notes start s 12 bound fresh) (alone vs (some (plug (onNearest (λ x. update x new) (l .frames)) nil)))
     unfolding ruleW scopedW asNode
     made-install h new k fit is =
-        still _ _ (Installs.installs (faultAt ws target) target r start l s ws marks right words-at spotted near (standing .frames) deep (omega arith)
+        still _ _ (Installs.installs (faultAt ws target) target r start l s ws notes right words-at spotted near (standing .frames) deep (omega arith)
         short fresh (omega (arith, room .few)) big h new is fit
         (let e : kind (asNode (l .process)) ≡ 12 = ap (λ p. kind (asNode p)) is ∙ k in rw e at wide))
 
     made-throw : (h : ℕ) → kindOf h ≡ 13 → l .process ≡ act (node h [] [] absent noParts) →
-        Makes (ruleW ws marks start s 13 bound fresh) (alone vs (climb (nameOf h) (l .frames) nil))
+        Makes (ruleW ws notes start s 13 bound fresh) (alone vs (climb (nameOf h) (l .frames) nil))
     unfolding ruleW scopedW
     made-throw h k is =
-        still _ _ (thrown-ruled ws marks right n issued few small sound start words-at (omega arith) deep short fresh room big target l s
+        still _ _ (thrown-ruled ws notes right n issued few small sound start words-at (omega arith) deep short fresh room big target l s
         place spotted (node h [] [] absent noParts) is k)
 
     made-compensate : (h : ℕ) → l .process ≡ act (node h [] [] absent noParts) →
-        Makes (ruleW ws marks start s 14 bound fresh)
+        Makes (ruleW ws notes start s 14 bound fresh)
         (alone vs
         (some (plug (onNearest (without (scopeKey (nameOf h))) (l .frames))
         (enable (handler (scopeKey (nameOf h)) (nearest (l .frames)))))))
     unfolding ruleW scopedW
     made-compensate h is =
         still _ _
-        (Compensates.compensates (faultAt ws target) target r start l s ws marks right words-at spotted near (standing .frames) deep (omega arith)
+        (Compensates.compensates (faultAt ws target) target r start l s ws notes right words-at spotted near (standing .frames) deep (omega arith)
         ok few small short fresh room big h is)
 
     made-act : (m : Node) → l .process ≡ act m → Fits (code false) anywhere m → Shape m →
-        Makes (ruleW ws marks start s (kind m) bound fresh) (acting vs (l .frames) m (action m))
+        Makes (ruleW ws notes start s (kind m) bound fresh) (acting vs (l .frames) m (action m))
     unfolding action acting
     made-act m is f (assigns {h} {e} k g) = rw k (made-assign h e g is)
     made-act m is f (branches {h} {e} {p} {q} k g fp fq) = rw k (made-branch h e p q g fp fq is)
@@ -325,7 +325,7 @@ module _ (ws : List ℕ) (ok : Words ws) (n issued : ℕ) (few : n ≤ 8) (small
     made-act m is f (throws {h} k t) = rw k (made-throw h k is)
     made-act m is f (compensates {h} k t) = rw k (made-compensate h is)
 
-    made : (p : Run) → l .process ≡ p → Sound n issued p → Makes (ruleW ws marks start s (runKind p) bound fresh) (moveOf vs (l .frames) p)
+    made : (p : Run) → l .process ≡ p → Sound n issued p → Makes (ruleW ws notes start s (runKind p) bound fresh) (moveOf vs (l .frames) p)
     unfolding moveOf onceDone
     made nil is g = tt
     made (seq a q) is g = tt
@@ -339,11 +339,11 @@ module _ (ws : List ℕ) (ok : Words ws) (n issued : ℕ) (few : n ≤ 8) (small
     -- the rule, whatever it is
     pub lone :
         (vs' : List ℕ) (q : Option Run) → moveOf vs (l .frames) (l .process) ≡ alone vs' q →
-        (let u = ruleW ws marks start s (kind (asNode (l .process))) bound fresh in
+        (let u = ruleW ws notes start s (kind (asNode (l .process))) bound fresh in
         Ruled ws start (start + size r) (u .plan) (u .fresh) q × (u .plan .number ≡ 0 → vs' ≡ valued vs (u .plan .x) (u .plan .v)))
     lone vs' q e =
         rw (kind-asNode (standing .process))
-        (subst (Makes (ruleW ws marks start s (runKind (l .process)) bound fresh)) e (made (l .process) refl (standing .process)))
+        (subst (Makes (ruleW ws notes start s (runKind (l .process)) bound fresh)) e (made (l .process) refl (standing .process)))
 
 -- in a configuration that is known
 module _ (ws : List ℕ) (ok : Words ws) (starts : Starts) (known : Known standard ws starts) (e : ℕ)
@@ -376,15 +376,15 @@ module _ (ws : List ℕ) (ok : Words ws) (starts : Starts) (known : Known standa
         (startOf c e) run-stands (omega arith) run-deep run-short target l s place spotted
 
     pub known-lone :
-        (marks : List ℕ) → Right ws marks → (fresh : List ℕ) → Roomy ws fresh →
-        Spacious (ruleW ws marks (startOf c e) s (kind (asNode (l .process))) (length (c .engines) * 65536 + c .issued) fresh) fresh →
+        (notes : List ℕ) → Right ws notes → (fresh : List ℕ) → Roomy ws fresh →
+        Spacious (ruleW ws notes (startOf c e) s (kind (asNode (l .process))) (length (c .engines) * 65536 + c .issued) fresh) fresh →
         Near (length fresh) →
         (vs' : List ℕ) (q : Option Run) → moveOf (engineAt c e .values) (l .frames) (l .process) ≡ alone vs' q →
-        (let u = ruleW ws marks (startOf c e) s (kind (asNode (l .process))) (length (c .engines) * 65536 + c .issued) fresh in
+        (let u = ruleW ws notes (startOf c e) s (kind (asNode (l .process))) (length (c .engines) * 65536 + c .issued) fresh in
         Ruled ws (startOf c e) (startOf c e + size run) (u .plan) (u .fresh) q
         × (u .plan .number ≡ 0 → vs' ≡ valued (engineAt c e .values) (u .plan .x) (u .plan .v)))
-    known-lone marks right fresh room wide big =
+    known-lone notes right fresh room wide big =
         lone ws ok (length (c .engines)) (c .issued) (known .readable .fitting .few) (known .readable .fitting .word) run (fit .sound)
         (startOf c e) run-stands (omega arith) run-deep run-short target l s place spotted (engineAt c e .values)
         (fit .bounded) (one-values c (known .readable .fitting) e h ws (known .same))
-        marks right fresh room wide big
+        notes right fresh room wide big

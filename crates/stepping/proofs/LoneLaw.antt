@@ -20,7 +20,7 @@ use Rattle.reading.specs.declared.survey.Starts.{Starts}
 use Rattle.reading.proofs.Combining.{Words}
 use Rattle.reading.proofs.Known.{Known, known-length}
 use Rattle.reading.proofs.Standing.{start-next}
-use Rattle.skipping.proofs.Marks.{Right}
+use Rattle.skipping.proofs.Notes.{Right}
 use Rattle.finding.specs.declared.find.Spot.{Spot}
 use Rattle.rules.specs.Planning.{Planned}
 use Rattle.moving.proofs.Laid.{Near, near-of}
@@ -81,42 +81,42 @@ module _ (ws : List ℕ) (ok : Words ws) (s : Starts) (known : Known standard ws
 
   -- the answer and the output of a step alone
   pub lone-law :
-      (marks : List ℕ) → Right ws marks → (vs' : List ℕ) (q : Option Run) → moveOf (engineAt c e .values) (l .frames) (l .process) ≡ alone vs' q → k < 32 → (out : List ℕ) →
-      aloneW ws marks (getD (s .starts) e 0) (getD (s .starts) (e + 1) 0) sp k bound out ≡ given (loneOf c a vs' q (length out)) out
+      (notes : List ℕ) → Right ws notes → (vs' : List ℕ) (q : Option Run) → moveOf (engineAt c e .values) (l .frames) (l .process) ≡ alone vs' q → k < 32 → (out : List ℕ) →
+      aloneW ws notes (getD (s .starts) e 0) (getD (s .starts) (e + 1) 0) sp k bound out ≡ given (loneOf c a vs' q (length out)) out
   unfolding aloneW shortW loneW
-  lone-law marks right vs' q m low out = by (ltb 512 (length ws)) (ltb surely (ruleW ws marks (getD (s .starts) e 0) sp k bound small .plan .g)) refl refl
+  lone-law notes right vs' q m low out = by (ltb 512 (length ws)) (ltb surely (ruleW ws notes (getD (s .starts) e 0) sp k bound small .plan .g)) refl refl
     where
       first : getD (s .starts) e 0 ≡ start
       first = known .starts e (omega (arith, seen .inside))
 
       -- whatever the scratch is, if it has room
       scratched :
-          (fresh : List ℕ) → Roomy ws fresh → Spacious (ruleW ws marks start sp k bound fresh) fresh → Near (length fresh) →
-          loneW ws marks (getD (s .starts) e 0) (getD (s .starts) (e + 1) 0) sp k bound fresh out ≡ given (loneOf c a vs' q (length out)) out
+          (fresh : List ℕ) → Roomy ws fresh → Spacious (ruleW ws notes start sp k bound fresh) fresh → Near (length fresh) →
+          loneW ws notes (getD (s .starts) e 0) (getD (s .starts) (e + 1) 0) sp k bound fresh out ≡ given (loneOf c a vs' q (length out)) out
       scratched fresh room wide big =
-          let r = known-lone ws ok s known e (seen .inside) target l sp (seen .place) (seen .spotted) marks right fresh room wide big vs' q m in
+          let r = known-lone ws ok s known e (seen .inside) target l sp (seen .place) (seen .spotted) notes right fresh room wide big vs' q m in
           let last : getD (s .starts) (e + 1) 0 - 64 ≡ end =
           (let y : getD (s .starts) (e + 1) 0 ≡ startOf c (e + 1) = known .starts (e + 1) (omega (arith, seen .inside)) in
           let z = start-next c (known .readable .fitting) e (seen .inside) in
           omega arith) in
-          rw (first, last, kind-low low) (by-rule (ruleW ws marks start sp k bound fresh) vs' q (r .0) (r .1) out)
+          rw (first, last, kind-low low) (by-rule (ruleW ws notes start sp k bound fresh) vs' q (r .0) (r .1) out)
 
-      in-large : loneW ws marks (getD (s .starts) e 0) (getD (s .starts) (e + 1) 0) sp k bound large out ≡ given (loneOf c a vs' q (length out)) out
+      in-large : loneW ws notes (getD (s .starts) e 0) (getD (s .starts) (e + 1) 0) sp k bound large out ≡ given (loneOf c a vs' q (length out)) out
       in-large =
           scratched large (record { twice = omega (arith, large-length, short); few = omega (arith, large-length) })
           (λ h. omega (arith, large-length)) (rw large-length (near-of 16384 (lit< tt)))
 
       by :
-          (b d : Bool) → ltb 512 (length ws) ≡ b → ltb surely (ruleW ws marks (getD (s .starts) e 0) sp k bound small .plan .g) ≡ d →
-          cond b (loneW ws marks (getD (s .starts) e 0) (getD (s .starts) (e + 1) 0) sp k bound large out)
-          (cond d (loneW ws marks (getD (s .starts) e 0) (getD (s .starts) (e + 1) 0) sp k bound large out)
-          (loneW ws marks (getD (s .starts) e 0) (getD (s .starts) (e + 1) 0) sp k bound small out))
+          (b d : Bool) → ltb 512 (length ws) ≡ b → ltb surely (ruleW ws notes (getD (s .starts) e 0) sp k bound small .plan .g) ≡ d →
+          cond b (loneW ws notes (getD (s .starts) e 0) (getD (s .starts) (e + 1) 0) sp k bound large out)
+          (cond d (loneW ws notes (getD (s .starts) e 0) (getD (s .starts) (e + 1) 0) sp k bound large out)
+          (loneW ws notes (getD (s .starts) e 0) (getD (s .starts) (e + 1) 0) sp k bound small out))
           ≡ given (loneOf c a vs' q (length out)) out
       by true d p r = in-large
       by false true p r = in-large
       by false false p r =
           let few : length ws ≤ 512 = ltb-false 512 (length ws) p in
-          let spare : ruleW ws marks start sp k bound small .plan .g ≤ surely =
-          rw first at (ltb-false surely (ruleW ws marks (getD (s .starts) e 0) sp k bound small .plan .g) r) in
+          let spare : ruleW ws notes start sp k bound small .plan .g ≤ surely =
+          rw first at (ltb-false surely (ruleW ws notes (getD (s .starts) e 0) sp k bound small .plan .g) r) in
           scratched small (record { twice = omega (arith, small-length, few); few = omega (arith, small-length) })
           (λ h. omega (arith, spare, small-length)) (rw small-length (near-of 1024 (lit< tt)))

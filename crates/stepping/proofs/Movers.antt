@@ -26,9 +26,9 @@ use Rattle.sock.proofs.Positions.{at-head, at-past}
 use Rattle.reading.specs.declared.survey.Starts.{Starts}
 use Rattle.skipping.specs.Pass.{passList}
 use Rattle.reading.proofs.Combining.{Words}
-use Rattle.skipping.proofs.Marks.{Right, pass-entries}
+use Rattle.skipping.proofs.Notes.{Right, pass-entries}
 use Rattle.reading.proofs.Known.{Known}
-use Rattle.moving.specs.Writing.{onward}
+use Rattle.layout.specs.Positions.{onward}
 use Rattle.moving.proofs.Laid.{onward-near}
 use Rattle.finding.specs.declared.find.Spot.{Spot}
 use Rattle.finding.specs.Find.{faultAt}
@@ -81,7 +81,7 @@ head-done {a = a} g = by (isDone a) refl
 module _ (ws : List ℕ) (ok : Words ws) (n issued : ℕ) (few : n ≤ 8) (small : issued < 65536) (r : Run) (sound : Sound n issued r)
     (start : ℕ) (words-at : drop start ws ≡ runWords r ++ drop (start + size r) ws) (low : 64 ≤ start) (deep : runDepth r ≤ 64)
     (short : length ws ≤ 8192) (target : ℕ) (l : Located) (s : Spot) (place : within r start target ≡ some l)
-    (spotted : Spotted (faultAt ws target) target r start 1 l s) (vs marks : List ℕ) (right : Right ws marks) where
+    (spotted : Spotted (faultAt ws target) target r start 1 l s) (vs notes : List ℕ) (right : Right ws notes) where
   abbrev more : List ℕ
   more = rest ws ok n issued few small r sound start words-at low deep short target l s place spotted
 
@@ -108,7 +108,7 @@ module _ (ws : List ℕ) (ok : Words ws) (n issued : ℕ) (few : n ≤ 8) (small
   -- a scope's body
   body-done :
       (name : ℕ) (mark : Mark) (zombie : Bool) (h : Entries) (a : Run) → l .process ≡ scope name mark zombie h a →
-      FitsEntries true zero h → Sound n issued a → bodyNil ws marks (s .at) ≡ isDone a
+      FitsEntries true zero h → Sound n issued a → bodyNil ws notes (s .at) ≡ isDone a
   unfolding bodyNil
   body-done name mark zombie h a is f g =
       let i : ℕ = s .at in
@@ -121,8 +121,8 @@ module _ (ws : List ℕ) (ok : Words ws) (n issued : ℕ) (few : n ≤ 8) (small
       let long : size (l .process) ≡ 3 + length (entriesWords h) + size a = ap size is ∙ size-scope name mark zombie h a in
       let high : runDepth (l .process) ≡ suc (max (entriesDepth h) (runDepth a)) = ap runDepth is ∙ depth-scope name mark zombie h a in
       let two : onward i 2 ≡ i + 1 + 1 = onward-at 2 (omega arith) ∙ (let z : i + 2 ≡ i + 1 + 1 = omega arith in z) in
-      let ends : passList 64 ws marks (i + 1 + 1) ≡ i + 1 + 1 + 1 + length (entriesWords h) =
-      pass-entries ws marks right f 64 (i + 1 + 1) (omega (arith, shallow)) (runWords a ++ more) (second .next) in
+      let ends : passList 64 ws notes (i + 1 + 1) ≡ i + 1 + 1 + 1 + length (entriesWords h) =
+      pass-entries ws notes right f 64 (i + 1 + 1) (omega (arith, shallow)) (runWords a ++ more) (second .next) in
       let third = at-head ws (i + 1 + 1) _ _ (second .next) in
       rw (two, ends) (at-done a (i + 1 + 1 + 1 + length (entriesWords h)) more g
       (at-past ws (entriesWords h) (runWords a ++ more) (i + 1 + 1 + 1) (third .next)))
@@ -142,7 +142,7 @@ module _ (ws : List ℕ) (ok : Words ws) (n issued : ℕ) (few : n ≤ 8) (small
       let on : onward i 3 ≡ i + 1 + 1 + 1 = onward-at 3 (omega arith) ∙ (let z : i + 3 ≡ i + 1 + 1 + 1 = omega arith in z) in
       rw on (at-done a (i + 1 + 1 + 1) more g (third .next))
 
-  act-moves : (m : Node) → Shape m → Moving (acting vs (l .frames) m (action m)) (movesW ws marks (s .at) (kind m))
+  act-moves : (m : Node) → Shape m → Moving (acting vs (l .frames) m (action m)) (movesW ws notes (s .at) (kind m))
   unfolding action acting movesW byKind
   act-moves m (assigns k g) = rw k goes
   act-moves m (branches k g fp fq) = rw k goes
@@ -156,7 +156,7 @@ module _ (ws : List ℕ) (ok : Words ws) (n issued : ℕ) (few : n ≤ 8) (small
   act-moves m (throws k t) = rw k goes
   act-moves m (compensates k t) = rw k goes
 
-  moves : (p : Run) → l .process ≡ p → Sound n issued p → Moving (moveOf vs (l .frames) p) (movesW ws marks (s .at) (runKind p))
+  moves : (p : Run) → l .process ≡ p → Sound n issued p → Moving (moveOf vs (l .frames) p) (movesW ws notes (s .at) (runKind p))
   unfolding moveOf onceDone movesW byKind
   moves nil is g = stays
   moves (seq a q) is g = stays
@@ -171,7 +171,7 @@ module _ (ws : List ℕ) (ok : Words ws) (n issued : ℕ) (few : n ≤ 8) (small
   moves (notice o f client serial) is g = asks
   moves (act m) is (actSound i f) = act-moves m (shape i f)
 
-  pub moving : Moving (moveOf vs (l .frames) (l .process)) (movesW ws marks (s .at) (kind (asNode (l .process))))
+  pub moving : Moving (moveOf vs (l .frames) (l .process)) (movesW ws notes (s .at) (kind (asNode (l .process))))
   moving =
       let g : Sound n issued (l .process) =
       standing ws ok n issued few small r sound start words-at low deep short target l s place spotted .process in
@@ -182,16 +182,16 @@ module _ (ws : List ℕ) (ok : Words ws) (starts : Starts) (known : Known standa
     (h : e < length (known .config .engines))
     (target : ℕ) (l : Located) (s : Spot) (place : within (engineAt (known .config) e .process) (startOf (known .config) e) target ≡ some l)
     (spotted : Spotted (faultAt ws target) target (engineAt (known .config) e .process) (startOf (known .config) e) 1 l s)
-    (marks : List ℕ) (right : Right ws marks) where
+    (notes : List ℕ) (right : Right ws notes) where
   abbrev c : Config
   c = known .config
 
   pub known-moving :
       Moving (moveOf (engineAt c e .values) (l .frames) (l .process))
-      (movesW ws marks (s .at) (kind (asNode (l .process))))
+      (movesW ws notes (s .at) (kind (asNode (l .process))))
   known-moving =
       let fit : FitsEngine (length (c .engines)) (c .issued) (engineAt c e) = engine-fits _ (known .readable .fitting .engines) e h in
       moving ws ok (length (c .engines)) (c .issued) (known .readable .fitting .few) (known .readable .fitting .word)
       (engineAt c e .process) (fit .sound)
       (startOf c e) (run-stands ws ok starts known e h) (omega arith) (run-deep ws ok starts known e h) (run-short ws ok starts known e h)
-      target l s place spotted (engineAt c e .values) marks right
+      target l s place spotted (engineAt c e .values) notes right

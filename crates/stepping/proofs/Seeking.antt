@@ -18,8 +18,8 @@ use Rattle.sock.proofs.Located.{startOf, engine-fits}
 use Rattle.reading.specs.declared.survey.Starts.{Starts}
 use Rattle.reading.proofs.Combining.{Words}
 use Rattle.reading.proofs.Known.{Known, known-length}
-use Rattle.skipping.proofs.Marks.{Right}
-use Rattle.moving.specs.Writing.{onward}
+use Rattle.skipping.proofs.Notes.{Right}
+use Rattle.layout.specs.Positions.{onward}
 use Rattle.moving.proofs.Laid.{near-of, onward-near}
 use Rattle.finding.specs.declared.find.Spot.{Spot}
 use Rattle.finding.specs.declared.find.Found.{Found}
@@ -79,18 +79,18 @@ module _ (ws : List ℕ) (ok : Words ws) (s : Starts) (known : Known standard ws
     located : within r start (start + p) ≡ locate r p []
     located = within-locate r start (start + p) (omega arith) ∙ ap (λ k. locate r k []) (let z : start + p - start ≡ p = omega arith in z)
 
-    pub seeks : (marks : List ℕ) → Right ws marks → Seeks e p (start + p) (findW 64 ws marks (onward start p) 1 start) (enabledAt c e p)
+    pub seeks : (notes : List ℕ) → Right ws notes → Seeks e p (start + p) (findW 64 ws notes (onward start p) 1 start) (enabledAt c e p)
     unfolding enabledAt guarded also
-    seeks marks right = rw (lt-ltb e n h, target-at) (by (locate r p []) refl)
+    seeks notes right = rw (lt-ltb e n h, target-at) (by (locate r p []) refl)
       where
         by :
             (o : Option Located) → locate r p [] ≡ o →
-            Seeks e p (start + p) (findW 64 ws marks (start + p) 1 start) (also o λ l. some (record { engine = e; values = engineAt c e .values; frames = l .frames; process = l .process }))
+            Seeks e p (start + p) (findW 64 ws notes (start + p) 1 start) (also o λ l. some (record { engine = e; values = engineAt c e .values; frames = l .frames; process = l .process }))
         by none q =
-            rw (missed n (c .issued) (known .readable .fitting .few) (known .readable .fitting .word) ws marks right (start + p) sound 64 start 1 (drop (start + size r) ws) (omega arith) shallow stands (located ∙ q))
+            rw (missed n (c .issued) (known .readable .fitting .few) (known .readable .fitting .word) ws notes right (start + p) sound 64 start 1 (drop (start + size r) ws) (omega arith) shallow stands (located ∙ q))
             unseen
         by (some l) q =
-            let f = found n (c .issued) (known .readable .fitting .few) (known .readable .fitting .word) ws marks right (start + p) sound 64 start 1 (drop (start + size r) ws) (omega arith) shallow stands l (located ∙ q) in
+            let f = found n (c .issued) (known .readable .fitting .few) (known .readable .fitting .word) ws notes right (start + p) sound 64 start 1 (drop (start + size r) ws) (omega arith) shallow stands l (located ∙ q) in
             rw (f .1 .0) (seen (record { inside = h; place = located ∙ q; spotted = f .1 .1 }))
 
   pub seeks-none : (e p : ℕ) → n ≤ e → enabledAt c e p ≡ none

@@ -4,6 +4,7 @@ use mathlib.Core.Bool.{cond}
 use mathlib.Core.List.{List}
 use lib.Dec.{ltb, eqb}
 use lib.ListN.{length, replicate}
+use Rattle.sock.specs.Kind
 use Rattle.finding.specs.declared.find.Spot.{Spot}
 use Rattle.rules.specs.Turning.{Turned, turned, refused, assignW, branchW, repeatW}
 use Rattle.rules.specs.Planning.{Planned, plainW}
@@ -16,8 +17,8 @@ use Rattle.stepping.specs.Exchanging.{lent}
 
 unfoldable pub turnW : List ℕ → List ℕ → ℕ → ℕ → ℕ → List ℕ → Turned
 turnW part vs level kind bound fresh =
-    cond (eqb kind 1) (turned (assignW part vs) fresh)
-    (cond (eqb kind 4) (turned (branchW part vs) fresh) (repeatW level bound part vs fresh))
+    cond (eqb kind Kind.assign) (turned (assignW part vs) fresh)
+    (cond (eqb kind Kind.if) (turned (branchW part vs) fresh) (repeatW level bound part vs fresh))
 
 unfoldable pub valuedW : List ℕ → ℕ → Spot → ℕ → ℕ → List ℕ → Turned
 valuedW ws start s kind bound fresh =
@@ -27,19 +28,19 @@ valuedW ws start s kind bound fresh =
     (turnW (lent (s .at) (length ws) ws) (lent (start - 64) start ws) (s .level) kind bound fresh)))
 
 unfoldable pub scopedW : List ℕ → List ℕ → ℕ → Spot → ℕ → ℕ → List ℕ → Planned
-scopedW ws marks start s kind bound fresh =
-    cond (eqb kind 11) (endedW ws marks start s fresh)
-    (cond (eqb kind 12) (installedW ws marks start s fresh)
-    (cond (eqb kind 13) (thrownW ws marks start s fresh) (compensatedW bound ws marks start s fresh)))
+scopedW ws notes start s kind bound fresh =
+    cond (eqb kind Kind.scope) (endedW ws notes start s fresh)
+    (cond (eqb kind Kind.inst) (installedW ws notes start s fresh)
+    (cond (eqb kind Kind.throw) (thrownW ws notes start s fresh) (compensatedW bound ws notes start s fresh)))
 
 unfoldable pub ruleW : List ℕ → List ℕ → ℕ → Spot → ℕ → ℕ → List ℕ → Planned
-ruleW ws marks start s kind bound fresh =
+ruleW ws notes start s kind bound fresh =
     let t = valuedW ws start s kind bound fresh in
-    cond (ltb 6 kind) (scopedW ws marks start s kind bound fresh) (plainW s start (t .turn) (t .fresh))
+    cond (ltb 6 kind) (scopedW ws notes start s kind bound fresh) (plainW s start (t .turn) (t .fresh))
 
 unfoldable pub loneW : List ℕ → List ℕ → ℕ → ℕ → Spot → ℕ → ℕ → List ℕ → List ℕ → Answered
-loneW ws marks start next s kind bound fresh out =
-    let p = ruleW ws marks start s kind bound fresh in
+loneW ws notes start next s kind bound fresh out =
+    let p = ruleW ws notes start s kind bound fresh in
     oneW ws start (next - 64) (p .plan) (kind % 32) (p .fresh) out
 
 -- scratch for all, and for short configurations
@@ -55,10 +56,10 @@ surely = 800
 
 -- again with the long scratch, if there may have been too little room
 unfoldable pub shortW : List ℕ → List ℕ → ℕ → ℕ → Spot → ℕ → ℕ → List ℕ → List ℕ → Answered
-shortW ws marks start next s kind bound fresh out =
-    cond (ltb surely (ruleW ws marks start s kind bound fresh .plan .g)) (loneW ws marks start next s kind bound large out)
-    (loneW ws marks start next s kind bound fresh out)
+shortW ws notes start next s kind bound fresh out =
+    cond (ltb surely (ruleW ws notes start s kind bound fresh .plan .g)) (loneW ws notes start next s kind bound large out)
+    (loneW ws notes start next s kind bound fresh out)
 
 unfoldable pub aloneW : List ℕ → List ℕ → ℕ → ℕ → Spot → ℕ → ℕ → List ℕ → Answered
-aloneW ws marks start next s kind bound out =
-    cond (ltb 512 (length ws)) (loneW ws marks start next s kind bound large out) (shortW ws marks start next s kind bound small out)
+aloneW ws notes start next s kind bound out =
+    cond (ltb 512 (length ws)) (loneW ws notes start next s kind bound large out) (shortW ws notes start next s kind bound small out)

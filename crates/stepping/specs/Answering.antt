@@ -4,7 +4,7 @@ use mathlib.Core.Bool.{cond}
 use mathlib.Core.List.{List}
 use lib.Dec.{ltb, eqb}
 use lib.ListN.{length, set}
-use Rattle.moving.specs.Writing.{onward}
+use Rattle.layout.specs.Positions.{onward}
 use Rattle.rules.specs.declared.plan.Plan.{Plan}
 use Rattle.stepping.specs.declared.answer.Answer.{Answer}
 use Rattle.stepping.specs.Writing.{Written, written, copyW, engineW}

@@ -4,6 +4,7 @@ use mathlib.Core.Bool.{Bool, false, cond}
 use mathlib.Core.List.{List}
 use lib.Dec.{ltb, eqb}
 use lib.ListN.{length, getD, replicate, take, drop}
+use Rattle.sock.specs.Kind
 use Rattle.finding.specs.declared.find.Spot.{Spot}
 use Rattle.rules.specs.declared.pair.Offer.{Offer}
 use Rattle.rules.specs.declared.plan.Plan.{Plan}
@@ -37,10 +38,10 @@ unfoldable pub nextOf : ℕ → ℕ
 nextOf issued = cond (eqb issued 65535) issued (issued + 1)
 
 unfoldable pub issuedOf : ℕ → ℕ → ℕ → ℕ
-issuedOf kind issued next = cond (eqb kind 10) next issued
+issuedOf kind issued next = cond (eqb kind Kind.solicit) next issued
 
 unfoldable pub faultOf : ℕ → ℕ
-faultOf kind = cond (eqb kind 18) 1 0
+faultOf kind = cond (eqb kind Kind.notice) 1 0
 
 -- scratch: no process that sends or receives turns into more than a few words that are new
 abbrev pub blank : List ℕ
@@ -55,7 +56,7 @@ carryW ws part vs other o starts e i a b kind out =
     orderedW ws starts e i (p .plan) (p .fresh) (q .plan) (q .fresh) (issuedOf kind (at ws 1) next) (accepting (kind % 32) serial (faultOf kind) 0) out
 
 unfoldable pub spentW : List ℕ → ℕ → Bool
-spentW ws kind = cond (eqb kind 10) (eqb (at ws 1) 65535) false
+spentW ws kind = cond (eqb kind Kind.solicit) (eqb (at ws 1) 65535) false
 
 unfoldable pub meetW : List ℕ → List ℕ → List ℕ → List ℕ → List ℕ → ℕ → ℕ → Spot → Spot → ℕ → ℕ → List ℕ → Answered
 meetW ws part vs other starts e i a b kind branch out =

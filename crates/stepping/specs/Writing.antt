@@ -4,7 +4,8 @@ use mathlib.Core.Bool.{cond}
 use mathlib.Core.List.{List, _++_}
 use lib.Dec.{leb, ltb}
 use lib.ListN.{length, take, drop, set}
-use Rattle.moving.specs.Writing.{onward, pasted, pastedEnd}
+use Rattle.layout.specs.Positions.{onward}
+use Rattle.moving.specs.Writing.{pasted, pastedEnd}
 use Rattle.rules.specs.declared.plan.Plan.{Plan}
 
 -- a place in the output, and the output

@@ -3,6 +3,8 @@ use crate::answer::Answer;
 use crate::answer::one;
 use crate::exchange::end_before;
 use finding::find::Spot;
+use layout::kind;
+use layout::limit::VALUES;
 use rules::alone::assign;
 use rules::alone::branch;
 use rules::alone::repeat;
@@ -28,10 +30,10 @@ fn turn(
 ) -> Turn
     ensures { λ r. ⌜ (r ≡ turnW (now (part .entry)) (now (values .entry)) level kind bound (now (fresh .entry)) .turn) × (now (fresh .exit) ≡ turnW (now (part .entry)) (now (values .entry)) level kind bound (now (fresh .entry)) .fresh) ⌝ }
 {
-    if kind == 1 {
+    if kind == kind::ASSIGN {
         return assign(part, values);
     }
-    if kind == 4 {
+    if kind == kind::IF {
         return branch(part, values);
     }
     repeat(part, values, level, bound, fresh)
@@ -42,7 +44,7 @@ fn valued(ws: &[u16], start: usize, s: Spot, kind: usize, bound: usize, fresh: &
     ensures { λ r. ⌜ (r ≡ valuedW (now (ws .entry)) start s kind bound (now (fresh .entry)) .turn) × (now (fresh .exit) ≡ valuedW (now (ws .entry)) start s kind bound (now (fresh .entry)) .fresh) ⌝ }
 {
     let at = s.at;
-    if start < 64 {
+    if start < VALUES {
         return refusal(1);
     }
     if ws.len() < start {
@@ -51,48 +53,48 @@ fn valued(ws: &[u16], start: usize, s: Spot, kind: usize, bound: usize, fresh: &
     if ws.len() < at {
         return refusal(1);
     }
-    let from = start - 64;
+    let from = start - VALUES;
     turn(&ws[at..], &ws[from..start], s.level, kind, bound, fresh)
 }
 
 // The rules that look at scopes.
 fn scoped(
     ws: &[u16],
-    marks: &[u16],
+    notes: &[u16],
     start: usize,
     s: Spot,
     kind: usize,
     bound: usize,
     fresh: &mut [u16],
 ) -> Plan
-    ensures { λ r. ⌜ (r ≡ scopedW (now (ws .entry)) (now (marks .entry)) start s kind bound (now (fresh .entry)) .plan) × (now (fresh .exit) ≡ scopedW (now (ws .entry)) (now (marks .entry)) start s kind bound (now (fresh .entry)) .fresh) ⌝ }
+    ensures { λ r. ⌜ (r ≡ scopedW (now (ws .entry)) (now (notes .entry)) start s kind bound (now (fresh .entry)) .plan) × (now (fresh .exit) ≡ scopedW (now (ws .entry)) (now (notes .entry)) start s kind bound (now (fresh .entry)) .fresh) ⌝ }
 {
-    if kind == 11 {
-        return ended(ws, marks, start, s, fresh);
+    if kind == kind::SCOPE {
+        return ended(ws, notes, start, s, fresh);
     }
-    if kind == 12 {
-        return installed(ws, marks, start, s, fresh);
+    if kind == kind::INST {
+        return installed(ws, notes, start, s, fresh);
     }
-    if kind == 13 {
-        return thrown(ws, marks, start, s, fresh);
+    if kind == kind::THROW {
+        return thrown(ws, notes, start, s, fresh);
     }
-    compensated(ws, marks, start, s, bound, fresh)
+    compensated(ws, notes, start, s, bound, fresh)
 }
 
 // The rule of the kind given.
 fn rule(
     ws: &[u16],
-    marks: &[u16],
+    notes: &[u16],
     start: usize,
     s: Spot,
     kind: usize,
     bound: usize,
     fresh: &mut [u16],
 ) -> Plan
-    ensures { λ r. ⌜ (r ≡ ruleW (now (ws .entry)) (now (marks .entry)) start s kind bound (now (fresh .entry)) .plan) × (now (fresh .exit) ≡ ruleW (now (ws .entry)) (now (marks .entry)) start s kind bound (now (fresh .entry)) .fresh) ⌝ }
+    ensures { λ r. ⌜ (r ≡ ruleW (now (ws .entry)) (now (notes .entry)) start s kind bound (now (fresh .entry)) .plan) × (now (fresh .exit) ≡ ruleW (now (ws .entry)) (now (notes .entry)) start s kind bound (now (fresh .entry)) .fresh) ⌝ }
 {
     if 6 < kind {
-        return scoped(ws, marks, start, s, kind, bound, fresh);
+        return scoped(ws, notes, start, s, kind, bound, fresh);
     }
     let t = valued(ws, start, s, kind, bound, fresh);
     plain(s, start, t, fresh)
@@ -101,7 +103,7 @@ fn rule(
 // The rule worked out in scratch, then the answer. The engine's process begins at `start`, the next one's at `next`.
 fn lone(
     ws: &[u16],
-    marks: &[u16],
+    notes: &[u16],
     start: usize,
     next: usize,
     s: Spot,
@@ -110,9 +112,9 @@ fn lone(
     fresh: &mut [u16],
     out: &mut [u16],
 ) -> Answer
-    ensures { λ r. ⌜ (r ≡ loneW (now (ws .entry)) (now (marks .entry)) start next s kind bound (now (fresh .entry)) (now (out .entry)) .answer) × (now (out .exit) ≡ loneW (now (ws .entry)) (now (marks .entry)) start next s kind bound (now (fresh .entry)) (now (out .entry)) .out) × (now (fresh .exit) ≡ ruleW (now (ws .entry)) (now (marks .entry)) start s kind bound (now (fresh .entry)) .fresh) ⌝ }
+    ensures { λ r. ⌜ (r ≡ loneW (now (ws .entry)) (now (notes .entry)) start next s kind bound (now (fresh .entry)) (now (out .entry)) .answer) × (now (out .exit) ≡ loneW (now (ws .entry)) (now (notes .entry)) start next s kind bound (now (fresh .entry)) (now (out .entry)) .out) × (now (fresh .exit) ≡ ruleW (now (ws .entry)) (now (notes .entry)) start s kind bound (now (fresh .entry)) .fresh) ⌝ }
 {
-    let p = rule(ws, marks, start, s, kind, bound, fresh);
+    let p = rule(ws, notes, start, s, kind, bound, fresh);
     one(
         ws,
         start,
@@ -127,7 +129,7 @@ fn lone(
 // With scratch for every result.
 fn roomy(
     ws: &[u16],
-    marks: &[u16],
+    notes: &[u16],
     start: usize,
     next: usize,
     s: Spot,
@@ -135,17 +137,17 @@ fn roomy(
     bound: usize,
     out: &mut [u16],
 ) -> Answer
-    ensures { λ r. ⌜ (r ≡ loneW (now (ws .entry)) (now (marks .entry)) start next s kind bound large (now (out .entry)) .answer) × (now (out .exit) ≡ loneW (now (ws .entry)) (now (marks .entry)) start next s kind bound large (now (out .entry)) .out) ⌝ }
+    ensures { λ r. ⌜ (r ≡ loneW (now (ws .entry)) (now (notes .entry)) start next s kind bound large (now (out .entry)) .answer) × (now (out .exit) ≡ loneW (now (ws .entry)) (now (notes .entry)) start next s kind bound large (now (out .entry)) .out) ⌝ }
 {
     let mut fresh = [0u16; 16384];
-    lone(ws, marks, start, next, s, kind, bound, &mut fresh, out)
+    lone(ws, notes, start, next, s, kind, bound, &mut fresh, out)
 }
 
 // With the short scratch. Inst can make more words than that holds, counts also those that find no room, and wants 130 places to spare:
 // where it may have had too few, the plan is made again.
 fn short(
     ws: &[u16],
-    marks: &[u16],
+    notes: &[u16],
     start: usize,
     next: usize,
     s: Spot,
@@ -154,11 +156,11 @@ fn short(
     fresh: &mut [u16],
     out: &mut [u16],
 ) -> Answer
-    ensures { λ r. ⌜ (r ≡ shortW (now (ws .entry)) (now (marks .entry)) start next s kind bound (now (fresh .entry)) (now (out .entry)) .answer) × (now (out .exit) ≡ shortW (now (ws .entry)) (now (marks .entry)) start next s kind bound (now (fresh .entry)) (now (out .entry)) .out) × (now (fresh .exit) ≡ ruleW (now (ws .entry)) (now (marks .entry)) start s kind bound (now (fresh .entry)) .fresh) ⌝ }
+    ensures { λ r. ⌜ (r ≡ shortW (now (ws .entry)) (now (notes .entry)) start next s kind bound (now (fresh .entry)) (now (out .entry)) .answer) × (now (out .exit) ≡ shortW (now (ws .entry)) (now (notes .entry)) start next s kind bound (now (fresh .entry)) (now (out .entry)) .out) × (now (fresh .exit) ≡ ruleW (now (ws .entry)) (now (notes .entry)) start s kind bound (now (fresh .entry)) .fresh) ⌝ }
 {
-    let p = rule(ws, marks, start, s, kind, bound, fresh);
+    let p = rule(ws, notes, start, s, kind, bound, fresh);
     if 800 < p.g {
-        return roomy(ws, marks, start, next, s, kind, bound, out);
+        return roomy(ws, notes, start, next, s, kind, bound, out);
     }
     one(
         ws,
@@ -174,7 +176,7 @@ fn short(
 // To clear the long scratch would take more time than the step of a short configuration.
 pub fn alone(
     ws: &[u16],
-    marks: &[u16],
+    notes: &[u16],
     start: usize,
     next: usize,
     s: Spot,
@@ -182,11 +184,11 @@ pub fn alone(
     bound: usize,
     out: &mut [u16],
 ) -> Answer
-    ensures { λ r. ⌜ (r ≡ aloneW (now (ws .entry)) (now (marks .entry)) start next s kind bound (now (out .entry)) .answer) × (now (out .exit) ≡ aloneW (now (ws .entry)) (now (marks .entry)) start next s kind bound (now (out .entry)) .out) ⌝ }
+    ensures { λ r. ⌜ (r ≡ aloneW (now (ws .entry)) (now (notes .entry)) start next s kind bound (now (out .entry)) .answer) × (now (out .exit) ≡ aloneW (now (ws .entry)) (now (notes .entry)) start next s kind bound (now (out .entry)) .out) ⌝ }
 {
     if 512 < ws.len() {
-        return roomy(ws, marks, start, next, s, kind, bound, out);
+        return roomy(ws, notes, start, next, s, kind, bound, out);
     }
     let mut fresh = [0u16; 1024];
-    short(ws, marks, start, next, s, kind, bound, &mut fresh, out)
+    short(ws, notes, start, next, s, kind, bound, &mut fresh, out)
 }

@@ -1,7 +1,8 @@
 // The answer of a step, and the result written if it fits.
 use crate::writing::engine;
+use layout::number::further;
+use layout::number::less;
 use moving::write::copy;
-use moving::write::further;
 use moving::write::put;
 use rules::plan::Plan;
 ghost use mathlib.Core.Path.{_≡_};
@@ -39,12 +40,6 @@ pub fn accept(kind: u8, serial: u16, fault: u8, length: u16) -> Answer
         fault,
         length,
     }
-}
-
-fn less(a: usize, b: usize) -> usize
-    ensures { λ r. ⌜ r ≡ a - b ⌝ }
-{
-    if a < b { 0 } else { a - b }
 }
 
 // How many words there are once a plan is carried out on so many; 8,193 where its fresh words alone are too many.

@@ -8,12 +8,14 @@ use crate::meeting::receive;
 use crate::meeting::send;
 use crate::meeting::serial_of;
 use finding::find::Spot;
-use reading::reader::wide;
+use layout::kind;
+use layout::limit::VALUES;
+use layout::number::wide;
+use layout::number::word;
 use rules::pair::Offer;
 use rules::pair::offered;
 use rules::plan::Plan;
 use rules::plan::plain;
-use rules::turn::word;
 ghost use mathlib.Core.Path.{_≡_};
 ghost use Prim.Native.Nat.{_+_, _-_, _≤_, _<_};
 ghost use lib.ListN.{length, getD};
@@ -83,7 +85,7 @@ fn ordered(
 pub fn end_before(start: usize) -> usize
     ensures { λ r. ⌜ r ≡ start - 64 ⌝ }
 {
-    if start < 64 { 0 } else { start - 64 }
+    if start < VALUES { 0 } else { start - VALUES }
 }
 
 // The serial that a solicit takes.
@@ -96,13 +98,13 @@ fn next_of(issued: u16) -> u16
 fn issued_of(kind: usize, issued: u16, next: u16) -> u16
     ensures { λ r. ⌜ r ≡ issuedOf kind issued next ⌝ }
 {
-    if kind == 10 { next } else { issued }
+    if kind == kind::SOLICIT { next } else { issued }
 }
 
 fn fault_of(kind: usize) -> u8
     ensures { λ r. ⌜ r ≡ faultOf kind ⌝ }
 {
-    if kind == 18 { 1 } else { 0 }
+    if kind == kind::NOTICE { 1 } else { 0 }
 }
 
 // The two fit.
@@ -163,7 +165,7 @@ fn carry(
 fn spent(ws: &[u16], kind: usize) -> bool
     ensures { λ r. ⌜ r ≡ spentW (now (ws .entry)) kind ⌝ }
 {
-    if kind == 10 {
+    if kind == kind::SOLICIT {
         return word(ws, 1) == 65535;
     }
     false
@@ -241,7 +243,7 @@ pub(crate) fn between(
     if engine == second {
         return refuse(5);
     }
-    if start < 64 {
+    if start < VALUES {
         return refuse(5);
     }
     if ws.len() < start {
@@ -253,7 +255,7 @@ pub(crate) fn between(
     if ws.len() < to {
         return refuse(5);
     }
-    let from = start - 64;
+    let from = start - VALUES;
     meet(
         ws,
         &ws[at..],

@@ -1,6 +1,8 @@
 // Between two engines: whether sender and receiver fit, and what each turns into.
+use layout::kind;
+use layout::number::wide;
+use layout::number::word;
 use moving::evaluate::variable;
-use reading::reader::wide;
 use rules::pair::Offer;
 use rules::pair::answer;
 use rules::pair::ask;
@@ -11,7 +13,6 @@ use rules::pair::hear;
 use rules::pair::serve;
 use rules::turn::Turn;
 use rules::turn::to_nil;
-use rules::turn::word;
 ghost use mathlib.Core.Path.{_≡_};
 ghost use Rattle.stepping.specs.Meeting.{addressedW, repliesW, takerOf, fitW, sendW, receiveW, serialW};
 
@@ -51,7 +52,11 @@ fn replies(
 fn taker(kind: usize) -> usize
     ensures { λ r. ⌜ r ≡ takerOf kind ⌝ }
 {
-    if kind == 9 { 7 } else { 8 }
+    if kind == kind::NOTIFY {
+        kind::ONE_WAY
+    } else {
+        kind::REQUEST
+    }
 }
 
 // Whether the process in `part` of the kind given may send to the one in `other`.
@@ -68,10 +73,10 @@ pub(crate) fn fit(
     ensures { λ r. ⌜ r ≡ fitW (now (part .entry)) (now (values .entry)) (now (other .entry)) o kind branch sender receiver ⌝ }
 {
     let w = wide(word(part, 1));
-    if kind == 16 {
+    if kind == kind::EXECUTOR {
         return replies(part, other, w / 8192, branch, sender, receiver);
     }
-    if kind == 18 {
+    if kind == kind::NOTICE {
         return replies(part, other, w / 128 % 8, branch, sender, receiver);
     }
     if addressed(part, values, receiver) {
@@ -84,10 +89,10 @@ pub(crate) fn fit(
 pub fn serial_of(part: &[u16], kind: usize, next: u16) -> u16
     ensures { λ r. ⌜ r ≡ serialW (now (part .entry)) kind next ⌝ }
 {
-    if kind == 9 {
+    if kind == kind::NOTIFY {
         return 0;
     }
-    if kind == 10 {
+    if kind == kind::SOLICIT {
         return next;
     }
     word(part, 2)
@@ -97,7 +102,7 @@ pub fn serial_of(part: &[u16], kind: usize, next: u16) -> u16
 pub(crate) fn send(part: &[u16], kind: usize, server: u16, serial: u16, fresh: &mut [u16]) -> Turn
     ensures { λ r. ⌜ (r ≡ sendW (now (part .entry)) kind server serial (now (fresh .entry)) .turn) × (now (fresh .exit) ≡ sendW (now (part .entry)) kind server serial (now (fresh .entry)) .fresh) ⌝ }
 {
-    if kind == 10 {
+    if kind == kind::SOLICIT {
         return ask(part, server, serial, fresh);
     }
     to_nil(32, 0)
@@ -117,13 +122,13 @@ pub(crate) fn receive(
     ensures { λ r. ⌜ (r ≡ receiveW (now (part .entry)) (now (values .entry)) (now (other .entry)) o kind client serial (now (fresh .entry)) .turn) × (now (fresh .exit) ≡ receiveW (now (part .entry)) (now (values .entry)) (now (other .entry)) o kind client serial (now (fresh .entry)) .fresh) ⌝ }
 {
     let v = variable(values, wide(word(part, 0)) % 32);
-    if kind == 9 {
+    if kind == kind::NOTIFY {
         return hear(other, o, v);
     }
-    if kind == 10 {
+    if kind == kind::SOLICIT {
         return serve(other, o, client, serial, v, fresh);
     }
-    if kind == 16 {
+    if kind == kind::EXECUTOR {
         return answer(other, v, fresh);
     }
     fail(other, word(part, 1), fresh)

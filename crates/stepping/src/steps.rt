@@ -6,24 +6,28 @@ use crate::exchange::between;
 use finding::find::Found;
 use finding::find::Spot;
 use finding::find::locate;
-use marking::survey::survey;
-use moving::write::further;
-use reading::reader::wide;
-use rules::turn::word;
+use layout::kind;
+use layout::limit::DEEPEST;
+use layout::limit::FUEL;
+use layout::limit::LONGEST;
+use layout::number::further;
+use layout::number::wide;
+use layout::number::word;
+use noting::survey::survey;
 use skipping::pass::pass_list;
 ghost use mathlib.Core.Path.{_≡_};
 ghost use Prim.Native.Nat.{_≤_, _<_};
 ghost use Rattle.sock.specs.Configuration.{standard};
 ghost use Rattle.sock.specs.Calls.{stepAnswer, stepOutput};
-ghost use Rattle.marking.specs.Marking.{surveyMarks};
+ghost use Rattle.noting.specs.Noting.{surveyNotes};
 ghost use Rattle.stepping.specs.Answers.{answerAs, numbers};
-ghost use Rattle.stepping.specs.Stepping.{bodyNil, byKind, movesW, receivingW, noneElse, movingW, manyMarks, stepW};
+ghost use Rattle.stepping.specs.Stepping.{bodyNil, byKind, movesW, receivingW, noneElse, movingW, manyNotes, stepW};
 
 // Whether the body of the scope at a position is nil.
-fn body_nil(ws: &[u16], marks: &[u16], at: usize) -> bool
-    ensures { λ r. ⌜ r ≡ bodyNil (now (ws .entry)) (now (marks .entry)) at ⌝ }
+fn body_nil(ws: &[u16], notes: &[u16], at: usize) -> bool
+    ensures { λ r. ⌜ r ≡ bodyNil (now (ws .entry)) (now (notes .entry)) at ⌝ }
 {
-    let body = pass_list(ws, marks, further(at, 2), 64);
+    let body = pass_list(ws, notes, further(at, 2), FUEL);
     word(ws, body) == 0
 }
 
@@ -31,41 +35,41 @@ fn body_nil(ws: &[u16], marks: &[u16], at: usize) -> bool
 fn by_kind(kind: usize) -> usize
     ensures { λ r. ⌜ r ≡ byKind kind ⌝ }
 {
-    if kind == 1 {
+    if kind == kind::ASSIGN {
         return 1;
     }
-    if kind == 4 {
+    if kind == kind::IF {
         return 1;
     }
-    if kind == 5 {
+    if kind == kind::WHILE {
         return 1;
     }
-    if kind == 9 {
+    if kind == kind::NOTIFY {
         return 2;
     }
-    if kind == 10 {
+    if kind == kind::SOLICIT {
         return 2;
     }
-    if kind == 18 {
+    if kind == kind::NOTICE {
         return 2;
     }
-    if kind < 12 {
+    if kind < kind::INST {
         return 0;
     }
-    if kind < 15 { 1 } else { 0 }
+    if kind < kind::CH { 1 } else { 0 }
 }
 
 // What the process at a position does: a scope ends, and an executor replies, once its body is nil.
-fn moves(ws: &[u16], marks: &[u16], at: usize, kind: usize) -> usize
-    ensures { λ r. ⌜ r ≡ movesW (now (ws .entry)) (now (marks .entry)) at kind ⌝ }
+fn moves(ws: &[u16], notes: &[u16], at: usize, kind: usize) -> usize
+    ensures { λ r. ⌜ r ≡ movesW (now (ws .entry)) (now (notes .entry)) at kind ⌝ }
 {
-    if kind == 11 {
-        if body_nil(ws, marks, at) {
+    if kind == kind::SCOPE {
+        if body_nil(ws, notes, at) {
             return 1;
         }
         return 0;
     }
-    if kind == 16 {
+    if kind == kind::EXECUTOR {
         if word(ws, further(at, 3)) == 0 {
             return 2;
         }
@@ -77,7 +81,7 @@ fn moves(ws: &[u16], marks: &[u16], at: usize, kind: usize) -> usize
 // The process found sends; the receiver is sought in the second engine.
 fn receiving(
     ws: &[u16],
-    marks: &[u16],
+    notes: &[u16],
     starts: [usize; 9],
     n: usize,
     engine: u16,
@@ -89,14 +93,14 @@ fn receiving(
     out: &mut [u16],
 ) -> Answer
     requires { ⌜ (n ≤ 8) × (engine < 8) ⌝ }
-    ensures { λ r. ⌜ (r ≡ receivingW (now (ws .entry)) (now (marks .entry)) starts n engine a kind second place branch (now (out .entry)) .answer) × (now (out .exit) ≡ receivingW (now (ws .entry)) (now (marks .entry)) starts n engine a kind second place branch (now (out .entry)) .out) ⌝ }
+    ensures { λ r. ⌜ (r ≡ receivingW (now (ws .entry)) (now (notes .entry)) starts n engine a kind second place branch (now (out .entry)) .answer) × (now (out .exit) ≡ receivingW (now (ws .entry)) (now (notes .entry)) starts n engine a kind second place branch (now (out .entry)) .out) ⌝ }
 {
     let i = wide(second);
     if n <= i {
         return refuse(4);
     }
     let start = starts[i];
-    match locate(ws, marks, start, further(start, wide(place)), 64, 1) {
+    match locate(ws, notes, start, further(start, wide(place)), FUEL, 1) {
         Found::Past(e) => refuse(4),
         Found::Hit(b) => between(ws, starts, engine, second, a, b, kind, wide(branch), out),
     }
@@ -118,7 +122,7 @@ fn none_else(second: u16, place: u16, branch: u16) -> bool
 // The process a was found in `engine`.
 fn moving(
     ws: &[u16],
-    marks: &[u16],
+    notes: &[u16],
     starts: [usize; 9],
     n: usize,
     engine: u16,
@@ -130,17 +134,17 @@ fn moving(
     out: &mut [u16],
 ) -> Answer
     requires { ⌜ (n ≤ 8) × (engine < 8) ⌝ }
-    ensures { λ r. ⌜ (r ≡ movingW (now (ws .entry)) (now (marks .entry)) starts n engine a second place branch bound (now (out .entry)) .answer) × (now (out .exit) ≡ movingW (now (ws .entry)) (now (marks .entry)) starts n engine a second place branch bound (now (out .entry)) .out) ⌝ }
+    ensures { λ r. ⌜ (r ≡ movingW (now (ws .entry)) (now (notes .entry)) starts n engine a second place branch bound (now (out .entry)) .answer) × (now (out .exit) ≡ movingW (now (ws .entry)) (now (notes .entry)) starts n engine a second place branch bound (now (out .entry)) .out) ⌝ }
 {
     let kind = wide(word(ws, a.at)) / 2048;
-    let m = moves(ws, marks, a.at, kind);
+    let m = moves(ws, notes, a.at, kind);
     if m == 0 {
         return refuse(3);
     }
     if m == 2 {
         return receiving(
             ws,
-            marks,
+            notes,
             starts,
             n,
             engine,
@@ -154,15 +158,15 @@ fn moving(
     }
     if none_else(second, place, branch) {
         let e = wide(engine);
-        return alone(ws, marks, starts[e], starts[e + 1], a, kind, bound, out);
+        return alone(ws, notes, starts[e], starts[e + 1], a, kind, bound, out);
     }
     refuse(3)
 }
 
-// The numbers: an engine, a position in its process, and a second engine, a position there and a branch. The marks are all 0 before.
+// The numbers: an engine, a position in its process, and a second engine, a position there and a branch. The notes are all 0 before.
 fn stepped(
     ws: &[u16],
-    marks: &mut [u16],
+    notes: &mut [u16],
     engine: u16,
     position: u16,
     second: u16,
@@ -170,9 +174,9 @@ fn stepped(
     branch: u16,
     out: &mut [u16],
 ) -> Answer
-    ensures { λ r. ⌜ (r ≡ stepW (now (ws .entry)) (now (marks .entry)) engine position second place branch (now (out .entry)) .answer) × (now (out .exit) ≡ stepW (now (ws .entry)) (now (marks .entry)) engine position second place branch (now (out .entry)) .out) × (now (marks .exit) ≡ surveyMarks 64 8192 (now (ws .entry)) (now (marks .entry))) ⌝ }
+    ensures { λ r. ⌜ (r ≡ stepW (now (ws .entry)) (now (notes .entry)) engine position second place branch (now (out .entry)) .answer) × (now (out .exit) ≡ stepW (now (ws .entry)) (now (notes .entry)) engine position second place branch (now (out .entry)) .out) × (now (notes .exit) ≡ surveyNotes 64 8192 (now (ws .entry)) (now (notes .entry))) ⌝ }
 {
-    let s = survey(ws, 64, 8192, marks);
+    let s = survey(ws, DEEPEST, LONGEST, notes);
     let n = s.engines;
     let e = wide(engine);
     if n == 0 {
@@ -187,11 +191,11 @@ fn stepped(
     let starts = s.starts;
     let start = starts[e];
     let bound = n * 65536 + wide(word(ws, 1));
-    match locate(ws, marks, start, further(start, wide(position)), 64, 1) {
+    match locate(ws, notes, start, further(start, wide(position)), FUEL, 1) {
         Found::Past(p) => refuse(2),
         Found::Hit(a) => moving(
             ws,
-            marks,
+            notes,
             starts,
             n,
             engine,
@@ -205,8 +209,8 @@ fn stepped(
     }
 }
 
-// With marks for every configuration.
-fn marked(
+// With room for the notes of any configuration.
+fn with_notes(
     ws: &[u16],
     engine: u16,
     position: u16,
@@ -215,14 +219,14 @@ fn marked(
     branch: u16,
     out: &mut [u16],
 ) -> Answer
-    ensures { λ r. ⌜ (r ≡ stepW (now (ws .entry)) manyMarks engine position second place branch (now (out .entry)) .answer) × (now (out .exit) ≡ stepW (now (ws .entry)) manyMarks engine position second place branch (now (out .entry)) .out) ⌝ }
+    ensures { λ r. ⌜ (r ≡ stepW (now (ws .entry)) manyNotes engine position second place branch (now (out .entry)) .answer) × (now (out .exit) ≡ stepW (now (ws .entry)) manyNotes engine position second place branch (now (out .entry)) .out) ⌝ }
 {
-    let mut marks = [0u16; 16384];
-    stepped(ws, &mut marks, engine, position, second, place, branch, out)
+    let mut notes = [0u16; 16384];
+    stepped(ws, &mut notes, engine, position, second, place, branch, out)
 }
 
 // The call step: from a configuration's words and the five numbers to the answer and, where it is accepted, the next configuration's
-// words in the output. A refusal changes no word of the output, and words behind the result stay. To clear marks for every configuration
+// words in the output. A refusal changes no word of the output, and words behind the result stay. To clear notes for every configuration
 // would take more time than the step of a short one.
 pub fn step(
     ws: &[u16],
@@ -236,8 +240,8 @@ pub fn step(
     ensures { λ r. ⌜ (r ≡ answerAs (stepAnswer standard (now (ws .entry)) (numbers engine position second place branch) (now (out .entry)))) × (now (out .exit) ≡ stepOutput standard (now (ws .entry)) (numbers engine position second place branch) (now (out .entry))) ⌝ }
 {
     if 512 < ws.len() {
-        return marked(ws, engine, position, second, place, branch, out);
+        return with_notes(ws, engine, position, second, place, branch, out);
     }
-    let mut marks = [0u16; 1024];
-    stepped(ws, &mut marks, engine, position, second, place, branch, out)
+    let mut notes = [0u16; 1024];
+    stepped(ws, &mut notes, engine, position, second, place, branch, out)
 }

@@ -1,6 +1,6 @@
 // Writing the result, once it is known to fit: the words of the configuration, with a plan's in the place of an engine's process.
+use layout::number::further;
 use moving::write::copy;
-use moving::write::further;
 use moving::write::put;
 use rules::plan::Plan;
 ghost use mathlib.Core.Path.{_≡_};

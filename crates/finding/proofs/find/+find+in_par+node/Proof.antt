@@ -23,8 +23,8 @@ use Rattle.finding.proofs.find.in_scope.Reads as in-scope-reads
 use Rattle.finding.proofs.find.in_seq.Reads as in-seq-reads
 use Rattle.finding.proofs.find.left.Reads as left-reads
 use Rattle.finding.proofs.find.outside.Reads as outside-reads
-use Rattle.reading.proofs.reader.wide.Reads as wide-reads
-use Rattle.skipping.proofs.pass.mark_at.Reads as mark-at-reads
+use Rattle.layout.proofs.number.wide.Reads as wide-reads
+use Rattle.skipping.proofs.pass.note_at.Reads as note-at-reads
 use Rattle.skipping.proofs.pass.pass.Reads as pass-reads
 use Rattle.skipping.proofs.pass.pass_list.Reads as pass-list-reads
 use Rattle.finding.proofs.find.+find+in_par+node.{statement}
@@ -57,37 +57,37 @@ node-at t = and 2 node-kinds.ps (is 2 node-kinds.ps μ-node t) node.Pre
 abbrev node-below : ℕ → In 2 node-kinds.ps
 node-below t = and 2 node-kinds.ps (falls 2 node-kinds.ps _<_ μ-node t) node.Pre
 
-find-returns : (t : ℕ) → find-lts.Need-returns (here-reads.Asked, here-reads.Learnt, mark-at-reads.Asked, mark-at-reads.Learnt, outside-reads.Asked, outside-reads.Learnt, node-below t, node.Post) (find-at t) find.Post
+find-returns : (t : ℕ) → find-lts.Need-returns (here-reads.Asked, here-reads.Learnt, note-at-reads.Asked, note-at-reads.Learnt, outside-reads.Asked, outside-reads.Learnt, node-below t, node.Post) (find-at t) find.Post
 find-returns t c = search find-none
 
-find-returns-2 : (t : ℕ) → find-lts.Need-returns-2 (here-reads.Asked, here-reads.Learnt, mark-at-reads.Asked, mark-at-reads.Learnt, outside-reads.Asked, outside-reads.Learnt, node-below t, node.Post) (find-at t) find.Post
+find-returns-2 : (t : ℕ) → find-lts.Need-returns-2 (here-reads.Asked, here-reads.Learnt, note-at-reads.Asked, note-at-reads.Learnt, outside-reads.Asked, outside-reads.Learnt, node-below t, node.Post) (find-at t) find.Post
 find-returns-2 t c =
     let f0 = c .if2 .taken in
     let f1 = c .before .if1 .left in
     simp (tests, find-step, f0, f1)
 
-find-here-requires : (t : ℕ) → find-lts.Need-here-requires (here-reads.Asked, here-reads.Learnt, mark-at-reads.Asked, mark-at-reads.Learnt, outside-reads.Asked, outside-reads.Learnt, node-below t, node.Post) (find-at t) find.Post
+find-here-requires : (t : ℕ) → find-lts.Need-here-requires (here-reads.Asked, here-reads.Learnt, note-at-reads.Asked, note-at-reads.Learnt, outside-reads.Asked, outside-reads.Learnt, node-below t, node.Post) (find-at t) find.Post
 find-here-requires t c κs = search needs
 
-find-returns-3 : (t : ℕ) → find-lts.Need-returns-3 (here-reads.Asked, here-reads.Learnt, mark-at-reads.Asked, mark-at-reads.Learnt, outside-reads.Asked, outside-reads.Learnt, node-below t, node.Post) (find-at t) find.Post
+find-returns-3 : (t : ℕ) → find-lts.Need-returns-3 (here-reads.Asked, here-reads.Learnt, note-at-reads.Asked, note-at-reads.Learnt, outside-reads.Asked, outside-reads.Learnt, node-below t, node.Post) (find-at t) find.Post
 find-returns-3 t c = search find-here
 
-find-mark-at-requires : (t : ℕ) → find-lts.Need-mark-at-requires (here-reads.Asked, here-reads.Learnt, mark-at-reads.Asked, mark-at-reads.Learnt, outside-reads.Asked, outside-reads.Learnt, node-below t, node.Post) (find-at t) find.Post
-find-mark-at-requires t c κs = search needs
+find-note-at-requires : (t : ℕ) → find-lts.Need-note-at-requires (here-reads.Asked, here-reads.Learnt, note-at-reads.Asked, note-at-reads.Learnt, outside-reads.Asked, outside-reads.Learnt, node-below t, node.Post) (find-at t) find.Post
+find-note-at-requires t c κs = search needs
 
-find-outside-requires : (t : ℕ) → find-lts.Need-outside-requires (here-reads.Asked, here-reads.Learnt, mark-at-reads.Asked, mark-at-reads.Learnt, outside-reads.Asked, outside-reads.Learnt, node-below t, node.Post) (find-at t) find.Post
+find-outside-requires : (t : ℕ) → find-lts.Need-outside-requires (here-reads.Asked, here-reads.Learnt, note-at-reads.Asked, note-at-reads.Learnt, outside-reads.Asked, outside-reads.Learnt, node-below t, node.Post) (find-at t) find.Post
 find-outside-requires t c κs = search needs
 
-find-returns-4 : (t : ℕ) → find-lts.Need-returns-4 (here-reads.Asked, here-reads.Learnt, mark-at-reads.Asked, mark-at-reads.Learnt, outside-reads.Asked, outside-reads.Learnt, node-below t, node.Post) (find-at t) find.Post
+find-returns-4 : (t : ℕ) → find-lts.Need-returns-4 (here-reads.Asked, here-reads.Learnt, note-at-reads.Asked, note-at-reads.Learnt, outside-reads.Asked, outside-reads.Learnt, node-below t, node.Post) (find-at t) find.Post
 find-returns-4 t c = search find-outside
 
-find-sub-node : (t : ℕ) → find-lts.Need-sub-node (here-reads.Asked, here-reads.Learnt, mark-at-reads.Asked, mark-at-reads.Learnt, outside-reads.Asked, outside-reads.Learnt, node-below t, node.Post) (find-at t) find.Post
+find-sub-node : (t : ℕ) → find-lts.Need-sub-node (here-reads.Asked, here-reads.Learnt, note-at-reads.Asked, note-at-reads.Learnt, outside-reads.Asked, outside-reads.Learnt, node-below t, node.Post) (find-at t) find.Post
 find-sub-node t c = search needs
 
-find-node-requires : (t : ℕ) → find-lts.Need-node-requires (here-reads.Asked, here-reads.Learnt, mark-at-reads.Asked, mark-at-reads.Learnt, outside-reads.Asked, outside-reads.Learnt, node-below t, node.Post) (find-at t) find.Post
+find-node-requires : (t : ℕ) → find-lts.Need-node-requires (here-reads.Asked, here-reads.Learnt, note-at-reads.Asked, note-at-reads.Learnt, outside-reads.Asked, outside-reads.Learnt, node-below t, node.Post) (find-at t) find.Post
 find-node-requires t c κs = search needs
 
-find-returns-5 : (t : ℕ) → find-lts.Need-returns-5 (here-reads.Asked, here-reads.Learnt, mark-at-reads.Asked, mark-at-reads.Learnt, outside-reads.Asked, outside-reads.Learnt, node-below t, node.Post) (find-at t) find.Post
+find-returns-5 : (t : ℕ) → find-lts.Need-returns-5 (here-reads.Asked, here-reads.Learnt, note-at-reads.Asked, note-at-reads.Learnt, outside-reads.Asked, outside-reads.Learnt, node-below t, node.Post) (find-at t) find.Post
 find-returns-5 t c = search find-node
 
 in-par-add-find : (t : ℕ) → in-par-lts.Need-add-find (find-below t, find.Post, left-reads.Asked, left-reads.Learnt, beside-reads.Asked, beside-reads.Learnt) (in-par-at t) in-par.Post
@@ -214,8 +214,8 @@ pub +find+in-par+node-spec : {M : Type 1} → statement M
 +find+in-par+node-spec = close μ-find μ-in-par μ-node (λ t. find-lts.spec (
   here-reads.Asked,
   here-reads.Learnt,
-  mark-at-reads.Asked,
-  mark-at-reads.Learnt,
+  note-at-reads.Asked,
+  note-at-reads.Learnt,
   outside-reads.Asked,
   outside-reads.Learnt,
   node-below t,
@@ -227,7 +227,7 @@ pub +find+in-par+node-spec : {M : Type 1} → statement M
     (find-returns-2 t)
     (find-here-requires t)
     (find-returns-3 t)
-    (find-mark-at-requires t)
+    (find-note-at-requires t)
     (find-outside-requires t)
     (find-returns-4 t)
     (find-sub-node t)

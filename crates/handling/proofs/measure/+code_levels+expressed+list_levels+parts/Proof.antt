@@ -26,8 +26,8 @@ use Rattle.handling.proofs.measure.expression_levels.Reads as expressio
 use Rattle.handling.proofs.measure.larger.Reads as larger-reads
 use Rattle.handling.proofs.measure.leaf.Reads as leaf-reads
 use Rattle.handling.proofs.measure.nowhere.Reads as nowhere-reads
-use Rattle.moving.proofs.write.further.Reads as further-reads
-use Rattle.reading.proofs.reader.wide.Reads as wide-reads
+use Rattle.layout.proofs.number.further.Reads as further-reads
+use Rattle.layout.proofs.number.wide.Reads as wide-reads
 use Rattle.handling.proofs.measure.+code_levels+expressed+list_levels+parts.{statement}
 use Rattle.handling.proofs.measure.+code_levels+expressed+list_levels+parts.Tie.{close}
 

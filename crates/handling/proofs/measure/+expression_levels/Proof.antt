@@ -12,8 +12,8 @@ use Rattle.handling.proofs.measure.expression_levels.Kinds as expressio
 use Rattle.handling.proofs.measure.+expression_levels.Lts-expression_levels as expression-levels-lts
 use Rattle.handling.proofs.measure.larger.Reads as larger-reads
 use Rattle.handling.proofs.measure.nowhere.Reads as nowhere-reads
-use Rattle.moving.proofs.write.further.Reads as further-reads
-use Rattle.reading.proofs.reader.wide.Reads as wide-reads
+use Rattle.layout.proofs.number.further.Reads as further-reads
+use Rattle.layout.proofs.number.wide.Reads as wide-reads
 use Rattle.handling.proofs.measure.+expression_levels.{statement}
 use Rattle.handling.proofs.measure.+expression_levels.Tie.{close}
 

@@ -28,13 +28,13 @@ use Rattle.handling.proofs.replace.+condition+in_par+in_seq+kept+replac
 use Rattle.handling.proofs.measure.expression_levels.Reads as expression-levels-reads
 use Rattle.handling.proofs.measure.larger.Reads as larger-reads
 use Rattle.handling.proofs.replace.in_place.Reads as in-place-reads
-use Rattle.handling.proofs.replace.less_one.Reads as less-one-reads
+use Rattle.layout.proofs.number.less_one.Reads as less-one-reads
 use Rattle.handling.proofs.replace.other.Reads as other-reads
 use Rattle.moving.proofs.write.copy.Reads as copy-reads
 use Rattle.moving.proofs.write.down.Reads as down-reads
-use Rattle.moving.proofs.write.further.Reads as further-reads
+use Rattle.layout.proofs.number.further.Reads as further-reads
 use Rattle.moving.proofs.write.put.Reads as put-reads
-use Rattle.reading.proofs.reader.wide.Reads as wide-reads
+use Rattle.layout.proofs.number.wide.Reads as wide-reads
 use Rattle.handling.proofs.replace.+condition+in_par+in_seq+kept+replace.{statement}
 use Rattle.handling.proofs.replace.+condition+in_par+in_seq+kept+replace.Tie.{close}
 

@@ -13,7 +13,7 @@ use Rattle.moving.proofs.evaluate.+evaluate.Lts-evaluate as evaluate-lt
 use Rattle.moving.proofs.evaluate.constant.Reads as constant-reads
 use Rattle.moving.proofs.evaluate.operate.Reads as operate-reads
 use Rattle.moving.proofs.evaluate.variable.Reads as variable-reads
-use Rattle.reading.proofs.reader.wide.Reads as wide-reads
+use Rattle.layout.proofs.number.wide.Reads as wide-reads
 use Rattle.moving.proofs.evaluate.+evaluate.{statement}
 use Rattle.moving.proofs.evaluate.+evaluate.Tie.{close}
 

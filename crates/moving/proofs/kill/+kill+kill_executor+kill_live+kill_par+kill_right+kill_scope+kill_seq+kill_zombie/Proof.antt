@@ -37,7 +37,7 @@ use Rattle.moving.proofs.kill.+kill+kill_executor+kill_live+kill_par+ki
 use Rattle.moving.proofs.kill.gone.Reads as gone-reads
 use Rattle.moving.proofs.kill.keep.Reads as keep-reads
 use Rattle.moving.proofs.kill.kill_waiter.Reads as kill-waiter-reads
-use Rattle.moving.proofs.kill.less_one.Reads as less-one-reads
+use Rattle.layout.proofs.number.less_one.Reads as less-one-reads
 use Rattle.moving.proofs.kill.notice.Reads as notice-reads
 use Rattle.moving.proofs.kill.stuck.Reads as stuck-reads
 use Rattle.moving.proofs.kill.vanish.Reads as vanish-reads
@@ -47,7 +47,7 @@ use Rattle.moving.proofs.write.down.Reads as down-reads
 use Rattle.moving.proofs.write.put.Reads as put-reads
 use Rattle.skipping.proofs.pass.pass_list.Reads as pass-list-reads
 use Rattle.skipping.proofs.pass.pass.Reads as pass-reads
-use Rattle.reading.proofs.reader.wide.Reads as wide-reads
+use Rattle.layout.proofs.number.wide.Reads as wide-reads
 use Rattle.moving.proofs.kill.+kill+kill_executor+kill_live+kill_par+kill_right+kill_scope+kill_seq+kill_zombie.{statement}
 use Rattle.moving.proofs.kill.+kill+kill_executor+kill_live+kill_par+kill_right+kill_scope+kill_seq+kill_zombie.Tie.{close}
 
@@ -344,7 +344,7 @@ kill-executor-same-length-2 t c = search needs
 
 kill-executor-returns-3 : (t : ℕ) → kill-executor-lts.Need-returns-3 (stuck-reads.Asked, stuck-reads.Learnt, put-reads.Asked, put-reads.Learnt, kill-below t, kill.Post, notice-reads.Asked, notice-reads.Learnt) (kill-executor-at t) kill-executor.Post
 kill-executor-returns-3 t c =
-    let e = executor-alone (killW ((c .before .before .before .before .before .before .before .before .before .before .before .before .before .before .before .before .before .before .before .before .args .depth)) ((c .before .before .before .before .before .before .before .before .before .before .before .before .before .before .before .before .before .before .before .before .args .ws .now)) ((c .before .before .before .before .before .before .before .before .before .before .before .before .before .before .before .before .before .before .before .before .args .marks .now)) ((c .before .before .before .before .before .before .before .before .before .before .before .before .before .before .before .before .before .before .before .before .args .fault)) ((c .before .before .before .before .before .before .before .before .before .before .before .before .before .before .before .before .before .before .before .before .args .hole))) ((c .before .before .before .before .before .before .before .before .before .before .before .before .before .before .before .before .before .before .before .before .args .ws .now)) ((c .before .before .before .before .before .before .before .before .before .before .before .before .before .before .before .before .before .before .before .before .args .fault)) ((c .before .before .before .before .before .before .before .before .before .before .before .before .before .before .before .before .before .before .before .before .args .at)) ((c .before .before .before .before .before .before .before .before .before .before .before .before .before .before .before .before .before .before .before .before .args .out .now)) ((c .before .before .before .before .before .before .before .before .before .before .before .before .before .before .before .before .before .before .before .before .args .to)) _ _ _ _ _ _ (c .before .before .before .before .before .before .before .before .before .before .before .before .before .before .before .before .if1 .left) (c .before .before .before .before .before .before .before .before .before .before .before .before .before .before .put .ensures .0) (c .before .before .before .before .before .before .before .before .before .before .before .before .before .before .put .ensures .1) (c .before .before .before .before .before .before .before .before .before .before .kill .ensures .0) (c .before .before .before .before .before .before .before .before .before .before .kill .ensures .1) (c .before .before .before .before .before .before .if2 .left) (c .before .before .before .before .if3 .taken) (c .before .before .notice .ensures .0) (c .before .before .notice .ensures .1) in
+    let e = executor-alone (killW ((c .before .before .before .before .before .before .before .before .before .before .before .before .before .before .before .before .before .before .before .before .args .depth)) ((c .before .before .before .before .before .before .before .before .before .before .before .before .before .before .before .before .before .before .before .before .args .ws .now)) ((c .before .before .before .before .before .before .before .before .before .before .before .before .before .before .before .before .before .before .before .before .args .notes .now)) ((c .before .before .before .before .before .before .before .before .before .before .before .before .before .before .before .before .before .before .before .before .args .fault)) ((c .before .before .before .before .before .before .before .before .before .before .before .before .before .before .before .before .before .before .before .before .args .hole))) ((c .before .before .before .before .before .before .before .before .before .before .before .before .before .before .before .before .before .before .before .before .args .ws .now)) ((c .before .before .before .before .before .before .before .before .before .before .before .before .before .before .before .before .before .before .before .before .args .fault)) ((c .before .before .before .before .before .before .before .before .before .before .before .before .before .before .before .before .before .before .before .before .args .at)) ((c .before .before .before .before .before .before .before .before .before .before .before .before .before .before .before .before .before .before .before .before .args .out .now)) ((c .before .before .before .before .before .before .before .before .before .before .before .before .before .before .before .before .before .before .before .before .args .to)) _ _ _ _ _ _ (c .before .before .before .before .before .before .before .before .before .before .before .before .before .before .before .before .if1 .left) (c .before .before .before .before .before .before .before .before .before .before .before .before .before .before .put .ensures .0) (c .before .before .before .before .before .before .before .before .before .before .before .before .before .before .put .ensures .1) (c .before .before .before .before .before .before .before .before .before .before .kill .ensures .0) (c .before .before .before .before .before .before .before .before .before .before .kill .ensures .1) (c .before .before .before .before .before .before .if2 .left) (c .before .before .before .before .if3 .taken) (c .before .before .notice .ensures .0) (c .before .before .notice .ensures .1) in
     (ap moved e, ap output e)
 
 kill-executor-notice-requires-2 : (t : ℕ) → kill-executor-lts.Need-notice-requires-2 (stuck-reads.Asked, stuck-reads.Learnt, put-reads.Asked, put-reads.Learnt, kill-below t, kill.Post, notice-reads.Asked, notice-reads.Learnt) (kill-executor-at t) kill-executor.Post
@@ -355,7 +355,7 @@ kill-executor-same-length-3 t c = search needs
 
 kill-executor-returns-4 : (t : ℕ) → kill-executor-lts.Need-returns-4 (stuck-reads.Asked, stuck-reads.Learnt, put-reads.Asked, put-reads.Learnt, kill-below t, kill.Post, notice-reads.Asked, notice-reads.Learnt) (kill-executor-at t) kill-executor.Post
 kill-executor-returns-4 t c =
-    let e = executor-beside (killW ((c .before .before .before .before .before .before .before .before .before .before .before .before .before .before .before .before .before .before .before .before .args .depth)) ((c .before .before .before .before .before .before .before .before .before .before .before .before .before .before .before .before .before .before .before .before .args .ws .now)) ((c .before .before .before .before .before .before .before .before .before .before .before .before .before .before .before .before .before .before .before .before .args .marks .now)) ((c .before .before .before .before .before .before .before .before .before .before .before .before .before .before .before .before .before .before .before .before .args .fault)) ((c .before .before .before .before .before .before .before .before .before .before .before .before .before .before .before .before .before .before .before .before .args .hole))) ((c .before .before .before .before .before .before .before .before .before .before .before .before .before .before .before .before .before .before .before .before .args .ws .now)) ((c .before .before .before .before .before .before .before .before .before .before .before .before .before .before .before .before .before .before .before .before .args .fault)) ((c .before .before .before .before .before .before .before .before .before .before .before .before .before .before .before .before .before .before .before .before .args .at)) ((c .before .before .before .before .before .before .before .before .before .before .before .before .before .before .before .before .before .before .before .before .args .out .now)) ((c .before .before .before .before .before .before .before .before .before .before .before .before .before .before .before .before .before .before .before .before .args .to)) _ _ _ _ _ _ (c .before .before .before .before .before .before .before .before .before .before .before .before .before .before .before .before .if1 .left) (c .before .before .before .before .before .before .before .before .before .before .before .before .before .before .put .ensures .0) (c .before .before .before .before .before .before .before .before .before .before .before .before .before .before .put .ensures .1) (c .before .before .before .before .before .before .before .before .before .before .kill .ensures .0) (c .before .before .before .before .before .before .before .before .before .before .kill .ensures .1) (c .before .before .before .before .before .before .if2 .left) (c .before .before .before .before .if3 .left) (c .before .before .notice2 .ensures .0) (c .before .before .notice2 .ensures .1) in
+    let e = executor-beside (killW ((c .before .before .before .before .before .before .before .before .before .before .before .before .before .before .before .before .before .before .before .before .args .depth)) ((c .before .before .before .before .before .before .before .before .before .before .before .before .before .before .before .before .before .before .before .before .args .ws .now)) ((c .before .before .before .before .before .before .before .before .before .before .before .before .before .before .before .before .before .before .before .before .args .notes .now)) ((c .before .before .before .before .before .before .before .before .before .before .before .before .before .before .before .before .before .before .before .before .args .fault)) ((c .before .before .before .before .before .before .before .before .before .before .before .before .before .before .before .before .before .before .before .before .args .hole))) ((c .before .before .before .before .before .before .before .before .before .before .before .before .before .before .before .before .before .before .before .before .args .ws .now)) ((c .before .before .before .before .before .before .before .before .before .before .before .before .before .before .before .before .before .before .before .before .args .fault)) ((c .before .before .before .before .before .before .before .before .before .before .before .before .before .before .before .before .before .before .before .before .args .at)) ((c .before .before .before .before .before .before .before .before .before .before .before .before .before .before .before .before .before .before .before .before .args .out .now)) ((c .before .before .before .before .before .before .before .before .before .before .before .before .before .before .before .before .before .before .before .before .args .to)) _ _ _ _ _ _ (c .before .before .before .before .before .before .before .before .before .before .before .before .before .before .before .before .if1 .left) (c .before .before .before .before .before .before .before .before .before .before .before .before .before .before .put .ensures .0) (c .before .before .before .before .before .before .before .before .before .before .before .before .before .before .put .ensures .1) (c .before .before .before .before .before .before .before .before .before .before .kill .ensures .0) (c .before .before .before .before .before .before .before .before .before .before .kill .ensures .1) (c .before .before .before .before .before .before .if2 .left) (c .before .before .before .before .if3 .left) (c .before .before .notice2 .ensures .0) (c .before .before .notice2 .ensures .1) in
     (ap moved e, ap output e)
 
 kill-live-copy-requires : (t : ℕ) → kill-live-lts.Need-copy-requires (copy-reads.Asked, copy-reads.Learnt, kill-below t, kill.Post, stuck-reads.Asked, stuck-reads.Learnt, zombie-head-reads.Asked, zombie-head-reads.Learnt, put-reads.Asked, put-reads.Learnt) (kill-live-at t) kill-live.Post
@@ -390,7 +390,7 @@ kill-live-same-length-2 t c = search needs
 
 kill-live-returns-2 : (t : ℕ) → kill-live-lts.Need-returns-2 (copy-reads.Asked, copy-reads.Learnt, kill-below t, kill.Post, stuck-reads.Asked, stuck-reads.Learnt, zombie-head-reads.Asked, zombie-head-reads.Learnt, put-reads.Asked, put-reads.Learnt) (kill-live-at t) kill-live.Post
 kill-live-returns-2 t c =
-    let e = live-made (killW ((c .before .before .before .before .before .before .before .before .before .before .before .before .before .before .before .before .before .before .before .before .before .before .args .depth)) ((c .before .before .before .before .before .before .before .before .before .before .before .before .before .before .before .before .before .before .before .before .before .before .args .ws .now)) ((c .before .before .before .before .before .before .before .before .before .before .before .before .before .before .before .before .before .before .before .before .before .before .args .marks .now)) ((c .before .before .before .before .before .before .before .before .before .before .before .before .before .before .before .before .before .before .before .before .before .before .args .fault)) ((c .before .before .before .before .before .before .before .before .before .before .before .before .before .before .before .before .before .before .before .before .before .before .args .hole))) ((c .before .before .before .before .before .before .before .before .before .before .before .before .before .before .before .before .before .before .before .before .before .before .args .ws .now)) ((c .before .before .before .before .before .before .before .before .before .before .before .before .before .before .before .before .before .before .before .before .before .before .args .hole)) ((c .before .before .before .before .before .before .before .before .before .before .before .before .before .before .before .before .before .before .before .before .before .before .args .at)) ((c .before .before .before .before .before .before .before .before .before .before .before .before .before .before .before .before .before .before .before .before .before .before .args .body)) ((c .before .before .before .before .before .before .before .before .before .before .before .before .before .before .before .before .before .before .before .before .before .before .args .out .now)) ((c .before .before .before .before .before .before .before .before .before .before .before .before .before .before .before .before .before .before .before .before .before .before .args .to)) _ _ _ _ _ _ _ _ (c .before .before .before .before .before .before .before .before .before .before .before .before .before .before .before .before .before .copy .ensures .0) (c .before .before .before .before .before .before .before .before .before .before .before .before .before .before .before .before .before .copy .ensures .1) (c .before .before .before .before .before .before .before .before .before .before .before .before .before .kill .ensures .0) (c .before .before .before .before .before .before .before .before .before .before .before .before .before .kill .ensures .1) (c .before .before .before .before .before .before .before .before .before .if1 .left) (c .before .before .before .before .before .before .before .zombie-head .ensures) (c .before .before .before .before .before .before .put .ensures .0) (c .before .before .before .before .before .before .put .ensures .1) (c .before .before .put2 .ensures .1) in
+    let e = live-made (killW ((c .before .before .before .before .before .before .before .before .before .before .before .before .before .before .before .before .before .before .before .before .before .before .args .depth)) ((c .before .before .before .before .before .before .before .before .before .before .before .before .before .before .before .before .before .before .before .before .before .before .args .ws .now)) ((c .before .before .before .before .before .before .before .before .before .before .before .before .before .before .before .before .before .before .before .before .before .before .args .notes .now)) ((c .before .before .before .before .before .before .before .before .before .before .before .before .before .before .before .before .before .before .before .before .before .before .args .fault)) ((c .before .before .before .before .before .before .before .before .before .before .before .before .before .before .before .before .before .before .before .before .before .before .args .hole))) ((c .before .before .before .before .before .before .before .before .before .before .before .before .before .before .before .before .before .before .before .before .before .before .args .ws .now)) ((c .before .before .before .before .before .before .before .before .before .before .before .before .before .before .before .before .before .before .before .before .before .before .args .hole)) ((c .before .before .before .before .before .before .before .before .before .before .before .before .before .before .before .before .before .before .before .before .before .before .args .at)) ((c .before .before .before .before .before .before .before .before .before .before .before .before .before .before .before .before .before .before .before .before .before .before .args .body)) ((c .before .before .before .before .before .before .before .before .before .before .before .before .before .before .before .before .before .before .before .before .before .before .args .out .now)) ((c .before .before .before .before .before .before .before .before .before .before .before .before .before .before .before .before .before .before .before .before .before .before .args .to)) _ _ _ _ _ _ _ _ (c .before .before .before .before .before .before .before .before .before .before .before .before .before .before .before .before .before .copy .ensures .0) (c .before .before .before .before .before .before .before .before .before .before .before .before .before .before .before .before .before .copy .ensures .1) (c .before .before .before .before .before .before .before .before .before .before .before .before .before .kill .ensures .0) (c .before .before .before .before .before .before .before .before .before .before .before .before .before .kill .ensures .1) (c .before .before .before .before .before .before .before .before .before .if1 .left) (c .before .before .before .before .before .before .before .zombie-head .ensures) (c .before .before .before .before .before .before .put .ensures .0) (c .before .before .before .before .before .before .put .ensures .1) (c .before .before .put2 .ensures .1) in
     (ap moved e, ap output e)
 
 kill-par-gone-requires : (t : ℕ) → kill-par-lts.Need-gone-requires (gone-reads.Asked, gone-reads.Learnt, pass-reads.Asked, pass-reads.Learnt, kill-below t, kill.Post, put-reads.Asked, put-reads.Learnt, stuck-reads.Asked, stuck-reads.Learnt, kill-right-below t, kill-right.Post) (kill-par-at t) kill-par.Post
@@ -407,7 +407,7 @@ kill-par-same-length t c = search needs
 
 kill-par-returns : (t : ℕ) → kill-par-lts.Need-returns (gone-reads.Asked, gone-reads.Learnt, pass-reads.Asked, pass-reads.Learnt, kill-below t, kill.Post, put-reads.Asked, put-reads.Learnt, stuck-reads.Asked, stuck-reads.Learnt, kill-right-below t, kill-right.Post) (kill-par-at t) kill-par.Post
 kill-par-returns t c =
-    let e = par-gone (c .before .before .before .before .before .before .before .before .before .before .args .depth) (killW (c .before .before .before .before .before .before .before .before .before .before .args .depth) (c .before .before .before .before .before .before .before .before .before .before .args .ws .now) (c .before .before .before .before .before .before .before .before .before .before .args .marks .now) (c .before .before .before .before .before .before .before .before .before .before .args .fault) (c .before .before .before .before .before .before .before .before .before .before .args .hole)) (c .before .before .before .before .before .before .before .before .before .before .args .ws .now) (c .before .before .before .before .before .before .before .before .before .before .args .marks .now) (c .before .before .before .before .before .before .before .before .before .before .args .at) (c .before .before .before .before .before .before .before .before .before .before .args .out .now) (c .before .before .before .before .before .before .before .before .before .before .args .to) _ _ _ (sym (c .before .before .before .before .before .before .gone .ensures) ∙ (c .before .before .before .before .before .if1 .taken)) (c .before .before .before .before .pass .ensures) (c .before .before .kill .ensures .0) (c .before .before .kill .ensures .1) in
+    let e = par-gone (c .before .before .before .before .before .before .before .before .before .before .args .depth) (killW (c .before .before .before .before .before .before .before .before .before .before .args .depth) (c .before .before .before .before .before .before .before .before .before .before .args .ws .now) (c .before .before .before .before .before .before .before .before .before .before .args .notes .now) (c .before .before .before .before .before .before .before .before .before .before .args .fault) (c .before .before .before .before .before .before .before .before .before .before .args .hole)) (c .before .before .before .before .before .before .before .before .before .before .args .ws .now) (c .before .before .before .before .before .before .before .before .before .before .args .notes .now) (c .before .before .before .before .before .before .before .before .before .before .args .at) (c .before .before .before .before .before .before .before .before .before .before .args .out .now) (c .before .before .before .before .before .before .before .before .before .before .args .to) _ _ _ (sym (c .before .before .before .before .before .before .gone .ensures) ∙ (c .before .before .before .before .before .if1 .taken)) (c .before .before .before .before .pass .ensures) (c .before .before .kill .ensures .0) (c .before .before .kill .ensures .1) in
     (ap moved e, ap output e)
 
 kill-par-put-requires : (t : ℕ) → kill-par-lts.Need-put-requires (gone-reads.Asked, gone-reads.Learnt, pass-reads.Asked, pass-reads.Learnt, kill-below t, kill.Post, put-reads.Asked, put-reads.Learnt, stuck-reads.Asked, stuck-reads.Learnt, kill-right-below t, kill-right.Post) (kill-par-at t) kill-par.Post
@@ -437,7 +437,7 @@ kill-par-same-length-3 t c = search needs
 
 kill-par-returns-3 : (t : ℕ) → kill-par-lts.Need-returns-3 (gone-reads.Asked, gone-reads.Learnt, pass-reads.Asked, pass-reads.Learnt, kill-below t, kill.Post, put-reads.Asked, put-reads.Learnt, stuck-reads.Asked, stuck-reads.Learnt, kill-right-below t, kill-right.Post) (kill-par-at t) kill-par.Post
 kill-par-returns-3 t c =
-    let e = par-right (c .before .before .before .before .before .before .before .before .before .before .before .before .before .before .before .before .before .before .before .before .before .args .depth) (killW (c .before .before .before .before .before .before .before .before .before .before .before .before .before .before .before .before .before .before .before .before .before .args .depth) (c .before .before .before .before .before .before .before .before .before .before .before .before .before .before .before .before .before .before .before .before .before .args .ws .now) (c .before .before .before .before .before .before .before .before .before .before .before .before .before .before .before .before .before .before .before .before .before .args .marks .now) (c .before .before .before .before .before .before .before .before .before .before .before .before .before .before .before .before .before .before .before .before .before .args .fault) (c .before .before .before .before .before .before .before .before .before .before .before .before .before .before .before .before .before .before .before .before .before .args .hole)) (c .before .before .before .before .before .before .before .before .before .before .before .before .before .before .before .before .before .before .before .before .before .args .ws .now) (c .before .before .before .before .before .before .before .before .before .before .before .before .before .before .before .before .before .before .before .before .before .args .marks .now) (c .before .before .before .before .before .before .before .before .before .before .before .before .before .before .before .before .before .before .before .before .before .args .at) (c .before .before .before .before .before .before .before .before .before .before .before .before .before .before .before .before .before .before .before .before .before .args .out .now) (c .before .before .before .before .before .before .before .before .before .before .before .before .before .before .before .before .before .before .before .before .before .args .to) _ _ _ _ _ _ (sym (c .before .before .before .before .before .before .before .before .before .before .before .before .before .before .before .before .before .gone .ensures) ∙ (c .before .before .before .before .before .before .before .before .before .before .before .before .before .before .before .before .if1 .left)) (c .before .before .before .before .before .before .before .before .before .before .before .before .before .before .put .ensures .0) (c .before .before .before .before .before .before .before .before .before .before .before .before .before .before .put .ensures .1) (c .before .before .before .before .before .before .before .before .before .before .kill2 .ensures .0) (c .before .before .before .before .before .before .before .before .before .before .kill2 .ensures .1) (c .before .before .before .before .before .before .if2 .left) (c .before .before .before .before .if3 .taken) (c .before .before .kill3 .ensures .0) (c .before .before .kill3 .ensures .1) in
+    let e = par-right (c .before .before .before .before .before .before .before .before .before .before .before .before .before .before .before .before .before .before .before .before .before .args .depth) (killW (c .before .before .before .before .before .before .before .before .before .before .before .before .before .before .before .before .before .before .before .before .before .args .depth) (c .before .before .before .before .before .before .before .before .before .before .before .before .before .before .before .before .before .before .before .before .before .args .ws .now) (c .before .before .before .before .before .before .before .before .before .before .before .before .before .before .before .before .before .before .before .before .before .args .notes .now) (c .before .before .before .before .before .before .before .before .before .before .before .before .before .before .before .before .before .before .before .before .before .args .fault) (c .before .before .before .before .before .before .before .before .before .before .before .before .before .before .before .before .before .before .before .before .before .args .hole)) (c .before .before .before .before .before .before .before .before .before .before .before .before .before .before .before .before .before .before .before .before .before .args .ws .now) (c .before .before .before .before .before .before .before .before .before .before .before .before .before .before .before .before .before .before .before .before .before .args .notes .now) (c .before .before .before .before .before .before .before .before .before .before .before .before .before .before .before .before .before .before .before .before .before .args .at) (c .before .before .before .before .before .before .before .before .before .before .before .before .before .before .before .before .before .before .before .before .before .args .out .now) (c .before .before .before .before .before .before .before .before .before .before .before .before .before .before .before .before .before .before .before .before .before .args .to) _ _ _ _ _ _ (sym (c .before .before .before .before .before .before .before .before .before .before .before .before .before .before .before .before .before .gone .ensures) ∙ (c .before .before .before .before .before .before .before .before .before .before .before .before .before .before .before .before .if1 .left)) (c .before .before .before .before .before .before .before .before .before .before .before .before .before .before .put .ensures .0) (c .before .before .before .before .before .before .before .before .before .before .before .before .before .before .put .ensures .1) (c .before .before .before .before .before .before .before .before .before .before .kill2 .ensures .0) (c .before .before .before .before .before .before .before .before .before .before .kill2 .ensures .1) (c .before .before .before .before .before .before .if2 .left) (c .before .before .before .before .if3 .taken) (c .before .before .kill3 .ensures .0) (c .before .before .kill3 .ensures .1) in
     (ap moved e, ap output e)
 
 kill-par-kill-right-requires : (t : ℕ) → kill-par-lts.Need-kill-right-requires (gone-reads.Asked, gone-reads.Learnt, pass-reads.Asked, pass-reads.Learnt, kill-below t, kill.Post, put-reads.Asked, put-reads.Learnt, stuck-reads.Asked, stuck-reads.Learnt, kill-right-below t, kill-right.Post) (kill-par-at t) kill-par.Post
@@ -448,7 +448,7 @@ kill-par-same-length-4 t c = search needs
 
 kill-par-returns-4 : (t : ℕ) → kill-par-lts.Need-returns-4 (gone-reads.Asked, gone-reads.Learnt, pass-reads.Asked, pass-reads.Learnt, kill-below t, kill.Post, put-reads.Asked, put-reads.Learnt, stuck-reads.Asked, stuck-reads.Learnt, kill-right-below t, kill-right.Post) (kill-par-at t) kill-par.Post
 kill-par-returns-4 t c =
-    let e = par-both (c .before .before .before .before .before .before .before .before .before .before .before .before .before .before .before .before .before .before .before .before .before .args .depth) (killW (c .before .before .before .before .before .before .before .before .before .before .before .before .before .before .before .before .before .before .before .before .before .args .depth) (c .before .before .before .before .before .before .before .before .before .before .before .before .before .before .before .before .before .before .before .before .before .args .ws .now) (c .before .before .before .before .before .before .before .before .before .before .before .before .before .before .before .before .before .before .before .before .before .args .marks .now) (c .before .before .before .before .before .before .before .before .before .before .before .before .before .before .before .before .before .before .before .before .before .args .fault) (c .before .before .before .before .before .before .before .before .before .before .before .before .before .before .before .before .before .before .before .before .before .args .hole)) (c .before .before .before .before .before .before .before .before .before .before .before .before .before .before .before .before .before .before .before .before .before .args .ws .now) (c .before .before .before .before .before .before .before .before .before .before .before .before .before .before .before .before .before .before .before .before .before .args .marks .now) (c .before .before .before .before .before .before .before .before .before .before .before .before .before .before .before .before .before .before .before .before .before .args .at) (c .before .before .before .before .before .before .before .before .before .before .before .before .before .before .before .before .before .before .before .before .before .args .out .now) (c .before .before .before .before .before .before .before .before .before .before .before .before .before .before .before .before .before .before .before .before .before .args .to) _ _ _ _ _ _ (sym (c .before .before .before .before .before .before .before .before .before .before .before .before .before .before .before .before .before .gone .ensures) ∙ (c .before .before .before .before .before .before .before .before .before .before .before .before .before .before .before .before .if1 .left)) (c .before .before .before .before .before .before .before .before .before .before .before .before .before .before .put .ensures .0) (c .before .before .before .before .before .before .before .before .before .before .before .before .before .before .put .ensures .1) (c .before .before .before .before .before .before .before .before .before .before .kill2 .ensures .0) (c .before .before .before .before .before .before .before .before .before .before .kill2 .ensures .1) (c .before .before .before .before .before .before .if2 .left) (c .before .before .before .before .if3 .left) (c .before .before .kill-right .ensures .0) (c .before .before .kill-right .ensures .1) in
+    let e = par-both (c .before .before .before .before .before .before .before .before .before .before .before .before .before .before .before .before .before .before .before .before .before .args .depth) (killW (c .before .before .before .before .before .before .before .before .before .before .before .before .before .before .before .before .before .before .before .before .before .args .depth) (c .before .before .before .before .before .before .before .before .before .before .before .before .before .before .before .before .before .before .before .before .before .args .ws .now) (c .before .before .before .before .before .before .before .before .before .before .before .before .before .before .before .before .before .before .before .before .before .args .notes .now) (c .before .before .before .before .before .before .before .before .before .before .before .before .before .before .before .before .before .before .before .before .before .args .fault) (c .before .before .before .before .before .before .before .before .before .before .before .before .before .before .before .before .before .before .before .before .before .args .hole)) (c .before .before .before .before .before .before .before .before .before .before .before .before .before .before .before .before .before .before .before .before .before .args .ws .now) (c .before .before .before .before .before .before .before .before .before .before .before .before .before .before .before .before .before .before .before .before .before .args .notes .now) (c .before .before .before .before .before .before .before .before .before .before .before .before .before .before .before .before .before .before .before .before .before .args .at) (c .before .before .before .before .before .before .before .before .before .before .before .before .before .before .before .before .before .before .before .before .before .args .out .now) (c .before .before .before .before .before .before .before .before .before .before .before .before .before .before .before .before .before .before .before .before .before .args .to) _ _ _ _ _ _ (sym (c .before .before .before .before .before .before .before .before .before .before .before .before .before .before .before .before .before .gone .ensures) ∙ (c .before .before .before .before .before .before .before .before .before .before .before .before .before .before .before .before .if1 .left)) (c .before .before .before .before .before .before .before .before .before .before .before .before .before .before .put .ensures .0) (c .before .before .before .before .before .before .before .before .before .before .before .before .before .before .put .ensures .1) (c .before .before .before .before .before .before .before .before .before .before .kill2 .ensures .0) (c .before .before .before .before .before .before .before .before .before .before .kill2 .ensures .1) (c .before .before .before .before .before .before .if2 .left) (c .before .before .before .before .if3 .left) (c .before .before .kill-right .ensures .0) (c .before .before .kill-right .ensures .1) in
     (ap moved e, ap output e)
 
 kill-right-gone-requires : (t : ℕ) → kill-right-lts.Need-gone-requires (gone-reads.Asked, gone-reads.Learnt, down-reads.Asked, down-reads.Learnt, pass-reads.Asked, pass-reads.Learnt, less-one-reads.Asked, less-one-reads.Learnt, kill-below t, kill.Post, stuck-reads.Asked, stuck-reads.Learnt) (kill-right-at t) kill-right.Post
@@ -468,7 +468,7 @@ kill-right-same-length t c = search needs
 
 kill-right-returns : (t : ℕ) → kill-right-lts.Need-returns (gone-reads.Asked, gone-reads.Learnt, down-reads.Asked, down-reads.Learnt, pass-reads.Asked, pass-reads.Learnt, less-one-reads.Asked, less-one-reads.Learnt, kill-below t, kill.Post, stuck-reads.Asked, stuck-reads.Learnt) (kill-right-at t) kill-right.Post
 kill-right-returns t c =
-    let e = right-gone (c .before .before .before .before .before .before .before .before .before .before .before .args .depth) (killW (c .before .before .before .before .before .before .before .before .before .before .before .args .depth) (c .before .before .before .before .before .before .before .before .before .before .before .args .ws .now) (c .before .before .before .before .before .before .before .before .before .before .before .args .marks .now) (c .before .before .before .before .before .before .before .before .before .before .before .args .fault) (c .before .before .before .before .before .before .before .before .before .before .before .args .hole)) (c .before .before .before .before .before .before .before .before .before .before .before .args .ws .now) (c .before .before .before .before .before .before .before .before .before .before .before .args .marks .now) (c .before .before .before .before .before .before .before .before .before .before .before .args .at) (c .before .before .before .before .before .before .before .before .before .before .before .args .out .now) (c .before .before .before .before .before .before .before .before .before .before .before .args .one) (c .before .before .before .before .before .before .before .before .before .before .before .args .to) _ _ _ (sym (c .before .before .before .before .before .before .before .gone .ensures) ∙ (c .before .before .before .before .before .before .if1 .taken)) (c .before .pass .ensures) (c .less-one .ensures) (c .before .before .before .before .down .ensures .1) in
+    let e = right-gone (c .before .before .before .before .before .before .before .before .before .before .before .args .depth) (killW (c .before .before .before .before .before .before .before .before .before .before .before .args .depth) (c .before .before .before .before .before .before .before .before .before .before .before .args .ws .now) (c .before .before .before .before .before .before .before .before .before .before .before .args .notes .now) (c .before .before .before .before .before .before .before .before .before .before .before .args .fault) (c .before .before .before .before .before .before .before .before .before .before .before .args .hole)) (c .before .before .before .before .before .before .before .before .before .before .before .args .ws .now) (c .before .before .before .before .before .before .before .before .before .before .before .args .notes .now) (c .before .before .before .before .before .before .before .before .before .before .before .args .at) (c .before .before .before .before .before .before .before .before .before .before .before .args .out .now) (c .before .before .before .before .before .before .before .before .before .before .before .args .one) (c .before .before .before .before .before .before .before .before .before .before .before .args .to) _ _ _ (sym (c .before .before .before .before .before .before .before .gone .ensures) ∙ (c .before .before .before .before .before .before .if1 .taken)) (c .before .pass .ensures) (c .less-one .ensures) (c .before .before .before .before .down .ensures .1) in
     (ap moved e, ap output e)
 
 kill-right-kill-requires : (t : ℕ) → kill-right-lts.Need-kill-requires (gone-reads.Asked, gone-reads.Learnt, down-reads.Asked, down-reads.Learnt, pass-reads.Asked, pass-reads.Learnt, less-one-reads.Asked, less-one-reads.Learnt, kill-below t, kill.Post, stuck-reads.Asked, stuck-reads.Learnt) (kill-right-at t) kill-right.Post
@@ -498,7 +498,7 @@ kill-right-same-length-3 t c = search needs
 
 kill-right-returns-3 : (t : ℕ) → kill-right-lts.Need-returns-3 (gone-reads.Asked, gone-reads.Learnt, down-reads.Asked, down-reads.Learnt, pass-reads.Asked, pass-reads.Learnt, less-one-reads.Asked, less-one-reads.Learnt, kill-below t, kill.Post, stuck-reads.Asked, stuck-reads.Learnt) (kill-right-at t) kill-right.Post
 kill-right-returns-3 t c =
-    let e = right-nil (c .before .before .before .before .before .before .before .before .before .before .before .before .before .before .before .before .before .before .args .depth) (killW (c .before .before .before .before .before .before .before .before .before .before .before .before .before .before .before .before .before .before .args .depth) (c .before .before .before .before .before .before .before .before .before .before .before .before .before .before .before .before .before .before .args .ws .now) (c .before .before .before .before .before .before .before .before .before .before .before .before .before .before .before .before .before .before .args .marks .now) (c .before .before .before .before .before .before .before .before .before .before .before .before .before .before .before .before .before .before .args .fault) (c .before .before .before .before .before .before .before .before .before .before .before .before .before .before .before .before .before .before .args .hole)) (c .before .before .before .before .before .before .before .before .before .before .before .before .before .before .before .before .before .before .args .ws .now) (c .before .before .before .before .before .before .before .before .before .before .before .before .before .before .before .before .before .before .args .marks .now) (c .before .before .before .before .before .before .before .before .before .before .before .before .before .before .before .before .before .before .args .at) (c .before .before .before .before .before .before .before .before .before .before .before .before .before .before .before .before .before .before .args .out .now) (c .before .before .before .before .before .before .before .before .before .before .before .before .before .before .before .before .before .before .args .one) (c .before .before .before .before .before .before .before .before .before .before .before .before .before .before .before .before .before .before .args .to) _ _ (sym (c .before .before .before .before .before .before .before .before .before .before .before .before .before .before .gone .ensures) ∙ (c .before .before .before .before .before .before .before .before .before .before .before .before .before .if1 .left)) (c .before .before .before .before .before .before .before .before .before .before .before .kill .ensures .0) (c .before .before .before .before .before .before .before .before .before .before .before .kill .ensures .1) (c .before .before .before .before .before .before .before .if2 .left) _ _ (c .before .before .before .before .before .if3 .taken) (c .less-one2 .ensures) (c .before .before .before .down2 .ensures .1) in
+    let e = right-nil (c .before .before .before .before .before .before .before .before .before .before .before .before .before .before .before .before .before .before .args .depth) (killW (c .before .before .before .before .before .before .before .before .before .before .before .before .before .before .before .before .before .before .args .depth) (c .before .before .before .before .before .before .before .before .before .before .before .before .before .before .before .before .before .before .args .ws .now) (c .before .before .before .before .before .before .before .before .before .before .before .before .before .before .before .before .before .before .args .notes .now) (c .before .before .before .before .before .before .before .before .before .before .before .before .before .before .before .before .before .before .args .fault) (c .before .before .before .before .before .before .before .before .before .before .before .before .before .before .before .before .before .before .args .hole)) (c .before .before .before .before .before .before .before .before .before .before .before .before .before .before .before .before .before .before .args .ws .now) (c .before .before .before .before .before .before .before .before .before .before .before .before .before .before .before .before .before .before .args .notes .now) (c .before .before .before .before .before .before .before .before .before .before .before .before .before .before .before .before .before .before .args .at) (c .before .before .before .before .before .before .before .before .before .before .before .before .before .before .before .before .before .before .args .out .now) (c .before .before .before .before .before .before .before .before .before .before .before .before .before .before .before .before .before .before .args .one) (c .before .before .before .before .before .before .before .before .before .before .before .before .before .before .before .before .before .before .args .to) _ _ (sym (c .before .before .before .before .before .before .before .before .before .before .before .before .before .before .gone .ensures) ∙ (c .before .before .before .before .before .before .before .before .before .before .before .before .before .if1 .left)) (c .before .before .before .before .before .before .before .before .before .before .before .kill .ensures .0) (c .before .before .before .before .before .before .before .before .before .before .before .kill .ensures .1) (c .before .before .before .before .before .before .before .if2 .left) _ _ (c .before .before .before .before .before .if3 .taken) (c .less-one2 .ensures) (c .before .before .before .down2 .ensures .1) in
     (ap moved e, ap output e)
 
 kill-right-same-length-4 : (t : ℕ) → kill-right-lts.Need-same-length-4 (gone-reads.Asked, gone-reads.Learnt, down-reads.Asked, down-reads.Learnt, pass-reads.Asked, pass-reads.Learnt, less-one-reads.Asked, less-one-reads.Learnt, kill-below t, kill.Post, stuck-reads.Asked, stuck-reads.Learnt) (kill-right-at t) kill-right.Post
@@ -506,7 +506,7 @@ kill-right-same-length-4 t c = search needs
 
 kill-right-returns-4 : (t : ℕ) → kill-right-lts.Need-returns-4 (gone-reads.Asked, gone-reads.Learnt, down-reads.Asked, down-reads.Learnt, pass-reads.Asked, pass-reads.Learnt, less-one-reads.Asked, less-one-reads.Learnt, kill-below t, kill.Post, stuck-reads.Asked, stuck-reads.Learnt) (kill-right-at t) kill-right.Post
 kill-right-returns-4 t c =
-    let e = right-stays (c .before .before .before .before .before .before .before .before .before .before .before .before .before .args .depth) (killW (c .before .before .before .before .before .before .before .before .before .before .before .before .before .args .depth) (c .before .before .before .before .before .before .before .before .before .before .before .before .before .args .ws .now) (c .before .before .before .before .before .before .before .before .before .before .before .before .before .args .marks .now) (c .before .before .before .before .before .before .before .before .before .before .before .before .before .args .fault) (c .before .before .before .before .before .before .before .before .before .before .before .before .before .args .hole)) (c .before .before .before .before .before .before .before .before .before .before .before .before .before .args .ws .now) (c .before .before .before .before .before .before .before .before .before .before .before .before .before .args .marks .now) (c .before .before .before .before .before .before .before .before .before .before .before .before .before .args .at) (c .before .before .before .before .before .before .before .before .before .before .before .before .before .args .out .now) (c .before .before .before .before .before .before .before .before .before .before .before .before .before .args .one) (c .before .before .before .before .before .before .before .before .before .before .before .before .before .args .to) _ _ (sym (c .before .before .before .before .before .before .before .before .before .gone .ensures) ∙ (c .before .before .before .before .before .before .before .before .if1 .left)) (c .before .before .before .before .before .before .kill .ensures .0) (c .before .before .before .before .before .before .kill .ensures .1) (c .before .before .if2 .left) (c .if3 .left) in
+    let e = right-stays (c .before .before .before .before .before .before .before .before .before .before .before .before .before .args .depth) (killW (c .before .before .before .before .before .before .before .before .before .before .before .before .before .args .depth) (c .before .before .before .before .before .before .before .before .before .before .before .before .before .args .ws .now) (c .before .before .before .before .before .before .before .before .before .before .before .before .before .args .notes .now) (c .before .before .before .before .before .before .before .before .before .before .before .before .before .args .fault) (c .before .before .before .before .before .before .before .before .before .before .before .before .before .args .hole)) (c .before .before .before .before .before .before .before .before .before .before .before .before .before .args .ws .now) (c .before .before .before .before .before .before .before .before .before .before .before .before .before .args .notes .now) (c .before .before .before .before .before .before .before .before .before .before .before .before .before .args .at) (c .before .before .before .before .before .before .before .before .before .before .before .before .before .args .out .now) (c .before .before .before .before .before .before .before .before .before .before .before .before .before .args .one) (c .before .before .before .before .before .before .before .before .before .before .before .before .before .args .to) _ _ (sym (c .before .before .before .before .before .before .before .before .before .gone .ensures) ∙ (c .before .before .before .before .before .before .before .before .if1 .left)) (c .before .before .before .before .before .before .kill .ensures .0) (c .before .before .before .before .before .before .kill .ensures .1) (c .before .before .if2 .left) (c .if3 .left) in
     (ap moved e, ap output e)
 
 kill-scope-stuck-requires : (t : ℕ) → kill-scope-lts.Need-stuck-requires (stuck-reads.Asked, stuck-reads.Learnt, pass-list-reads.Asked, pass-list-reads.Learnt, wide-reads.Asked, wide-reads.Learnt, kill-zombie-below t, kill-zombie.Post, kill-live-below t, kill-live.Post) (kill-scope-at t) kill-scope.Post
@@ -583,7 +583,7 @@ kill-scope-stuck-requires-4 t c κs = search needs
 
 kill-scope-returns-5 : (t : ℕ) → kill-scope-lts.Need-returns-5 (stuck-reads.Asked, stuck-reads.Learnt, pass-list-reads.Asked, pass-list-reads.Learnt, wide-reads.Asked, wide-reads.Learnt, kill-zombie-below t, kill-zombie.Post, kill-live-below t, kill-live.Post) (kill-scope-at t) kill-scope.Post
 kill-scope-returns-5 t c =
-    let e = scope-stuck ((c .before .before .before .before .before .before .before .before .before .before .before .before .before .before .args .depth)) (killW ((c .before .before .before .before .before .before .before .before .before .before .before .before .before .before .args .depth)) ((c .before .before .before .before .before .before .before .before .before .before .before .before .before .before .args .ws .now)) ((c .before .before .before .before .before .before .before .before .before .before .before .before .before .before .args .marks .now)) ((c .before .before .before .before .before .before .before .before .before .before .before .before .before .before .args .fault)) ((c .before .before .before .before .before .before .before .before .before .before .before .before .before .before .args .hole))) ((c .before .before .before .before .before .before .before .before .before .before .before .before .before .before .args .ws .now)) ((c .before .before .before .before .before .before .before .before .before .before .before .before .before .before .args .marks .now)) ((c .before .before .before .before .before .before .before .before .before .before .before .before .before .before .args .hole)) ((c .before .before .before .before .before .before .before .before .before .before .before .before .before .before .args .at)) ((c .before .before .before .before .before .before .before .before .before .before .before .before .before .before .args .out .now)) ((c .before .before .before .before .before .before .before .before .before .before .before .before .before .before .args .to)) _ _ _ (c .before .before .before .before .before .before .before .before .before .before .if1 .left) (c .before .before .before .before .before .before .before .before .before .pass-list .ensures) (c .before .before .before .before .before .before .before .before .if2 .left) (c .before .before .before .before .before .before .before .if3 .left) (c .before .before .before .before .before .wide .ensures .0) (c .before .before .before .before .if4 .left) (c .before .before .wide2 .ensures .0) (c .before .if5 .taken) in
+    let e = scope-stuck ((c .before .before .before .before .before .before .before .before .before .before .before .before .before .before .args .depth)) (killW ((c .before .before .before .before .before .before .before .before .before .before .before .before .before .before .args .depth)) ((c .before .before .before .before .before .before .before .before .before .before .before .before .before .before .args .ws .now)) ((c .before .before .before .before .before .before .before .before .before .before .before .before .before .before .args .notes .now)) ((c .before .before .before .before .before .before .before .before .before .before .before .before .before .before .args .fault)) ((c .before .before .before .before .before .before .before .before .before .before .before .before .before .before .args .hole))) ((c .before .before .before .before .before .before .before .before .before .before .before .before .before .before .args .ws .now)) ((c .before .before .before .before .before .before .before .before .before .before .before .before .before .before .args .notes .now)) ((c .before .before .before .before .before .before .before .before .before .before .before .before .before .before .args .hole)) ((c .before .before .before .before .before .before .before .before .before .before .before .before .before .before .args .at)) ((c .before .before .before .before .before .before .before .before .before .before .before .before .before .before .args .out .now)) ((c .before .before .before .before .before .before .before .before .before .before .before .before .before .before .args .to)) _ _ _ (c .before .before .before .before .before .before .before .before .before .before .if1 .left) (c .before .before .before .before .before .before .before .before .before .pass-list .ensures) (c .before .before .before .before .before .before .before .before .if2 .left) (c .before .before .before .before .before .before .before .if3 .left) (c .before .before .before .before .before .wide .ensures .0) (c .before .before .before .before .if4 .left) (c .before .before .wide2 .ensures .0) (c .before .if5 .taken) in
     ((c .stuck4 .ensures) ∙ ap moved e, ap output e)
 
 kill-scope-kill-live-requires : (t : ℕ) → kill-scope-lts.Need-kill-live-requires (stuck-reads.Asked, stuck-reads.Learnt, pass-list-reads.Asked, pass-list-reads.Learnt, wide-reads.Asked, wide-reads.Learnt, kill-zombie-below t, kill-zombie.Post, kill-live-below t, kill-live.Post) (kill-scope-at t) kill-scope.Post

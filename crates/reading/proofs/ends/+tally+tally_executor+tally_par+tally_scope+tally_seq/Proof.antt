@@ -29,7 +29,7 @@ use Rattle.reading.proofs.ends.not_counted.Reads as not-counted-reads
 use Rattle.reading.proofs.ends.serial_at.Reads as serial-at-reads
 use Rattle.reading.proofs.reader.list.Reads as list-reads
 use Rattle.reading.proofs.reader.process.Reads as process-reads
-use Rattle.reading.proofs.reader.wide.Reads as wide-reads
+use Rattle.layout.proofs.number.wide.Reads as wide-reads
 use Rattle.reading.proofs.ends.+tally+tally_executor+tally_par+tally_scope+tally_seq.{statement}
 use Rattle.reading.proofs.ends.+tally+tally_executor+tally_par+tally_scope+tally_seq.Tie.{close}
 

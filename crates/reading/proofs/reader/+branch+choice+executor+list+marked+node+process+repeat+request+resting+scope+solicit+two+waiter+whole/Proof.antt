@@ -73,7 +73,7 @@ use Rattle.reading.proofs.reader.ready.Reads as ready-reads
 use Rattle.reading.proofs.reader.rest_context.Reads as rest-context-reads
 use Rattle.reading.proofs.reader.same_context.Reads as same-context-reads
 use Rattle.reading.proofs.reader.slot.Reads as slot-reads
-use Rattle.reading.proofs.reader.wide.Reads as wide-reads
+use Rattle.layout.proofs.number.wide.Reads as wide-reads
 use Rattle.reading.proofs.tables.head_mask.Reads as head-mask-reads
 use Rattle.reading.proofs.tables.shape.Reads as shape-reads
 use Rattle.reading.proofs.reader.+branch+choice+executor+list+marked+node+process+repeat+request+resting+scope+solicit+two+waiter+whole.{

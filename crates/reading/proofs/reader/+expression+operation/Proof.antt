@@ -16,7 +16,7 @@ use Rattle.reading.proofs.reader.operation.Reads as operation
 use Rattle.reading.proofs.reader.operation.Kinds as operation-kinds
 use Rattle.reading.proofs.reader.+expression+operation.Lts-operation as operation-lts
 use Rattle.reading.proofs.reader.constant.Reads as constant-reads
-use Rattle.reading.proofs.reader.wide.Reads as wide-reads
+use Rattle.layout.proofs.number.wide.Reads as wide-reads
 use Rattle.reading.proofs.reader.+expression+operation.{statement}
 use Rattle.reading.proofs.reader.+expression+operation.Tie.{close}
 

@@ -6,18 +6,18 @@ use borrow.Author.Needs.{needs}
 use Rattle.skipping.proofs.pass.pass.Statement.{statement}
 use Rattle.skipping.proofs.pass.pass.Tie as tie
 
-mark-at-requires : tie.Need-mark-at-requires
-mark-at-requires c κs = search needs
+note-at-requires : tie.Need-note-at-requires
+note-at-requires c κs = search needs
 
 skip-requires : tie.Need-skip-requires
 skip-requires c κs = search needs
 
 returns : tie.Need-returns
 returns c =
-    c .skip .ensures ∙ sym (unmarked _ _ _ _ (sym (c .before .before .mark-at .ensures) ∙ c .before .if1 .taken))
+    c .skip .ensures ∙ sym (unmarked _ _ _ _ (sym (c .before .before .note-at .ensures) ∙ c .before .if1 .taken))
 
 returns-2 : tie.Need-returns-2
-returns-2 c = marked _ _ _ _ _ (c .before .mark-at .ensures) (c .if1 .left)
+returns-2 c = marked _ _ _ _ _ (c .before .note-at .ensures) (c .if1 .left)
 
 pub pass-spec : {M : Type 1} → statement M
-pass-spec = tie.close (tie.spec mark-at-requires skip-requires returns returns-2)
+pass-spec = tie.close (tie.spec note-at-requires skip-requires returns returns-2)

@@ -1,7 +1,7 @@
 -- `pass_list` of `skipping::pass` meets its contract: the code is its mirror in specs/.
 -- Assumes nothing.
 use mathlib.Core.Path.{sym, _∙_}
-use Rattle.skipping.specs.Pass.{listMarkAt}
+use Rattle.skipping.specs.Pass.{listNoteAt}
 use Rattle.skipping.proofs.Passes.{list-mark-behind, list-unmarked, list-marked}
 use borrow.Author.Needs.{needs}
 use Rattle.skipping.proofs.pass.pass_list.Statement.{statement}
@@ -26,12 +26,12 @@ skip-list-requires-2 : tie.Need-skip-list-requires-2
 skip-list-requires-2 c κs = search needs
 
 returns-2 : tie.Need-returns-2
-unfolding listMarkAt
+unfolding listNoteAt
 returns-2 c =
     c .skip-list2 .ensures ∙ sym (list-unmarked _ _ _ _ (sym (c .before .before .noted .ensures) ∙ c .before .if2 .taken))
 
 returns-3 : tie.Need-returns-3
-unfolding listMarkAt
+unfolding listNoteAt
 returns-3 c = list-marked _ _ _ _ _ (c .before .noted .ensures) (c .if2 .left)
 
 pub pass-list-spec : {M : Type 1} → statement M

@@ -22,7 +22,7 @@ use Rattle.skipping.proofs.skip.skip_list.Reads as skip-list
 use Rattle.skipping.proofs.skip.skip_list.Kinds as skip-list-kinds
 use Rattle.skipping.proofs.skip.+behind+skip+skip_list.Lts-skip_list as skip-list-lts
 use Rattle.reading.proofs.reader.met_by.Reads as met-by-reads
-use Rattle.reading.proofs.reader.wide.Reads as wide-reads
+use Rattle.layout.proofs.number.wide.Reads as wide-reads
 use Rattle.skipping.proofs.skip.form.Reads as form-reads
 use Rattle.skipping.proofs.skip.skip_expression.Reads as skip-expression-reads
 use Rattle.skipping.proofs.skip.+behind+skip+skip_list.{statement}

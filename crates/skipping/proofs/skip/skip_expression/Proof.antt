@@ -11,7 +11,7 @@ use Rattle.skipping.proofs.skip.skip_expression.Statement.{statement}
 use Rattle.skipping.proofs.skip.skip_expression.Tie as tie
 use Rattle.skipping.proofs.skip.skip_expression.Reads as reads
 use Rattle.skipping.proofs.skip.skip_expression.Lts as lts
-use Rattle.reading.proofs.reader.wide.Reads as wide-reads
+use Rattle.layout.proofs.number.wide.Reads as wide-reads
 use Rattle.skipping.proofs.skip.expression_form.Reads as expression-form-reads
 
 abbrev Inv-loop : tie.InvT-loop

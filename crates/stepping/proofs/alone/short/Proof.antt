@@ -17,15 +17,15 @@ use Rattle.stepping.proofs.alone.short.Tie as tie
 
 -- the short scratch had room
 kept :
-    (ws marks : List ℕ) (start next : ℕ) (s : Spot) (kind bound : ℕ) (fresh out : List ℕ) (p : Plan) (made : List ℕ) (end : ℕ) →
-    p ≡ ruleW ws marks start s kind bound fresh .plan →
-    made ≡ ruleW ws marks start s kind bound fresh .fresh →
+    (ws notes : List ℕ) (start next : ℕ) (s : Spot) (kind bound : ℕ) (fresh out : List ℕ) (p : Plan) (made : List ℕ) (end : ℕ) →
+    p ≡ ruleW ws notes start s kind bound fresh .plan →
+    made ≡ ruleW ws notes start s kind bound fresh .fresh →
     end ≡ next - 64 →
     p .g ≤ surely →
-    oneW ws start end p (kind % 32) made out ≡ shortW ws marks start next s kind bound fresh out
+    oneW ws start end p (kind % 32) made out ≡ shortW ws notes start next s kind bound fresh out
 unfolding shortW loneW
-kept ws marks start next s kind bound fresh out p made end e f h low =
-    let z : ltb surely (ruleW ws marks start s kind bound fresh .plan .g) ≡ false = le-ltb _ _ (rw e at low) in
+kept ws notes start next s kind bound fresh out p made end e f h low =
+    let z : ltb surely (ruleW ws notes start s kind bound fresh .plan .g) ≡ false = le-ltb _ _ (rw e at low) in
     rw (z, e, f, h)
 
 rule-requires : tie.Need-rule-requires

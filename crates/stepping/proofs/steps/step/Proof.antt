@@ -1,16 +1,16 @@
--- `step` of `stepping::steps` meets its contract: the step on words is the definitions', whatever room the marks have.
+-- `step` of `stepping::steps` meets its contract: the step on words is the definitions', whatever room the notes have.
 -- Assumes nothing.
 use mathlib.Core.Path.{_∙_}
-use Rattle.marking.proofs.Marked.{blank-right}
+use Rattle.noting.proofs.Noted.{blank-right}
 use Rattle.stepping.specs.Answers.{numbers}
-use Rattle.stepping.specs.Stepping.{manyMarks, fewMarks}
+use Rattle.stepping.specs.Stepping.{manyNotes, fewNotes}
 use Rattle.stepping.proofs.Law.{answer-law, output-law}
 use borrow.Author.Needs.{needs}
 use Rattle.stepping.proofs.steps.step.Statement.{statement}
 use Rattle.stepping.proofs.steps.step.Tie as tie
 
-marked-requires : tie.Need-marked-requires
-marked-requires c κs = search needs
+with-notes-requires : tie.Need-with-notes-requires
+with-notes-requires c κs = search needs
 
 same-length : tie.Need-same-length
 same-length c = search needs
@@ -19,12 +19,12 @@ returns : tie.Need-returns
 returns c =
     let a = (c .before .before .before .before .before .before .before .args) in
     let f = (c .before .before .before .before .before .before .before) .fits in (
-      (c .before .before .marked .ensures .0)
+      (c .before .before .with-notes .ensures .0)
           ∙ answer-law (a .ws .now) (λ i. ((c .before .before .before .before .before .before .shared-slice-known .given)) i .fits) (numbers (a .engine) (a .position) (a .second) (a .place) (a .branch))
-          (f .position .fits) (f .place .fits) (a .out .now) manyMarks (blank-right (a .ws .now) 16384),
-      (c .before .before .marked .ensures .1)
+          (f .position .fits) (f .place .fits) (a .out .now) manyNotes (blank-right (a .ws .now) 16384),
+      (c .before .before .with-notes .ensures .1)
           ∙ output-law (a .ws .now) (λ i. ((c .before .before .before .before .before .before .shared-slice-known .given)) i .fits) (numbers (a .engine) (a .position) (a .second) (a .place) (a .branch))
-          (f .position .fits) (f .place .fits) (a .out .now) manyMarks (blank-right (a .ws .now) 16384),
+          (f .position .fits) (f .place .fits) (a .out .now) manyNotes (blank-right (a .ws .now) 16384),
     )
 
 slice-aggregate-stepped : tie.Need-slice-aggregate-stepped
@@ -42,17 +42,17 @@ returns-2 c =
     let f = (c .before .before .before .before .before .before .before .before .before) .fits in (
       (c .before .before .before .stepped .ensures .0)
           ∙ answer-law (a .ws .now) (λ i. ((c .before .before .before .before .before .before .before .before .shared-slice-known .given)) i .fits) (numbers (a .engine) (a .position) (a .second) (a .place) (a .branch))
-          (f .position .fits) (f .place .fits) (a .out .now) fewMarks (blank-right (a .ws .now) 1024),
+          (f .position .fits) (f .place .fits) (a .out .now) fewNotes (blank-right (a .ws .now) 1024),
       (c .before .before .before .stepped .ensures .1)
           ∙ output-law (a .ws .now) (λ i. ((c .before .before .before .before .before .before .before .before .shared-slice-known .given)) i .fits) (numbers (a .engine) (a .position) (a .second) (a .place) (a .branch))
-          (f .position .fits) (f .place .fits) (a .out .now) fewMarks (blank-right (a .ws .now) 1024),
+          (f .position .fits) (f .place .fits) (a .out .now) fewNotes (blank-right (a .ws .now) 1024),
     )
 
 pub step-spec : {M : Type 1} → statement M
 step-spec =
     tie.close
     (tie.spec
-    marked-requires
+    with-notes-requires
     same-length
     returns
     slice-aggregate-stepped

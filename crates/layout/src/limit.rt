@@ -1,0 +1,30 @@
+// The limits of a configuration (document 01: depth at most 64, at most 8,192 words), and the fuel of walks, which is another thing: walks over
+// what was read go down as many levels as the largest limit allows.
+ghost use mathlib.Core.Path.{_≡_};
+ghost use Rattle.sock.specs.Configuration.{standard};
+ghost use Rattle.layout.specs.Limits.{figures};
+
+pub struct Limits {
+    pub deepest: usize,
+    pub longest: usize,
+}
+
+// The standard limits.
+pub const DEEPEST: usize = 64;
+
+pub const LONGEST: usize = 8192;
+
+pub fn standard() -> Limits
+    ensures { λ r. ⌜ figures r ≡ standard ⌝ }
+{
+    Limits {
+        deepest: DEEPEST,
+        longest: LONGEST,
+    }
+}
+
+// How many levels a walk goes down: no configuration that was read has more.
+pub const FUEL: usize = 64;
+
+// How many words an engine's values take, before its process.
+pub const VALUES: usize = 64;

@@ -1,3 +1,0 @@
-// Reading with marks: what is enabled is read, and where it ends is noted for those who pass over it later.
-pub mod mark;
-pub mod survey;

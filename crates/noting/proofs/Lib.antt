@@ -1,0 +1,2 @@
+pub mod Noted
+pub mod Notes
