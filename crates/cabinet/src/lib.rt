@@ -1,4 +1,5 @@
 // The calls on bytes, exported for C. Words are two bytes, high first; an odd length is unreadable.
 pub mod calls;
 pub mod stepping_bytes;
+pub mod window_bytes;
 pub mod words;

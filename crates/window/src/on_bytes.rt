@@ -6,8 +6,8 @@ ghost use mathlib.Core.Path.{_≡_};
 ghost use mathlib.Core.List.{_++_};
 ghost use Prim.Native.Nat.{_+_, _*_, _/_, _%_, _≤_};
 ghost use lib.ListN.{length, drop};
-ghost use Rattle.window.specs.Window.{answer, countOf};
-ghost use Rattle.window.specs.Bytes.{bytesOf, windowIn, byteNumber, byteWindow};
+ghost use Rattle.window.specs.Window.{answer};
+ghost use Rattle.window.specs.Bytes.{bytesOf, windowIn, byteNumber, byteWindow, packed, byteCount};
 
 fn word(high: u8, low: u8) -> u16
     ensures { λ r. ⌜ r ≡ high * 256 + low ⌝ }
@@ -73,16 +73,22 @@ pub fn next_bytes(width: u16, number: u8, fault: u8, operation: u16, window: &mu
     0
 }
 
-// The faults of an operation in the window.
-pub fn count_bytes(operation: u16, window: &[u8]) -> Count
-    ensures { λ r. ⌜ r ≡ countOf operation (windowIn (now (window .entry))) ⌝ }
+fn pack(c: Count) -> u64
+    ensures { λ r. ⌜ r ≡ packed c ⌝ }
+{
+    (c.number as u64) * 72057594037927936 + (c.count as u64)
+}
+
+// The faults of an operation in the window: from the top, the number in 8 bits, 40 zero, the count in 16.
+pub fn count_bytes(operation: u16, window: &[u8]) -> u64
+    ensures { λ r. ⌜ r ≡ byteCount operation (now (window .entry)) ⌝ }
 {
     if window.len() < 2178 {
-        return Count {
+        return pack(Count {
             number: 18,
             count: 0,
-        };
+        });
     }
     let words = words_in(window);
-    window_count(operation, &words)
+    pack(window_count(operation, &words))
 }
