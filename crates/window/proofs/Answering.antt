@@ -1,17 +1,17 @@
 -- What the calls answer, by the tests on the way.
 -- Assumes nothing.
-use Prim.Native.Nat.{ℕ, _+_, _*_, _/_, _≤_, _<_}
+use Prim.Native.Nat.{ℕ, _*_, _/_, _≤_, _<_}
 use native.Mathlib.Omega.{arith}
 use mathlib.Core.Path.{_≡_, refl, sym, ap, _∙_}
 use mathlib.Core.Bool.{Bool, true, false, _&&_, cond}
 use mathlib.Core.List.{List, [], _∷_, _++_}
-use lib.Dec.{leb, eqb}
+use lib.Dec.{leb}
 use lib.ListN.{length, getD, take, drop, length-take}
 use borrow.Author.Tests.{le-leb, lt-leb, eq-eqb, ne-eqb}
 use Rattle.window.specs.declared.answer.Count.{Count}
 use Rattle.window.specs.Window.{answer, entry, windowOf, entriesOf, given, fits, nextNumber, last, enters, nextWindow, countOf}
 use Rattle.window.specs.Bytes.{wordsOf, bytesOf, windowIn, byteNumber, byteWindow}
-use Rattle.window.proofs.Tests.{and-first, and-fails, and-fails-right, and-holds}
+use Rattle.window.proofs.Tests.{and-fails, and-fails-right, and-holds}
 use Rattle.window.proofs.Given.{too-short}
 
 -- ---- handing an answer on
@@ -32,7 +32,7 @@ module _ (w n f o : ℕ) (window : List ℕ) where
   refused-by : fits w (answer n f o) window ≡ false → Next 18 window
   unfolding enters
   refused-by e =
-      (sym (next-by false e), sym (window-by false (and-fails (fits w (answer n f o) window) (eqb n 0) e)))
+      (sym (next-by false e), sym (window-by false (and-fails (fits w (answer n f o) window) _ e)))
 
   pub width-low : w < 1 → Next 18 window
   unfolding fits
@@ -111,7 +111,7 @@ module _ (bytes : List ℕ) (few : length bytes < 2178) where
       let e : fits w (answer n f o) (windowIn bytes) ≡ false =
       and-fails-right (leb 1 w) _ (and-fails-right (leb w 1024) _ (and-fails-right (leb o 63) _ (sym (no-window w)))) in (
         sym (next-by w n f o (windowIn bytes) false e),
-        sym (ap (λ (t : Bool). cond t (bytesOf (nextWindow w (answer n f o) (windowIn bytes)) ++ drop 2178 bytes) bytes) (and-fails _ (eqb n 0) e)),
+        sym (ap (λ (t : Bool). cond t (bytesOf (nextWindow w (answer n f o) (windowIn bytes)) ++ drop 2178 bytes) bytes) (and-fails (fits w (answer n f o) (windowIn bytes)) _ e)),
       )
 
   pub count-few : (o : ℕ) → counted o (windowIn bytes) 18 0 ≡ countOf o (windowIn bytes)
@@ -149,7 +149,7 @@ module _ (w n f o : ℕ) (bytes words after : List ℕ) (k : ℕ) (held : words 
 
   pub bytes-refused : (k ≡ 0 → ⊥) → NextBytes k bytes
   unfolding byteNumber enters
-  bytes-refused d = (a-number, sym (bytes-by false (and-fails _ (eqb n 0) (fails d))))
+  bytes-refused d = (a-number, sym (bytes-by false (and-fails (fits w (answer n f o) (windowIn bytes)) _ (fails d))))
 
   pub bytes-stay : k ≡ 0 → (n ≡ 0 → ⊥) → NextBytes 0 bytes
   unfolding byteNumber enters

@@ -3,12 +3,12 @@
 use Prim.Native.Nat.{ℕ, suc, _+_, _-_, _≤_, _<_}
 use native.Mathlib.Omega.{arith}
 use mathlib.Core.Path.{_≡_, refl, sym, ap, _∙_}
-use mathlib.Core.Bool.{Bool, true, cond}
+use mathlib.Core.Bool.{Bool, cond}
 use mathlib.Core.List.{List, [], _∷_, _++_, append-assoc}
 use lib.ListN.{length, getD, set, take, drop, replicate, length-append, length-drop}
 use lib.Seq.{drop-cons, drop-drop, take-at, drop-at, set-at, paste, length-paste-head}
 use borrow.Author.Tests.{eq-eqb, ne-eqb}
-use Rattle.window.specs.Window.{answer, entry, recount, windowOf, noneAbove}
+use Rattle.window.specs.Window.{answer, entry, recount, windowOf}
 use Rattle.window.specs.Entering.{raised, lowered}
 use Rattle.window.proofs.Counting.{recount-length, raised-is, lowered-is}
 use Rattle.window.proofs.Words.{laid-out}

@@ -1,14 +1,14 @@
 -- The test of a window, as the code makes it: one test after the other.
 -- Assumes nothing.
-use Prim.Native.Nat.{ℕ, suc, _+_, _≤_, _<_}
+use Prim.Native.Nat.{ℕ, _+_, _≤_, _<_}
 use native.Mathlib.Omega.{arith}
-use mathlib.Core.Path.{_≡_, refl, sym, ap, _∙_}
+use mathlib.Core.Path.{_≡_, sym, ap, _∙_}
 use mathlib.Core.Bool.{Bool, true, false, _&&_}
 use mathlib.Core.List.{List}
 use lib.Dec.{leb}
 use lib.ListN.{length, take, drop}
 use borrow.Author.Tests.{le-leb, lt-leb}
-use Rattle.window.specs.Window.{times, countsFrom, recount, held, entriesOf, behind, noneAbove, same, given}
+use Rattle.window.specs.Window.{countsFrom, recount, held, entriesOf, behind, noneAbove, same, given}
 use Rattle.window.proofs.Tests.{and-first, and-fails}
 use Rattle.window.proofs.Counting.{counts-length}
 

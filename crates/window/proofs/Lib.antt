@@ -10,3 +10,4 @@ pub mod Spelling
 pub mod Given
 pub mod Changing
 pub mod Answering
+pub mod Examples

@@ -1,16 +1,16 @@
 -- What holds after some turns of the loops over a window's words: entries counted, zeros and counts compared, words moved down.
 -- Assumes nothing.
-use Prim.Native.Nat.{ℕ, suc, _+_, _-_, _≤_, _<_}
+use Prim.Native.Nat.{ℕ, suc, _+_, _≤_, _<_}
 use native.Mathlib.Omega.{arith}
-use mathlib.Core.Path.{_≡_, refl, sym, ap, _∙_}
+use mathlib.Core.Path.{_≡_, sym, ap, _∙_}
 use mathlib.Core.Bool.{Bool, true, false, _&&_}
 use mathlib.Core.List.{List, [], _∷_, _++_}
 use lib.Dec.{leb, eqb}
 use lib.ListN.{length, getD, set, take, drop, length-take, length-drop, drop-of-length-le}
-use lib.Seq.{drop-cons, take-suc, take-all, getD-take, getD-drop, length-take-le, paste, paste-suc, drop-paste, slice-cons, slice-empty}
+use lib.Seq.{drop-cons, take-suc, take-all, getD-take, getD-drop, length-take-le, paste, paste-suc, drop-paste, slice-cons}
 use borrow.Author.Tests.{le-leb, lt-leb, eq-eqb, ne-eqb}
 use Rattle.window.specs.Window.{times, countsFrom, noneAbove, same}
-use Rattle.window.proofs.Tests.{and-first, and-fails, not-both}
+use Rattle.window.proofs.Tests.{and-first, and-fails}
 use Rattle.window.proofs.Counting.{times-most, counts-at, counts-more}
 
 drop-next : (l : List ℕ) (i : ℕ) → i < length l → drop i l ≡ getD l i 0 ∷ drop (i + 1) l

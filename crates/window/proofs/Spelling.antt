@@ -1,11 +1,11 @@
 -- Words among bytes, as the loops read and write them.
 -- Assumes nothing.
-use Prim.Native.Nat.{ℕ, suc, _+_, _-_, _*_, _/_, _%_, _≤_, _<_}
+use Prim.Native.Nat.{ℕ, suc, _+_, _*_, _/_, _%_, _≤_, _<_}
 use native.Mathlib.Omega.{arith}
 use mathlib.Core.Path.{_≡_, refl, sym, ap, _∙_}
 use mathlib.Core.List.{List, [], _∷_, _++_, append-assoc, append-nil}
 use lib.ListN.{length, getD, set, take, drop, length-append, length-drop, drop-of-length-le}
-use lib.Seq.{drop-cons, drop-drop, take-suc, take-suc-set, take-all, take-length, getD-take, length-take-le, set-at}
+use lib.Seq.{drop-cons, take-suc, take-suc-set, take-all, take-length, getD-take, length-take-le, set-at}
 use Rattle.window.specs.Bytes.{wordsOf, bytesOf, windowIn}
 
 two-next : (l : List ℕ) (k : ℕ) → k + 2 ≤ length l → drop k l ≡ getD l k 0 ∷ getD l (k + 1) 0 ∷ drop (k + 2) l

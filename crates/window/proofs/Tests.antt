@@ -1,8 +1,8 @@
 -- Tests in a row, and tests over lists.
 -- Assumes nothing.
-use Prim.Native.Nat.{ℕ, zero, suc, _+_, _≤_}
+use Prim.Native.Nat.{ℕ, zero, suc, _≤_}
 use native.Mathlib.Omega.{arith}
-use mathlib.Core.Path.{_≡_, refl, sym, ap, _∙_}
+use mathlib.Core.Path.{_≡_, refl, ap, _∙_}
 use mathlib.Core.Bool.{Bool, true, false, _&&_}
 use mathlib.Core.List.{List, [], _∷_, _++_}
 use lib.Dec.{leb, eqb}
@@ -76,11 +76,6 @@ all-zeros (n ∷ l) p =
 
 -- ---- the same numbers
 
-pub same-refl : (l : List ℕ) → same l l ≡ true
-unfolding same
-same-refl [] = refl
-same-refl (n ∷ l) = and-holds (eqb n n) (same l l) (eq-eqb n n refl) (same-refl l)
-
 pub same-true : (l m : List ℕ) → same l m ≡ true → l ≡ m
 unfolding same
 same-true [] [] e = refl
@@ -88,3 +83,8 @@ same-true [] (n ∷ m) e = absurd (not-both e)
 same-true (n ∷ l) [] e = absurd (not-both e)
 same-true (n ∷ l) (k ∷ m) e =
     ap (λ (x : ℕ). x ∷ l) (eqb-true n k (and-left _ (same l m) e)) ∙ ap (λ (t : List ℕ). k ∷ t) (same-true l m (and-right (eqb n k) _ e))
+
+pub same-refl : (l : List ℕ) → same l l ≡ true
+unfolding same
+same-refl [] = refl
+same-refl (n ∷ l) = and-holds (eqb n n) (same l l) (eq-eqb n n refl) (same-refl l)

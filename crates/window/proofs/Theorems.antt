@@ -1,20 +1,20 @@
 -- The two theorems of change h: after any run the counts are a recount of its last accepted answers; and the test of a window takes exactly
 -- what some run gives.
 -- Assumes nothing.
-use Prim.Native.Nat.{ℕ, zero, suc, _+_, _≤_, _<_}
+use Prim.Native.Nat.{ℕ, zero, suc, _≤_, _<_}
 use native.Mathlib.Omega.{arith}
-use mathlib.Core.Path.{_≡_, refl, sym, ap, _∙_, subst}
+use mathlib.Core.Path.{_≡_, refl, sym, ap, _∙_}
 use mathlib.Core.Bool.{Bool, true, false, _&&_, cond}
 use mathlib.Core.List.{List, [], _∷_, _++_, map}
 use lib.Dec.{leb, eqb}
 use lib.ListN.{length, getD, drop, length-replicate, getD-replicate, List·getD-append}
-use borrow.Author.Tests.{leb-true, leb-false, le-leb, eqb-true, eqb-false, eq-eqb, ne-eqb}
+use borrow.Author.Tests.{leb-true, le-leb, eqb-true, eqb-false, eq-eqb, ne-eqb}
 use Rattle.window.specs.Window.{Answer, answer, entry, times, windowOf, emptyWindow, entriesOf, noneAbove, given, fits, last, enters, nextWindow}
 use Rattle.window.specs.Runs.{handOn, entered, faults, CountsAreARecount, allFit, EndOfARun, TestIsExact}
-use Rattle.window.proofs.Tests.{and-fails-right, and-holds, and-left, and-right, not-both, none-drop}
+use Rattle.window.proofs.Tests.{and-fails-right, and-left, and-right, not-both}
 use Rattle.window.proofs.Counting.{count-at}
 use Rattle.window.proofs.Words.{laid-out, empty-window, window-given, given-few, given-formed}
-use Rattle.window.proofs.Lasting.{last-all, last-nil, last-map, last-length}
+use Rattle.window.proofs.Lasting.{last-all, last-nil, last-map}
 use Rattle.window.proofs.Running.{kept, Kept, handed-on, entered-as, kept-last}
 
 -- ---- entries counted are answers counted

@@ -1,9 +1,9 @@
 -- The words of a window: where its entries and counts stand, and that the test passes exactly the words of entries.
 -- Assumes nothing.
-use Prim.Native.Nat.{ℕ, suc, _+_, _-_, _≤_, _<_}
+use Prim.Native.Nat.{ℕ, _+_, _-_, _≤_, _<_}
 use native.Mathlib.Omega.{arith}
 use mathlib.Core.Path.{_≡_, refl, sym, ap, _∙_}
-use mathlib.Core.Bool.{Bool, true, false, _&&_}
+use mathlib.Core.Bool.{true}
 use mathlib.Core.List.{List, [], _∷_, _++_, append-assoc}
 use lib.Dec.{leb}
 use lib.ListN.{length, getD, take, drop, replicate, length-append, length-replicate, length-drop, take-append-drop}
@@ -11,7 +11,7 @@ use lib.Seq.{drop-cons, drop-drop, drop-append-le, take-at, drop-at, getD-at, ge
 use borrow.Author.Tests.{leb-true, le-leb}
 use Rattle.window.specs.Window.{times, countsFrom, recount, windowOf, emptyWindow, held, entriesOf, behind, noneAbove, same, given}
 use Rattle.window.specs.Entering.{Formed}
-use Rattle.window.proofs.Tests.{and-first, and-holds, and-left, and-right, none-zeros, all-zeros, same-refl, same-true}
+use Rattle.window.proofs.Tests.{and-holds, and-left, and-right, none-zeros, all-zeros, same-refl, same-true}
 use Rattle.window.proofs.Counting.{recount-length}
 
 abbrev zerosBehind : List ℕ → List ℕ

@@ -5,6 +5,8 @@
 //! `compare` makes one call on both sides, `walk` makes the calls of a run, `bytes` and
 //! `outputs` give inputs and output lengths, `counts` says what was met. All is deterministic;
 //! a difference prints the class, seed and step of the input, the call and the bytes.
+//!
+//! `window` does the same for the window of faults, which reads no configuration.
 
 pub mod bytes;
 pub mod compare;
@@ -16,3 +18,4 @@ pub mod memory;
 pub mod memory_fault;
 pub mod outputs;
 pub mod walk;
+pub mod window;

@@ -1,6 +1,5 @@
 -- `window_next` of `window::calls` meets its contract.
 -- Assumes nothing.
-use native.Mathlib.Omega.{arith}
 use mathlib.Core.Path.{sym, _∙_}
 use borrow.Author.Tests.{not-true, not-false}
 use Rattle.window.proofs.Answering.{width-low, width-high, no-operation, not-given, not-accepted, has-entered}

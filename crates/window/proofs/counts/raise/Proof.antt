@@ -1,7 +1,7 @@
 -- `raise` of `window::counts` meets its contract.
 -- Assumes nothing.
 use native.Mathlib.Omega.{arith}
-use mathlib.Core.Path.{ap, _∙_}
+use mathlib.Core.Path.{ap}
 use lib.ListN.{getD}
 use Prim.Native.Nat.{ℕ}
 use Rattle.window.proofs.Counting.{is-raised, not-raised}

@@ -1,6 +1,6 @@
 -- `tally` of `window::counts` meets its contract. The loop's invariant: the first i entries are counted, and none is above 64.
 -- Assumes nothing.
-use Prim.Native.Nat.{_+_, _-_, _≤_}
+use Prim.Native.Nat.{_-_, _≤_}
 use native.Mathlib.Omega.{arith}
 use mathlib.Core.Path.{_≡_, refl}
 use lib.ListN.{take, drop}

@@ -2,7 +2,7 @@
 -- Assumes nothing.
 use native.Mathlib.Omega.{arith}
 use mathlib.Core.Path.{_∙_}
-use Rattle.window.proofs.Words.{given-room, given-few, given-formed}
+use Rattle.window.proofs.Words.{given-room, given-formed}
 use Rattle.window.proofs.Changing.{with-room, when-full}
 use borrow.Author.Needs.{needs}
 use Rattle.window.proofs.entries.enter.Statement.{statement}

@@ -1,7 +1,6 @@
 -- `entry` of `window::entries` meets its contract.
 -- Assumes nothing.
 use native.Mathlib.Omega.{arith}
-use mathlib.Core.Path.{_≡_, refl, sym, ap, _∙_}
 use Rattle.window.proofs.Entering.{with-fault, without-fault}
 use borrow.Author.Needs.{needs}
 use Rattle.window.proofs.entries.entry.Statement.{statement}

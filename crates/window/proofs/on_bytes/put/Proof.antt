@@ -1,6 +1,6 @@
 -- `put` of `window::on_bytes` meets its contract. The loop's invariant: the bytes of the first i words are over the output.
 -- Assumes nothing.
-use Prim.Native.Nat.{_+_, _*_, _-_, _≤_}
+use Prim.Native.Nat.{_*_, _-_, _≤_}
 use native.Mathlib.Omega.{arith}
 use mathlib.Core.Path.{_≡_, refl}
 use mathlib.Core.List.{_++_}

@@ -1,7 +1,6 @@
 -- `given` of `window::testing` meets its contract.
 -- Assumes nothing.
 use native.Mathlib.Omega.{arith}
-use mathlib.Core.Path.{refl}
 use borrow.Author.Tests.{not-true, not-false}
 use Rattle.window.proofs.Given.{too-short, too-many, entry-above, not-zero, agreed, counted-length}
 use borrow.Author.Needs.{needs}
