@@ -13,7 +13,7 @@ pub fn wide(word: u16) -> usize
 }
 
 // How often each entry from 0 to 64 occurs; false if one is above 64.
-pub fn tally(window: &[u16], held: usize, counts: &mut [u16; 65]) -> bool
+pub(crate) fn tally(window: &[u16], held: usize, counts: &mut [u16; 65]) -> bool
     requires { ⌜ (65 + held ≤ length (now window)) × (held ≤ 1024) × (now counts ≡ replicate 65 0) ⌝ }
     ensures { λ r. ⌜ (r ≡ noneAbove 64 (take held (drop 65 (now (window .entry))))) × (r ≡ true → now (counts .exit) ≡ countsFrom 65 0 (take held (drop 65 (now (window .entry))))) ⌝ }
 {
@@ -30,7 +30,7 @@ pub fn tally(window: &[u16], held: usize, counts: &mut [u16; 65]) -> bool
 }
 
 // Whether the window's counts are these, from entry 1 on.
-pub fn agree(window: &[u16], counts: &[u16; 65]) -> bool
+pub(crate) fn agree(window: &[u16], counts: &[u16; 65]) -> bool
     requires { ⌜ (64 ≤ length (now window)) × (length (now counts) ≡ 65) ⌝ }
     ensures { λ r. ⌜ r ≡ same (take 64 (now (window .entry))) (drop 1 (now (counts .entry))) ⌝ }
 {
@@ -45,7 +45,7 @@ pub fn agree(window: &[u16], counts: &[u16; 65]) -> bool
 }
 
 // One fault more, if the entry is one.
-pub fn raise(window: &mut [u16], entry: u16)
+pub(crate) fn raise(window: &mut [u16], entry: u16)
     requires { ⌜ (entry ≤ length (now window)) × (getD (now window) (entry - 1) 0 ≤ 1024) ⌝ }
     ensures { λ r. ⌜ now (window .exit) ≡ raised entry (now (window .entry)) ⌝ }
 {
@@ -56,7 +56,7 @@ pub fn raise(window: &mut [u16], entry: u16)
 }
 
 // One fault less, if the entry is one.
-pub fn lower(window: &mut [u16], entry: u16)
+pub(crate) fn lower(window: &mut [u16], entry: u16)
     requires { ⌜ (entry ≤ length (now window)) × (0 < entry → 0 < getD (now window) (entry - 1) 0) ⌝ }
     ensures { λ r. ⌜ now (window .exit) ≡ lowered entry (now (window .entry)) ⌝ }
 {

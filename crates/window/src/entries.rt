@@ -13,7 +13,7 @@ ghost use Rattle.window.specs.Window as specs;
 ghost use Rattle.window.specs.Entering.{Formed};
 
 // The entry of an accepted answer: its operation plus 1 if a fault was delivered, else 0.
-pub fn entry(fault: u8, operation: u16) -> u16
+pub(crate) fn entry(fault: u8, operation: u16) -> u16
     requires { ⌜ operation ≤ 63 ⌝ }
     ensures { λ r. ⌜ (r ≡ specs.entry (specs.answer 0 fault operation)) × (r ≤ 64) ⌝ }
 {
@@ -55,7 +55,7 @@ fn replace(held: usize, entry: u16, window: &mut [u16])
 }
 
 // An entry into a window of this width: once that many are held, the oldest goes.
-pub fn enter(width: u16, entry: u16, window: &mut [u16])
+pub(crate) fn enter(width: u16, entry: u16, window: &mut [u16])
     requires { ⌜ (1 ≤ width) × (width ≤ 1024) × (entry ≤ 64) × (given width (now window) ≡ true) ⌝ }
     ensures { λ r. ⌜ now (window .exit) ≡ windowOf (last width (entriesOf (now (window .entry)) ++ (entry ∷ []))) ++ drop 1089 (now (window .entry)) ⌝ }
 {

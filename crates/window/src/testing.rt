@@ -24,7 +24,7 @@ fn zeros(window: &[u16], from: usize) -> bool
 }
 
 // Whether a run of this width gives the window: at most so many entries, each at most 64, zeros behind, and counts that are their recount.
-pub fn given(width: u16, window: &[u16]) -> bool
+pub(crate) fn given(width: u16, window: &[u16]) -> bool
     requires { ⌜ width ≤ 1024 ⌝ }
     ensures { λ r. ⌜ r ≡ specs.given width (now (window .entry)) ⌝ }
 {
