@@ -64,6 +64,16 @@ int main(void)
     printf("bill: %s, engine 2 owes %llu, engine 7 owes %llu\n", sock_word(bill.number), (unsigned long long)bill.totals[2],
            (unsigned long long)bill.totals[7]);
 
+    /* Faults among the last two accepted steps: two of operation 5, then a step without a fault, which pushes the first of them out. */
+    static uint8_t window[SOCK_WINDOW_BYTES];
+    struct sock_step_answer fault = {SOCK_ACCEPTED, SOCK_NOTICE, 1, 1, 139};
+    sock_hand_on(2, fault, 5, window, sizeof window);
+    sock_hand_on(2, fault, 5, window, sizeof window);
+    printf("faults of operation 5: %d", sock_count_faults(5, window, sizeof window).faults);
+    fault.fault = 0;
+    sock_hand_on(2, fault, 5, window, sizeof window);
+    printf(", then %d\n", sock_count_faults(5, window, sizeof window).faults);
+
     /* The raw call, which a program in another language makes: one number that holds all. */
     printf("packed: %016llx\n", (unsigned long long)sock_step(1, 3, 0, 3, 0, config, length, out, sizeof out));
     return 0;

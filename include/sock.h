@@ -9,13 +9,14 @@
  * own, so that the compiler tells one answer from another.
  *
  * Platform. x86-64 Linux, with its usual calling convention. Link with libcabinet.a, which `rt staticlib cabinet` writes to
- * target/staticlib. It is position-independent and needs one function from outside: memset.
+ * target/staticlib. It is position-independent and needs two functions from outside: memset and memmove.
  *
  * Memory. No call allocates, keeps a pointer or reads or writes outside what it is lent, and the library has no variables of its own. A
  * length may be 0; the pointer is then not followed, and may be null. With any other length it must point to so many bytes. Lent memory
  * may stand at any address. A configuration is only read. The output of a step must not overlap it, not by one byte: the proofs take the
  * two to be apart. sock_step cannot see an overlap and its answer then means nothing; sock_take_step refuses it (SOCK_OVERLAP). The same
- * holds of a bill's totals, which must not overlap its rates or replies.
+ * holds of a bill's totals, which must not overlap its rates or replies. A window is changed in place by sock_window_next and only read by
+ * sock_window_count.
  *
  * Threads and signals. Every call may be made from any thread and from a signal handler, also while another call is under way. Two
  * calls may read one configuration at the same time; nobody may write to it, or touch an output, until the call has returned.
@@ -34,9 +35,9 @@ extern "C" {
 
 /* This header's version. The first number rises when a call, an answer or the format changes, the second when something is added. */
 #define SOCK_VERSION_MAJOR 1
-#define SOCK_VERSION_MINOR 1
+#define SOCK_VERSION_MINOR 2
 #define SOCK_VERSION_PATCH 0
-#define SOCK_VERSION "1.1.0"
+#define SOCK_VERSION "1.2.0"
 
 /* The most words and bytes that a configuration has. */
 #define SOCK_WORDS 8192
@@ -46,6 +47,12 @@ extern "C" {
 #define SOCK_ENGINES 8
 #define SOCK_VARIABLES 32
 #define SOCK_VALUE_WORDS (2 * SOCK_VARIABLES)
+
+/* The operations, the widest window, and the words and bytes of a window. */
+#define SOCK_OPERATIONS 64
+#define SOCK_WINDOW_WIDEST 1024
+#define SOCK_WINDOW_WORDS (SOCK_OPERATIONS + 1 + SOCK_WINDOW_WIDEST)
+#define SOCK_WINDOW_BYTES (2 * SOCK_WINDOW_WORDS)
 
 /* Bytes of stack that are enough for any call. The most that a call was seen to use is below three quarters of it, which is tested. */
 #define SOCK_STACK 262144
@@ -65,6 +72,7 @@ enum sock_number {
     SOCK_SHORT_PAPER = 10,    /* the output is shorter than the result */
     SOCK_NOT_FRESH = 11,      /* start check: readable, but not a start */
     SOCK_UNKNOWN_SERIAL = 12, /* ends: the serial is 0 or above issued */
+    SOCK_WINDOW_WIDTH = 18,   /* window: a width that is not 1 to 1,024, an operation above 63, or a window that no run gives */
     SOCK_RATE_TOO_HIGH = 19,  /* bill: a rate is above 1,000,000, or the rates are not 256 bytes */
     SOCK_LIST_UNFIT = 20,     /* bill: list cut or too long, operation above 63 or engine above 7; or totals of fewer than 64 bytes */
     SOCK_OVERLAP = 255        /* sock_take_step alone: output and configuration overlap, so no call was made */
@@ -110,6 +118,7 @@ static inline const char *sock_word(unsigned number)
     case SOCK_SHORT_PAPER: return "short paper";
     case SOCK_NOT_FRESH: return "not fresh";
     case SOCK_UNKNOWN_SERIAL: return "unknown serial";
+    case SOCK_WINDOW_WIDTH: return "window width";
     case SOCK_RATE_TOO_HIGH: return "rate too high";
     case SOCK_LIST_UNFIT: return "list cut or too long, operation above 63 or engine above 7";
     case SOCK_OVERLAP: return "overlap";
@@ -312,6 +321,49 @@ static inline struct sock_bill_answer sock_charge(const uint8_t *rates, const ui
         for (byte = 0; byte < 8; byte++)
             bill.totals[engine] = bill.totals[engine] << 8 | totals[8 * engine + byte];
     return bill;
+}
+
+/* ---- Window: how often each operation ended in a fault, over the last accepted steps. ----
+ *
+ * A window is SOCK_WINDOW_BYTES bytes: 64 counts, how many entries there are, 1,024 entries, the oldest first (0, or the operation plus 1
+ * where a fault was delivered), zeros behind; words of two bytes, the high byte first. Begin with all bytes 0 and hand each answer of
+ * sock_step on, with the operation concerned. Bytes past the window's stay.
+ *
+ * `width` is how many accepted steps the window looks back, 1 to 1,024. It is not stored: the counts are those of the last `width` accepted
+ * steps if every answer since the window was empty was handed on with the same width. A wider one takes a window over as it is; a narrower
+ * one refuses it if it holds more.
+ *
+ * `number` and `fault` are the answer's. An answer with a number other than 0 leaves the window as it was. An accepted one enters and, once
+ * `width` are held, pushes the oldest out; it counts for its operation if its fault is 1.
+ *
+ * 0; or SOCK_WINDOW_WIDTH, and no byte has changed: the width is not 1 to 1,024, the operation is above 63, or the window is one that no
+ * run of this width gives (also if there are too few bytes). That is tried first, also where the answer was refused.
+ */
+uint8_t sock_window_next(uint16_t width, uint8_t number, uint8_t fault, uint16_t operation, uint8_t *window, size_t window_length);
+
+/* ---- Faults of an operation in a window. SOCK_WINDOW_WIDTH: an operation above 63, or a window that no run of width 1,024 gives. ---- */
+uint64_t sock_window_count(uint16_t operation, const uint8_t *window, size_t window_length);
+
+/* A part of sock_window_count's answer; its number is sock_number's. */
+static inline uint16_t sock_faults(uint64_t counted) { return (uint16_t)(counted & 0xffff); }
+
+struct sock_window_answer {
+    enum sock_number number;
+    uint16_t faults; /* 0 in a refusal */
+};
+
+/* Hands the answer of a step on. One that sock_take_step refused for overlap was no step: it leaves the window as it was. */
+static inline enum sock_number sock_hand_on(uint16_t width, struct sock_step_answer step, uint16_t operation,
+                                            uint8_t *window, size_t window_length)
+{
+    return (enum sock_number)sock_window_next(width, (uint8_t)step.number, (uint8_t)step.fault, operation, window, window_length);
+}
+
+static inline struct sock_window_answer sock_count_faults(uint16_t operation, const uint8_t *window, size_t window_length)
+{
+    uint64_t counted = sock_window_count(operation, window, window_length);
+    struct sock_window_answer faults = {sock_number(counted), sock_faults(counted)};
+    return faults;
 }
 
 #ifdef __cplusplus

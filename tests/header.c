@@ -131,6 +131,21 @@ static void bills(void)
     check(strcmp(sock_word(19), "rate too high") == 0 && *sock_word(13) == 0, "the words of numbers");
 }
 
+static void windows(void)
+{
+    static uint8_t window[SOCK_WINDOW_BYTES];
+    struct sock_step_answer step = {SOCK_ACCEPTED, SOCK_NOTICE, 1, 1, 139};
+    check(SOCK_WINDOW_BYTES == 2178, "a window's bytes");
+    check(sock_hand_on(SOCK_WINDOW_WIDEST, step, 63, window, sizeof window) == SOCK_ACCEPTED, "a fault handed on");
+    check(sock_count_faults(63, window, sizeof window).faults == 1 && sock_get(window, 64) == 1, "it is counted");
+    step.number = SOCK_NO_FIT;
+    check(sock_hand_on(SOCK_WINDOW_WIDEST, step, 63, window, sizeof window) == SOCK_ACCEPTED, "a refused step handed on");
+    check(sock_count_faults(63, window, sizeof window).faults == 1 && sock_get(window, 64) == 1, "it is not");
+    check(sock_hand_on(SOCK_WINDOW_WIDEST + 1, step, 63, window, sizeof window) == SOCK_WINDOW_WIDTH, "a width that is none");
+    check(sock_count_faults(64, window, sizeof window).number == SOCK_WINDOW_WIDTH, "an operation that is none");
+    check(sock_count_faults(0, NULL, 0).number == SOCK_WINDOW_WIDTH, "no window");
+}
+
 static void version(void)
 {
     char text[32];
@@ -146,6 +161,7 @@ int main(void)
     overlap(sock_bytes(words));
     null_pointers(sock_bytes(words));
     bills();
+    windows();
     version();
     return failures != 0;
 }

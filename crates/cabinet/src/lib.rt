@@ -2,4 +2,5 @@
 pub mod billing_bytes;
 pub mod calls;
 pub mod stepping_bytes;
+pub mod window_bytes;
 pub mod words;

@@ -24,6 +24,8 @@ pub enum Call {
     CheckStart,
     CheckReadable,
     Ends { serial: u16 },
+    WindowNext { width: u16, number: u8, fault: u8, operation: u16, length: usize },
+    WindowCount { operation: u16, length: usize },
     Process { engine: u16 },
     Step { numbers: Numbers, output: usize },
     Bill { rates: usize, replies: usize, totals: usize },

@@ -8,6 +8,8 @@
 //! `outputs` give inputs and output lengths, `counts` says what was met. `painted` measures the
 //! stack that a call needs, on the configurations of `deep`. All is deterministic; a difference
 //! prints the class, seed and step of the input, the call and the bytes.
+//!
+//! `window` does the same for the window of faults, which reads no configuration.
 
 pub mod billing;
 pub mod bytes;
@@ -23,3 +25,4 @@ pub mod outputs;
 pub mod pages;
 pub mod painted;
 pub mod walk;
+pub mod window;

@@ -17,6 +17,8 @@
 //!   has them.
 //! - In handover, a length word that is cut itself counts as missing words; "cut" stands alone
 //!   in its line, in place of "end" and the length.
+//!
+//! `window` is document 02's change h, and stands by itself.
 
 pub mod alone;
 pub mod billing;
@@ -39,6 +41,7 @@ pub mod process;
 pub mod read;
 pub mod readable;
 pub mod refusal;
+pub mod window;
 pub mod write;
 
 pub use bytes::{sock_check_readable, sock_check_start, sock_ends, sock_process, sock_step};

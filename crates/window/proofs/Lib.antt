@@ -1,0 +1,13 @@
+pub mod Tests
+pub mod Counting
+pub mod Words
+pub mod Lasting
+pub mod Entering
+pub mod Running
+pub mod Theorems
+pub mod Loops
+pub mod Spelling
+pub mod Given
+pub mod Changing
+pub mod Answering
+pub mod Examples

@@ -1,0 +1,4 @@
+pub mod Window
+pub mod Runs
+pub mod Bytes
+pub mod Entering
