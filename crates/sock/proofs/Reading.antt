@@ -153,7 +153,7 @@ module _
         holds-check _ λ t.
         holds-then (below ws) λ p then f.
         holds-check _ λ good.
-        holds-then (entries-found n (suc (keyOf w)) then) λ es rest q.
+        holds-then (entries-found n _ then) λ es rest q.
         let t = split (isWord w && clear 512 w) (leb least (keyOf w)) t in
         let u = split (isWord w) (clear 512 w) (t .0) in
         let same : w ≡ keyWord (keyOf w) = omega tests in

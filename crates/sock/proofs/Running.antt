@@ -3,7 +3,7 @@
 -- Assumes nothing.
 use Prim.Native.Nat.{ℕ, _+_, _*_, _%_, _≤_, _<_}
 use native.Mathlib.Omega.{arith}
-use mathlib.Core.Path.{_≡_, refl, ap, ap₂}
+use mathlib.Core.Path.{_≡_, refl, sym, ap, ap₂, _∙_}
 use mathlib.Core.Bool.{Bool, true, false, not, _&&_}
 use mathlib.Core.List.{[], _∷_}
 use lib.Dec.{T}
@@ -162,3 +162,7 @@ module _ {n issued : ℕ} (few : n ≤ 8) (word : issued < 65536) where
       let b = engine-below client serial e in
       rw (head-kind 18 (nameFields o 0) (fields-below o 0 bo (omega arith)), name-of 18 o 0 bo (omega arith), noticed-fault f client b, noticed-client f client b)
   asNode-awake (actSound {p} i f) = plain-opened n issued ofRunning p i (code-kind f)
+
+-- code that becomes enabled is opened as what is read enabled is
+pub enable-awake : {p : Place} {m : Node} → Fits (code false) p m → enable m ≡ awake m
+enable-awake f = sym (asNode-awake {n = 1} {issued = 0} (omega arith) (omega arith) (enable-sound 1 0 f)) ∙ ap awake (enable-asNode f)

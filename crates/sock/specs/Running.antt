@@ -100,6 +100,7 @@ unfoldable mutual
 unfoldable pub awake : Node → Run
 awake p = opened forms p
 
--- Code that becomes enabled: no kinds 16 to 18 stand in code, so the table ends before them
+-- Code that becomes enabled: no kinds 16 to 18 stand in code, so the table ends before them. Of code that fits it is `awake`
+-- (Running.enable-awake).
 unfoldable pub enable : Node → Run
 enable p = opened (take 12 forms) p
