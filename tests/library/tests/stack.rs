@@ -1,5 +1,5 @@
 //! The stack that each call needs: on configurations that are deep and long at once, every call is
-//! made on a painted stack, and the most that one used stays below three quarters of what
+//! made on a painted stack (the bill and the window, which read none, on the most they take), and the most that one used stays below three quarters of what
 //! `include/sock.h` promises to be enough. The answers are the second implementation's.
 
 use library::counts::ACTORS;
@@ -13,6 +13,26 @@ use reference::generate::steps::{fitting, stands};
 use reference::{readable, write, Numbers, STANDARD};
 use std::collections::{BTreeMap, BTreeSet};
 use std::io::Write;
+
+extern "C" {
+    fn sock_bill(
+        rates: *const u8,
+        rates_length: usize,
+        replies: *const u8,
+        replies_length: usize,
+        totals: *mut u8,
+        totals_length: usize,
+    ) -> u8;
+    fn sock_window_next(
+        width: u16,
+        number: u8,
+        fault: u8,
+        operation: u16,
+        window: *mut u8,
+        length: usize,
+    ) -> u8;
+    fn sock_window_count(operation: u16, window: *const u8, length: usize) -> u64;
+}
 
 /// What the header promises: the number in its line `#define SOCK_STACK`.
 fn promised() -> usize {
@@ -88,6 +108,29 @@ impl Most {
     }
 }
 
+/// The calls that read no configuration: a full list, and a window that is full.
+fn others(most: &mut Most) {
+    let (rates, replies) = ([0u8; 256], vec![0u8; 12 * 65_535]);
+    let mut totals = [7u8; 64];
+    let start = totals.as_mut_ptr();
+    let number = most.call("sock_bill", "a full list", || unsafe {
+        sock_bill(rates.as_ptr(), 256, replies.as_ptr(), replies.len(), start, 64).into()
+    });
+    assert_eq!((number, totals), (0, [0; 64]));
+    let mut window = [0u8; 2178];
+    let start = window.as_mut_ptr();
+    for _ in 0..1030 {
+        let number = most.call("sock_window_next", "a full window", || unsafe {
+            sock_window_next(1024, 0, 1, 63, start, 2178).into()
+        });
+        assert_eq!(number, 0);
+    }
+    let count = most.call("sock_window_count", "a full window", || unsafe {
+        sock_window_count(63, start, 2178)
+    });
+    assert_eq!(count, 1024);
+}
+
 /// What acts, first of all; also the first and the last that are enabled, whatever they are.
 fn steps(configuration: &Configuration) -> Vec<Numbers> {
     let mut all: Vec<Numbers> = fitting(configuration).into_iter().map(|step| step.0).collect();
@@ -111,10 +154,11 @@ fn no_call_needs_more_stack_than_three_quarters_of_the_promise() {
             most.step(&shape, &config, numbers);
         }
     }
+    others(&mut most);
     most.print();
     let actors = ACTORS.iter().map(|kind| u64::from(*kind));
     assert!(most.kinds.iter().copied().eq(actors), "accepted kinds {:?}", most.kinds);
-    assert_eq!(most.used.len(), 5, "a call was not made");
+    assert_eq!(most.used.len(), 8, "a call was not made");
     for (call, (used, shape)) in &most.used {
         assert!(4 * used <= 3 * promised(), "{call} used {used} bytes of stack ({shape})");
     }
