@@ -12,8 +12,8 @@ use lib.Seq.{length-paste}
 use borrow.Author.Tests.{eqb-false}
 use Rattle.sock.proofs.Logic.{cond-case, test-false}
 use Rattle.layout.specs.Positions.{onward}
-use Rattle.moving.specs.Writing.{pasted, lowered}
-use Rattle.moving.proofs.Laid.{Near, near-below, onward-near, Laid, laid-put, laid-then, laid-again, laid-less, laid-down}
+use Rattle.writers.specs.Writing.{pasted, lowered}
+use Rattle.writers.proofs.Laid.{Near, near-below, onward-near, Laid, laid-put, laid-then, laid-again, laid-less, laid-down}
 use Rattle.handling.specs.Replacing.{Wrote, wrote, Walk, afterFirst, seqW, closePar, parAfter, parW}
 
 -- the words `new` at `to`, in a node that ends at e

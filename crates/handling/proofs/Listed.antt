@@ -18,8 +18,8 @@ use Rattle.sock.proofs.Positions.{at-head, at-past}
 use Rattle.skipping.specs.Skip.{skipEnd}
 use Rattle.skipping.proofs.Skips.{code-end}
 use Rattle.layout.specs.Positions.{onward}
-use Rattle.moving.specs.Writing.{pasted, pastedEnd}
-use Rattle.moving.proofs.Laid.{Near, onward-near, Laid, laid-copy, copy-end}
+use Rattle.writers.specs.Writing.{pasted, pastedEnd}
+use Rattle.writers.proofs.Laid.{Near, onward-near, Laid, laid-copy, copy-end}
 
 pub record FirstEntry (ws : List ℕ) (i k : ℕ) (p : Node) (behind : List ℕ) : Type 0 where
   pub inside : i < length ws

@@ -22,8 +22,8 @@ use Rattle.sock.proofs.Positions.{At, at-head, at-past}
 use Rattle.handling.specs.declared.measure.Measured.{Measured}
 use Rattle.layout.specs.Positions.{onward}
 use Rattle.handling.specs.Measuring.{measured, operandLevels, expressionLevels, partsLevels, expressedLevels, entriesLevels, listLevels, nodeLevels, codeLevels}
-use Rattle.moving.proofs.Evaluates.{operator-tag}
-use Rattle.moving.proofs.Laid.{Near, onward-near}
+use Rattle.evaluating.proofs.Evaluates.{operator-tag}
+use Rattle.writers.proofs.Laid.{Near, onward-near}
 
 both : {a b x y : ℕ} → a ≡ b → x ≡ y → measured a x ≡ measured b y
 both p q = ap₂ (λ (n v : ℕ). measured n v) p q

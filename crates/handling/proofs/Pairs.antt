@@ -12,7 +12,7 @@ use Rattle.sock.specs.Reading.{code, Place, anywhere}
 use Rattle.sock.specs.Handlers.{rebuilt, replaced}
 use Rattle.sock.proofs.Fits.{Fits}
 use Rattle.sock.proofs.Positions.{At, at-head, at-past}
-use Rattle.moving.proofs.Laid.{Near, near-below}
+use Rattle.writers.proofs.Laid.{Near, near-below}
 use Rattle.handling.specs.declared.replace.Old.{Old}
 use Rattle.handling.specs.Replacing.{Wrote, seqW, parW, replaceW}
 use Rattle.handling.proofs.Measures.{shallow}

@@ -21,8 +21,8 @@ use Rattle.sock.proofs.Handlers.{replaced-fits}
 use Rattle.sock.proofs.ByKind.{head-tests}
 use Rattle.sock.proofs.Positions.{at-past}
 use Rattle.layout.specs.Positions.{onward}
-use Rattle.moving.specs.Writing.{pasted, pastedEnd}
-use Rattle.moving.proofs.Laid.{Near, near-below, laid-put, laid-then, laid-copy, copy-end}
+use Rattle.writers.specs.Writing.{pasted, pastedEnd}
+use Rattle.writers.proofs.Laid.{Near, near-below, laid-put, laid-then, laid-copy, copy-end}
 use Rattle.handling.specs.declared.measure.Measured.{Measured}
 use Rattle.handling.specs.declared.replace.Old.{Old}
 use Rattle.handling.specs.Measuring.{measured}

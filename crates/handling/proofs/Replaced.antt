@@ -8,7 +8,7 @@ use lib.ListN.{length, drop}
 use Rattle.sock.specs.Term.{Node, isNil}
 use Rattle.sock.specs.Layout.{words, depth}
 use Rattle.sock.specs.Handlers.{replaced}
-use Rattle.moving.proofs.Laid.{Laid}
+use Rattle.writers.proofs.Laid.{Laid}
 use Rattle.handling.specs.Replacing.{Wrote}
 use Rattle.handling.specs.declared.replace.Old.{Old}
 

@@ -8,7 +8,7 @@ use mathlib.Core.List.{List}
 use lib.Dec.{leb}
 use lib.ListN.{length, getD, set}
 use Rattle.layout.specs.Positions.{onward}
-use Rattle.moving.specs.Writing.{lowered}
+use Rattle.writers.specs.Writing.{lowered}
 use Rattle.handling.specs.Measuring.{expressionLevels, codeLevels}
 use Rattle.handling.specs.Replacing.{wrote, Walk, parW, parAfter, closePar, partsW, nodeW, replaceW}
 use Rattle.handling.specs.declared.replace.Rebuilt.{Rebuilt}

@@ -21,7 +21,7 @@ use Rattle.sock.proofs.Nodes.{fixed-length}
 use Rattle.sock.proofs.ByKind.{head-tests}
 use Rattle.sock.proofs.Positions.{At, at-head}
 use Rattle.layout.specs.Positions.{onward}
-use Rattle.moving.proofs.Laid.{Near, onward-near}
+use Rattle.writers.proofs.Laid.{Near, onward-near}
 use Rattle.handling.specs.declared.measure.Measured.{Measured}
 use Rattle.handling.specs.declared.replace.Old.{Old}
 use Rattle.handling.specs.Measuring.{measured, expressionLevels, codeLevels}

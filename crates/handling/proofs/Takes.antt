@@ -15,8 +15,8 @@ use Rattle.sock.specs.Reading.{code, anywhere, holds}
 use Rattle.sock.specs.Handlers.{handler, without}
 use Rattle.sock.proofs.Fits.{Fits, FitsEntries, emptyFits, entryFitsOn}
 use Rattle.sock.proofs.Positions.{at-head}
-use Rattle.moving.specs.Writing.{pasted}
-use Rattle.moving.proofs.Laid.{Near, onward-near, Laid, laid-then}
+use Rattle.writers.specs.Writing.{pasted}
+use Rattle.writers.proofs.Laid.{Near, onward-near, Laid, laid-then}
 use Rattle.handling.specs.Taking.{Passed, Took, passing, passed, lessIf, passW, passesW, tookW, takeW}
 use Rattle.handling.specs.declared.take.Passing.{Passing}
 use Rattle.handling.proofs.Listed.{FirstEntry, pasted-length, laid-none, count-laid, first-entry, entry-end, entry-reaches, entry-laid}

@@ -5,7 +5,7 @@ use mathlib.Core.List.{List, [], _∷_}
 use lib.Dec.{leb, eqb}
 use lib.ListN.{length, getD, set}
 use Rattle.layout.specs.Positions.{onward}
-use Rattle.moving.specs.Writing.{pasted, pastedEnd, lowered}
+use Rattle.writers.specs.Writing.{pasted, pastedEnd, lowered}
 use Rattle.handling.specs.Measuring.{expressionLevels, codeLevels}
 use Rattle.handling.specs.declared.measure.Measured.{Measured}
 use Rattle.handling.specs.declared.replace.Rebuilt.{Rebuilt}

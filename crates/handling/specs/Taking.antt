@@ -6,7 +6,7 @@ use lib.Dec.{eqb}
 use lib.ListN.{getD, set}
 use Rattle.skipping.specs.Skip.{skipEnd}
 use Rattle.layout.specs.Positions.{onward}
-use Rattle.moving.specs.Writing.{pasted, pastedEnd}
+use Rattle.writers.specs.Writing.{pasted, pastedEnd}
 use Rattle.handling.specs.declared.take.Passing.{Passing}
 use Rattle.handling.specs.declared.take.Taken.{Taken}
 

@@ -3,9 +3,9 @@ use layout::number::further;
 use layout::number::less_one;
 use layout::number::wide;
 use layout::number::word;
-use moving::write::copy;
-use moving::write::put;
 use skipping::skip::skip;
+use writers::write::copy;
+use writers::write::put;
 ghost use mathlib.Core.Path.{_≡_};
 ghost use Rattle.handling.specs.Taking.{lessIf, passW, takeW};
 

@@ -14,7 +14,7 @@ use Rattle.sock.specs.Calls.{Result, refused, done, Numbers, Stepped, step, ans
 use Rattle.sock.specs.Bytes.{numbersIn, wordsAfter, endLine, cutLine, stepLine}
 use Rattle.stepping.specs.declared.answer.Answer.{Answer}
 use Rattle.stepping.specs.Answers.{answerAs, numbers}
-use Rattle.moving.specs.Writing.{pasted}
+use Rattle.writers.specs.Writing.{pasted}
 use Rattle.cabinet.proofs.Stepping.{number-positive, fits-room, step-agrees}
 use Rattle.handover.specs.Printed.{definedAs, lastLine, turnLine, turnWords}
 

@@ -21,7 +21,7 @@ use Rattle.sock.proofs.Fits.{Fits}
 use Rattle.sock.proofs.Running.{enable-asNode}
 use Rattle.sock.proofs.Measures.{words-seq, words-executor, depth-nil, depth-seq, depth-executor}
 use Rattle.layout.specs.Positions.{onward}
-use Rattle.moving.proofs.Laid.{Near, onward-near, Laid, laid-put, laid-then}
+use Rattle.writers.proofs.Laid.{Near, onward-near, Laid, laid-put, laid-then}
 use Rattle.rules.specs.declared.turn.Turn.{Turn}
 use Rattle.rules.specs.declared.pair.Offer.{Offer}
 use Rattle.rules.specs.Turning.{vanishing, keeping, at, partW}

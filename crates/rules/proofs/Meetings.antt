@@ -16,7 +16,7 @@ use Rattle.sock.specs.Configuration.{guarded}
 use Rattle.sock.specs.Rules.{Receiver, offer, followed, Exchange, notified, solicited, replied, faulting, awaited}
 use Rattle.sock.proofs.Fits.{Sound}
 use Rattle.sock.proofs.Fields.{turned-round, second-below}
-use Rattle.moving.proofs.Laid.{Near}
+use Rattle.writers.proofs.Laid.{Near}
 use Rattle.rules.specs.declared.turn.Turn.{Turn}
 use Rattle.rules.specs.declared.pair.Offer.{Offer}
 use Rattle.rules.specs.Turning.{at}

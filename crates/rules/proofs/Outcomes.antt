@@ -15,7 +15,7 @@ use Rattle.sock.proofs.Measures.{size-nil, depth-nil}
 use Rattle.sock.proofs.Shrinking.{NoLarger, plug-shrinks}
 use Rattle.finding.specs.declared.find.Spot.{Spot}
 use Rattle.finding.proofs.Spots.{Spotted}
-use Rattle.moving.proofs.Laid.{Near}
+use Rattle.writers.proofs.Laid.{Near}
 use Rattle.rules.specs.declared.turn.Turn.{Turn}
 use Rattle.rules.specs.declared.plan.Plan.{Plan}
 use Rattle.rules.specs.Planning.{plainW}

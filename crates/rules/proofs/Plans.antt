@@ -16,7 +16,7 @@ use Rattle.finding.proofs.Pieces.{hole, Swap}
 use Rattle.finding.proofs.Spots.{Spotted}
 use Rattle.finding.proofs.Edits.{part, edited, nil-plain, swap-plain, cut-order}
 use Rattle.layout.specs.Positions.{onward}
-use Rattle.moving.proofs.Laid.{Near, onward-near}
+use Rattle.writers.proofs.Laid.{Near, onward-near}
 use Rattle.rules.specs.declared.turn.Turn.{Turn}
 use Rattle.rules.specs.declared.plan.Plan.{Plan}
 use Rattle.rules.specs.Planning.{hollowW, nilW, plainW}

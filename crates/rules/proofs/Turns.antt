@@ -23,9 +23,9 @@ use Rattle.sock.proofs.Running.{enable-asNode, enable-done}
 use Rattle.sock.proofs.Measures.{words-act, words-seq, depth-nil, depth-seq, depth-act}
 use Rattle.reading.proofs.Combining.{Words}
 use Rattle.skipping.proofs.Skips.{code-end}
-use Rattle.moving.specs.Evaluating.{evaluated}
-use Rattle.moving.proofs.Evaluates.{evaluates}
-use Rattle.moving.proofs.Laid.{Near, Laid, laid-put, laid-then, laid-copy, copy-end}
+use Rattle.evaluating.specs.Evaluating.{evaluated}
+use Rattle.evaluating.proofs.Evaluates.{evaluates}
+use Rattle.writers.proofs.Laid.{Near, Laid, laid-put, laid-then, laid-copy, copy-end}
 use Rattle.rules.specs.declared.turn.Turn.{Turn}
 use Rattle.rules.specs.Turning.{Turned, turned, vanishing, keeping, refused, at, partW, assignW, partEnd, branchW, levelsLeft, unrollW, repeatW}
 use Rattle.rules.proofs.Deep.{code-fits, head-nil}

@@ -22,7 +22,7 @@ use Rattle.sock.proofs.Fields.{turned-round, head-kind, fields-below, name-of, 
 use Rattle.sock.proofs.ByKind.{runKind, kind-asNode, code-kind}
 use Rattle.sock.proofs.Measures.{words-act, words-waiter, depth-nil, depth-act, depth-waiter}
 use Rattle.skipping.proofs.Skips.{code-end, run-end}
-use Rattle.moving.proofs.Laid.{Near, laid-put}
+use Rattle.writers.proofs.Laid.{Near, laid-put}
 use Rattle.rules.specs.Turning.{turned, vanishing, keeping, at, partEnd}
 use Rattle.rules.specs.Offering.{receivesW, waiterHead, askW, waitsW, awaitsW, answerW, throwHead, failW}
 use Rattle.rules.proofs.Turns.{becomes-nil, head-on}

@@ -6,8 +6,8 @@ use lib.Dec.{ltb, eqb}
 use lib.ListN.{getD, set}
 use Rattle.reading.specs.Walk.{processEnd}
 use Rattle.skipping.specs.Skip.{skipEnd}
-use Rattle.moving.specs.Writing.{pasted, pastedEnd}
-use Rattle.moving.specs.Evaluating.{evaluated}
+use Rattle.writers.specs.Writing.{pasted, pastedEnd}
+use Rattle.evaluating.specs.Evaluating.{evaluated}
 use Rattle.rules.specs.declared.turn.Turn.{Turn}
 
 -- a turn, and the fresh words afterwards

@@ -4,15 +4,15 @@ use crate::turn::keep;
 use crate::turn::refusal;
 use crate::turn::to_nil;
 use crate::turn::to_part;
+use evaluating::evaluate::evaluate;
 use layout::head;
 use layout::limit::FUEL;
 use layout::number::wide;
 use layout::number::word;
-use moving::evaluate::evaluate;
-use moving::write::copy;
-use moving::write::put;
 use reading::reader::read;
 use skipping::skip::skip;
+use writers::write::copy;
+use writers::write::put;
 ghost use mathlib.Core.Path.{_≡_};
 ghost use Rattle.rules.specs.Turning.{assignW, branchW, unrollW, repeatW, levelsLeft};
 

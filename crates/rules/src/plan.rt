@@ -2,7 +2,7 @@
 use crate::turn::Turn;
 use finding::find::Spot;
 use layout::number::further;
-use moving::write::put;
+use writers::write::put;
 ghost use mathlib.Core.Path.{_≡_};
 ghost use Rattle.rules.specs.Planning.{refusedPlan, hollowW, nilW, plainW};
 

@@ -14,7 +14,7 @@ use Rattle.sock.specs.Rules.{also, kill, climb}
 use Rattle.sock.proofs.Logic.{and-left, and-right, and-both, test-false}
 use Rattle.sock.proofs.Located.{wrap}
 use Rattle.finding.proofs.Stops.{stopped, catches}
-use Rattle.moving.proofs.Around.{free}
+use Rattle.sock.proofs.Around.{free}
 use Rattle.rules.proofs.Turns.{both-ways}
 
 -- the scope among the frames that stops the fault f, around a: the frames inside it let f pass

@@ -28,8 +28,8 @@ use Rattle.finding.specs.declared.find.Spot.{Spot}
 use Rattle.finding.proofs.Framing.{scoped, region, nearest-self}
 use Rattle.finding.proofs.Spots.{Spotted}
 use Rattle.finding.proofs.Edits.{part, edited, swap-edited, process-at, list-at, region-changed, scope-none}
-use Rattle.moving.specs.Writing.{pasted, pastedEnd}
-use Rattle.moving.proofs.Laid.{Near, onward-near, Laid, laid-under, laid-copy, copy-end}
+use Rattle.writers.specs.Writing.{pasted, pastedEnd}
+use Rattle.writers.proofs.Laid.{Near, onward-near, Laid, laid-under, laid-copy, copy-end}
 use Rattle.handling.specs.Taking.{Took, takeW}
 use Rattle.handling.proofs.Takes.{Takes, takes, Stands, without-absent}
 use Rattle.handling.proofs.Stays.{without-shallow, without-short}

@@ -21,7 +21,7 @@ use Rattle.finding.specs.declared.find.Spot.{Spot}
 use Rattle.finding.proofs.Framing.{scoped, nearest-self}
 use Rattle.finding.proofs.Spots.{Spotted}
 use Rattle.finding.proofs.Edits.{scope-none}
-use Rattle.moving.proofs.Laid.{Near}
+use Rattle.writers.proofs.Laid.{Near}
 use Rattle.rules.specs.Planning.{nilW}
 use Rattle.rules.proofs.Outcomes.{Ruled}
 use Rattle.scopes.specs.Ending.{endingW, endedW}

@@ -28,7 +28,7 @@ use Rattle.finding.proofs.Pieces.{hole}
 use Rattle.finding.proofs.Spots.{Spotted}
 use Rattle.finding.proofs.Edits.{process-at, list-at, region-changed, scope-none}
 use Rattle.layout.specs.Positions.{onward}
-use Rattle.moving.proofs.Laid.{Near, near-of, onward-near}
+use Rattle.writers.proofs.Laid.{Near, near-of, onward-near}
 use Rattle.handling.specs.Updating.{Update, updateW}
 use Rattle.handling.proofs.Replaces.{replaces}
 use Rattle.handling.proofs.Grows.{replaced-small}

@@ -18,7 +18,7 @@ use Rattle.finding.proofs.Framing.{scoped, region}
 use Rattle.finding.proofs.Pieces.{hole, Cut}
 use Rattle.finding.proofs.Spots.{Spotted}
 use Rattle.finding.proofs.Edits.{part, edited, nil-edited, cut-order, list-order, region-changed}
-use Rattle.moving.proofs.Laid.{Near, onward-near, Laid, laid-put, laid-under}
+use Rattle.writers.proofs.Laid.{Near, onward-near, Laid, laid-put, laid-under}
 use Rattle.rules.specs.declared.plan.Plan.{Plan}
 use Rattle.rules.specs.Planning.{hollowW, nilW}
 use Rattle.rules.proofs.Plans.{Ordered, Plans, edited-words}

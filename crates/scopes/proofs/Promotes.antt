@@ -30,7 +30,7 @@ use Rattle.finding.specs.declared.find.Spot.{Spot}
 use Rattle.finding.proofs.Framing.{scoped, outside}
 use Rattle.finding.proofs.Spots.{Spotted}
 use Rattle.finding.proofs.Edits.{list-at, region-changed}
-use Rattle.moving.proofs.Laid.{Near, near-of}
+use Rattle.writers.proofs.Laid.{Near, near-of}
 use Rattle.handling.specs.Taking.{Took, takeW}
 use Rattle.handling.specs.Updating.{Update, updateByW}
 use Rattle.handling.proofs.Replaces.{replaces}

@@ -24,7 +24,7 @@ use Rattle.finding.specs.declared.find.Spot.{Spot}
 use Rattle.finding.proofs.Spots.{Spotted}
 use Rattle.finding.proofs.Edits.{edited, swap-plain}
 use Rattle.layout.specs.Positions.{onward}
-use Rattle.moving.proofs.Laid.{Near, onward-near, Laid, laid-put, laid-then, laid-copy, copy-end}
+use Rattle.writers.proofs.Laid.{Near, onward-near, Laid, laid-put, laid-then, laid-copy, copy-end}
 use Rattle.handling.specs.Taking.{Took, takeW}
 use Rattle.handling.proofs.Takes.{Takes, takes, Stands}
 use Rattle.handling.proofs.Stays.{without-shallow, without-short}

@@ -22,7 +22,7 @@ use Rattle.finding.proofs.Pieces.{Swap}
 use Rattle.finding.proofs.Spots.{Spotted}
 use Rattle.finding.proofs.Edits.{region-nearest, list-at, list-order}
 use Rattle.layout.specs.Positions.{onward}
-use Rattle.moving.proofs.Laid.{Near, onward-near}
+use Rattle.writers.proofs.Laid.{Near, onward-near}
 use Rattle.rules.specs.Turning.{vanishing}
 use Rattle.rules.specs.Planning.{nilW, plainW}
 use Rattle.rules.proofs.Turns.{becomes-nil}

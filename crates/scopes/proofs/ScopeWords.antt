@@ -24,7 +24,7 @@ use Rattle.finding.specs.declared.find.Spot.{Spot}
 use Rattle.finding.proofs.Spots.{Spotted}
 use Rattle.finding.proofs.Edits.{process-at}
 use Rattle.layout.specs.Positions.{onward}
-use Rattle.moving.proofs.Laid.{Near, onward-near}
+use Rattle.writers.proofs.Laid.{Near, onward-near}
 use Rattle.scopes.specs.Ending.{clearedW, keyAtW}
 use Rattle.scopes.proofs.ScopeLists.{whole-inside, frames-deep, process-inside}
 

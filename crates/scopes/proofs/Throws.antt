@@ -32,12 +32,12 @@ use Rattle.finding.proofs.Stops.{catches, Standing, nowhere, somewhere}
 use Rattle.finding.proofs.Spots.{Spotted}
 use Rattle.finding.proofs.Search.{found}
 use Rattle.layout.specs.Positions.{onward}
-use Rattle.moving.specs.Killing.{Killed}
-use Rattle.moving.proofs.Laid.{Near, near-of, onward-near, Laid, laid-put, laid-then, laid-copy, copy-end}
-use Rattle.moving.proofs.Places.{stands-within, word-at, drop-behind, drop-after}
-use Rattle.moving.proofs.Around.{Throws, free}
-use Rattle.moving.proofs.Gives.{Gives, stops, gives}
-use Rattle.moving.proofs.Killed.{kill-climb}
+use Rattle.killing.specs.Killing.{Killed}
+use Rattle.writers.proofs.Laid.{Near, near-of, onward-near, Laid, laid-put, laid-then, laid-copy, copy-end}
+use Rattle.sock.proofs.Positions.{stands-within, word-at, at-past, drop-after}
+use Rattle.sock.proofs.Around.{Throws, free}
+use Rattle.killing.proofs.Gives.{Gives, stops, gives}
+use Rattle.killing.proofs.Killed.{kill-climb}
 use Rattle.rules.proofs.Turns.{head-on}
 use Rattle.rules.proofs.Plans.{part-first, plans-of}
 use Rattle.rules.proofs.Depths.{wrap-depth, depth-some}
@@ -203,7 +203,7 @@ module _ (ws notes : List ℕ) (right : Right ws notes) (n issued : ℕ) (few : 
     body-stands : drop body ws ≡ runWords a ++ stands .0
     body-stands =
         let z : c + length (own mark) ≡ body = omega arith in
-        ap (λ i. drop i ws) (sym z) ∙ drop-behind ws (own mark) (runWords a ++ stands .0) c own-stands
+        ap (λ i. drop i ws) (sym z) ∙ at-past ws (own mark) (runWords a ++ stands .0) c own-stands
 
     body-inside : body + size a ≤ length ws
     unfolding size

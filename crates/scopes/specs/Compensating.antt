@@ -7,7 +7,7 @@ use lib.ListN.{getD}
 use Rattle.reading.specs.Walk.{processEnd}
 use Rattle.skipping.specs.Pass.{passList}
 use Rattle.layout.specs.Positions.{onward}
-use Rattle.moving.specs.Writing.{pasted, pastedEnd}
+use Rattle.writers.specs.Writing.{pasted, pastedEnd}
 use Rattle.finding.specs.declared.find.Spot.{Spot}
 use Rattle.handling.specs.declared.take.Taken.{Taken}
 use Rattle.handling.specs.Taking.{takeW}

@@ -8,9 +8,9 @@ use Rattle.skipping.specs.Skip.{skipList}
 use Rattle.skipping.specs.Pass.{passList}
 use Rattle.finding.specs.declared.find.Spot.{Spot}
 use Rattle.layout.specs.Positions.{onward}
-use Rattle.moving.specs.Writing.{pasted, pastedEnd}
-use Rattle.moving.specs.Killing.{Killed, killW}
-use Rattle.moving.specs.declared.kill.Moved.{Moved}
+use Rattle.writers.specs.Writing.{pasted, pastedEnd}
+use Rattle.killing.specs.Killing.{Killed, killW}
+use Rattle.killing.specs.declared.kill.Moved.{Moved}
 use Rattle.rules.specs.declared.plan.Plan.{Plan}
 use Rattle.rules.specs.Planning.{Planned, planned, refusedPlan}
 

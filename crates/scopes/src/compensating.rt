@@ -6,12 +6,12 @@ use layout::limit::FUEL;
 use layout::number::further;
 use layout::number::wide;
 use layout::number::word;
-use moving::write::copy;
 use reading::reader::read;
 use rules::plan::Plan;
 use rules::plan::become_nil;
 use rules::plan::refuse;
 use skipping::pass::pass_list;
+use writers::write::copy;
 ghost use mathlib.Core.Path.{_≡_};
 ghost use Rattle.scopes.specs.Compensating.{levelsAt, movedW, compensatedW};
 

@@ -9,11 +9,11 @@ use layout::number::further;
 use layout::number::less_one;
 use layout::number::wide;
 use layout::number::word;
-use moving::write::copy;
-use moving::write::put;
 use rules::plan::Plan;
 use rules::plan::become_nil;
 use skipping::pass::pass_list;
+use writers::write::copy;
+use writers::write::put;
 ghost use mathlib.Core.Path.{_≡_};
 ghost use Rattle.scopes.specs.Ending.{clearedW, keyAtW, takeBehindW, takenTo, takenW, resumedW, promotedTo, promotedW, endingW, endedW};
 

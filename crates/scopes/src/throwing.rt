@@ -1,17 +1,17 @@
 // Throw: its fault climbs from the position to the scope that stops it, or through all of the engine's process.
 use finding::find::Spot;
+use killing::kill::Moved;
+use killing::kill::kill;
 use layout::limit::FUEL;
 use layout::number::further;
 use layout::number::wide;
 use layout::number::word;
-use moving::kill::Moved;
-use moving::kill::kill;
-use moving::write::copy;
-use moving::write::put;
 use rules::plan::Plan;
 use rules::plan::refuse;
 use skipping::pass::pass_list;
 use skipping::skip::skip_list;
+use writers::write::copy;
+use writers::write::put;
 ghost use mathlib.Core.Path.{_≡_};
 ghost use Rattle.scopes.specs.Throwing.{faultW, faultedHead, faultedWord, clearedW, listedW, markedW, bodyW, openedTo, openedW, uncaughtW, caughtW, thrownW};
 

@@ -1,5 +1,6 @@
 pub mod Accepted
 pub mod Accounts
+pub mod Around
 pub mod Bounds
 pub mod ByKind
 pub mod Computed
@@ -31,6 +32,7 @@ pub mod Slips
 pub mod Steps
 pub mod Table
 pub mod Tallies
+pub mod Tests
 pub mod Trades
 pub mod Turns
 pub mod Worked

@@ -1,12 +1,12 @@
--- Words at a position: where a list of words begins with known ones.
+-- Words at a position: where a list of words begins with known ones, each of them, and that they end within the whole.
 -- Assumes nothing.
-use Prim.Native.Nat.{ℕ, zero, suc, _+_, _<_}
+use Prim.Native.Nat.{ℕ, zero, suc, _+_, _-_, _≤_, _<_}
 use native.Mathlib.Omega.{arith}
 use native.Mathlib.Numerals.{add-one}
 use mathlib.Core.Path.{_≡_, refl, sym, ap, _∙_}
 use mathlib.Core.List.{List, [], _∷_, _++_, append-assoc}
-use lib.ListN.{length, getD, drop, length-append}
-use lib.Seq.{drop-drop, drop-append-seam, drop-nil}
+use lib.ListN.{length, getD, drop, length-append, length-drop, List·getD-append}
+use lib.Seq.{getD-drop, drop-drop, drop-append-seam, drop-nil}
 
 -- ws has w at i, and `rest` behind it
 pub record At (ws : List ℕ) (i w : ℕ) (rest : List ℕ) : Type 0 where
@@ -25,3 +25,17 @@ at-head (x ∷ xs) (suc i) w rest e =
 -- past a part that stands at i
 pub at-past : (ws part rest : List ℕ) (i : ℕ) → drop i ws ≡ part ++ rest → drop (i + length part) ws ≡ rest
 at-past ws part rest i e = sym (drop-drop (length part) i ws) ∙ ap (λ (l : List ℕ). drop (length part) l) e ∙ drop-append-seam part rest
+
+-- words that stand behind others
+pub drop-after : (ws a b rest : List ℕ) (at : ℕ) → drop at ws ≡ (a ++ b) ++ rest → drop (at + length a) ws ≡ b ++ rest
+drop-after ws a b rest at e = at-past ws a (b ++ rest) at (e ∙ append-assoc a b rest)
+
+module _ (ws x rest : List ℕ) (at : ℕ) (e : drop at ws ≡ x ++ rest) where
+  stands-length : length ws - at ≡ length x + length rest
+  stands-length = sym (length-drop at ws) ∙ ap length e ∙ length-append x rest
+
+  pub stands-within : 0 < length x → at + length x ≤ length ws
+  stands-within h = let l = stands-length in omega arith
+
+  pub word-at : (i : ℕ) → i < length x → getD ws (at + i) 0 ≡ getD x i 0
+  word-at i h = sym (getD-drop at ws i 0) ∙ ap (λ l. getD l i 0) e ∙ List·getD-append x rest 0 i h

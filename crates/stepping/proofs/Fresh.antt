@@ -8,11 +8,11 @@ use mathlib.Core.List.{List}
 use lib.Dec.{eqb, leb, lit<}
 use lib.ListN.{length, getD, set, length-set, length-replicate}
 use Rattle.layout.specs.Positions.{onward}
-use Rattle.moving.proofs.Laid.{Near, near-of}
+use Rattle.writers.proofs.Laid.{Near, near-of}
 use Rattle.rules.specs.declared.pair.Offer.{Offer}
 use Rattle.rules.specs.declared.turn.Turn.{Turn}
 use Rattle.finding.specs.declared.find.Spot.{Spot}
-use Rattle.moving.specs.Evaluating.{valueIn}
+use Rattle.evaluating.specs.Evaluating.{valueIn}
 use Rattle.rules.specs.Turning.{Turned, turned, vanishing, keeping, partW, partEnd}
 use Rattle.rules.specs.Offering.{placed, throwHead, hearW, seqFirst, threeW, serveW, askW, answerW, failW}
 use Rattle.rules.specs.Planning.{planned, hollowW, nilW, plainW}

@@ -33,9 +33,9 @@ use Rattle.reading.proofs.Combining.{Words}
 use Rattle.reading.proofs.Known.{Known}
 use Rattle.reading.specs.Walk.{processEnd}
 use Rattle.skipping.proofs.Notes.{Right}
-use Rattle.moving.specs.Writing.{pasted, pastedEnd}
-use Rattle.moving.specs.Evaluating.{evaluated}
-use Rattle.moving.proofs.Laid.{Near, near-of, near-below}
+use Rattle.writers.specs.Writing.{pasted, pastedEnd}
+use Rattle.evaluating.specs.Evaluating.{evaluated}
+use Rattle.writers.proofs.Laid.{Near, near-of, near-below}
 use Rattle.handling.proofs.Leaves.{pasted-keeps}
 use Rattle.finding.specs.declared.find.Spot.{Spot}
 use Rattle.finding.specs.Find.{faultAt}

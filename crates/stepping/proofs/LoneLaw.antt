@@ -23,7 +23,7 @@ use Rattle.reading.proofs.Standing.{start-next}
 use Rattle.skipping.proofs.Notes.{Right}
 use Rattle.finding.specs.declared.find.Spot.{Spot}
 use Rattle.rules.specs.Planning.{Planned}
-use Rattle.moving.proofs.Laid.{Near, near-of}
+use Rattle.writers.proofs.Laid.{Near, near-of}
 use Rattle.rules.proofs.Outcomes.{Ruled, unkillable, tooDeep, ruled}
 use Rattle.scopes.proofs.Scratch.{Roomy, Spacious}
 use Rattle.stepping.specs.Answering.{answered, refusing, oneW}

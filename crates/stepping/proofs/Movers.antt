@@ -29,7 +29,7 @@ use Rattle.reading.proofs.Combining.{Words}
 use Rattle.skipping.proofs.Notes.{Right, pass-entries}
 use Rattle.reading.proofs.Known.{Known}
 use Rattle.layout.specs.Positions.{onward}
-use Rattle.moving.proofs.Laid.{onward-near}
+use Rattle.writers.proofs.Laid.{onward-near}
 use Rattle.finding.specs.declared.find.Spot.{Spot}
 use Rattle.finding.specs.Find.{faultAt}
 use Rattle.finding.proofs.Within.{within}

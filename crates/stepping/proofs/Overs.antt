@@ -7,8 +7,8 @@ use mathlib.Core.List.{List, [], _∷_, _++_, append-nil, append-assoc}
 use borrow.Author.Tests.{le-ltb}
 use lib.ListN.{length, take, drop, set, length-append, length-drop, length-set, take-append-drop}
 use lib.Seq.{take-at, drop-at, drop-drop, length-take-le, set-append-left}
-use Rattle.moving.specs.Writing.{pasted, pastedEnd}
-use Rattle.moving.proofs.Laid.{Near, onward-near}
+use Rattle.writers.specs.Writing.{pasted, pastedEnd}
+use Rattle.writers.proofs.Laid.{Near, onward-near}
 use Rattle.finding.proofs.Edits.{part}
 use Rattle.rules.proofs.Plans.{part-length}
 use Rattle.stepping.specs.Writing.{Written, written, copyW}

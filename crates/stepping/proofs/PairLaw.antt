@@ -25,7 +25,7 @@ use Rattle.reading.proofs.Known.{Known, known-length, known-issued}
 use Rattle.reading.proofs.Standing.{start-next}
 use Rattle.finding.specs.declared.find.Spot.{Spot}
 use Rattle.finding.specs.Find.{faultAt}
-use Rattle.moving.proofs.Laid.{Near}
+use Rattle.writers.proofs.Laid.{Near}
 use Rattle.rules.specs.declared.turn.Turn.{Turn}
 use Rattle.rules.specs.declared.plan.Plan.{Plan}
 use Rattle.rules.specs.Turning.{at}

@@ -22,9 +22,9 @@ use Rattle.sock.proofs.Fits.{Fits, Sound, nilSound, seqSound, parSound, scopeSo
 use Rattle.sock.proofs.Fields.{name-of, second-of, client-of, noticed-fault, noticed-client, end-tests}
 use Rattle.sock.proofs.ByKind.{kind-asNode}
 use Rattle.sock.proofs.Measures.{words-executor, words-notice, words-act, depth-nil, depth-act}
-use Rattle.moving.specs.Evaluating.{valueIn}
-use Rattle.moving.proofs.Evaluates.{value-in}
-use Rattle.moving.proofs.Laid.{Near}
+use Rattle.evaluating.specs.Evaluating.{valueIn}
+use Rattle.evaluating.proofs.Evaluates.{value-in}
+use Rattle.writers.proofs.Laid.{Near}
 use Rattle.rules.specs.declared.pair.Offer.{Offer}
 use Rattle.rules.specs.Turning.{Turned, turned, vanishing, at}
 use Rattle.rules.specs.Offering.{offerW, fitsW, hearW, serveW, awaitsW, answerW, failW}

@@ -23,7 +23,7 @@ use Rattle.finding.specs.declared.find.Spot.{Spot}
 use Rattle.finding.specs.Find.{faultAt}
 use Rattle.finding.proofs.Spots.{Spotted}
 use Rattle.finding.proofs.Edits.{process-at}
-use Rattle.moving.proofs.Laid.{Near, near-of, near-below}
+use Rattle.writers.proofs.Laid.{Near, near-of, near-below}
 use Rattle.rules.proofs.Depths.{wrap-depth}
 use Rattle.scopes.proofs.ScopeWords.{inner-sound}
 use Rattle.stepping.specs.Exchanging.{blank, lent}

@@ -20,7 +20,7 @@ use Rattle.reading.proofs.Combining.{Words}
 use Rattle.reading.proofs.Known.{Known, known-length}
 use Rattle.skipping.proofs.Notes.{Right}
 use Rattle.layout.specs.Positions.{onward}
-use Rattle.moving.proofs.Laid.{near-of, onward-near}
+use Rattle.writers.proofs.Laid.{near-of, onward-near}
 use Rattle.finding.specs.declared.find.Spot.{Spot}
 use Rattle.finding.specs.declared.find.Found.{Found}
 use Rattle.finding.specs.declared.find.Found.the-variants.{Hit, Past}

@@ -13,7 +13,7 @@ use Rattle.sock.specs.Configuration.{Engine, Config, valuesWords, engineWords, 
 use Rattle.sock.specs.Calls.{engineAt, withEngine, over}
 use Rattle.sock.proofs.Fits.{FitsConfig}
 use Rattle.sock.proofs.Located.{values-length, engines-split, engine-fits, startOf, wordsBefore, wordsAfter, before-length}
-use Rattle.moving.proofs.Laid.{Near, near-of}
+use Rattle.writers.proofs.Laid.{Near, near-of}
 use Rattle.finding.proofs.Edits.{part}
 use Rattle.rules.specs.declared.plan.Plan.{Plan}
 use Rattle.rules.proofs.Plans.{Plans, part-first, fresh-room}

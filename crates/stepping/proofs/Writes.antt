@@ -14,7 +14,7 @@ use Rattle.sock.specs.Running.{Run, runWords, size}
 use Rattle.sock.specs.Configuration.{valuesWords}
 use Rattle.sock.proofs.Located.{values-length}
 use Rattle.layout.specs.Positions.{onward}
-use Rattle.moving.proofs.Laid.{Near, onward-near}
+use Rattle.writers.proofs.Laid.{Near, onward-near}
 use Rattle.finding.proofs.Edits.{part}
 use Rattle.rules.specs.declared.plan.Plan.{Plan}
 use Rattle.rules.proofs.Plans.{Ordered, Plans, part-first}

@@ -4,7 +4,7 @@ use Prim.Native.Nat.{ℕ}
 use mathlib.Core.Path.{_≡_}
 use mathlib.Core.List.{List}
 use lib.ListN.{length, set}
-use Rattle.moving.specs.Writing.{pasted, pastedEnd}
+use Rattle.writers.specs.Writing.{pasted, pastedEnd}
 use Rattle.rules.specs.declared.plan.Plan.{Plan}
 use Rattle.stepping.specs.Writing.{written, copyW, valueW, lentW, engineW}
 use Rattle.stepping.specs.Answering.{writeTwoW}

@@ -5,7 +5,7 @@ use mathlib.Core.List.{List}
 use lib.Dec.{eqb}
 use Rattle.sock.specs.Kind
 use Rattle.sock.specs.Words.{firstVariable, executorsClient, noticesClient}
-use Rattle.moving.specs.Evaluating.{valueIn}
+use Rattle.evaluating.specs.Evaluating.{valueIn}
 use Rattle.rules.specs.declared.pair.Offer.{Offer}
 use Rattle.rules.specs.Turning.{Turned, turned, vanishing, at}
 use Rattle.rules.specs.Offering.{fitsW, hearW, serveW, askW, awaitsW, answerW, failW}

@@ -5,7 +5,7 @@ use mathlib.Core.List.{List, _++_}
 use lib.Dec.{leb, ltb}
 use lib.ListN.{length, take, drop, set}
 use Rattle.layout.specs.Positions.{onward}
-use Rattle.moving.specs.Writing.{pasted, pastedEnd}
+use Rattle.writers.specs.Writing.{pasted, pastedEnd}
 use Rattle.rules.specs.declared.plan.Plan.{Plan}
 
 -- a place in the output, and the output

@@ -2,9 +2,9 @@
 use crate::writing::engine;
 use layout::number::further;
 use layout::number::less;
-use moving::write::copy;
-use moving::write::put;
 use rules::plan::Plan;
+use writers::write::copy;
+use writers::write::put;
 ghost use mathlib.Core.Path.{_≡_};
 ghost use Prim.Native.Nat.{_-_};
 ghost use Rattle.stepping.specs.Answering.{refusing, accepting, sizedW, writeOneW, lengthOf, oneW, writeTwoW, twoW};

@@ -1,8 +1,8 @@
 // Between two engines: whether sender and receiver fit, and what each turns into.
+use evaluating::evaluate::variable;
 use layout::kind;
 use layout::number::wide;
 use layout::number::word;
-use moving::evaluate::variable;
 use rules::pair::Offer;
 use rules::pair::answer;
 use rules::pair::ask;

@@ -1,8 +1,8 @@
 // Writing the result, once it is known to fit: the words of the configuration, with a plan's in the place of an engine's process.
 use layout::number::further;
-use moving::write::copy;
-use moving::write::put;
 use rules::plan::Plan;
+use writers::write::copy;
+use writers::write::put;
 ghost use mathlib.Core.Path.{_≡_};
 ghost use Rattle.stepping.specs.Writing.{frontW, backW, processW, valueW, lentW, engineW};
 

@@ -1,7 +1,7 @@
 -- `at_most` of `finding::find` meets its contract.
 -- Assumes nothing.
 use native.Mathlib.Omega.{arith}
-use Rattle.reading.proofs.Tests.{tests}
+use Rattle.sock.proofs.Tests.{tests}
 use Rattle.finding.proofs.find.at_most.Statement.{statement}
 use Rattle.finding.proofs.find.at_most.Tie as tie
 

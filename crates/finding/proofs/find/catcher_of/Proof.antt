@@ -1,7 +1,7 @@
 -- `finding::find::catcher_of` meets its contract: the scope that catches.
 -- Assumes nothing.
 use Rattle.finding.specs.Find.{catcherOf}
-use Rattle.reading.proofs.Tests.{tests}
+use Rattle.sock.proofs.Tests.{tests}
 use borrow.Author.Needs.{needs}
 use Rattle.finding.proofs.find.catcher_of.Statement.{statement}
 use Rattle.finding.proofs.find.catcher_of.Tie as tie

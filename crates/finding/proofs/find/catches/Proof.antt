@@ -1,7 +1,7 @@
 -- `finding::find::catches` meets its contract: whether a scope stops a fault.
 -- Assumes nothing.
 use Rattle.finding.specs.Find.{catchesW}
-use Rattle.reading.proofs.Tests.{tests}
+use Rattle.sock.proofs.Tests.{tests}
 use borrow.Author.Needs.{needs}
 use Rattle.finding.proofs.find.catches.Statement.{statement}
 use Rattle.finding.proofs.find.catches.Tie as tie

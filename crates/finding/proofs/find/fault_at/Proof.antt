@@ -2,7 +2,7 @@
 -- Assumes nothing.
 use lib.ListN.{List·getD-eq-default}
 use Rattle.finding.specs.Find.{faultAt}
-use Rattle.reading.proofs.Tests.{tests}
+use Rattle.sock.proofs.Tests.{tests}
 use borrow.Author.Needs.{needs}
 use Rattle.finding.proofs.find.fault_at.Statement.{statement}
 use Rattle.finding.proofs.find.fault_at.Tie as tie

@@ -3,7 +3,7 @@
 use mathlib.Core.Path.{ap, _∙_}
 use Rattle.finding.specs.declared.find.Found.the-variants.{Hit}
 use Rattle.finding.specs.Find.{inSeqW, seqSpot}
-use Rattle.reading.proofs.Tests.{tests}
+use Rattle.sock.proofs.Tests.{tests}
 use Rattle.finding.proofs.Finding.{seq-hollow, seq-shut}
 use borrow.Author.Needs.{needs}
 use Rattle.finding.proofs.find.in_seq.Statement.{statement}

@@ -1,7 +1,7 @@
 -- `finding::find::level_of` meets its contract: the level of the nearest scope.
 -- Assumes nothing.
 use Rattle.finding.specs.Find.{levelOf}
-use Rattle.reading.proofs.Tests.{tests}
+use Rattle.sock.proofs.Tests.{tests}
 use Rattle.finding.proofs.find.level_of.Statement.{statement}
 use Rattle.finding.proofs.find.level_of.Tie as tie
 

@@ -1,7 +1,7 @@
 -- `finding::find::outside` meets its contract: whether the target is outside a process whose end is known.
 -- Assumes nothing.
 use Rattle.finding.specs.Find.{outsideW}
-use Rattle.reading.proofs.Tests.{tests}
+use Rattle.sock.proofs.Tests.{tests}
 use Rattle.finding.proofs.find.outside.Statement.{statement}
 use Rattle.finding.proofs.find.outside.Tie as tie
 

@@ -1,7 +1,7 @@
 -- `finding::find::scope_of` meets its contract: the nearest scope.
 -- Assumes nothing.
 use Rattle.finding.specs.Find.{scopeOf}
-use Rattle.reading.proofs.Tests.{tests}
+use Rattle.sock.proofs.Tests.{tests}
 use Rattle.finding.proofs.find.scope_of.Statement.{statement}
 use Rattle.finding.proofs.find.scope_of.Tie as tie
 

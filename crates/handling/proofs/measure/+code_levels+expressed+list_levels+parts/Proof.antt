@@ -1,4 +1,4 @@
--- `code_levels`, `expressed`, `list_levels` and `parts` of `moving::measure` meet their contracts: the code is its mirror in specs/.
+-- `code_levels`, `expressed`, `list_levels` and `parts` of `handling::measure` meet their contracts: the code is its mirror in specs/.
 -- Assumes nothing.
 use Rattle.handling.proofs.Others.{beyond-13}
 use lib.ListN.{List·getD-eq-default}
@@ -6,7 +6,7 @@ use mathlib.Core.Path.{_≡_, refl}
 use borrow.Author.Needs.{needs}
 use Rattle.handling.specs.Measuring.{codeLevels, nodeLevels, expressedLevels, partsLevels, listLevels, entriesLevels}
 use Rattle.handling.proofs.Levels.{code-levels-step, parts-levels-step, parts-levels-end, entries-levels-step, entries-levels-end}
-use Rattle.moving.proofs.Tests.{tests}
+use Rattle.sock.proofs.Tests.{tests}
 use Prim.Native.Nat.{ℕ, _+_, _*_, _<_}
 use borrow.Fn.Kinds.{In}
 use borrow.Fn.PlainCycle.{Measures, is, falls, and}

@@ -1,9 +1,9 @@
--- `expression_levels` of `moving::measure` meets its contract: the code is its mirror in specs/.
+-- `expression_levels` of `handling::measure` meets its contract: the code is its mirror in specs/.
 -- Assumes nothing.
 use borrow.Author.Needs.{needs}
 use Rattle.handling.specs.Measuring.{operandLevels, expressionLevels}
 use Rattle.handling.proofs.Levels.{expression-levels-step}
-use Rattle.moving.proofs.Tests.{tests}
+use Rattle.sock.proofs.Tests.{tests}
 use Prim.Native.Nat.{ℕ, _<_}
 use borrow.Fn.Kinds.{In}
 use borrow.Fn.PlainCycle.{Measures, is, falls, and}

@@ -1,4 +1,4 @@
--- `leaf` of `moving::measure` meets its contract: the code is its mirror in specs/.
+-- `leaf` of `handling::measure` meets its contract: the code is its mirror in specs/.
 -- Assumes nothing.
 use borrow.Author.Needs.{needs}
 use Rattle.handling.proofs.measure.leaf.Statement.{statement}

@@ -1,11 +1,11 @@
--- `condition`, `in_par`, `in_seq`, `kept` and `replace` of `moving::replace` meet their contracts: the code is its mirror in specs/.
+-- `condition`, `in_par`, `in_seq`, `kept` and `replace` of `handling::replace` meet their contracts: the code is its mirror in specs/.
 -- Assumes nothing.
 use Prim.Native.Nat.{ℕ, _+_, _*_, _<_}
 use mathlib.Core.Path.{_≡_, refl, sym, _∙_}
 use borrow.Author.Needs.{needs}
 use lib.ListN.{length, List·getD-eq-default}
 use Rattle.handling.proofs.Others.{beyond-16}
-use Rattle.moving.proofs.Tests.{tests}
+use Rattle.sock.proofs.Tests.{tests}
 use Rattle.handling.proofs.Replacements.{replace-step, parts-step, parts-end, par-both, par-first, parts-turn}
 use Rattle.handling.specs.Replacing.{replaceW, nodeW, seqW, afterFirst, parW, parAfter, closePar, conditionW, keptW, partsW, nilW}
 use borrow.Fn.Kinds.{In}
@@ -30,10 +30,10 @@ use Rattle.handling.proofs.measure.larger.Reads as larger-reads
 use Rattle.handling.proofs.replace.in_place.Reads as in-place-reads
 use Rattle.layout.proofs.number.less_one.Reads as less-one-reads
 use Rattle.handling.proofs.replace.other.Reads as other-reads
-use Rattle.moving.proofs.write.copy.Reads as copy-reads
-use Rattle.moving.proofs.write.down.Reads as down-reads
+use Rattle.writers.proofs.write.copy.Reads as copy-reads
+use Rattle.writers.proofs.write.down.Reads as down-reads
 use Rattle.layout.proofs.number.further.Reads as further-reads
-use Rattle.moving.proofs.write.put.Reads as put-reads
+use Rattle.writers.proofs.write.put.Reads as put-reads
 use Rattle.layout.proofs.number.wide.Reads as wide-reads
 use Rattle.handling.proofs.replace.+condition+in_par+in_seq+kept+replace.{statement}
 use Rattle.handling.proofs.replace.+condition+in_par+in_seq+kept+replace.Tie.{close}

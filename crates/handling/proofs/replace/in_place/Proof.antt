@@ -1,7 +1,7 @@
--- `in_place` of `moving::replace` meets its contract: the code is its mirror in specs/.
+-- `in_place` of `handling::replace` meets its contract: the code is its mirror in specs/.
 -- Assumes nothing.
 use Rattle.handling.specs.Replacing.{cHW}
-use Rattle.moving.proofs.Tests.{tests}
+use Rattle.sock.proofs.Tests.{tests}
 use borrow.Author.Needs.{needs}
 use Rattle.handling.proofs.replace.in_place.Statement.{statement}
 use Rattle.handling.proofs.replace.in_place.Tie as tie

@@ -1,7 +1,7 @@
--- `other` of `moving::replace` meets its contract: the code is its mirror in specs/.
+-- `other` of `handling::replace` meets its contract: the code is its mirror in specs/.
 -- Assumes nothing.
 use Rattle.handling.specs.Replacing.{otherW}
-use Rattle.moving.proofs.Tests.{tests}
+use Rattle.sock.proofs.Tests.{tests}
 use borrow.Author.Needs.{needs}
 use Rattle.handling.proofs.replace.other.Statement.{statement}
 use Rattle.handling.proofs.replace.other.Tie as tie

@@ -1,7 +1,7 @@
--- `put_old` of `moving::replace` meets its contract: the code is its mirror in specs/.
+-- `put_old` of `handling::replace` meets its contract: the code is its mirror in specs/.
 -- Assumes nothing.
 use Rattle.handling.specs.Replacing.{oldEnd, oldOut}
-use Rattle.moving.proofs.Tests.{tests}
+use Rattle.sock.proofs.Tests.{tests}
 use borrow.Author.Needs.{needs}
 use Rattle.handling.proofs.replace.put_old.Statement.{statement}
 use Rattle.handling.proofs.replace.put_old.Tie as tie

@@ -1,7 +1,7 @@
 -- `pass` of `handling::take` meets its contract: the code is its mirror in specs/.
 -- Assumes nothing.
 use Rattle.handling.specs.Taking.{passW}
-use Rattle.moving.proofs.Tests.{tests}
+use Rattle.sock.proofs.Tests.{tests}
 use borrow.Author.Needs.{needs}
 use Rattle.handling.proofs.take.pass.Statement.{statement}
 use Rattle.handling.proofs.take.pass.Tie as tie

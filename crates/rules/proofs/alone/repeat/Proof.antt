@@ -1,7 +1,7 @@
 -- `repeat` of `rules::alone` meets its contract: the code is its mirror in specs/.
 -- Assumes nothing.
 use Rattle.rules.specs.Turning.{repeatW}
-use Rattle.moving.proofs.Tests.{tests}
+use Rattle.sock.proofs.Tests.{tests}
 use borrow.Author.Needs.{needs}
 use Rattle.rules.proofs.alone.repeat.Statement.{statement}
 use Rattle.rules.proofs.alone.repeat.Tie as tie

@@ -1,7 +1,7 @@
 -- `bare` of `rules::pair` meets its contract: the code is its mirror in specs/.
 -- Assumes nothing.
 use Rattle.rules.specs.Offering.{bareW}
-use Rattle.moving.proofs.Tests.{tests}
+use Rattle.sock.proofs.Tests.{tests}
 use borrow.Author.Needs.{needs}
 use Rattle.rules.proofs.pair.bare.Statement.{statement}
 use Rattle.rules.proofs.pair.bare.Tie as tie

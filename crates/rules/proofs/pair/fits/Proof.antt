@@ -1,7 +1,7 @@
 -- `fits` of `rules::pair` meets its contract: the code is its mirror in specs/.
 -- Assumes nothing.
 use Rattle.rules.specs.Offering.{fitsW}
-use Rattle.moving.proofs.Tests.{tests}
+use Rattle.sock.proofs.Tests.{tests}
 use borrow.Author.Needs.{needs}
 use Rattle.rules.proofs.pair.fits.Statement.{statement}
 use Rattle.rules.proofs.pair.fits.Tie as tie

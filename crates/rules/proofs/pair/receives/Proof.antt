@@ -1,7 +1,7 @@
 -- `receives` of `rules::pair` meets its contract: the code is its mirror in specs/.
 -- Assumes nothing.
 use Rattle.rules.specs.Offering.{receivesW}
-use Rattle.moving.proofs.Tests.{tests}
+use Rattle.sock.proofs.Tests.{tests}
 use Rattle.rules.proofs.pair.receives.Statement.{statement}
 use Rattle.rules.proofs.pair.receives.Tie as tie
 

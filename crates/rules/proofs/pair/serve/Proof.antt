@@ -1,7 +1,7 @@
 -- `serve` of `rules::pair` meets its contract: the code is its mirror in specs/.
 -- Assumes nothing.
 use Rattle.rules.specs.Offering.{serveW}
-use Rattle.moving.proofs.Tests.{tests}
+use Rattle.sock.proofs.Tests.{tests}
 use borrow.Author.Needs.{needs}
 use Rattle.rules.proofs.pair.serve.Statement.{statement}
 use Rattle.rules.proofs.pair.serve.Tie as tie

@@ -1,7 +1,7 @@
 -- `waits` of `rules::pair` meets its contract: the code is its mirror in specs/.
 -- Assumes nothing.
 use Rattle.rules.specs.Offering.{waitsW}
-use Rattle.moving.proofs.Tests.{tests}
+use Rattle.sock.proofs.Tests.{tests}
 use borrow.Author.Needs.{needs}
 use Rattle.rules.proofs.pair.waits.Statement.{statement}
 use Rattle.rules.proofs.pair.waits.Tie as tie

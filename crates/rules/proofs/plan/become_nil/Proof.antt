@@ -1,7 +1,7 @@
 -- `become_nil` of `rules::plan` meets its contract: the code is its mirror in specs/.
 -- Assumes nothing.
 use Rattle.rules.specs.Planning.{nilW}
-use Rattle.moving.proofs.Tests.{tests}
+use Rattle.sock.proofs.Tests.{tests}
 use borrow.Author.Needs.{needs}
 use Rattle.rules.proofs.plan.become_nil.Statement.{statement}
 use Rattle.rules.proofs.plan.become_nil.Tie as tie

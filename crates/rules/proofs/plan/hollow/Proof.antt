@@ -1,7 +1,7 @@
 -- `hollow` of `rules::plan` meets its contract: the code is its mirror in specs/.
 -- Assumes nothing.
 use Rattle.rules.specs.Planning.{hollowW}
-use Rattle.moving.proofs.Tests.{tests}
+use Rattle.sock.proofs.Tests.{tests}
 use borrow.Author.Needs.{needs}
 use Rattle.rules.proofs.plan.hollow.Statement.{statement}
 use Rattle.rules.proofs.plan.hollow.Tie as tie

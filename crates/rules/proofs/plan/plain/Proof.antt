@@ -1,7 +1,7 @@
 -- `plain` of `rules::plan` meets its contract: the code is its mirror in specs/.
 -- Assumes nothing.
 use Rattle.rules.specs.Planning.{plainW}
-use Rattle.moving.proofs.Tests.{tests}
+use Rattle.sock.proofs.Tests.{tests}
 use borrow.Author.Needs.{needs}
 use Rattle.rules.proofs.plan.plain.Statement.{statement}
 use Rattle.rules.proofs.plan.plain.Tie as tie

@@ -1,7 +1,7 @@
 -- `to_part` of `rules::turn` meets its contract: the code is its mirror in specs/.
 -- Assumes nothing.
 use Rattle.rules.specs.Turning.{partW}
-use Rattle.moving.proofs.Tests.{tests}
+use Rattle.sock.proofs.Tests.{tests}
 use borrow.Author.Needs.{needs}
 use Rattle.rules.proofs.turn.to_part.Statement.{statement}
 use Rattle.rules.proofs.turn.to_part.Tie as tie

@@ -1,7 +1,7 @@
 -- `compensated` of `scopes::compensating` meets its contract: the code is its mirror in specs/.
 -- Assumes nothing.
 use Rattle.scopes.specs.Compensating.{compensatedW}
-use Rattle.moving.proofs.Tests.{tests}
+use Rattle.sock.proofs.Tests.{tests}
 use borrow.Author.Needs.{needs}
 use Rattle.scopes.proofs.compensating.compensated.Statement.{statement}
 use Rattle.scopes.proofs.compensating.compensated.Tie as tie

@@ -1,7 +1,7 @@
 -- `key_at` of `scopes::ending` meets its contract: the code is its mirror in specs/.
 -- Assumes nothing.
 use Rattle.scopes.specs.Ending.{keyAtW}
-use Rattle.moving.proofs.Tests.{tests}
+use Rattle.sock.proofs.Tests.{tests}
 use borrow.Author.Needs.{needs}
 use Rattle.scopes.proofs.ending.key_at.Statement.{statement}
 use Rattle.scopes.proofs.ending.key_at.Tie as tie

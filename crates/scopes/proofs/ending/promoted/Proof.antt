@@ -1,7 +1,7 @@
 -- `promoted` of `scopes::ending` meets its contract: the code is its mirror in specs/.
 -- Assumes nothing.
 use Rattle.scopes.specs.Ending.{promotedTo, promotedW}
-use Rattle.moving.proofs.Tests.{tests}
+use Rattle.sock.proofs.Tests.{tests}
 use borrow.Author.Needs.{needs}
 use Rattle.scopes.proofs.ending.promoted.Statement.{statement}
 use Rattle.scopes.proofs.ending.promoted.Tie as tie

@@ -1,7 +1,7 @@
 -- `put_taken` of `scopes::ending` meets its contract: the code is its mirror in specs/.
 -- Assumes nothing.
 use Rattle.scopes.specs.Ending.{takenTo, takenW}
-use Rattle.moving.proofs.Tests.{tests}
+use Rattle.sock.proofs.Tests.{tests}
 use borrow.Author.Needs.{needs}
 use Rattle.scopes.proofs.ending.put_taken.Statement.{statement}
 use Rattle.scopes.proofs.ending.put_taken.Tie as tie

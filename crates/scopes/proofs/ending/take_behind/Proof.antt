@@ -1,7 +1,7 @@
 -- `take_behind` of `scopes::ending` meets its contract: the code is its mirror in specs/.
 -- Assumes nothing.
 use Rattle.scopes.specs.Ending.{takeBehindW}
-use Rattle.moving.proofs.Tests.{tests}
+use Rattle.sock.proofs.Tests.{tests}
 use borrow.Author.Needs.{needs}
 use Rattle.scopes.proofs.ending.take_behind.Statement.{statement}
 use Rattle.scopes.proofs.ending.take_behind.Tie as tie

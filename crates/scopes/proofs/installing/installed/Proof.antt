@@ -1,7 +1,7 @@
 -- `installed` of `scopes::installing` meets its contract: the code is its mirror in specs/.
 -- Assumes nothing.
 use Rattle.scopes.specs.Installing.{installedW}
-use Rattle.moving.proofs.Tests.{tests}
+use Rattle.sock.proofs.Tests.{tests}
 use borrow.Author.Needs.{needs}
 use Rattle.scopes.proofs.installing.installed.Statement.{statement}
 use Rattle.scopes.proofs.installing.installed.Tie as tie

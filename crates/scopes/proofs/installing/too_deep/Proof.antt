@@ -1,7 +1,7 @@
 -- `too_deep` of `scopes::installing` meets its contract: the code is its mirror in specs/.
 -- Assumes nothing.
 use Rattle.scopes.specs.Installing.{tooDeepW}
-use Rattle.moving.proofs.Tests.{tests}
+use Rattle.sock.proofs.Tests.{tests}
 use borrow.Author.Needs.{needs}
 use Rattle.scopes.proofs.installing.too_deep.Statement.{statement}
 use Rattle.scopes.proofs.installing.too_deep.Tie as tie

@@ -1,7 +1,7 @@
 -- `body_at` of `scopes::throwing` meets its contract: the code is its mirror in specs/.
 -- Assumes nothing.
 use Rattle.scopes.specs.Throwing.{bodyW}
-use Rattle.moving.proofs.Tests.{tests}
+use Rattle.sock.proofs.Tests.{tests}
 use borrow.Author.Needs.{needs}
 use Rattle.scopes.proofs.throwing.body_at.Statement.{statement}
 use Rattle.scopes.proofs.throwing.body_at.Tie as tie

@@ -1,7 +1,7 @@
 -- `caught` of `scopes::throwing` meets its contract: the code is its mirror in specs/.
 -- Assumes nothing.
 use Rattle.scopes.specs.Throwing.{caughtW, clearedBy}
-use Rattle.moving.proofs.Tests.{tests}
+use Rattle.sock.proofs.Tests.{tests}
 use borrow.Author.Needs.{needs}
 use Rattle.scopes.proofs.throwing.caught.Statement.{statement}
 use Rattle.scopes.proofs.throwing.caught.Tie as tie

@@ -1,7 +1,7 @@
 -- `cleared` of `scopes::throwing` meets its contract: the code is its mirror in specs/.
 -- Assumes nothing.
 use Rattle.scopes.specs.Throwing.{clearedW}
-use Rattle.moving.proofs.Tests.{tests}
+use Rattle.sock.proofs.Tests.{tests}
 use borrow.Author.Needs.{needs}
 use Rattle.scopes.proofs.throwing.cleared.Statement.{statement}
 use Rattle.scopes.proofs.throwing.cleared.Tie as tie

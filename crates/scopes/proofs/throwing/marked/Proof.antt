@@ -3,7 +3,7 @@
 use Rattle.scopes.specs.Throwing.{markedW}
 use Rattle.scopes.proofs.Marks.{unmarked-words}
 use mathlib.Core.Path.{refl}
-use Rattle.moving.proofs.Tests.{tests}
+use Rattle.sock.proofs.Tests.{tests}
 use borrow.Author.Needs.{needs}
 use Rattle.scopes.proofs.throwing.marked.Statement.{statement}
 use Rattle.scopes.proofs.throwing.marked.Tie as tie

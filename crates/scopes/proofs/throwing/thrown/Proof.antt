@@ -1,7 +1,7 @@
 -- `thrown` of `scopes::throwing` meets its contract: the code is its mirror in specs/.
 -- Assumes nothing.
 use Rattle.scopes.specs.Throwing.{thrownW}
-use Rattle.moving.proofs.Tests.{tests}
+use Rattle.sock.proofs.Tests.{tests}
 use borrow.Author.Needs.{needs}
 use Rattle.scopes.proofs.throwing.thrown.Statement.{statement}
 use Rattle.scopes.proofs.throwing.thrown.Tie as tie

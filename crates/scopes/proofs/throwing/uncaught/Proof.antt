@@ -1,7 +1,7 @@
 -- `uncaught` of `scopes::throwing` meets its contract: the code is its mirror in specs/.
 -- Assumes nothing.
 use Rattle.scopes.specs.Throwing.{uncaughtW, clearedBy}
-use Rattle.moving.proofs.Tests.{tests}
+use Rattle.sock.proofs.Tests.{tests}
 use borrow.Author.Needs.{needs}
 use Rattle.scopes.proofs.throwing.uncaught.Statement.{statement}
 use Rattle.scopes.proofs.throwing.uncaught.Tie as tie

@@ -1,7 +1,7 @@
 -- `alone` of `stepping::alone` meets its contract: the code is its mirror in specs/.
 -- Assumes nothing.
 use Rattle.stepping.specs.Alone.{aloneW}
-use Rattle.moving.proofs.Tests.{tests}
+use Rattle.sock.proofs.Tests.{tests}
 use borrow.Author.Needs.{needs}
 use Rattle.stepping.proofs.alone.alone.Statement.{statement}
 use Rattle.stepping.proofs.alone.alone.Tie as tie

@@ -1,7 +1,7 @@
 -- `rule` of `stepping::alone` meets its contract: the code is its mirror in specs/.
 -- Assumes nothing.
 use Rattle.stepping.specs.Alone.{ruleW}
-use Rattle.moving.proofs.Tests.{tests}
+use Rattle.sock.proofs.Tests.{tests}
 use borrow.Author.Needs.{needs}
 use Rattle.stepping.proofs.alone.rule.Statement.{statement}
 use Rattle.stepping.proofs.alone.rule.Tie as tie

@@ -10,7 +10,7 @@ use Rattle.finding.specs.declared.find.Spot.{Spot}
 use Rattle.rules.specs.declared.plan.Plan.{Plan}
 use Rattle.stepping.specs.Answering.{oneW}
 use Rattle.stepping.specs.Alone.{ruleW, loneW, shortW, surely}
-use Rattle.moving.proofs.Tests.{tests}
+use Rattle.sock.proofs.Tests.{tests}
 use borrow.Author.Needs.{needs}
 use Rattle.stepping.proofs.alone.short.Statement.{statement}
 use Rattle.stepping.proofs.alone.short.Tie as tie

@@ -1,7 +1,7 @@
 -- `fitting` of `stepping::answer` meets its contract: the code is its mirror in specs/.
 -- Assumes nothing.
 use Rattle.stepping.specs.Answering.{lengthOf}
-use Rattle.moving.proofs.Tests.{tests}
+use Rattle.sock.proofs.Tests.{tests}
 use Rattle.stepping.proofs.answer.fitting.Statement.{statement}
 use Rattle.stepping.proofs.answer.fitting.Tie as tie
 

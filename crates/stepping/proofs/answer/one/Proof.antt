@@ -1,7 +1,7 @@
 -- `one` of `stepping::answer` meets its contract: the code is its mirror in specs/.
 -- Assumes nothing.
 use Rattle.stepping.specs.Answering.{oneW}
-use Rattle.moving.proofs.Tests.{tests}
+use Rattle.sock.proofs.Tests.{tests}
 use borrow.Author.Needs.{needs}
 use Rattle.stepping.proofs.answer.one.Statement.{statement}
 use Rattle.stepping.proofs.answer.one.Tie as tie

@@ -1,7 +1,7 @@
 -- `sized` of `stepping::answer` meets its contract: the code is its mirror in specs/.
 -- Assumes nothing.
 use Rattle.stepping.specs.Answering.{sizedW}
-use Rattle.moving.proofs.Tests.{tests}
+use Rattle.sock.proofs.Tests.{tests}
 use borrow.Author.Needs.{needs}
 use Rattle.stepping.proofs.answer.sized.Statement.{statement}
 use Rattle.stepping.proofs.answer.sized.Tie as tie

@@ -1,7 +1,7 @@
 -- `two` of `stepping::answer` meets its contract: the code is its mirror in specs/.
 -- Assumes nothing.
 use Rattle.stepping.specs.Answering.{twoW}
-use Rattle.moving.proofs.Tests.{tests}
+use Rattle.sock.proofs.Tests.{tests}
 use borrow.Author.Needs.{needs}
 use Rattle.stepping.proofs.answer.two.Statement.{statement}
 use Rattle.stepping.proofs.answer.two.Tie as tie

@@ -2,7 +2,7 @@
 -- Assumes nothing.
 use Rattle.stepping.specs.Writing.{copyW}
 use Rattle.stepping.specs.Answering.{writeOneW}
-use Rattle.moving.proofs.Tests.{tests}
+use Rattle.sock.proofs.Tests.{tests}
 use borrow.Author.Needs.{needs}
 use Rattle.stepping.proofs.answer.write_one.Statement.{statement}
 use Rattle.stepping.proofs.answer.write_one.Tie as tie

@@ -4,7 +4,7 @@ use mathlib.Core.Path.{ap, _∙_}
 use Rattle.stepping.specs.Answering.{Answered}
 use Rattle.stepping.specs.Exchanging.{betweenW}
 use Rattle.stepping.proofs.Carrying.{between-made}
-use Rattle.moving.proofs.Tests.{tests}
+use Rattle.sock.proofs.Tests.{tests}
 use borrow.Author.Needs.{needs}
 use Rattle.stepping.proofs.exchange.between.Statement.{statement}
 use Rattle.stepping.proofs.exchange.between.Tie as tie

@@ -1,7 +1,7 @@
 -- `issued_of` of `stepping::exchange` meets its contract: the code is its mirror in specs/.
 -- Assumes nothing.
 use Rattle.stepping.specs.Exchanging.{issuedOf}
-use Rattle.moving.proofs.Tests.{tests}
+use Rattle.sock.proofs.Tests.{tests}
 use Rattle.stepping.proofs.exchange.issued_of.Statement.{statement}
 use Rattle.stepping.proofs.exchange.issued_of.Tie as tie
 

@@ -1,7 +1,7 @@
 -- `sender` of `stepping::exchange` meets its contract: the code is its mirror in specs/.
 -- Assumes nothing.
 use Rattle.stepping.specs.Exchanging.{senderW}
-use Rattle.moving.proofs.Tests.{tests}
+use Rattle.sock.proofs.Tests.{tests}
 use borrow.Author.Needs.{needs}
 use Rattle.stepping.proofs.exchange.sender.Statement.{statement}
 use Rattle.stepping.proofs.exchange.sender.Tie as tie

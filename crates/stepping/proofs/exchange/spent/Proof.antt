@@ -1,7 +1,7 @@
 -- `spent` of `stepping::exchange` meets its contract: the code is its mirror in specs/.
 -- Assumes nothing.
 use Rattle.stepping.specs.Exchanging.{spentW}
-use Rattle.moving.proofs.Tests.{tests}
+use Rattle.sock.proofs.Tests.{tests}
 use borrow.Author.Needs.{needs}
 use Rattle.stepping.proofs.exchange.spent.Statement.{statement}
 use Rattle.stepping.proofs.exchange.spent.Tie as tie

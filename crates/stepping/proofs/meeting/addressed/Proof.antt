@@ -1,7 +1,7 @@
 -- `addressed` of `stepping::meeting` meets its contract: the code is its mirror in specs/.
 -- Assumes nothing.
 use Rattle.stepping.specs.Meeting.{addressedW}
-use Rattle.moving.proofs.Tests.{tests}
+use Rattle.sock.proofs.Tests.{tests}
 use borrow.Author.Needs.{needs}
 use Rattle.stepping.proofs.meeting.addressed.Statement.{statement}
 use Rattle.stepping.proofs.meeting.addressed.Tie as tie

@@ -1,7 +1,7 @@
 -- `replies` of `stepping::meeting` meets its contract: the code is its mirror in specs/.
 -- Assumes nothing.
 use Rattle.stepping.specs.Meeting.{repliesW}
-use Rattle.moving.proofs.Tests.{tests}
+use Rattle.sock.proofs.Tests.{tests}
 use borrow.Author.Needs.{needs}
 use Rattle.stepping.proofs.meeting.replies.Statement.{statement}
 use Rattle.stepping.proofs.meeting.replies.Tie as tie

@@ -1,7 +1,7 @@
 -- `taker` of `stepping::meeting` meets its contract: the code is its mirror in specs/.
 -- Assumes nothing.
 use Rattle.stepping.specs.Meeting.{takerOf}
-use Rattle.moving.proofs.Tests.{tests}
+use Rattle.sock.proofs.Tests.{tests}
 use Rattle.stepping.proofs.meeting.taker.Statement.{statement}
 use Rattle.stepping.proofs.meeting.taker.Tie as tie
 

@@ -1,7 +1,7 @@
 -- `body_nil` of `stepping::steps` meets its contract: the code is its mirror in specs/.
 -- Assumes nothing.
 use Rattle.stepping.specs.Stepping.{bodyNil}
-use Rattle.moving.proofs.Tests.{tests}
+use Rattle.sock.proofs.Tests.{tests}
 use borrow.Author.Needs.{needs}
 use Rattle.stepping.proofs.steps.body_nil.Statement.{statement}
 use Rattle.stepping.proofs.steps.body_nil.Tie as tie

@@ -1,7 +1,7 @@
 -- `by_kind` of `stepping::steps` meets its contract: the code is its mirror in specs/.
 -- Assumes nothing.
 use Rattle.stepping.specs.Stepping.{byKind}
-use Rattle.moving.proofs.Tests.{tests}
+use Rattle.sock.proofs.Tests.{tests}
 use Rattle.stepping.proofs.steps.by_kind.Statement.{statement}
 use Rattle.stepping.proofs.steps.by_kind.Tie as tie
 

@@ -1,7 +1,7 @@
 -- `moves` of `stepping::steps` meets its contract: the code is its mirror in specs/.
 -- Assumes nothing.
 use Rattle.stepping.specs.Stepping.{movesW}
-use Rattle.moving.proofs.Tests.{tests}
+use Rattle.sock.proofs.Tests.{tests}
 use borrow.Author.Needs.{needs}
 use Rattle.stepping.proofs.steps.moves.Statement.{statement}
 use Rattle.stepping.proofs.steps.moves.Tie as tie

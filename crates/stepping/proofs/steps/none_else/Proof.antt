@@ -1,7 +1,7 @@
 -- `none_else` of `stepping::steps` meets its contract: the code is its mirror in specs/.
 -- Assumes nothing.
 use Rattle.stepping.specs.Stepping.{noneElse}
-use Rattle.moving.proofs.Tests.{tests}
+use Rattle.sock.proofs.Tests.{tests}
 use Rattle.stepping.proofs.steps.none_else.Statement.{statement}
 use Rattle.stepping.proofs.steps.none_else.Tie as tie
 

@@ -4,7 +4,7 @@ use mathlib.Core.Path.{refl, ap, _∙_}
 use Rattle.stepping.specs.Answering.{Answered}
 use Rattle.stepping.specs.Stepping.{partnerW, receivingW}
 use Rattle.stepping.proofs.Stepping.{receiving-past, receiving-hit}
-use Rattle.moving.proofs.Tests.{tests}
+use Rattle.sock.proofs.Tests.{tests}
 use borrow.Author.Needs.{needs}
 use Rattle.stepping.proofs.steps.receiving.Statement.{statement}
 use Rattle.stepping.proofs.steps.receiving.Tie as tie

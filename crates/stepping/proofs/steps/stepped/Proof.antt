@@ -4,7 +4,7 @@ use mathlib.Core.Path.{ap, _∙_}
 use Rattle.stepping.specs.Answering.{Answered}
 use Rattle.stepping.specs.Stepping.{foundW, stepW}
 use Rattle.stepping.proofs.Stepping.{step-beyond, step-past, step-hit}
-use Rattle.moving.proofs.Tests.{tests}
+use Rattle.sock.proofs.Tests.{tests}
 use borrow.Author.Needs.{needs}
 use Rattle.stepping.proofs.steps.stepped.Statement.{statement}
 use Rattle.stepping.proofs.steps.stepped.Tie as tie

@@ -1,7 +1,7 @@
 -- `back` of `stepping::writing` meets its contract: the code is its mirror in specs/.
 -- Assumes nothing.
 use Rattle.stepping.specs.Writing.{copyW, backW}
-use Rattle.moving.proofs.Tests.{tests}
+use Rattle.sock.proofs.Tests.{tests}
 use borrow.Author.Needs.{needs}
 use Rattle.stepping.proofs.writing.back.Statement.{statement}
 use Rattle.stepping.proofs.writing.back.Tie as tie

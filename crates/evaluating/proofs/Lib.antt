@@ -1,0 +1,2 @@
+pub mod Evaluates
+pub mod Evaluations

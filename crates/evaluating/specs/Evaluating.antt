@@ -1,0 +1,40 @@
+-- Evaluation on words, as the code goes. The proofs show that it is the definitions' evaluation; no contract of a call names it.
+use Prim.Native.Nat.{ℕ, zero, suc, _+_, _-_, _*_, _/_, _%_}
+use mathlib.Core.Bool.{cond}
+use mathlib.Core.List.{List}
+use lib.Dec.{ltb, eqb}
+use lib.ListN.{length, getD}
+use Rattle.sock.specs.Words.{bit, valueOf}
+use Rattle.evaluating.specs.declared.evaluate.Evaluated.{Evaluated}
+
+abbrev at : List ℕ → ℕ → ℕ
+at ws i = getD ws i 0
+
+-- a variable among 32 values of two words each
+unfoldable pub valueIn : List ℕ → ℕ → ℕ
+valueIn vs x = valueOf (at vs (x * 2)) (at vs (x * 2 + 1))
+
+unfoldable pub operated : ℕ → ℕ → ℕ → ℕ
+operated tag a b =
+    cond (eqb tag 2) ((a + b) % 4294967296)
+    (cond (eqb tag 3) ((a + 4294967296 - b) % 4294967296)
+    (cond (eqb tag 4) (bit (ltb a b)) (bit (eqb a b))))
+
+abbrev nowhere : Evaluated
+nowhere = record { end = 0; value = 0 }
+
+unfoldable pub constantAt : List ℕ → ℕ → Evaluated
+constantAt ws i = cond (ltb (length ws - i) 3) nowhere (record { end = i + 3; value = valueOf (at ws (i + 1)) (at ws (i + 2)) })
+
+unfoldable pub both : (ℕ → Evaluated) → ℕ → ℕ → Evaluated
+both sub tag i =
+    record { end = sub (sub i .end) .end; value = operated tag (sub i .value) (sub (sub i .end) .value) }
+
+unfoldable pub evaluatedAt : (ℕ → Evaluated) → List ℕ → List ℕ → ℕ → ℕ → Evaluated
+evaluatedAt sub ws vs i w =
+    cond (eqb (w / 8192) 0) (constantAt ws i)
+    (cond (eqb (w / 8192) 1) (record { end = i + 1; value = valueIn vs (w / 256 % 32) }) (both sub (w / 8192) (i + 1)))
+
+unfoldable pub evaluated : ℕ → List ℕ → List ℕ → ℕ → Evaluated
+evaluated zero ws vs i = nowhere
+evaluated (suc d) ws vs i = cond (ltb i (length ws)) (evaluatedAt (evaluated d ws vs) ws vs i (at ws i)) nowhere

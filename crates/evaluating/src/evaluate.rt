@@ -1,0 +1,90 @@
+// Values and expressions on words. Sum and difference run round.
+use layout::number::wide;
+use layout::number::word;
+ghost use mathlib.Core.Path.{_≡_};
+ghost use Prim.Native.Nat.{_+_, _*_, _<_};
+ghost use lib.ListN.{length, getD};
+ghost use Rattle.sock.specs.Words.{valueOf};
+ghost use Rattle.evaluating.specs.Evaluating.{valueIn, operated, constantAt, evaluated};
+
+// Where an expression ends, and its value.
+pub struct Evaluated {
+    pub end: usize,
+    pub value: u32,
+}
+
+fn long(high: u16, low: u16) -> u32
+    ensures { λ r. ⌜ r ≡ valueOf high low ⌝ }
+{
+    (high as u32) * 65536 + (low as u32)
+}
+
+// The value of a variable among values of two words each, of which an engine has 32; a word that is not there counts as 0.
+pub fn variable(values: &[u16], x: usize) -> u32
+    ensures { λ r. ⌜ r ≡ valueIn (now (values .entry)) x ⌝ }
+{
+    if values.len() <= x {
+        return 0;
+    }
+    long(word(values, x * 2), word(values, x * 2 + 1))
+}
+
+fn operate(tag: usize, a: u32, b: u32) -> u32
+    ensures { λ r. ⌜ r ≡ operated tag a b ⌝ }
+{
+    if tag == 2 {
+        return std::num::wrapping_add_u32(a, b);
+    }
+    if tag == 3 {
+        return std::num::wrapping_sub_u32(a, b);
+    }
+    if tag == 4 {
+        if a < b {
+            return 1;
+        }
+        return 0;
+    }
+    if a == b { 1 } else { 0 }
+}
+
+// A constant's two words.
+fn constant(ws: &[u16], at: usize) -> Evaluated
+    requires { ⌜ at < length (now ws) ⌝ }
+    ensures { λ r. ⌜ r ≡ constantAt (now (ws .entry)) at ⌝ }
+{
+    if ws.len() - at < 3 {
+        return Evaluated { end: 0, value: 0 };
+    }
+    Evaluated {
+        end: at + 3,
+        value: long(ws[at + 1], ws[at + 2]),
+    }
+}
+
+// The expression at `at`, of at most `depth` levels.
+pub fn evaluate(ws: &[u16], values: &[u16], at: usize, depth: usize) -> Evaluated
+    ensures { λ r. ⌜ r ≡ evaluated depth (now (ws .entry)) (now (values .entry)) at ⌝ }
+{
+    if depth == 0 {
+        return Evaluated { end: 0, value: 0 };
+    }
+    if ws.len() <= at {
+        return Evaluated { end: 0, value: 0 };
+    }
+    let w = wide(ws[at]);
+    match w / 8192 {
+        0 => constant(ws, at),
+        1 => Evaluated {
+            end: at + 1,
+            value: variable(values, w / 256 % 32),
+        },
+        _ => {
+            let a = evaluate(ws, values, at + 1, depth - 1);
+            let b = evaluate(ws, values, a.end, depth - 1);
+            Evaluated {
+                end: b.end,
+                value: operate(w / 8192, a.value, b.value),
+            }
+        }
+    }
+}

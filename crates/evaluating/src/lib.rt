@@ -1,0 +1,2 @@
+// Values of variables and expressions.
+pub mod evaluate;

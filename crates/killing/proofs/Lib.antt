@@ -1,0 +1,5 @@
+pub mod Gives
+pub mod Killed
+pub mod Kills
+pub mod Noticed
+pub mod Zombies

@@ -1,0 +1,2 @@
+// What a kill leaves of a process.
+pub mod kill;

@@ -1,0 +1,2 @@
+// Words written one after the other.
+pub mod write;
