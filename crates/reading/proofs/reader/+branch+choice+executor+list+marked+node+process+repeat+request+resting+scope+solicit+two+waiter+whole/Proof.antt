@@ -7,7 +7,7 @@ use borrow.Author.Needs.{needs}
 use lib.ListN.{length, List·getD-eq-default}
 use Rattle.reading.proofs.Fitting.{slot-small}
 use Rattle.reading.proofs.Later.{Going, begins, three-tests, too-deep, no-words, whole-fails, read-last, read-next, leaf-last, leaf-next, part-next, past-node, past-whole}
-use Rattle.reading.proofs.Others.{beyond-3, beyond-19}
+use Rattle.reading.proofs.Others.{beyond}
 use Rattle.reading.proofs.Tests.{tests}
 use Rattle.reading.proofs.Walks.{process-step, branches-step, branches-end, entries-step, entries-end, process-node, process-refused, key-inside, entries-turn}
 use Rattle.reading.specs.Tables.{shapeOf}
@@ -475,7 +475,7 @@ marked-returns-7 t c =
 marked-returns-8 : (t : ℕ) → marked-lts.Need-returns-8 (list-below t, list.Post) (marked-at t) marked.Post
 unfolding markedEnd
 marked-returns-8 t c =
-    let f0 = beyond-3 _ (c .match .rest) in
+    let f0 = beyond 3 _ (c .match .rest) in
     simp (List·getD-eq-default, f0)
 
 node-returns : (t : ℕ) → node-lts.Need-returns (wide-reads.Asked, wide-reads.Learnt, head-mask-reads.Asked, head-mask-reads.Learnt, rest-context-reads.Asked, rest-context-reads.Learnt, expression-reads.Asked, expression-reads.Learnt, same-context-reads.Asked, same-context-reads.Learnt, two-below t, two.Post, branch-below t, branch.Post, repeat-below t, repeat.Post, choice-below t, choice.Post, request-below t, request.Post, notify-reads.Asked, notify-reads.Learnt, solicit-below t, solicit.Post, scope-below t, scope.Post, list-below t, list.Post, executor-below t, executor.Post, waiter-below t, waiter.Post, notice-reads.Asked, notice-reads.Learnt) (node-at t) node.Post
@@ -710,7 +710,7 @@ node-returns-22 t c =
 node-returns-23 : (t : ℕ) → node-lts.Need-returns-23 (wide-reads.Asked, wide-reads.Learnt, head-mask-reads.Asked, head-mask-reads.Learnt, rest-context-reads.Asked, rest-context-reads.Learnt, expression-reads.Asked, expression-reads.Learnt, same-context-reads.Asked, same-context-reads.Learnt, two-below t, two.Post, branch-below t, branch.Post, repeat-below t, repeat.Post, choice-below t, choice.Post, request-below t, request.Post, notify-reads.Asked, notify-reads.Learnt, solicit-below t, solicit.Post, scope-below t, scope.Post, list-below t, list.Post, executor-below t, executor.Post, waiter-below t, waiter.Post, notice-reads.Asked, notice-reads.Learnt) (node-at t) node.Post
 unfolding nodeEnd
 node-returns-23 t c =
-    let f0 = beyond-19 _ (c .match .rest) in
+    let f0 = beyond 19 _ (c .match .rest) in
     rw (process-node (c .before .before .before .before .before .before .before .before .before .args .depth) (c .before .before .before .before .before .before .before .before .before .args .ws .now) (c .before .before .before .before .before .before .before .before .before .args .bound) (c .before .before .before .before .before .before .before .before .before .args .context) (c .before .before .before .before .before .before .before .before .before .args .at) (c .before .before .before .before .wide .result) (c .before .before .before .head-mask .result) (c .before .before .before .before .before .before .before .if1 .left) (c .before .before .before .before .before .before .if2 .left) (c .before .before .before .before .wide .ensures .0) (c .before .before .before .head-mask .ensures) (c .before .before .if3 .left)) (simp (List·getD-eq-default, f0, ← (c .before .rest-context .ensures .0)))
 
 abbrev process-Inv-loop : process-lts.InvT-loop

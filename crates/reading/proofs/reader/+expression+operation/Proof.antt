@@ -1,7 +1,7 @@
 -- `expression` and `operation` of `reading::reader` meet their contracts: the code is its mirror in specs/.
 -- Assumes nothing.
 use lib.ListN.{List·getD-eq-default}
-use Rattle.reading.proofs.Others.{beyond-6}
+use Rattle.reading.proofs.Others.{beyond}
 use borrow.Author.Needs.{needs}
 use Rattle.reading.specs.Walk.{exprEnd, exprAt, operationEnd, on, when}
 use Rattle.reading.proofs.Walks.{expr-step}
@@ -154,7 +154,7 @@ expression-returns-9 t c =
 expression-returns-10 : (t : ℕ) → expression-lts.Need-returns-10 (wide-reads.Asked, wide-reads.Learnt, constant-reads.Asked, constant-reads.Learnt, operation-below t, operation.Post) (expression-at t) expression.Post
 unfolding exprEnd exprAt operationEnd on when
 expression-returns-10 t c =
-    let f0 = beyond-6 _ (c .match .rest) in
+    let f0 = beyond 6 _ (c .match .rest) in
     let f1 = c .before .before .before .if2 .left in
     let f2 = c .before .before .before .before .if1 .left in
     simp (tests, expr-step, List·getD-eq-default, ← (c .before .wide .ensures .0), f0, f1, f2)
