@@ -2,6 +2,7 @@
 -- Assumes nothing.
 use Prim.Native.Nat.{ℕ, zero, suc, _+_, _-_, _*_, _/_, _%_, _≤_, _<_}
 use native.Mathlib.Omega.{arith}
+use native.Mathlib.Numerals.{sub-one}
 use mathlib.Core.Path.{_≡_, refl, sym, _∙_}
 use mathlib.Core.Bool.{Bool, true, false, true≢false, _&&_, cond}
 use mathlib.Core.List.{List}
@@ -105,9 +106,6 @@ module _ (end : ℕ → ℕ → ℕ) (sub : Noting) (ws : List ℕ) (bound i : �
 
 -- ---- by kind
 
-pred-suc : (d : ℕ) → suc d - 1 ≡ d
-pred-suc d = omega arith
-
 pub none-deep : (d : ℕ) (ws : List ℕ) (bound c i : ℕ) (m : List ℕ) → d ≡ 0 → (0 ≡ processEnd d ws bound c i) × (m ≡ enabledNotes d ws bound c i m)
 unfolding processEnd enabledNotes
 none-deep d ws bound c i m z = rw z (refl, refl)
@@ -119,7 +117,7 @@ enabled-step :
     (nodeNotes (processEnd (d - 1) ws bound) (notesW (d - 1) ws bound) ws bound (at ws i) i m) m
 unfolding enabledNotes
 enabled-step zero ws bound c i m h = absurd (h refl)
-enabled-step (suc d) ws bound c i m h = rw (pred-suc d)
+enabled-step (suc d) ws bound c i m h = rw (sub-one (suc d))
 
 pub none-left :
     (d : ℕ) (ws : List ℕ) (bound c i : ℕ) (m : List ℕ) → (d ≡ 0 → ⊥) → length ws ≤ i →
@@ -230,7 +228,7 @@ engines-step :
     (enginesNotes deepest ws bound (left - 1) (processEnd deepest ws bound 11 (i + 64)) (notesW deepest ws bound 11 (i + 64) m)))
 unfolding enginesNotes
 engines-step deepest ws bound zero i m h = absurd (omega arith)
-engines-step deepest ws bound (suc left) i m h = rw (pred-suc left)
+engines-step deepest ws bound (suc left) i m h = rw (sub-one (suc left))
 
 engines-end : (deepest : ℕ) (ws : List ℕ) (bound left i : ℕ) (m : List ℕ) → left ≤ 0 → enginesNotes deepest ws bound left i m ≡ m
 unfolding enginesNotes

@@ -1,7 +1,7 @@
 -- The notes that reading leaves, as the code goes: `end` tells where a process in a context ends, `sub` notes one level down. The notes of
 -- the word at i stand at i * 2, for the process that begins there, and behind it, for the list. The proofs show that each is where the
 -- layout ends; no contract of a call names it.
-use Prim.Native.Nat.{ℕ, zero, suc, _+_, _-_, _*_, _/_, _%_}
+use Prim.Native.Nat.{ℕ, zero, suc, _+_, _-_, _*_, _%_}
 use mathlib.Core.Bool.{Bool, false, _&&_, cond}
 use mathlib.Core.List.{List}
 use lib.Bits.{bitAnd}

@@ -9,7 +9,6 @@ use lib.Bits.{bitAnd, and-mask}
 use lib.Dec.{ltb, eqb}
 use lib.ListN.{length, List·getD-eq-default}
 use borrow.Author.Tests.{eqb-true, ltb-true, ltb-false}
-use Rattle.reading.specs.Tables.{headMask}
 use Rattle.reading.specs.Walk.{at, when, exprEnd, endAfter, processEnd, nodeEnd}
 use Rattle.reading.proofs.Combining.{Words}
 use Rattle.reading.proofs.Masks.{no-context}

@@ -2,10 +2,11 @@
 -- Assumes nothing.
 use Prim.Native.Nat.{ℕ, zero, suc, _+_, _-_, _*_, _/_, _%_, _<_, _≤_}
 use native.Mathlib.Omega.{arith}
+use native.Mathlib.Numerals.{sub-one}
 use mathlib.Core.Path.{_≡_, refl, _∙_}
-use mathlib.Core.Bool.{true, _&&_, cond}
+use mathlib.Core.Bool.{true, cond}
 use mathlib.Core.List.{List}
-use lib.Dec.{leb, ltb, eqb, lit<}
+use lib.Dec.{ltb, eqb, lit<}
 use lib.ListN.{length, getD}
 use borrow.Author.Tests.{lt-ltb, ne-eqb}
 use Rattle.sock.specs.Reading.{Got}
@@ -20,9 +21,6 @@ use Rattle.reading.proofs.Processes.{process-ends, list-ends}
 
 -- ---- one level
 
-pred-suc : (d : ℕ) → suc d - 1 ≡ d
-pred-suc d = omega arith
-
 pub tally-step :
     (d : ℕ) (ws : List ℕ) (serial bound i : ℕ) → (d ≡ 0 → ⊥) →
     tallyAt d ws serial bound i
@@ -31,7 +29,7 @@ pub tally-step :
     uncounted
 unfolding tallyAt
 tally-step zero ws serial bound i h = absurd (h refl)
-tally-step (suc d) ws serial bound i h = rw (pred-suc d)
+tally-step (suc d) ws serial bound i h = rw (sub-one (suc d))
 
 -- what the code knows where it looks at the kind
 pub tally-node :
@@ -57,10 +55,10 @@ module _ (ws : List ℕ) (ok : Words ws) (d bound : ℕ) where
   whole : bound / 65536 * 65536 + bound % 65536 ≡ bound
   whole = omega arith
 
-  pub process-forward : (c : ℕ) → c < 12 → (i : ℕ) → Forward ws i (processEnd d ws bound c i)
+  process-forward : (c : ℕ) → c < 12 → (i : ℕ) → Forward ws i (processEnd d ws bound c i)
   process-forward c h i = rw whole at (ends-forward (process-ends ws ok (bound / 65536) (bound % 65536) (omega arith) d c h i))
 
-  pub list-forward : (i : ℕ) → Forward ws i (listEnd (processEnd d ws bound) ws 0 128 i)
+  list-forward : (i : ℕ) → Forward ws i (listEnd (processEnd d ws bound) ws 0 128 i)
   list-forward i = ends-forward (list-ends ws ok bound d true i)
 
 -- ---- no more ends than words
@@ -82,7 +80,7 @@ later : {ws : List ℕ} {i j : ℕ} {t : Counted} → i ≤ j → Bounded ws j t
 later h noCount = noCount
 later h (aCount {e} {w} {k} p q b) = aCount {e = e} {w = w} {k = k} (omega arith) q (omega arith)
 
-pub after-none : (k : Counted → Counted) → after uncounted k ≡ uncounted
+after-none : (k : Counted → Counted) → after uncounted k ≡ uncounted
 unfolding after uncounted
 after-none k = refl
 

@@ -110,10 +110,6 @@ pub record ReadTo {A : Type 0} (ws : List ℕ) (from : ℕ) (g : Got A) (e : ℕ
   pub within : e ≤ length ws
 
 module _ {A : Type 0} {ws : List ℕ} {i : ℕ} where
-  pub ends-zero : {g : Got A} {e : ℕ} → Ends ws i g e → e ≡ 0 → g ≡ fail
-  ends-zero fails z = refl
-  ends-zero (reads p q) z = absurd (omega arith)
-
   pub ends-fail : {g : Got A} {e : ℕ} → Ends ws i g e → g ≡ fail → e ≡ 0
   ends-fail fails z = refl
   ends-fail (reads p q) z = let y : _≡_ {A = ℕ} 0 1 = cc in absurd (omega arith)

@@ -18,13 +18,13 @@ use Rattle.reading.specs.Walk.{at, contextOf, restOf, slotOf, fitsAt, pa
 
 -- ---- the test
 
-abbrev pub headBits : ℕ → ℕ → ℕ
+abbrev headBits : ℕ → ℕ → ℕ
 headBits h t = bitAnd (h + 65536) (t / 1048576 % 8192)
 
-abbrev pub middleBits : ℕ → ℕ → ℕ
+abbrev middleBits : ℕ → ℕ → ℕ
 middleBits w t = bitAnd w (t / 8589934592 % 65536)
 
-abbrev pub lastBits : ℕ → ℕ → ℕ
+abbrev lastBits : ℕ → ℕ → ℕ
 lastBits w t = bitAnd w (t / 562949953421312 % 2 * 65535)
 
 abbrev pub standing : ℕ → ℕ → ℕ
@@ -150,7 +150,7 @@ same-small : table (λ j. small (j / 32) (j % 32)) 0 416 ≡ table (λ j. one (j
 unfolding small smallAt one partOf bitOf shapeOf
 same-small = refl
 
-pub parts-small :
+parts-small :
     (c k : ℕ) → c < 13 → k < 32 → (eqb c 12 && ltb k 19) ≡ false →
     (partOf c (shapeOf k / 16) < 13) × (partOf c (shapeOf k / 4096) < 13) × (0 < shapeOf k % 4)
 unfolding small smallAt one

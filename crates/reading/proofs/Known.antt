@@ -68,10 +68,6 @@ module _ {limits : Limits} {ws : List ℕ} {s : Starts} (k : Known limits ws s) 
   unfolding encode
   known-issued = rw (← k .same)
 
-  pub known-count : at ws 0 ≡ length (k .config .engines)
-  unfolding encode
-  known-count = rw (← k .same)
-
   -- a process begins and ends within the words
   pub start-below : (e : ℕ) → e < s .engines → getD (s .starts) e 0 < length ws
   start-below e h =

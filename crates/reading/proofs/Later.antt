@@ -32,7 +32,7 @@ module _ (ws : List ℕ) (ok : Words ws) (bound d c i : ℕ) (hc : c < 13) where
       let whole : bound / 65536 * 65536 + bound % 65536 ≡ bound = omega arith in
       rw whole at (ends-past (process-ends ws ok (bound / 65536) (bound % 65536) (omega arith) d c h i))
 
-  pub item-past : (itemEnd ws bound d c i ≡ 0 → ⊥) → i < itemEnd ws bound d c i
+  item-past : (itemEnd ws bound d c i ≡ 0 → ⊥) → i < itemEnd ws bound d c i
   unfolding itemEnd
   item-past = by (eqb c 12) refl
     where
@@ -43,7 +43,7 @@ module _ (ws : List ℕ) (ok : Words ws) (bound d c i : ℕ) (hc : c < 13) where
       by false q = rw q (process-past (lt-of-le-ne (omega arith) (eqb-false c 12 q)))
 
 module _ (ws : List ℕ) (bound d c i : ℕ) where
-  pub item-shallow : d ≡ 0 → itemEnd ws bound d c i ≡ 0
+  item-shallow : d ≡ 0 → itemEnd ws bound d c i ≡ 0
   unfolding itemEnd exprEnd processEnd
   item-shallow e = rw e (go (eqb c 12))
     where
@@ -51,7 +51,7 @@ module _ (ws : List ℕ) (bound d c i : ℕ) where
       go true = refl
       go false = refl
 
-  pub item-beyond : length ws ≤ i → itemEnd ws bound d c i ≡ 0
+  item-beyond : length ws ≤ i → itemEnd ws bound d c i ≡ 0
   unfolding itemEnd exprEnd processEnd when
   item-beyond h = go d (eqb c 12)
     where
@@ -77,7 +77,7 @@ on-same x k l f = ap (λ z. cond (eqb x 0) 0 z) (f x)
 
 module _ (ws : List ℕ) (bound : ℕ) where
   -- what is written above does not count
-  pub later-set : (later : List ℕ) (m x n : ℕ) → n < m → (e : ℕ) → laterEnd ws bound (set later m x) n e ≡ laterEnd ws bound later n e
+  later-set : (later : List ℕ) (m x n : ℕ) → n < m → (e : ℕ) → laterEnd ws bound (set later m x) n e ≡ laterEnd ws bound later n e
   unfolding laterEnd
   later-set later m x zero h e = refl
   later-set later m x (suc n) h e =
@@ -85,7 +85,7 @@ module _ (ws : List ℕ) (bound : ℕ) where
       rw q (on-same _ _ _ (later-set later m x n (omega arith)))
 
   -- one more is kept
-  pub later-push :
+  later-push :
       (later : List ℕ) (n d c : ℕ) → at later (suc n) ≡ d * 16 + c → c < 13 → (e : ℕ) →
       laterEnd ws bound later (suc n) e ≡ on (itemEnd ws bound d c e) (laterEnd ws bound later n)
   unfolding laterEnd
@@ -130,7 +130,7 @@ module _
       ∙ on-same (item l e) _ _ then-one
       ∙ sym (later-push ws bound after (suc n) d l second-kept hl e)
 
-  pub push-parts :
+  push-parts :
       (p : ℕ) → (p ≡ 0 → ⊥) → p < 4 →
       on (partsEnd item p f l j) (laterEnd ws bound later n) ≡ on (item f j) (laterEnd ws bound after (n + p - 1))
   push-parts zero some few = absurd (some refl)

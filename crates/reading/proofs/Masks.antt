@@ -26,7 +26,7 @@ same : table looked 0 384 ≡ table tested 0 384
 unfolding looked tested headMask spareOf allowed placed rowOf rows placesOf bitOf maskOf
 same = refl
 
-pub masked-as : (x k : ℕ) → x < 12 → k < 32 → maskOf x k ≡ headMask x k
+masked-as : (x k : ℕ) → x < 12 → k < 32 → maskOf x k ≡ headMask x k
 unfolding looked tested
 masked-as x k hx hk =
     let i : x * 32 + k < 384 = omega arith in

@@ -5,7 +5,7 @@ use native.Mathlib.Omega.{arith}
 use mathlib.Core.Path.{_≡_}
 
 -- what a `match` with keys 0 to n - 1 knows of a number that reached its last arm
-abbrev pub Missed : ℕ → ℕ → Type 0
+abbrev Missed : ℕ → ℕ → Type 0
 Missed zero k = Unit {0}
 Missed (suc n) k = Missed n k × (k ≡ n → ⊥)
 

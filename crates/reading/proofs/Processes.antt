@@ -19,7 +19,7 @@ use Rattle.reading.specs.Tables.{stratumOf, placeOf, spareOf}
 use Rattle.reading.specs.Walk.{when, at, exprEnd, choiceEnd, listEnd, nodeEnd, processEnd}
 use Rattle.reading.proofs.Contexts.{numberOf, context-back, rest-context, spareFor, allowed-kind, head-masked}
 use Rattle.reading.proofs.Combining.{check-and, when-and, Words, at-next}
-use Rattle.reading.proofs.Ending.{Ends, fails, ReadTo, ends-zero, ends-fail, ends-read, ends-check}
+use Rattle.reading.proofs.Ending.{Ends, fails, ReadTo, ends-fail, ends-read, ends-check}
 use Rattle.reading.proofs.Lists.{list-any}
 use Rattle.reading.proofs.Parts.{Bounded, isCode, isRunning, Below}
 use Rattle.reading.proofs.Following.{Follows, nil-follows, assign-follows, seq-follows, par-follows, if-follows, while-follows, choice-follows, one-way-follows, request-follows, notify-follows, solicit-follows, inst-follows, throw-follows, comp-follows, cH-follows}
@@ -137,9 +137,6 @@ module _ (ws : List ℕ) (ok : Words ws) (n issued : ℕ) (small : issued < 6553
       rw (context-back n issued c h) at
       (read-ends ws ok (n * 65536 + issued) d (stratumOf n issued (c / 4)) (bounded n issued small (c / 4)) (placeOf (c % 4)) i)
 
-  pub process-zero : processEnd d ws (n * 65536 + issued) c i ≡ 0 → process d (stratumOf n issued (c / 4)) (placeOf (c % 4)) (drop i ws) ≡ fail
-  process-zero z = ends-zero process-ends z
-
   pub process-fail : process d (stratumOf n issued (c / 4)) (placeOf (c % 4)) (drop i ws) ≡ fail → processEnd d ws (n * 65536 + issued) c i ≡ 0
   process-fail z = ends-fail process-ends z
 
@@ -151,7 +148,7 @@ module _ (ws : List ℕ) (ok : Words ws) (n issued : ℕ) (small : issued < 6553
 -- ---- lists
 
 -- the context of a list's entries: of a scope's, of another's
-abbrev pub listContext : Bool → ℕ
+abbrev listContext : Bool → ℕ
 listContext true = 0
 listContext false = 4
 

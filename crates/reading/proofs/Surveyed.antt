@@ -186,7 +186,7 @@ readAs x limits (n ∷ issued ∷ ws) =
     guarded (ltb 0 n && leb n 8 && isWord issued && leb (suc (suc (length ws))) (limits .longest))
     (whole issued (readEngines (limits .deepest) (stratumOf n issued x) n ws))
 
-pub read-running : (limits : Limits) (ws : List ℕ) → readAs 2 limits ws ≡ readConfig limits ws
+read-running : (limits : Limits) (ws : List ℕ) → readAs 2 limits ws ≡ readConfig limits ws
 unfolding readAs readConfig
 read-running limits [] = refl
 read-running limits (n ∷ []) = refl

@@ -2,6 +2,7 @@
 -- Assumes nothing.
 use Prim.Native.Nat.{ℕ, zero, suc, _+_, _-_, _*_, _/_, _%_, _<_, _≤_}
 use native.Mathlib.Omega.{arith}
+use native.Mathlib.Numerals.{sub-one}
 use mathlib.Core.Path.{_≡_, refl, sym, _∙_}
 use mathlib.Core.Bool.{true, _&&_, cond}
 use mathlib.Core.List.{List}
@@ -30,9 +31,6 @@ process-inside ws ok d bound c h i =
 
 -- ---- one turn of the loop
 
-pred-suc : (d : ℕ) → suc d - 1 ≡ d
-pred-suc d = omega arith
-
 pub engines-step :
     (sub : ℕ → ℕ) (ws : List ℕ) (n left e i : ℕ) (starts : List ℕ) → 0 < left →
     enginesFrom sub ws n left e i starts
@@ -40,7 +38,7 @@ pub engines-step :
     (cond (eqb (sub (i + 64)) 0) noStarts (enginesFrom sub ws n (left - 1) (e + 1) (sub (i + 64)) (set starts e (i + 64))))
 unfolding enginesFrom
 engines-step sub ws n zero e i starts h = absurd (omega arith)
-engines-step sub ws n (suc left) e i starts h = rw (pred-suc left)
+engines-step sub ws n (suc left) e i starts h = rw (sub-one (suc left))
 
 pub engines-end :
     (sub : ℕ → ℕ) (ws : List ℕ) (n left e i : ℕ) (starts : List ℕ) → left ≤ 0 →

@@ -90,7 +90,7 @@ module _ {limits : Limits} {ws : List ℕ} {s : Starts} (ok : Words ws) (k : Kno
       ∙ rw (add-one e, add-assoc w (tally (waits serial) (engineAt c e .process)), add-assoc v (tally (works serial) (engineAt c e .process))))
 
   -- what the code counts
-  pub total-is :
+  total-is :
       (t : Counted) (n issued : ℕ) → n ≡ s .engines → issued ≡ at ws 1 →
       t ≡ totalFrom (tallyAt (limits .deepest) ws serial (n * 65536 + issued)) (s .starts) n 0 0 0 →
       (t .waiters ≡ tallyAll (waits serial) (k .config .engines)) × (t .workers ≡ tallyAll (works serial) (k .config .engines))

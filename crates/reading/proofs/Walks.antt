@@ -2,6 +2,7 @@
 -- Assumes nothing.
 use Prim.Native.Nat.{ℕ, zero, suc, _+_, _-_, _/_, _<_, _≤_}
 use native.Mathlib.Omega.{arith}
+use native.Mathlib.Numerals.{sub-one}
 use mathlib.Core.Path.{_≡_, refl, sym, _∙_}
 use borrow.Author.Tests.{lt-ltb, ltb-true, ne-eqb}
 use mathlib.Core.Bool.{Bool, true, false, _||_, cond}
@@ -12,13 +13,10 @@ use lib.ListN.{length}
 use Rattle.reading.specs.Tables.{headMask}
 use Rattle.reading.specs.Walk.{when, on, at, exprAt, exprEnd, twoEnd, branchesEnd, keyAt, entryContext, entriesEnd, nodeEnd, processEnd}
 
-pred-suc : (d : ℕ) → suc d - 1 ≡ d
-pred-suc d = omega arith
-
 pub expr-step : (d : ℕ) (ws : List ℕ) (i : ℕ) → (d ≡ 0 → ⊥) → exprEnd d ws i ≡ when (ltb i (length ws)) (exprAt (exprEnd (d - 1) ws) ws i (at ws i))
 unfolding exprEnd
 expr-step zero ws i h = absurd (h refl)
-expr-step (suc d) ws i h = rw (pred-suc d)
+expr-step (suc d) ws i h = rw (sub-one (suc d))
 
 pub process-step :
     (d : ℕ) (ws : List ℕ) (bound c i : ℕ) →
@@ -29,7 +27,7 @@ pub process-step :
     (nodeEnd (exprEnd (d - 1) ws) (processEnd (d - 1) ws bound) ws c bound (at ws i) i))
 unfolding processEnd
 process-step zero ws bound c i h = absurd (h refl)
-process-step (suc d) ws bound c i h = rw (pred-suc d)
+process-step (suc d) ws bound c i h = rw (sub-one (suc d))
 
 -- ---- one turn of a loop
 
@@ -37,7 +35,7 @@ pub branches-step :
     (sub : ℕ → ℕ → ℕ) (c n i : ℕ) → 0 < n → branchesEnd sub c n i ≡ on (twoEnd sub (c + 2) c i) (branchesEnd sub c (n - 1))
 unfolding branchesEnd
 branches-step sub c zero i h = absurd (omega arith)
-branches-step sub c (suc n) i h = rw (pred-suc n)
+branches-step sub c (suc n) i h = rw (sub-one (suc n))
 
 pub entries-step :
     (sub : ℕ → ℕ → ℕ) (ws : List ℕ) (c wanted n least : ℕ) (met : Bool) (i : ℕ) →
@@ -48,7 +46,7 @@ pub entries-step :
     (entriesEnd sub ws c wanted (n - 1) (keyAt ws i least + 1) (met || eqb (keyAt ws i least) wanted)))
 unfolding entriesEnd
 entries-step sub ws c wanted zero least met i h = absurd (omega arith)
-entries-step sub ws c wanted (suc n) least met i h = rw (pred-suc n)
+entries-step sub ws c wanted (suc n) least met i h = rw (sub-one (suc n))
 
 pub branches-end : (sub : ℕ → ℕ → ℕ) (c n i : ℕ) → n ≤ 0 → branchesEnd sub c n i ≡ i
 unfolding branchesEnd

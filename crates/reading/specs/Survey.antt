@@ -1,7 +1,7 @@
 -- The survey of a configuration on positions, as the code goes: how many engines there are, 0 if the words do not fit, and where each
 -- one's process begins; behind the last, where the next would. No contract of a call names it.
 use Prim.Native.Nat.{ℕ, zero, suc, _+_, _-_, _*_}
-use mathlib.Core.Bool.{Bool, true, false, _&&_, cond}
+use mathlib.Core.Bool.{_&&_, cond}
 use mathlib.Core.List.{List}
 use lib.Dec.{leb, ltb, eqb}
 use lib.ListN.{length, set, replicate}

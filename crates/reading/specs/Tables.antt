@@ -1,7 +1,7 @@
 -- Contexts as numbers, and what the reader's table holds, from the definitions' tests. A stratum is a number (0 code, 1 code that may hold
 -- cH, 2 running) and so is a place (0 anywhere, 1 not nil, 2 a branch's guard, 3 a root); a context is 4 times the stratum plus the place.
 use Prim.Native.Nat.{ℕ, zero, suc, _+_, _*_, _-_, _/_, _%_}
-use mathlib.Core.Bool.{Bool, true, false, _&&_, cond}
+use mathlib.Core.Bool.{true, false, _&&_, cond}
 use mathlib.Core.List.{[], _∷_}
 use lib.Dec.{ltb, eqb}
 use lib.ListN.{getD}

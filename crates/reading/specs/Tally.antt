@@ -1,6 +1,6 @@
 -- The walks behind the calls that only read, on positions, as the code goes: the ends of a serial in a process and in all engines, and
 -- whether an engine's process is nil. No contract of a call names them.
-use Prim.Native.Nat.{ℕ, zero, suc, _+_, _-_, _/_}
+use Prim.Native.Nat.{ℕ, zero, suc, _+_, _-_}
 use mathlib.Core.Bool.{Bool, true, false, _&&_, cond}
 use mathlib.Core.List.{List}
 use lib.Dec.{leb, ltb, eqb}

@@ -1,12 +1,12 @@
 -- The reader on positions, as the code goes: where what begins at a position ends, or 0 if it does not fit. The proofs show that this is
 -- the definitions' reader; no contract of a call names it.
 use Prim.Native.Nat.{ℕ, zero, suc, _+_, _-_, _*_, _/_, _%_}
-use mathlib.Core.Bool.{Bool, true, false, not, _&&_, _||_, cond}
+use mathlib.Core.Bool.{Bool, not, _&&_, _||_, cond}
 use mathlib.Core.List.{List, [], _∷_}
 use lib.Bits.{bitAnd}
 use lib.Dec.{leb, ltb, eqb}
 use lib.ListN.{length, getD}
-use Rattle.reading.specs.Tables.{headMask, bitOf, shapeOf}
+use Rattle.reading.specs.Tables.{headMask, bitOf}
 
 -- on to what follows, unless this failed
 unfoldable pub on : ℕ → (ℕ → ℕ) → ℕ

@@ -2,6 +2,7 @@
 -- Assumes nothing.
 use Prim.Native.Nat.{ℕ, zero, suc, _+_, _-_, _*_, _/_, _%_, _≤_, _<_}
 use native.Mathlib.Omega.{arith}
+use native.Mathlib.Numerals.{sub-one}
 use native.Mathlib.Nat.{mul-le-mul-left}
 use mathlib.Core.Path.{_≡_, refl, ap, _∙_}
 use mathlib.Core.Bool.{Bool, true, false, _||_, cond}
@@ -14,9 +15,6 @@ use Rattle.skipping.specs.Skip.{exprForm, exprLoop, entriesSkip, behindB
 both-none : (b : Bool) → _≡_ {A = ℕ} (cond b 0 0) 0
 both-none true = refl
 both-none false = refl
-
-less : (n : ℕ) → suc n - 1 ≡ n
-less n = omega arith
 
 grouped : (a b c : ℕ) → a + b + c ≡ a + (b + c)
 grouped a b c = omega arith
@@ -56,7 +54,7 @@ module _ (ws : List ℕ) where
   unfolding exprLoop
   expr-turn turns zero i f some h inside e = absurd (some refl)
   expr-turn zero (suc left) i f some h inside e = absurd (omega arith)
-  expr-turn (suc turns) (suc left) i f some h inside e = rw (lt-ltb i (length ws) inside, e, less turns, less left)
+  expr-turn (suc turns) (suc left) i f some h inside e = rw (lt-ltb i (length ws) inside, e, sub-one (suc turns), sub-one (suc left))
 
 -- ---- entries
 
@@ -81,7 +79,7 @@ module _ (sub : ℕ → ℕ) (ws : List ℕ) (wanted : ℕ) where
       entriesSkip sub ws wanted (left - 1) m e ≡ entriesSkip sub ws wanted left met i
   unfolding entriesSkip
   entries-turn zero met i k e m some inside w q r = absurd (omega arith)
-  entries-turn (suc left) met i k e m some inside w q r = rw (lt-ltb i (length ws) inside, q, r, w, less left)
+  entries-turn (suc left) met i k e m some inside w q r = rw (lt-ltb i (length ws) inside, q, r, w, sub-one (suc left))
 
 -- ---- processes
 
@@ -93,7 +91,7 @@ no-depth (suc d) ws i e = absurd (omega arith)
 pub skip-start : (d : ℕ) (ws : List ℕ) (i : ℕ) → (d ≡ 0 → ⊥) → skipLoop (length ws) (skipEnd (d - 1) ws) ws 1 0 i ≡ skipEnd d ws i
 unfolding skipEnd
 skip-start zero ws i e = absurd (e refl)
-skip-start (suc d) ws i e = rw (less d)
+skip-start (suc d) ws i e = rw (sub-one (suc d))
 
 pub skip-last : (turns : ℕ) (sub : ℕ → ℕ) (ws : List ℕ) (left follows i : ℕ) → left ≡ 0 → skipLoop turns sub ws left follows i ≡ behindBy sub ws follows i
 unfolding skipLoop
@@ -132,7 +130,7 @@ module _ (sub : ℕ → ℕ) (ws : List ℕ) where
   unfolding skipLoop turnBy partsBy
   skip-turn turns zero follows i e h f some m q inside hd fm = absurd (some refl)
   skip-turn zero (suc left) follows i e h f some m q inside hd fm = absurd (omega arith)
-  skip-turn (suc turns) (suc left) follows i e h f some m q inside hd fm = rw (← q, lt-ltb e (length ws) inside, ← hd, ← fm, less turns, less left) (ap (λ n. skipLoop turns sub ws n (f / 8 % 4) (e + f % 8)) (grouped left (f / 32 % 4) (h % 2048 * (f / 128))))
+  skip-turn (suc turns) (suc left) follows i e h f some m q inside hd fm = rw (← q, lt-ltb e (length ws) inside, ← hd, ← fm, sub-one (suc turns), sub-one (suc left)) (ap (λ n. skipLoop turns sub ws n (f / 8 % 4) (e + f % 8)) (grouped left (f / 32 % 4) (h % 2048 * (f / 128))))
 
 -- no more branches than a head can count
 pub branches-small : (h f : ℕ) → f < 258 → h % 2048 * (f / 128) ≤ 4094

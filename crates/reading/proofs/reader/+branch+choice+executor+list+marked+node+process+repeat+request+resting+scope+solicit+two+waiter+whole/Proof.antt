@@ -1,6 +1,6 @@
 -- `branch`, `choice`, `executor`, `list`, `marked`, `node`, `process`, `repeat`, `request`, `resting`, `scope`, `solicit`, `two`, `waiter` and `whole` of `reading::reader` meet their contracts: the code is its mirror
 -- Assumes nothing.
-use Prim.Native.Nat.{ℕ, _+_, _*_, _-_, _/_, _%_, _<_, _≤_}
+use Prim.Native.Nat.{ℕ, _+_, _*_, _-_, _<_}
 use native.Mathlib.Omega.{arith}
 use mathlib.Core.Path.{_≡_, refl, ap, _∙_}
 use borrow.Author.Needs.{needs}

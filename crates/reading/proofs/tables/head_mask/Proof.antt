@@ -4,10 +4,6 @@ use borrow.Author.Needs.{needs}
 use Rattle.reading.proofs.Masks.{no-kind, mask-none, mask-kind}
 use Rattle.reading.proofs.tables.head_mask.Statement.{statement}
 use Rattle.reading.proofs.tables.head_mask.Tie as tie
-use Rattle.reading.proofs.tables.head_mask.Reads as reads
-use Rattle.reading.proofs.tables.head_mask.Lts as lts
-use Rattle.reading.proofs.tables.bit.Reads as bit-reads
-use Rattle.reading.proofs.tables.places.Reads as places-reads
 
 returns : tie.Need-returns
 returns c = no-kind _ _ (c .if1 .taken)

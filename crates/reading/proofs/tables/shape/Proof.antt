@@ -1,6 +1,6 @@
 -- `tables::shape` meets its contract: each arm is its entry of the list, and the last one what stands behind it.
 -- Assumes nothing.
-use mathlib.Core.Path.{_≡_, sym, ap}
+use mathlib.Core.Path.{sym, ap}
 use lib.ListN.{List·getD-eq-default}
 use Rattle.reading.specs.Tables.{shapeOf}
 use Rattle.reading.proofs.Others.{beyond}

@@ -1,7 +1,7 @@
 -- `form` of `skipping::skip` meets its contract: each arm is its entry of the list, and the last one what stands behind it.
 -- Assumes nothing.
 use borrow.Author.Needs.{needs}
-use mathlib.Core.Path.{_≡_, sym, ap}
+use mathlib.Core.Path.{sym, ap}
 use lib.ListN.{List·getD-eq-default}
 use Rattle.skipping.specs.Skip.{formOf}
 use Rattle.reading.proofs.Others.{beyond}

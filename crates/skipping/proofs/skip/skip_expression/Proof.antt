@@ -9,10 +9,6 @@ use Rattle.skipping.specs.Skip.{exprForm, exprLoop, exprSkip}
 use Rattle.skipping.proofs.Turns.{expr-last, expr-over, expr-out, expr-turn}
 use Rattle.skipping.proofs.skip.skip_expression.Statement.{statement}
 use Rattle.skipping.proofs.skip.skip_expression.Tie as tie
-use Rattle.skipping.proofs.skip.skip_expression.Reads as reads
-use Rattle.skipping.proofs.skip.skip_expression.Lts as lts
-use Rattle.layout.proofs.number.wide.Reads as wide-reads
-use Rattle.skipping.proofs.skip.expression_form.Reads as expression-form-reads
 
 abbrev Inv-loop : tie.InvT-loop
 Inv-loop ws at a₀ left₀ turns₀ a left turns = (turns ≤ length ws) × (exprLoop turns ws left a ≡ exprSkip ws at)
