@@ -4,17 +4,16 @@ use Prim.Native.Nat.{ℕ, zero, suc, _+_, _*_, _≤_, _<_}
 use native.Mathlib.Omega.{arith}
 use mathlib.Core.Path.{_≡_, refl, sym, ap, _∙_}
 use mathlib.Core.Bool.{Bool, true, false, cond, _&&_}
-use mathlib.Core.Option.{Option, none, some}
+use mathlib.Core.Option.{Option}
 use mathlib.Core.List.{List, [], _∷_}
 use lib.Dec.{ltb, leb}
 use lib.ListN.{length, getD, set, take, drop}
 use lib.Seq.{take-all, take-at}
 use borrow.Author.Tests.{lt-ltb, le-ltb, ltb-true}
-use Rattle.sock.specs.Rules.{also}
 use Rattle.sock.specs.Bytes.{wordsOf, wordsOrNone, byteCheckReadable, byteCheckStart, byteEnds, packedEnds, packedPart, byteProcess}
 use Rattle.sock.specs.Calls.{unreadable, notFresh, unknownSerial, done, _!_, _>>=_, _>>_, _unless_, passed, Ends, checkReadable, start, checkStart, counted, known, ends, partIn, processPart, over}
 use Rattle.sock.specs.Configuration.{Config, standard, readConfig, fresh}
-use Rattle.sock.proofs.Configuration.{config-found}
+use Rattle.sock.proofs.ByteWords.{words-next, words-length, words-of-odd, length-words, no-words, long-unread}
 use Rattle.reading.specs.declared.ends.EndCounts.{EndCounts}
 use Rattle.reading.specs.Answers.{endCounts}
 use Rattle.cabinet.specs.Held.{held, pairAt}
@@ -26,33 +25,6 @@ pair-next h l j bytes =
     let x : getD (h ∷ l ∷ bytes) (suc j * 2) 0 ≡ getD bytes (j * 2) 0 = ap (λ (m : ℕ). getD (h ∷ l ∷ bytes) m 0) a in
     let y : getD (h ∷ l ∷ bytes) (suc j * 2 + 1) 0 ≡ getD bytes (j * 2 + 1) 0 = ap (λ (m : ℕ). getD (h ∷ l ∷ bytes) m 0) b in
     ap (λ (m : ℕ). m * 256 + getD (h ∷ l ∷ bytes) (suc j * 2 + 1) 0) x ∙ ap (λ (m : ℕ). getD bytes (j * 2) 0 * 256 + m) y
-
--- of an even number of bytes there are words
-some-words : (n : ℕ) (bytes : List ℕ) → length bytes ≡ n * 2 → wordsOf bytes ≡ some (wordsOrNone (wordsOf bytes))
-unfolding wordsOf wordsOrNone also
-some-words n [] e = refl
-some-words n (h ∷ []) e = absurd (omega arith)
-some-words zero (h ∷ l ∷ bytes) e = absurd (omega arith)
-some-words (suc n) (h ∷ l ∷ bytes) e = rw (some-words n bytes (omega arith)) refl
-
-words-next :
-    (n h l : ℕ) (bytes : List ℕ) → length bytes ≡ n * 2 →
-    wordsOrNone (wordsOf (h ∷ l ∷ bytes)) ≡ (h * 256 + l) ∷ wordsOrNone (wordsOf bytes)
-unfolding wordsOf wordsOrNone also
-words-next n h l bytes e = rw (some-words n bytes e) refl
-
-none-of-none : length (wordsOrNone (wordsOf [])) ≡ 0
-unfolding wordsOf wordsOrNone
-none-of-none = refl
-
-pub words-length : (n : ℕ) (bytes : List ℕ) → length bytes ≡ n * 2 → length (wordsOrNone (wordsOf bytes)) ≡ n
-words-length zero [] e = none-of-none
-words-length zero (h ∷ bytes) e = absurd (omega arith)
-words-length (suc n) [] e = absurd (omega arith)
-words-length (suc n) (h ∷ []) e = absurd (omega arith)
-words-length (suc n) (h ∷ l ∷ bytes) e =
-    let rest : length bytes ≡ n * 2 = omega arith in
-    ap length (words-next n h l bytes rest) ∙ ap suc (words-length n bytes rest)
 
 pub words-at : (n : ℕ) (bytes : List ℕ) → length bytes ≡ n * 2 → (j : ℕ) → j < n → pairAt bytes j ≡ getD (wordsOrNone (wordsOf bytes)) j 0
 words-at zero bytes e j q = absurd (omega arith)
@@ -88,13 +60,6 @@ pub fill-end :
 fill-end n i bytes ws ws₀ e p f =
     let all : take i (wordsOrNone (wordsOf bytes)) ≡ wordsOrNone (wordsOf bytes) = take-all i _ (omega (arith, words-length n bytes e)) in
     f ∙ ap (λ (us : List ℕ). over us ws₀) all
-
-pub words-of-odd : (n : ℕ) (bytes : List ℕ) → length bytes ≡ n * 2 + 1 → wordsOf bytes ≡ none
-unfolding wordsOf also
-words-of-odd n [] e = absurd (omega arith)
-words-of-odd n (h ∷ []) e = refl
-words-of-odd zero (h ∷ l ∷ bytes) e = absurd (omega arith)
-words-of-odd (suc n) (h ∷ l ∷ bytes) e = rw (words-of-odd n bytes (omega arith)) refl
 
 held-as : (room : ℕ) (bytes : List ℕ) (b : Bool) → ltb (room * 2) (length bytes) ≡ b → held room bytes ≡ cond b [] (wordsOrNone (wordsOf bytes))
 unfolding held
@@ -141,38 +106,6 @@ first-held room m bytes ws out r s p q =
 
 -- ---- what is not held is not readable
 
--- twice as many bytes as words, where there are words
-lengthOr : Option (List ℕ) → ℕ → ℕ
-lengthOr none d = d
-lengthOr (some ws) d = length ws * 2
-
-length-words : (bytes : List ℕ) → lengthOr (wordsOf bytes) (length bytes) ≡ length bytes
-unfolding wordsOf also lengthOr
-length-words [] = refl
-length-words (h ∷ []) = refl
-length-words (h ∷ l ∷ bytes) = by (wordsOf bytes) (length-words bytes)
-  where
-    by : (o : Option (List ℕ)) → lengthOr o (length bytes) ≡ length bytes →
-        lengthOr (also o λ ws. some ((h * 256 + l) ∷ ws)) (suc (suc (length bytes))) ≡ suc (suc (length bytes))
-    by none i = refl
-    by (some us) i = omega (arith, i)
-
-no-config : (ws : List ℕ) → 8192 < length ws → readConfig standard ws ≡ none
-no-config ws b = by (readConfig standard ws) refl
-  where
-    by : (o : Option Config) → readConfig standard ws ≡ o → o ≡ none
-    by none e = refl
-    by (some c) e = let k = config-found standard ws c e in absurd (let s : length ws ≤ 8192 = rw (k .0) at (k .1 .short) in omega arith)
-
-no-words : readConfig standard [] ≡ none
-unfolding readConfig
-no-words = refl
-
-long-unread : (bytes : List ℕ) (o : Option (List ℕ)) → lengthOr o (length bytes) ≡ length bytes → 16384 < length bytes → readConfig standard (wordsOrNone o) ≡ none
-unfolding wordsOrNone lengthOr
-long-unread bytes none e b = no-words
-long-unread bytes (some ws) e b = no-config ws (omega (arith, e))
-
 -- the words held are read as the definitions' are
 pub read-held : (bytes : List ℕ) → readConfig standard (held 8192 bytes) ≡ readConfig standard (wordsOrNone (wordsOf bytes))
 read-held bytes = by (ltb 16384 (length bytes)) refl
@@ -180,8 +113,8 @@ read-held bytes = by (ltb 16384 (length bytes)) refl
     by : (b : Bool) → ltb 16384 (length bytes) ≡ b → readConfig standard (held 8192 bytes) ≡ readConfig standard (wordsOrNone (wordsOf bytes))
     by true e =
         ap (readConfig standard) (held-as 8192 bytes true e)
-        ∙ no-words
-        ∙ sym (long-unread bytes (wordsOf bytes) (length-words bytes) (ltb-true 16384 (length bytes) e))
+        ∙ no-words standard
+        ∙ sym (long-unread standard bytes (wordsOf bytes) (length-words bytes) (ltb-true 16384 (length bytes) e))
     by false e = ap (readConfig standard) (held-as 8192 bytes false e)
 
 module _ (bytes ws : List ℕ) (e : ws ≡ held 8192 bytes) where

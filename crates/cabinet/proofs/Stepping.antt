@@ -2,77 +2,23 @@
 -- Assumes nothing.
 use Prim.Native.Nat.{ℕ, _*_, _/_, _≤_, _<_}
 use native.Mathlib.Omega.{arith}
-use mathlib.Core.Path.{_≡_, refl, sym, ap, subst, _∙_}
+use mathlib.Core.Path.{_≡_, refl, sym, ap, _∙_}
 use mathlib.Core.Bool.{Bool, true, false, cond}
-use mathlib.Core.Option.{Option, none, some}
-use mathlib.Core.List.{List, []}
-use lib.Dec.{leb, ltb}
-use lib.ListN.{length, take, drop}
-use lib.Seq.{take-append-seam, length-take-le}
-use borrow.Author.Tests.{lt-ltb, le-ltb, ltb-true, ltb-false, leb-true, leb-false}
+use mathlib.Core.List.{List}
+use lib.Dec.{ltb}
+use lib.ListN.{length, take}
+use lib.Seq.{length-take-le}
+use borrow.Author.Tests.{lt-ltb, le-ltb, ltb-true}
 use Rattle.sock.specs.Configuration.{standard, encode, readConfig}
-use Rattle.sock.specs.Calls.{Refusal, unreadable, nobodyThere, noMove, noPartner, noFit, installing, serialsSpent, deep, long, short, notFresh, unknownSerial, number, Result, refused, done, _>>=_, _>>_, _!_, _unless_, Numbers, Stepped, step, answerOf, over, outputOf, stepAnswer, stepOutput}
+use Rattle.sock.specs.Calls.{unreadable, short, number, Result, _!_, Numbers, Stepped, step, answerOf, over, stepAnswer, stepOutput}
 use Rattle.sock.specs.Bytes.{bytesOf, wordsOf, wordsOrNone, byteStep, packed, byteAnswer, bytesAfter, byteOutput}
+use Rattle.sock.proofs.Rooms.{Agree, both-refuse, both-do, one-short, bind-agrees, step-agrees, fits-room, bytes-refused, bytes-done, small-same, step-words}
 use Rattle.stepping.specs.declared.answer.Answer.{Answer}
 use Rattle.stepping.specs.Answers.{answerAs}
 use Rattle.cabinet.specs.Held.{held, packedAs, roomOf}
 use Rattle.cabinet.proofs.Holding.{held-short, read-as}
 
 -- ---- the room
-
--- the same refusal, the same result and it fits, or a result that fits only the larger room
-pub data Agree (room half : ℕ) : Result Stepped → Result Stepped → Type 0 where
-  both-refuse : (r : Refusal) → Agree room half (refused r) (refused r)
-  both-do : (s : Stepped) → length (encode (s .config)) ≤ room → Agree room half (done s) (done s)
-  one-short :
-      (s : Stepped) → length (encode (s .config)) ≤ 8192 → length (encode (s .config)) ≤ half → room < length (encode (s .config)) →
-      Agree room half (refused short) (done s)
-
-module _ (room half : ℕ) (below : room ≤ half) where
-  bind-agrees :
-      {A : Type 0} (r : Result A) (k l : A → Result Stepped) → ((a : A) → Agree room half (k a) (l a)) → Agree room half (r >>= k) (r >>= l)
-  unfolding _>>=_
-  bind-agrees (refused r) k l f = both-refuse r
-  bind-agrees (done a) k l f = f a
-
-  then-agrees : (r : Result (Unit {0})) (k l : Result Stepped) → Agree room half k l → Agree room half (_>>_ r k) (_>>_ r l)
-  unfolding _>>_
-  then-agrees (refused r) k l f = both-refuse r
-  then-agrees (done a) k l f = f
-
-  short-agrees :
-      (s : Stepped) → length (encode (s .config)) ≤ 8192 → (b c : Bool) → leb (length (encode (s .config))) room ≡ b →
-      leb (length (encode (s .config))) half ≡ c → Agree room half (_>>_ (short unless b) (done s)) (_>>_ (short unless c) (done s))
-  unfolding _>>_ _unless_
-  short-agrees s h true true p q = both-do s (leb-true (length (encode (s .config))) room p)
-  short-agrees s h true false p q =
-      absurd (omega (arith, below, leb-true (length (encode (s .config))) room p, leb-false (length (encode (s .config))) half q))
-  short-agrees s h false true p q =
-      one-short s h (leb-true (length (encode (s .config))) half q) (leb-false (length (encode (s .config))) room p)
-  short-agrees s h false false p q = both-refuse short
-
-  long-refuses :
-      (s : Stepped) →
-      Agree room half (_>>_ (long unless false) (_>>_ (short unless leb (length (encode (s .config))) room) (done s)))
-      (_>>_ (long unless false) (_>>_ (short unless leb (length (encode (s .config))) half) (done s)))
-  unfolding _>>_ _unless_
-  long-refuses s = both-refuse long
-
-  long-agrees :
-      (s : Stepped) (b : Bool) → leb (length (encode (s .config))) 8192 ≡ b →
-      Agree room half (_>>_ (long unless b) (_>>_ (short unless leb (length (encode (s .config))) room) (done s)))
-      (_>>_ (long unless b) (_>>_ (short unless leb (length (encode (s .config))) half) (done s)))
-  long-agrees s true p =
-      then-agrees _ _ _
-      (short-agrees s (leb-true (length (encode (s .config))) 8192 p) (leb (length (encode (s .config))) room)
-      (leb (length (encode (s .config))) half) refl refl)
-  long-agrees s false p = long-refuses s
-
-  pub step-agrees : (ws : List ℕ) (k : Numbers) → Agree room half (step standard ws k room) (step standard ws k half)
-  unfolding step
-  step-agrees ws k =
-      bind-agrees _ _ _ λ c. bind-agrees _ _ _ λ a. bind-agrees _ _ _ λ m. bind-agrees _ _ _ λ b. bind-agrees _ _ _ λ x. bind-agrees _ _ _ λ s.
-      then-agrees _ _ _ (then-agrees _ _ _ (long-agrees s _ refl))
 
 pub room-is : (most bytes : ℕ) (b : Bool) → ltb most (bytes / 2) ≡ b → roomOf most bytes ≡ cond b most (bytes / 2)
 unfolding roomOf
@@ -95,83 +41,29 @@ room-below most bytes = by (ltb most (bytes / 2)) refl
 
 -- with scratch for every result
 pub large-same : (bytes : ℕ) (ws : List ℕ) (k : Numbers) → step standard ws k (roomOf 8192 bytes) ≡ step standard ws k (bytes / 2)
-large-same bytes ws k = by (step-agrees (roomOf 8192 bytes) (bytes / 2) (room-below 8192 bytes) ws k)
+large-same bytes ws k = by (step-agrees standard (roomOf 8192 bytes) (bytes / 2) (room-below 8192 bytes) ws k)
   where
-    by : {x y : Result Stepped} → Agree (roomOf 8192 bytes) (bytes / 2) x y → x ≡ y
+    by : {x y : Result Stepped} → Agree 8192 (roomOf 8192 bytes) (bytes / 2) x y → x ≡ y
     by (both-refuse r) = refl
     by (both-do s h) = refl
     by (one-short s h g l) = absurd (omega (arith, room-either 8192 bytes (length (encode (s .config))) h g))
 
 -- ---- what the code makes of an answer
 
-pub number-positive : (r : Refusal) → 0 < number r
-number-positive unreadable = omega arith
-number-positive nobodyThere = omega arith
-number-positive noMove = omega arith
-number-positive noPartner = omega arith
-number-positive noFit = omega arith
-number-positive installing = omega arith
-number-positive serialsSpent = omega arith
-number-positive deep = omega arith
-number-positive long = omega arith
-number-positive short = omega arith
-number-positive notFresh = omega arith
-number-positive unknownSerial = omega arith
-
 pub packed-as : (x : Result Stepped) → packedAs (answerAs (answerOf x)) ≡ packed (answerOf x)
 unfolding packed
 packed-as x = refl
 
-pub fits-room : {room half : ℕ} {x y : Result Stepped} → Agree room half x y → answerOf x .number ≡ 0 → answerOf x .length ≤ room
-unfolding answerOf
-fits-room (both-refuse r) e = omega arith
-fits-room (both-do s h) e = h
-fits-room (one-short s h g l) e = absurd (omega (arith, e))
-
-pub bytes-refused : (x : Result Stepped) → 0 < answerOf x .number → (out : List ℕ) → out ≡ bytesAfter x out
-unfolding answerOf bytesAfter
-bytes-refused (refused r) e out = refl
-bytes-refused (done s) e out = absurd (omega (arith, e))
-
-bytes-done :
-    (x : Result Stepped) → answerOf x .number ≡ 0 → (o out : List ℕ) →
-    over (bytesOf (take (answerOf x .length) (outputOf x o))) out ≡ bytesAfter x out
-unfolding answerOf bytesAfter outputOf
-bytes-done (refused r) e o out = absurd (omega (arith, e, number-positive r))
-bytes-done (done s) e o out =
-    ap (λ (u : List ℕ). over (bytesOf u) out) (take-append-seam (encode (s .config)) (drop (length (encode (s .config))) o))
-
--- unless it is for the shorter room, an answer is the larger one's
-pub small-same :
-    {room half : ℕ} {x y : Result Stepped} → Agree room half x y → (answerOf x .number ≡ 10 → ⊥) → x ≡ y
-unfolding answerOf
-small-same (both-refuse r) n = refl
-small-same (both-do s h) n = refl
-small-same (one-short s h g l) n = absurd (n refl)
-
 -- ---- the words
-
-step-read : (ws us : List ℕ) (k : Numbers) (room : ℕ) → readConfig standard ws ≡ readConfig standard us → step standard ws k room ≡ step standard us k room
-unfolding step
-step-read ws us k room e = rw e refl
-
-step-none : (k : Numbers) (room : ℕ) → step standard [] k room ≡ refused unreadable
-unfolding step readConfig _!_ _>>=_
-step-none k room = refl
-
-step-words : (ws : List ℕ) (o : Option (List ℕ)) (k : Numbers) (room : ℕ) → readConfig standard ws ≡ readConfig standard (wordsOrNone o) → step standard ws k room ≡ ((unreadable ! o) >>= λ us. step standard us k room)
-unfolding wordsOrNone _!_ _>>=_
-step-words ws none k room e = step-read ws [] k room e ∙ step-none k room
-step-words ws (some us) k room e = step-read ws us k room e
 
 step-words-in :
     (bytes ws : List ℕ) → ws ≡ wordsOrNone (wordsOf bytes) → (k : Numbers) (room : ℕ) → step standard ws k room ≡ byteStep bytes k room
 unfolding byteStep
-step-words-in bytes ws e k room = step-words ws (wordsOf bytes) k room (ap (readConfig standard) e)
+step-words-in bytes ws e k room = step-words standard ws (wordsOf bytes) k room (ap (readConfig standard) e)
 
 step-held : (bytes ws : List ℕ) → ws ≡ held 8192 bytes → (k : Numbers) (room : ℕ) → step standard ws k room ≡ byteStep bytes k room
 unfolding byteStep
-step-held bytes ws e k room = step-words ws (wordsOf bytes) k room (read-as bytes ws e)
+step-held bytes ws e k room = step-words standard ws (wordsOf bytes) k room (read-as bytes ws e)
 
 -- ---- in the code's terms
 
@@ -204,7 +96,7 @@ module _ (ws : List ℕ) (k : Numbers) (r0 out : List ℕ) (a : Answer) (p : a �
 
   pub law-fits : a .number ≡ 0 → a .length ≤ length r0
   law-fits h =
-      let f = fits-room (step-agrees (length r0) (length r0) (omega arith) ws k) (sym same-number ∙ h) in
+      let f = fits-room (step-agrees standard (length r0) (length r0) (omega arith) ws k) (sym same-number ∙ h) in
       omega (arith, same-words, f)
 
   pub law-done : a .number ≡ 0 → (r1 : List ℕ) → r1 ≡ stepOutput standard ws k r0 → over (bytesOf (take (a .length) r1)) out ≡ bytesAfter x out
@@ -244,12 +136,12 @@ module _ (bytes : List ℕ) (k : Numbers) (out : List ℕ) (a : Answer)
   abbrev tried : Result Stepped
   tried = byteStep bytes k (roomOf 1024 (length out))
 
-  agree : Agree (roomOf 1024 (length out)) (length out / 2) tried (byteStep bytes k (length out / 2))
+  agree : Agree 8192 (roomOf 1024 (length out)) (length out / 2) tried (byteStep bytes k (length out / 2))
   unfolding byteStep
   agree =
       let below = room-below 1024 (length out) in
-      bind-agrees (roomOf 1024 (length out)) (length out / 2) below (unreadable ! wordsOf bytes) _ _
-      λ us. step-agrees (roomOf 1024 (length out)) (length out / 2) below us k
+      bind-agrees standard (roomOf 1024 (length out)) (length out / 2) below (unreadable ! wordsOf bytes) _ _
+      λ us. step-agrees standard (roomOf 1024 (length out)) (length out / 2) below us k
 
   its-number : a .number ≡ answerOf tried .number
   its-number = ap (λ (b : Answer). b .number) p

@@ -1,21 +1,20 @@
 -- What a step leaves, in the code's terms: the answer, the words that the next step reads, and the line.
 -- Assumes nothing.
-use Prim.Native.Nat.{ℕ, zero, suc, _+_, _-_, _*_, _≤_, _<_}
+use Prim.Native.Nat.{ℕ, _+_, _-_, _*_, _≤_, _<_}
 use native.Mathlib.Omega.{arith}
 use mathlib.Core.Path.{_≡_, refl, sym, ap, _∙_}
-use mathlib.Core.Bool.{Bool, true, false, cond}
-use mathlib.Core.List.{List, [], _∷_, _++_}
-use lib.Dec.{ltb}
+use mathlib.Core.Bool.{Bool, cond}
+use mathlib.Core.List.{List, [], _∷_}
 use lib.ListN.{length, getD, take, drop}
 use lib.Seq.{paste, take-append-seam, take-paste, length-take-le}
 use borrow.Author.Tests.{lt-ltb, le-ltb}
 use Rattle.sock.specs.Configuration.{standard, encode}
-use Rattle.sock.specs.Calls.{Result, refused, done, Numbers, Stepped, step, answerOf, over, outputOf, stepAnswer, stepOutput}
+use Rattle.sock.specs.Calls.{Result, refused, done, Numbers, Stepped, step, answerOf, outputOf, stepAnswer, stepOutput}
 use Rattle.sock.specs.Bytes.{numbersIn, wordsAfter, endLine, cutLine, stepLine}
 use Rattle.stepping.specs.declared.answer.Answer.{Answer}
 use Rattle.stepping.specs.Answers.{answerAs, numbers}
+use Rattle.sock.proofs.Rooms.{refusal-number, fits-room, step-agrees}
 use Rattle.writers.specs.Writing.{pasted}
-use Rattle.cabinet.proofs.Stepping.{number-positive, fits-room, step-agrees}
 use Rattle.handover.specs.Printed.{definedAs, lastLine, turnLine, turnWords}
 
 -- ---- the five numbers
@@ -48,7 +47,7 @@ same-words (done s) e ws = absurd (e refl)
 
 next-words : (x : Result Stepped) → answerOf x .number ≡ 0 → (o ws : List ℕ) → take (answerOf x .length) (outputOf x o) ≡ wordsAfter x ws
 unfolding answerOf outputOf wordsAfter
-next-words (refused r) e o ws = absurd (omega (arith, e, number-positive r))
+next-words (refused r) e o ws = absurd (omega (arith, e, refusal-number r))
 next-words (done s) e o ws = take-append-seam (encode (s .config)) (drop (length (encode (s .config))) o)
 
 -- words copied over the first of others
@@ -74,7 +73,7 @@ module _ (ws : List ℕ) (k : Numbers) (o : List ℕ) (a : Answer) (size : lengt
   accepted-fits h =
       let z = sym (ap (λ (x : Answer). x .number) as-step) ∙ h in
       let l = ap (λ (x : Answer). x .length) as-step in
-      let f = fits-room (step-agrees 8192 8192 (omega arith) ws k) z in
+      let f = fits-room (step-agrees standard 8192 8192 (omega arith) ws k) z in
       omega (arith, l, f)
 
   pub accepted-moves :

@@ -3,6 +3,7 @@ pub mod Accounts
 pub mod Around
 pub mod Bounds
 pub mod ByKind
+pub mod ByteWords
 pub mod Computed
 pub mod Configuration
 pub mod Delivery
@@ -25,6 +26,7 @@ pub mod Positions
 pub mod Reading
 pub mod Replies
 pub mod Requests
+pub mod Rooms
 pub mod Rules
 pub mod Running
 pub mod Shrinking
