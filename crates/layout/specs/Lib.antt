@@ -1,2 +1,5 @@
+pub mod Contexts
+pub mod Keys
 pub mod Limits
 pub mod Positions
+pub mod Units

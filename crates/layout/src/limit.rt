@@ -26,5 +26,13 @@ pub fn standard() -> Limits
 // How many levels a walk goes down: no configuration that was read has more.
 pub const FUEL: usize = 64;
 
+// How many engines a configuration may have, and branches a choice.
+pub const ENGINES: usize = 8;
+
+pub const BRANCHES: usize = 8;
+
+// How many words stand before the first engine: n and issued.
+pub const HEADER: usize = 2;
+
 // How many words an engine's values take, before its process.
 pub const VALUES: usize = 64;

@@ -8,7 +8,9 @@ use lib.Bits.{bitAnd}
 use lib.Dec.{leb, ltb, eqb}
 use lib.ListN.{length, set}
 use Rattle.sock.specs.Kind
-use Rattle.sock.specs.Words.{kindOf}
+use Rattle.sock.specs.Words.{kindOf, headOf}
+use Rattle.layout.specs.Contexts.{code, running, notNil, receiver, root}
+use Rattle.layout.specs.Units
 use Rattle.reading.specs.Tables.{headMask}
 use Rattle.reading.specs.Walk.{at, processEnd, markedEnd, endAfter}
 
@@ -20,28 +22,32 @@ noteListW m i e = set m (i * 2 + 1) (e % 65536)
 
 -- the head of a par, in a context where one may stand
 unfoldable pub plainPar : ℕ → ℕ → Bool
-plainPar h c = cond (leb 10 c) false (eqb h 6144)
+plainPar h c = cond (leb (running + receiver) c) false (eqb h (headOf Kind.par 0))
 
 -- noting in a context, at a position, into notes
 abbrev pub Noting : Type 0
 Noting = ℕ → ℕ → List ℕ → List ℕ
 
+-- the context of a part that runs and is not nil
+abbrev pub enabled : ℕ
+enabled = running + notNil
+
 -- the first of a seq is enabled, and where the second ends is noted too
 unfoldable pub seqNotes : (ℕ → ℕ → ℕ) → Noting → ℕ → List ℕ → List ℕ
-seqNotes end sub i m = cond (eqb (end 9 i) 0) (sub 9 i m) (noteW (sub 9 i m) (end 9 i) (end 0 (end 9 i)))
+seqNotes end sub i m = cond (eqb (end enabled i) 0) (sub enabled i m) (noteW (sub enabled i m) (end enabled i) (end code (end enabled i)))
 
 unfoldable pub parNotes : (ℕ → ℕ → ℕ) → Noting → ℕ → List ℕ → List ℕ
-parNotes end sub i m = cond (eqb (end 9 i) 0) (sub 9 i m) (sub 9 (end 9 i) (sub 9 i m))
+parNotes end sub i m = cond (eqb (end enabled i) 0) (sub enabled i m) (sub enabled (end enabled i) (sub enabled i m))
 
 -- the list of a scope ends at e
 unfoldable pub bodyNotes : Noting → ℕ → ℕ → List ℕ → List ℕ
-bodyNotes sub i e m = cond (eqb e 0) m (sub 8 e (noteListW m (i + 2) e))
+bodyNotes sub i e m = cond (eqb e 0) m (sub running e (noteListW m (i + 2) e))
 
 unfoldable pub scopeNotes : (ℕ → ℕ → ℕ) → Noting → List ℕ → ℕ → ℕ → List ℕ → List ℕ
 scopeNotes end sub ws h i m = cond (leb 3 (length ws - i)) (bodyNotes sub i (markedEnd end ws h (at ws (i + 1)) (i + 2)) m) m
 
 unfoldable pub executorNotes : Noting → List ℕ → ℕ → ℕ → List ℕ → List ℕ
-executorNotes sub ws bound i m = cond (endAfter ws i 8192 bound) (sub 8 (i + 3) m) m
+executorNotes sub ws bound i m = cond (endAfter ws i Units.executorsClient bound) (sub running (i + 3) m) m
 
 -- by kind
 unfoldable pub nodeNotes : (ℕ → ℕ → ℕ) → Noting → List ℕ → ℕ → ℕ → ℕ → List ℕ → List ℕ
@@ -74,8 +80,8 @@ unfoldable pub enginesNotes : ℕ → List ℕ → ℕ → ℕ → ℕ → List 
 enginesNotes deepest ws bound zero i m = m
 enginesNotes deepest ws bound (suc left) i m =
     cond (ltb (length ws - i) 64) m
-    (cond (eqb (processEnd deepest ws bound 11 (i + 64)) 0) (notesW deepest ws bound 11 (i + 64) m)
-    (enginesNotes deepest ws bound left (processEnd deepest ws bound 11 (i + 64)) (notesW deepest ws bound 11 (i + 64) m)))
+    (cond (eqb (processEnd deepest ws bound root (i + 64)) 0) (notesW deepest ws bound root (i + 64) m)
+    (enginesNotes deepest ws bound left (processEnd deepest ws bound root (i + 64)) (notesW deepest ws bound root (i + 64) m)))
 
 unfoldable pub surveyNotes : ℕ → ℕ → List ℕ → List ℕ → List ℕ
 surveyNotes deepest longest ws m =

@@ -1,7 +1,13 @@
 // The reader of what is enabled, which notes where it ends: an enabled process, what follows an enabled one in a seq, and the list of an
 // enabled scope. The notes of a word are told in `skipping::pass`. What is not enabled is read by the reader alone.
+use layout::context::CODE;
+use layout::context::NOT_NIL;
+use layout::context::RECEIVER;
+use layout::context::RUNNING;
 use layout::kind;
 use layout::number::wide;
+use layout::unit;
+use layout::unit::WORD;
 use reading::reader::executor_fixed;
 use reading::reader::marked;
 use reading::reader::read;
@@ -23,7 +29,7 @@ fn note(notes: &mut [u16], at: usize, e: usize) -> usize
     if notes.len() <= place {
         return e;
     }
-    notes[place] = (e % 65536) as u16;
+    notes[place] = (e % WORD) as u16;
     e
 }
 
@@ -38,7 +44,7 @@ fn note_list(notes: &mut [u16], at: usize, e: usize) -> usize
     if notes.len() <= place {
         return e;
     }
-    notes[place] = (e % 65536) as u16;
+    notes[place] = (e % WORD) as u16;
     e
 }
 
@@ -81,8 +87,8 @@ fn enabled(
     if plain_par(h, context) {
         return par(ws, at + 1, d, bound, notes);
     }
-    let k = h / 2048;
-    if (h + 65536) & head_mask(context, k) != 0 {
+    let k = h / unit::KIND;
+    if (h + WORD) & head_mask(context, k) != 0 {
         return 0;
     }
     match k {
@@ -98,25 +104,33 @@ fn enabled(
     }
 }
 
+// The head of a par, and the first context of those that run in which one may not stand: the places above not nil.
+const PAR: usize = kind::PAR * unit::KIND;
+
+const ABOVE: usize = RUNNING + RECEIVER;
+
+// The context of a part that runs and is not nil.
+const ENABLED: usize = RUNNING + NOT_NIL;
+
 // Whether a head is a par's and may stand in the context. Up to half of what is enabled are pars, and this saves the look at the table.
 fn plain_par(h: usize, context: usize) -> bool
     ensures { λ r. ⌜ r ≡ plainPar h context ⌝ }
 {
-    if 10 <= context {
+    if ABOVE <= context {
         return false;
     }
-    h == 6144
+    h == PAR
 }
 
 // The parts of a seq: the first is enabled.
 fn seq(ws: &[u16], at: usize, depth: usize, bound: usize, notes: &mut [u16]) -> usize
     ensures { λ r. ⌜ (r ≡ twoEnd (processEnd depth (now (ws .entry)) bound) 9 0 at) × (now (notes .exit) ≡ seqNotes (processEnd depth (now (ws .entry)) bound) (notesW depth (now (ws .entry)) bound) at (now (notes .entry))) ⌝ }
 {
-    let a = noted(ws, at, depth, 9, bound, notes);
+    let a = noted(ws, at, depth, ENABLED, bound, notes);
     if a == 0 {
         return 0;
     }
-    let e = read(ws, a, depth, 0, bound);
+    let e = read(ws, a, depth, CODE, bound);
     note(notes, a, e)
 }
 
@@ -124,11 +138,11 @@ fn seq(ws: &[u16], at: usize, depth: usize, bound: usize, notes: &mut [u16]) -> 
 fn par(ws: &[u16], at: usize, depth: usize, bound: usize, notes: &mut [u16]) -> usize
     ensures { λ r. ⌜ (r ≡ twoEnd (processEnd depth (now (ws .entry)) bound) 9 9 at) × (now (notes .exit) ≡ parNotes (processEnd depth (now (ws .entry)) bound) (notesW depth (now (ws .entry)) bound) at (now (notes .entry))) ⌝ }
 {
-    let a = noted(ws, at, depth, 9, bound, notes);
+    let a = noted(ws, at, depth, ENABLED, bound, notes);
     if a == 0 {
         return 0;
     }
-    noted(ws, a, depth, 9, bound, notes)
+    noted(ws, a, depth, ENABLED, bound, notes)
 }
 
 // Where the list of the scope at `at`, whose head is `h`, ends. An empty one of a scope with no mark takes no call.
@@ -137,7 +151,7 @@ fn listed(ws: &[u16], at: usize, depth: usize, h: usize, bound: usize) -> usize
     ensures { λ r. ⌜ r ≡ markedEnd (processEnd depth (now (ws .entry)) bound) (now (ws .entry)) h (getD (now (ws .entry)) (at + 1) 0) (at + 2) ⌝ }
 {
     let fault = wide(ws[at + 1]);
-    if h / 8 % 4 + fault + wide(ws[at + 2]) == 0 {
+    if h / unit::MARK % unit::MARKS + fault + wide(ws[at + 2]) == 0 {
         return at + 3;
     }
     marked(ws, at + 2, depth, h, fault, bound)
@@ -156,7 +170,7 @@ fn scope(ws: &[u16], at: usize, depth: usize, h: usize, bound: usize, notes: &mu
         return 0;
     }
     note_list(notes, at + 2, e);
-    noted(ws, e, depth, 8, bound, notes)
+    noted(ws, e, depth, RUNNING, bound, notes)
 }
 
 fn executor(ws: &[u16], at: usize, depth: usize, bound: usize, notes: &mut [u16]) -> usize
@@ -164,7 +178,7 @@ fn executor(ws: &[u16], at: usize, depth: usize, bound: usize, notes: &mut [u16]
     ensures { λ r. ⌜ (r ≡ executorEnd (processEnd depth (now (ws .entry)) bound) (now (ws .entry)) bound at) × (now (notes .exit) ≡ executorNotes (notesW depth (now (ws .entry)) bound) (now (ws .entry)) bound at (now (notes .entry))) ⌝ }
 {
     if executor_fixed(ws, at, bound) {
-        noted(ws, at + 3, depth, 8, bound, notes)
+        noted(ws, at + 3, depth, RUNNING, bound, notes)
     } else {
         0
     }

@@ -7,7 +7,7 @@ use mathlib.Core.Bool.{Bool, true, false, not, _&&_, _||_, cond}
 use mathlib.Core.List.{List}
 use lib.Bits.{bitAnd, and-zero-r}
 use lib.Dec.{T, leb, ltb, eqb}
-use lib.ListN.{length, getD}
+use lib.ListN.{length, getD, List·getD-eq-default}
 use borrow.Author.Tests.{le-leb, leb-true, eq-eqb, eqb-true, ne-eqb, eqb-false, ltb-true, le-ltb}
 use Rattle.sock.specs.Kind.{rows, rowOf}
 use Rattle.sock.specs.Reading.{allowed, placed}
@@ -89,6 +89,13 @@ fits-known ws i c t e =
 
 -- ---- computed for all
 
+-- behind the kinds and the expressions nothing has a shape
+pub shape-beyond : (slot : ℕ) → 25 ≤ slot → shapeOf slot ≡ 1
+unfolding shapeOf
+shape-beyond slot h =
+    let far : 6 ≤ slot - 19 = omega arith in
+    rw (le-ltb slot 19 (omega arith)) (simp List·getD-eq-default)
+
 -- two tables that are the same, at a pair
 at-pair :
     (f g : ℕ → ℕ → ℕ) (n x k : ℕ) → x < n → k < 32 →
@@ -125,7 +132,7 @@ one : ℕ → ℕ → ℕ
 one c k = 1
 
 same-kinds : table (λ j. kinds (j / 32) (j % 32)) 0 384 ≡ table (λ j. one (j / 32) (j % 32)) 0 384
-unfolding kinds one bitOf shapeOf
+unfolding kinds one bitOf shapeOf spareOf allowed placed rowOf rows
 same-kinds = refl
 
 cond-one : (b : Bool) → _≡_ {A = ℕ} (cond b 1 0) 1 → T b
@@ -147,7 +154,7 @@ small : ℕ → ℕ → ℕ
 small c k = cond (eqb c 12 && ltb k 19) 1 (cond (smallAt c k) 1 0)
 
 same-small : table (λ j. small (j / 32) (j % 32)) 0 416 ≡ table (λ j. one (j / 32) (j % 32)) 0 416
-unfolding small smallAt one partOf bitOf shapeOf
+unfolding small smallAt one partOf bitOf shapeOf spareOf allowed placed rowOf rows
 same-small = refl
 
 parts-small :

@@ -1,7 +1,7 @@
 -- What the code looks up for a context and a kind is what the definitions' tests say: computed for all 384 pairs, and nothing for what is
 -- no context or no kind.
 -- Assumes nothing.
-use Prim.Native.Nat.{ℕ, _+_, _*_, _-_, _/_, _%_, _<_, _≤_}
+use Prim.Native.Nat.{ℕ, zero, suc, _+_, _*_, _-_, _/_, _%_, _<_, _≤_}
 use native.Mathlib.Omega.{arith}
 use mathlib.Core.Path.{_≡_, refl, sym, ap, ap₂, _∙_}
 use mathlib.Core.Bool.{Bool, true, false, _&&_, cond}
@@ -12,7 +12,7 @@ use borrow.Author.Tests.{ne-eqb, le-ltb, ltb-true, ltb-false}
 use Rattle.sock.specs.Kind.{rows, rowOf}
 use Rattle.sock.specs.Reading.{allowed, placed}
 use Rattle.sock.proofs.Table.{table, table-at}
-use Rattle.reading.specs.Tables.{stratumOf, placeOf, spareOf, headMask, placesOf, bitOf, maskOf}
+use Rattle.reading.specs.Tables.{stratumOf, placeOf, spareOf, stands, headMask, placesOf, bitOf, bitsOf, maskOf}
 use Rattle.reading.proofs.Contexts.{allowed-kind}
 use Rattle.reading.proofs.Tests.{tests}
 
@@ -53,9 +53,21 @@ no-kind x k h = stays (ltb x 12) (allowed (stratumOf 0 0 (x / 4)) k) λ t. let s
     stays true false n = refl
     stays true true n = absurd (n tt)
 
-places-beyond : (s : ℕ) → 38 ≤ s → placesOf s ≡ 0
+-- what stands nowhere has no bit
+no-bits : (test : ℕ → Bool) (n : ℕ) → ((c : ℕ) → test c ≡ false) → bitsOf test n ≡ 0
+no-bits test zero f = refl
+no-bits test (suc n) f = simp (no-bits test n f, f n)
+
+pub places-beyond : (s : ℕ) → 38 ≤ s → placesOf s ≡ 0
 unfolding placesOf
-places-beyond s h = simp List·getD-eq-default
+places-beyond s h = rw (no-bits (λ c. stands c (s / 2) && eqb (c / 8) (s % 2)) 12 λ c. none c) refl
+  where
+    none : (c : ℕ) → (stands c (s / 2) && eqb (c / 8) (s % 2)) ≡ false
+    none c = by (allowed (stratumOf 0 0 (c / 4)) (s / 2)) λ t. let small : s / 2 < 19 = allowed-kind (stratumOf 0 0 (c / 4)) (s / 2) t in omega arith
+      where
+        by : (a : Bool) → (T a → ⊥) → (a && placed (placeOf (c % 4)) (s / 2) && eqb (c / 8) (s % 2)) ≡ false
+        by true n = absurd (n tt)
+        by false n = refl
 
 bit-beyond : (x : ℕ) → 12 ≤ x → bitOf x ≡ 4096
 unfolding bitOf
@@ -66,7 +78,7 @@ over : ℕ → ℕ
 over s = bitAnd (placesOf s / 2048) 4096
 
 none-over : table over 0 38 ≡ table (λ s. 0) 0 38
-unfolding over placesOf
+unfolding over placesOf bitOf spareOf allowed placed rowOf rows
 none-over = refl
 
 bit-over : (s : ℕ) → bitAnd (placesOf s / 2048) 4096 ≡ 0

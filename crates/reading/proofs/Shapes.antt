@@ -12,7 +12,9 @@ use borrow.Author.Tests.{lt-ltb, le-leb, eq-eqb, ne-eqb, eqb-true, eqb-false}
 use lib.Arith.{lt-of-le-ne}
 use Rattle.sock.proofs.Fields.{From, end, _then_, fact-at}
 use Rattle.sock.proofs.Logic.{and-left}
-use Rattle.reading.specs.Tables.{shapeOf}
+use Rattle.sock.specs.Kind.{rows, rowOf}
+use Rattle.sock.specs.Reading.{allowed, placed}
+use Rattle.reading.specs.Tables.{spareOf, bitOf, shapeOf}
 use Rattle.reading.specs.Walk.{on, when, at, exprEnd, exprAt, constantEnd, operationEnd, twoEnd, branchEnd, repeatEnd, fixedAfter}
 use Rattle.reading.specs.Walk.{requestEnd, notifyEnd, entriesEnd, listEnd, solicitEnd, restingEnd, scopeEnd, nodeEnd, processEnd}
 use Rattle.reading.specs.Walk.{contextOf, restOf, slotOf, fitsAt, partOf, itemEnd}
@@ -76,27 +78,27 @@ module _ (ws : List ℕ) (ok : Words ws) (bound d c i : ℕ) (hc : c < 12) where
       ∙ q)
 
   leaf-0 : Step 0
-  unfolding nodeEnd shapeOf
+  unfolding nodeEnd shapeOf bitOf spareOf allowed placed rowOf rows
   leaf-0 e f = rw e refl
 
   leaf-7 : Step 7
-  unfolding nodeEnd shapeOf
+  unfolding nodeEnd shapeOf bitOf spareOf allowed placed rowOf rows
   leaf-7 e f = rw e refl
 
   leaf-13 : Step 13
-  unfolding nodeEnd shapeOf
+  unfolding nodeEnd shapeOf bitOf spareOf allowed placed rowOf rows
   leaf-13 e f = rw e refl
 
   leaf-14 : Step 14
-  unfolding nodeEnd shapeOf
+  unfolding nodeEnd shapeOf bitOf spareOf allowed placed rowOf rows
   leaf-14 e f = rw e refl
 
   leaf-15 : Step 15
-  unfolding nodeEnd shapeOf
+  unfolding nodeEnd shapeOf bitOf spareOf allowed placed rowOf rows
   leaf-15 e f = rw e refl
 
   assign-step : Step 1
-  unfolding nodeEnd shapeOf partOf
+  unfolding nodeEnd shapeOf partOf bitOf spareOf allowed placed rowOf rows
   assign-step e f = rw e (expression (i + 1))
 
   -- what follows is the same wherever it begins
@@ -105,23 +107,23 @@ module _ (ws : List ℕ) (ok : Words ws) (bound d c i : ℕ) (hc : c < 12) where
   on-same x y k l e f = rw e (ap (λ z. cond (eqb y 0) 0 z) (f y))
 
   seq-step : Step 2
-  unfolding nodeEnd shapeOf twoEnd processEnd partOf itemEnd
+  unfolding nodeEnd shapeOf twoEnd processEnd partOf itemEnd bitOf spareOf allowed placed rowOf rows
   seq-step e f = rw e (on-same _ _ _ _ (kept (i + 1)) rest)
 
   par-step : Step 3
-  unfolding nodeEnd shapeOf twoEnd processEnd partOf itemEnd
+  unfolding nodeEnd shapeOf twoEnd processEnd partOf itemEnd bitOf spareOf allowed placed rowOf rows
   par-step e f = rw e (on-same _ _ _ _ (kept (i + 1)) kept)
 
   if-step : Step 4
-  unfolding nodeEnd shapeOf twoEnd branchEnd processEnd partOf itemEnd
+  unfolding nodeEnd shapeOf twoEnd branchEnd processEnd partOf itemEnd bitOf spareOf allowed placed rowOf rows
   if-step e f = rw e (on-same _ _ _ _ (expression (i + 1)) λ j. on-same _ _ _ _ (rest j) rest)
 
   while-step : Step 5
-  unfolding nodeEnd shapeOf repeatEnd processEnd partOf itemEnd
+  unfolding nodeEnd shapeOf repeatEnd processEnd partOf itemEnd bitOf spareOf allowed placed rowOf rows
   while-step e f = rw e (on-same _ _ _ _ (expression (i + 1)) rest)
 
   request-step : Step 8
-  unfolding nodeEnd shapeOf requestEnd fixedAfter when partOf
+  unfolding nodeEnd shapeOf requestEnd fixedAfter when partOf bitOf spareOf allowed placed rowOf rows
   request-step e f =
       rw e
       (ap₂ (λ a b. cond (a && b) (processEnd d ws bound (restOf c) (i + 2)) 0) (le-leb 2 _ (f .wide))
@@ -129,11 +131,11 @@ module _ (ws : List ℕ) (ok : Words ws) (bound d c i : ℕ) (hc : c < 12) where
       ∙ rest (i + 2))
 
   notify-step : Step 9
-  unfolding nodeEnd shapeOf notifyEnd fixedAfter when
+  unfolding nodeEnd shapeOf notifyEnd fixedAfter when bitOf spareOf allowed placed rowOf rows
   notify-step e f = rw e (ap₂ (λ a b. cond (a && b) (i + 2) 0) (le-leb 2 _ (f .wide)) (middle-2048 (at ws (i + 1)) (f .middle)))
 
   solicit-step : Step 10
-  unfolding nodeEnd shapeOf solicitEnd fixedAfter when
+  unfolding nodeEnd shapeOf solicitEnd fixedAfter when bitOf spareOf allowed placed rowOf rows
   solicit-step e f =
       let w : 3 ≤ length ws - i = f .wide in
       let l : bitAnd (at ws (i + 3 - 1)) 65535 ≡ 0 = f .last in
@@ -155,7 +157,7 @@ module _ (ws : List ℕ) (ok : Words ws) (bound d c i : ℕ) (hc : c < 12) where
   rest-code small = ap (λ t. cond t (contextOf c) 0) (lt-ltb c 8 small)
 
   scope-step : Step 11
-  unfolding nodeEnd shapeOf partOf
+  unfolding nodeEnd shapeOf partOf bitOf spareOf allowed placed rowOf rows
   scope-step e f =
       let small : c < 8 = ltb→lt c 8 (shape-kind c 11 hc (omega arith) (f .stands)) in
       let w : 3 ≤ length ws - i = f .wide in
@@ -166,14 +168,14 @@ module _ (ws : List ℕ) (ok : Words ws) (bound d c i : ℕ) (hc : c < 12) where
       ∙ as-process (contextOf c) (partOf c 4) (i + 3) (part-rest c hc ∙ rest-code small) (omega arith))
 
   inst-step : Step 12
-  unfolding nodeEnd shapeOf
+  unfolding nodeEnd shapeOf bitOf spareOf allowed placed rowOf rows
   inst-step e f =
       let w : 2 ≤ length ws - i = f .wide in
       rw e (no-entries (i + 1) (i + 2) (omega arith) (all-zero (i + 1) (f .middle)) (omega arith))
 
   -- a choice has no shape
   choice-step : Step 6
-  unfolding shapeOf
+  unfolding shapeOf bitOf spareOf allowed placed rowOf rows
   choice-step e f = absurd (f .stands refl)
 
   by-kind : From Step 16 0
@@ -204,7 +206,7 @@ module _ (ws : List ℕ) (bound d i : ℕ) where
   head-256 h e = let m : bitAnd (h + 65536) 255 ≡ (h + 65536) % 256 = and-mask (h + 65536) 8 in omega arith
 
   constant-step : Step-expression 0
-  unfolding exprAt constantEnd shapeOf when
+  unfolding exprAt constantEnd shapeOf when bitOf spareOf allowed placed rowOf rows
   constant-step e f =
       let w : 3 ≤ length ws - i = f .wide in
       let m = head-8192 (at ws i) (f .head) in
@@ -212,35 +214,35 @@ module _ (ws : List ℕ) (bound d i : ℕ) where
       rw e (ap₂ (λ a b. cond (a && b) (i + 3) 0) (eq-eqb (at ws i) 0 z) (lt-ltb 2 (length ws - i) (omega arith)))
 
   variable-step : Step-expression 1
-  unfolding exprAt shapeOf when
+  unfolding exprAt shapeOf when bitOf spareOf allowed placed rowOf rows
   variable-step e f = rw e (ap (λ a. cond a (i + 1) 0) (eq-eqb (at ws i % 256) 0 (head-256 (at ws i) (f .head))))
 
   operation-2 : Step-expression 2
-  unfolding exprAt operationEnd shapeOf when partOf exprEnd itemEnd
+  unfolding exprAt operationEnd shapeOf when partOf exprEnd itemEnd bitOf spareOf allowed placed rowOf rows
   operation-2 e f =
       rw e (ap (λ a. cond a (on (exprEnd d ws (i + 1)) (exprEnd d ws)) 0) (eq-eqb (at ws i % 8192) 0 (head-8192 (at ws i) (f .head))))
 
   operation-3 : Step-expression 3
-  unfolding exprAt operationEnd shapeOf when partOf exprEnd itemEnd
+  unfolding exprAt operationEnd shapeOf when partOf exprEnd itemEnd bitOf spareOf allowed placed rowOf rows
   operation-3 e f =
       rw e (ap (λ a. cond a (on (exprEnd d ws (i + 1)) (exprEnd d ws)) 0) (eq-eqb (at ws i % 8192) 0 (head-8192 (at ws i) (f .head))))
 
   operation-4 : Step-expression 4
-  unfolding exprAt operationEnd shapeOf when partOf exprEnd itemEnd
+  unfolding exprAt operationEnd shapeOf when partOf exprEnd itemEnd bitOf spareOf allowed placed rowOf rows
   operation-4 e f =
       rw e (ap (λ a. cond a (on (exprEnd d ws (i + 1)) (exprEnd d ws)) 0) (eq-eqb (at ws i % 8192) 0 (head-8192 (at ws i) (f .head))))
 
   operation-5 : Step-expression 5
-  unfolding exprAt operationEnd shapeOf when partOf exprEnd itemEnd
+  unfolding exprAt operationEnd shapeOf when partOf exprEnd itemEnd bitOf spareOf allowed placed rowOf rows
   operation-5 e f =
       rw e (ap (λ a. cond a (on (exprEnd d ws (i + 1)) (exprEnd d ws)) 0) (eq-eqb (at ws i % 8192) 0 (head-8192 (at ws i) (f .head))))
 
   none-6 : Step-expression 6
-  unfolding shapeOf
+  unfolding shapeOf bitOf spareOf allowed placed rowOf rows
   none-6 e f = absurd (f .stands refl)
 
   none-7 : Step-expression 7
-  unfolding shapeOf
+  unfolding shapeOf bitOf spareOf allowed placed rowOf rows
   none-7 e f = absurd (f .stands refl)
 
   by-bits : From Step-expression 8 0

@@ -1,14 +1,18 @@
--- Contexts as numbers, and what the reader's table holds, from the definitions' tests. A stratum is a number (0 code, 1 code that may hold
--- cH, 2 running) and so is a place (0 anywhere, 1 not nil, 2 a branch's guard, 3 a root); a context is 4 times the stratum plus the place.
+-- Contexts as numbers, and what the reader's tables hold, packed from the fixed table of kinds and the definitions' tests. A stratum is a
+-- number (0 code, 1 code that may hold cH, 2 running) and so is a place (0 anywhere, 1 not nil, 2 a branch's guard, 3 a root); a context is 4
+-- times the stratum plus the place.
 use Prim.Native.Nat.{ℕ, zero, suc, _+_, _*_, _-_, _/_, _%_}
-use mathlib.Core.Bool.{true, false, _&&_, cond}
+use mathlib.Core.Bool.{Bool, not, false, true, _&&_, _||_, cond}
 use mathlib.Core.List.{[], _∷_}
-use lib.Dec.{ltb, eqb}
-use lib.ListN.{getD}
+use lib.Dec.{leb, ltb, eqb}
+use lib.ListN.{length, getD}
 use lib.Bits.{bitAnd}
 use Rattle.sock.specs.Kind
 use Rattle.sock.specs.Kind.{rowOf}
 use Rattle.sock.specs.Reading.{Stratum, running, code, Place, anywhere, notNil, guard, root, allowed, placed}
+use Rattle.layout.specs.Contexts
+use Rattle.layout.specs.Contexts.{contexts}
+use Rattle.layout.specs.Units
 
 abbrev pub stratumOf : ℕ → ℕ → ℕ → Stratum
 stratumOf n issued zero = code false
@@ -25,78 +29,94 @@ placeOf (suc (suc (suc p))) = root
 unfoldable pub spareOf : ℕ → ℕ → ℕ
 spareOf s k = cond (eqb k Kind.scope && ltb s 2) 32 (rowOf k .spare)
 
--- the bits of a head, with 65,536 added, that have to be 0; all of them where the kind may not stand, and in no context, from 12 on
+-- whether a kind may stand in a context
+abbrev pub stands : ℕ → ℕ → Bool
+stands c k = allowed (stratumOf 0 0 (c / 4)) k && placed (placeOf (c % 4)) k
+
+-- the bits of a head, with 65,536 added, that have to be 0; all of them where the kind may not stand, and in no context
 unfoldable pub headMask : ℕ → ℕ → ℕ
-headMask c k = cond (ltb c 12 && (allowed (stratumOf 0 0 (c / 4)) k && placed (placeOf (c % 4)) k)) (spareOf (c / 4) k - 1) 131071
+headMask c k = cond (ltb c contexts && stands c k) (spareOf (c / 4) k - 1) 131071
 
 -- ---- the same, as the code looks it up
 
--- by kind, first where it is code and then where it runs: the contexts where it may stand, as bits, times 2,048, and the bits of a head
--- that it does not use
-unfoldable pub placesOf : ℕ → ℕ
-placesOf slot =
-    getD
-    (315391 ∷ 4720639
-    ∷ 104511 ∷ 1572927
-    ∷ 106495 ∷ 1574911
-    ∷ 106495 ∷ 1574911
-    ∷ 106495 ∷ 1574911
-    ∷ 106495 ∷ 1574911
-    ∷ 104448 ∷ 1572864
-    ∷ 243712 ∷ 3670016
-    ∷ 243712 ∷ 3670016
-    ∷ 104448 ∷ 1572864
-    ∷ 104448 ∷ 1572864
-    ∷ 383007 ∷ 5767171
-    ∷ 106495 ∷ 1574911
-    ∷ 104479 ∷ 1572895
-    ∷ 104479 ∷ 1572895
-    ∷ 100351 ∷ 0
-    ∷ 0 ∷ 1572864
-    ∷ 0 ∷ 1572864
-    ∷ 0 ∷ 1572895
-    ∷ [])
-    slot 0
-
--- context 12 stands for an expression
+-- the bit of a context, or of an expression
 unfoldable pub bitOf : ℕ → ℕ
 bitOf c = getD (1 ∷ 2 ∷ 4 ∷ 8 ∷ 16 ∷ 32 ∷ 64 ∷ 128 ∷ 256 ∷ 512 ∷ 1024 ∷ 2048 ∷ []) c 4096
+
+-- the bits of those contexts below n for which a test holds
+abbrev pub bitsOf : (ℕ → Bool) → ℕ → ℕ
+bitsOf test zero = 0
+bitsOf test (suc n) = bitsOf test n + cond (test n) (bitOf n) 0
+
+-- where a kind may stand as code (0), or where it runs (1)
+abbrev pub standing : ℕ → ℕ → ℕ
+standing k s = bitsOf (λ c. stands c k && eqb (c / Contexts.running) s) contexts
+
+-- by kind, first where it is code and then where it runs: those contexts times 2,048, and the bits of a head that it does not use
+unfoldable pub placesOf : ℕ → ℕ
+placesOf slot =
+    let k = slot / 2 in
+    let s = slot % 2 in
+    cond (eqb (standing k s) 0) 0 (standing k s * 2048 + (spareOf (s * 2) k - 1))
 
 unfoldable pub maskOf : ℕ → ℕ → ℕ
 maskOf c k =
     cond (eqb (bitAnd (placesOf (k * 2 + c / 8) / 2048) (bitOf c)) 0) 131071 (placesOf (k * 2 + c / 8) % 2048)
 
--- what a node with fixed parts is made of, by kind, and from 19 on by the first three bits of an expression: its width; times 4, how many
--- parts; times 16, how the first part's context comes from the node's, times 4,096 that of the others (the bits kept, and times 16 what is
--- added); times 2^20 the bits of the head that it does not use; times 2^33 those of the word in the middle that have to be 0; times 2^49, 1
--- if the last word has to be 0; times 2^50 the contexts where it may stand, as bits
-unfoldable pub shapeOf : ℕ → ℕ
-shapeOf slot =
+-- ---- what a node with fixed parts is made of
+
+-- how a part's context comes from its node's, as the bits kept and 16 times what is added: of a part that runs where its node does and is not
+-- nil, of one that is code in any case, and of an expression
+abbrev pub enabledPart : ℕ
+enabledPart = 12 + 16 * Contexts.notNil
+
+abbrev pub codePart : ℕ
+codePart = 4
+
+abbrev pub expressionPart : ℕ
+expressionPart = 16 * Contexts.expression
+
+-- its width; how many parts; how the first part's context comes from the node's, and that of the others; the bits that have to be 0 of the head
+-- and of the word in the middle; 1 if the last word has to be 0; the contexts where it may stand
+abbrev pub packed : ℕ → ℕ → ℕ → ℕ → ℕ → ℕ → ℕ → ℕ → ℕ
+packed width parts first others head middle last places =
+    width + 4 * parts + 16 * first + 4096 * others + 1048576 * head + 8589934592 * middle + 562949953421312 * last
+    + 1125899906842624 * places
+
+-- a process `left` before the last of its node's: both sides of a par and the first of a seq run where their node does
+abbrev pub processPart : ℕ → ℕ → ℕ
+processPart k left = cond (eqb k Kind.par || eqb k Kind.seq && eqb left 1) enabledPart codePart
+
+-- the parts of a kind, expressions first
+abbrev pub firstPart : ℕ → ℕ
+firstPart k =
+    cond (ltb 0 (rowOf k .expressions)) expressionPart (cond (ltb 0 (rowOf k .processes)) (processPart k (rowOf k .processes - 1)) 0)
+
+abbrev pub otherParts : ℕ → ℕ
+otherParts k = cond (ltb 1 (rowOf k .expressions + rowOf k .processes)) (processPart k 0) 0
+
+-- the word behind the head: a scope that is code has no marked fault; where there is no fixed word it is the count of the list, which is empty
+abbrev pub middleOf : ℕ → ℕ
+middleOf k = cond (eqb k Kind.scope) 65535 (getD (rowOf k .fixed) 0 (cond (eqb (rowOf k .lists) 0) 1 65536) - 1)
+
+-- of a kind as the fixed table has it, with its list empty; a scope is read so only where it is code
+abbrev pub kindShape : ℕ → ℕ
+kindShape k =
+    packed (suc (length (rowOf k .fixed)) + rowOf k .lists) (rowOf k .expressions + rowOf k .processes) (firstPart k) (otherParts k)
+    (spareOf 0 k - 1) (middleOf k) (cond (eqb (length (rowOf k .fixed)) 0) 0 (rowOf k .lists))
+    (bitsOf (λ c. stands c k && (not (eqb k Kind.scope) || ltb c Contexts.running)) contexts)
+
+-- of an expression by its first three bits: a constant, a variable, the four operations
+abbrev pub expressionShape : ℕ → ℕ
+expressionShape tag =
+    let operation = packed 1 2 expressionPart expressionPart (Units.tag - 1) 0 0 (bitOf Contexts.expression) in
     getD
-    (2766336073258762241
-    ∷ 922112023770172421
-    ∷ 922112025850560969
-    ∷ 922112025850659273
-    ∷ 922112025850563597
-    ∷ 922112025850563593
-    ∷ 1
-    ∷ 2151594721976254465
-    ∷ 2151612305572364358
-    ∷ 922129607300218882
-    ∷ 922675514823409667
-    ∷ 211669173928984647
-    ∷ 922674967214030850
-    ∷ 922112023736614913
-    ∷ 922112023736614913
-    ∷ 54043197674881025
-    ∷ 1
-    ∷ 1
-    ∷ 1
-    ∷ 4611686027016273923
-    ∷ 4611686018694774785
-    ∷ 4611686027017063433
-    ∷ 4611686027017063433
-    ∷ 4611686027017063433
-    ∷ 4611686027017063433
+    (packed 3 0 0 0 (Units.tag - 1) 0 0 (bitOf Contexts.expression)
+    ∷ packed 1 0 0 0 (Units.readVariable - 1) 0 0 (bitOf Contexts.expression)
+    ∷ operation ∷ operation ∷ operation ∷ operation
     ∷ [])
-    slot 1
+    tag 1
+
+-- by kind, and from 19 on by the first three bits of an expression; a choice and the kinds from 16 on have no shape, and so no context
+unfoldable pub shapeOf : ℕ → ℕ
+shapeOf slot = cond (ltb slot 19) (cond (eqb slot Kind.choice || leb Kind.executor slot) 1 (kindShape slot)) (expressionShape (slot - 19))

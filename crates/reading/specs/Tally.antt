@@ -7,6 +7,8 @@ use lib.Dec.{leb, ltb, eqb}
 use lib.ListN.{length, getD}
 use Rattle.sock.specs.Kind
 use Rattle.sock.specs.Words.{bit, kindOf}
+use Rattle.layout.specs.Contexts.{code, running}
+use Rattle.layout.specs.Keys.{noKey}
 use Rattle.reading.specs.declared.ends.Counted.{Counted}
 use Rattle.reading.specs.Walk.{at, listEnd, processEnd}
 
@@ -28,14 +30,14 @@ serialAt ws i serial = bit (leb 3 (length ws - i) && eqb serial (at ws (i + 2)))
 
 -- a seq, behind its head: only its first part is enabled
 unfoldable pub seqTally : (ℕ → Counted) → (ℕ → ℕ → ℕ) → ℕ → Counted
-seqTally tal sub i = after (tal i) λ p. counted (sub 0 (p .end)) (p .waiters) (p .workers)
+seqTally tal sub i = after (tal i) λ p. counted (sub code (p .end)) (p .waiters) (p .workers)
 
 unfoldable pub parTally : (ℕ → Counted) → ℕ → Counted
 parTally tal i = after (tal i) λ p. counted (tal (p .end) .end) (p .waiters + tal (p .end) .waiters) (p .workers + tal (p .end) .workers)
 
 -- a scope, from its list on
 unfoldable pub scopeTally : (ℕ → Counted) → (ℕ → ℕ → ℕ) → List ℕ → ℕ → Counted
-scopeTally tal sub ws i = cond (eqb (listEnd sub ws 0 128 i) 0) uncounted (tal (listEnd sub ws 0 128 i))
+scopeTally tal sub ws i = cond (eqb (listEnd sub ws code noKey i) 0) uncounted (tal (listEnd sub ws code noKey i))
 
 unfoldable pub executorTally : (ℕ → Counted) → List ℕ → ℕ → ℕ → Counted
 executorTally tal ws serial i = counted (tal (i + 3) .end) (tal (i + 3) .waiters) (tal (i + 3) .workers + serialAt ws i serial)
@@ -55,7 +57,7 @@ unfoldable pub tallyAt : ℕ → List ℕ → ℕ → ℕ → ℕ → Counted
 tallyAt zero ws serial bound i = uncounted
 tallyAt (suc d) ws serial bound i =
     cond (ltb i (length ws))
-    (nodeTally (tallyAt d ws serial bound) (processEnd d ws bound) (processEnd (suc d) ws bound 8) ws serial (kindOf (at ws i)) i)
+    (nodeTally (tallyAt d ws serial bound) (processEnd d ws bound) (processEnd (suc d) ws bound running) ws serial (kindOf (at ws i)) i)
     uncounted
 
 -- ---- over the engines, of which `left` are still to come

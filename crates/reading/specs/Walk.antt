@@ -6,6 +6,10 @@ use mathlib.Core.List.{List, [], _∷_}
 use lib.Bits.{bitAnd}
 use lib.Dec.{leb, ltb, eqb}
 use lib.ListN.{length, getD}
+use Rattle.sock.specs.Words.{clear, kindOf, countOf, markOf, zombieOf, firstName, keyOf, tagOf}
+use Rattle.layout.specs.Contexts.{code, handlers, running, notNil, receiver, expression}
+use Rattle.layout.specs.Keys.{noKey, scopeKeys}
+use Rattle.layout.specs.Units
 use Rattle.reading.specs.Tables.{headMask, bitOf}
 
 -- on to what follows, unless this failed
@@ -24,19 +28,19 @@ unfoldable pub constantEnd : List ℕ → ℕ → ℕ → ℕ
 constantEnd ws i w = when (eqb w 0 && ltb 2 (length ws - i)) (i + 3)
 
 unfoldable pub operationEnd : (ℕ → ℕ) → ℕ → ℕ → ℕ
-operationEnd sub i w = when (eqb (w % 8192) 0) (on (sub (i + 1)) sub)
+operationEnd sub i w = when (clear Units.tag w) (on (sub (i + 1)) sub)
 
 unfoldable pub exprAt : (ℕ → ℕ) → List ℕ → ℕ → ℕ → ℕ
 exprAt sub ws i w =
     getD
     (constantEnd ws i w
-    ∷ when (eqb (w % 256) 0) (i + 1)
+    ∷ when (clear Units.readVariable w) (i + 1)
     ∷ operationEnd sub i w
     ∷ operationEnd sub i w
     ∷ operationEnd sub i w
     ∷ operationEnd sub i w
     ∷ [])
-    (w / 8192) 0
+    (tagOf w) 0
 
 unfoldable pub exprEnd : ℕ → List ℕ → ℕ → ℕ
 exprEnd zero ws i = 0
@@ -49,7 +53,7 @@ abbrev pub contextOf : ℕ → ℕ
 contextOf c = c / 4 * 4
 
 unfoldable pub restOf : ℕ → ℕ
-restOf c = cond (ltb c 8) (contextOf c) 0
+restOf c = cond (ltb c running) (contextOf c) code
 
 unfoldable pub twoEnd : (ℕ → ℕ → ℕ) → ℕ → ℕ → ℕ → ℕ
 twoEnd sub first second i = on (sub first i) (sub second)
@@ -62,52 +66,52 @@ repeatEnd ex sub c i = on (ex i) (sub c)
 
 unfoldable pub branchesEnd : (ℕ → ℕ → ℕ) → ℕ → ℕ → ℕ → ℕ
 branchesEnd sub c zero i = i
-branchesEnd sub c (suc n) i = on (twoEnd sub (c + 2) c i) (branchesEnd sub c n)
+branchesEnd sub c (suc n) i = on (twoEnd sub (c + receiver) c i) (branchesEnd sub c n)
 
 unfoldable pub choiceEnd : (ℕ → ℕ → ℕ) → ℕ → ℕ → ℕ → ℕ
 choiceEnd sub c n i = when (ltb 0 n && leb n 8) (branchesEnd sub c n i)
 
 -- a fixed word behind the head at i
 unfoldable pub fixedAfter : List ℕ → ℕ → ℕ → Bool
-fixedAfter ws i spare = leb 2 (length ws - i) && eqb (at ws (i + 1) % spare) 0
+fixedAfter ws i spare = leb 2 (length ws - i) && clear spare (at ws (i + 1))
 
 unfoldable pub requestEnd : (ℕ → ℕ → ℕ) → List ℕ → ℕ → ℕ → ℕ
-requestEnd sub ws c i = when (fixedAfter ws i 2048) (sub c (i + 2))
+requestEnd sub ws c i = when (fixedAfter ws i Units.firstVariable) (sub c (i + 2))
 
 unfoldable pub notifyEnd : List ℕ → ℕ → ℕ
-notifyEnd ws i = when (fixedAfter ws i 2048) (i + 2)
+notifyEnd ws i = when (fixedAfter ws i Units.firstVariable) (i + 2)
 
--- the key at a position, at least `least`; 128 if there is none
+-- the key at a position, at least `least`
 unfoldable pub keyAt : List ℕ → ℕ → ℕ → ℕ
-keyAt ws i least = cond (ltb i (length ws) && eqb (at ws i % 512) 0 && leb least (at ws i / 512)) (at ws i / 512) 128
+keyAt ws i least = cond (ltb i (length ws) && clear Units.key (at ws i) && leb least (keyOf (at ws i))) (keyOf (at ws i)) noKey
 
--- under a scope's key in a scope's list (context 0) nil may not stand
+-- under a scope's key in a scope's list, whose entries are plain code, nil may not stand
 unfoldable pub entryContext : ℕ → ℕ → ℕ
-entryContext c key = cond (eqb c 0 && leb 64 key) 1 c
+entryContext c key = cond (eqb c code && leb scopeKeys key) notNil c
 
 -- entries; `met` tells whether the key wanted has stood among those before
 unfoldable pub entriesEnd : (ℕ → ℕ → ℕ) → List ℕ → ℕ → ℕ → ℕ → ℕ → Bool → ℕ → ℕ
 entriesEnd sub ws c wanted zero least met i = when met i
 entriesEnd sub ws c wanted (suc n) least met i =
-    cond (eqb (keyAt ws i least) 128) 0
+    cond (eqb (keyAt ws i least) noKey) 0
     (on (sub (entryContext c (keyAt ws i least)) (i + 1))
     (entriesEnd sub ws c wanted n (keyAt ws i least + 1) (met || eqb (keyAt ws i least) wanted)))
 
 unfoldable pub listEnd : (ℕ → ℕ → ℕ) → List ℕ → ℕ → ℕ → ℕ → ℕ
-listEnd sub ws c wanted i = when (ltb i (length ws)) (entriesEnd sub ws c wanted (at ws i) 0 (leb 128 wanted) (i + 1))
+listEnd sub ws c wanted i = when (ltb i (length ws)) (entriesEnd sub ws c wanted (at ws i) 0 (leb noKey wanted) (i + 1))
 
 unfoldable pub solicitEnd : (ℕ → ℕ → ℕ) → List ℕ → ℕ → ℕ
-solicitEnd sub ws i = when (fixedAfter ws i 64) (listEnd sub ws 4 128 (i + 2))
+solicitEnd sub ws i = when (fixedAfter ws i Units.nextVariable) (listEnd sub ws handlers noKey (i + 2))
 
 -- the list of a scope that runs, by its mark
 unfoldable pub markedEnd : (ℕ → ℕ → ℕ) → List ℕ → ℕ → ℕ → ℕ → ℕ
 markedEnd sub ws h fault i =
     getD
-    (when (eqb fault 0) (listEnd sub ws 0 128 i)
-    ∷ when (eqb (fault % 1024) 0) (listEnd sub ws 0 (fault / 1024) i)
-    ∷ when (eqb fault 0 && eqb (h / 4 % 2) 1) (listEnd sub ws 0 128 i)
+    (when (eqb fault 0) (listEnd sub ws code noKey i)
+    ∷ when (clear Units.firstName fault) (listEnd sub ws code (firstName fault) i)
+    ∷ when (eqb fault 0 && eqb (zombieOf h) 1) (listEnd sub ws code noKey i)
     ∷ [])
-    (h / 8 % 4) 0
+    (markOf h) 0
 
 -- a scope that is code: no marked fault and an empty list
 unfoldable pub restingEnd : (ℕ → ℕ → ℕ) → List ℕ → ℕ → ℕ → ℕ → ℕ
@@ -116,24 +120,24 @@ restingEnd sub ws c fault i = when (eqb fault 0 && eqb (at ws (i + 2)) 0) (sub (
 unfoldable pub scopeEnd : (ℕ → ℕ → ℕ) → List ℕ → ℕ → ℕ → ℕ → ℕ
 scopeEnd sub ws c h i =
     when (leb 3 (length ws - i))
-    (cond (ltb c 8)
+    (cond (ltb c running)
     (restingEnd sub ws c (at ws (i + 1)) i)
-    (on (markedEnd sub ws h (at ws (i + 1)) (i + 2)) (sub 8)))
+    (on (markedEnd sub ws h (at ws (i + 1)) (i + 2)) (sub running)))
 
 -- the fixed words of an end; `bound` is n times 65,536 plus issued
 unfoldable pub endAfter : List ℕ → ℕ → ℕ → ℕ → Bool
 endAfter ws i spare bound =
-    leb 3 (length ws - i) && eqb (at ws (i + 1) % spare) 0 && ltb (at ws (i + 1) / spare % 8) (bound / 65536) && ltb 0 (at ws (i + 2))
+    leb 3 (length ws - i) && clear spare (at ws (i + 1)) && ltb (at ws (i + 1) / spare % 8) (bound / 65536) && ltb 0 (at ws (i + 2))
     && leb (at ws (i + 2)) (bound % 65536)
 
 unfoldable pub executorEnd : (ℕ → ℕ → ℕ) → List ℕ → ℕ → ℕ → ℕ
-executorEnd sub ws bound i = when (endAfter ws i 8192 bound) (sub 8 (i + 3))
+executorEnd sub ws bound i = when (endAfter ws i Units.executorsClient bound) (sub running (i + 3))
 
 unfoldable pub waiterEnd : (ℕ → ℕ → ℕ) → List ℕ → ℕ → ℕ → ℕ
-waiterEnd sub ws bound i = when (endAfter ws i 4096 bound) (listEnd sub ws 4 128 (i + 3))
+waiterEnd sub ws bound i = when (endAfter ws i Units.waitersServer bound) (listEnd sub ws handlers noKey (i + 3))
 
 unfoldable pub noticeEnd : List ℕ → ℕ → ℕ → ℕ
-noticeEnd ws bound i = when (endAfter ws i 128 bound) (i + 3)
+noticeEnd ws bound i = when (endAfter ws i Units.noticesClient bound) (i + 3)
 
 -- by kind
 unfoldable pub nodeEnd : (ℕ → ℕ) → (ℕ → ℕ → ℕ) → List ℕ → ℕ → ℕ → ℕ → ℕ → ℕ
@@ -141,17 +145,17 @@ nodeEnd ex sub ws c bound h i =
     getD
     ((i + 1)
     ∷ ex (i + 1)
-    ∷ twoEnd sub (contextOf c + 1) (restOf c) (i + 1)
-    ∷ twoEnd sub (contextOf c + 1) (contextOf c + 1) (i + 1)
+    ∷ twoEnd sub (contextOf c + notNil) (restOf c) (i + 1)
+    ∷ twoEnd sub (contextOf c + notNil) (contextOf c + notNil) (i + 1)
     ∷ branchEnd ex sub (restOf c) (i + 1)
     ∷ repeatEnd ex sub (restOf c) (i + 1)
-    ∷ choiceEnd sub (restOf c) (h % 2048) (i + 1)
+    ∷ choiceEnd sub (restOf c) (countOf h) (i + 1)
     ∷ (i + 1)
     ∷ requestEnd sub ws (restOf c) i
     ∷ notifyEnd ws i
     ∷ solicitEnd sub ws i
     ∷ scopeEnd sub ws c h i
-    ∷ listEnd sub ws 4 128 (i + 1)
+    ∷ listEnd sub ws handlers noKey (i + 1)
     ∷ (i + 1)
     ∷ (i + 1)
     ∷ (i + 1)
@@ -159,18 +163,18 @@ nodeEnd ex sub ws c bound h i =
     ∷ waiterEnd sub ws bound i
     ∷ noticeEnd ws bound i
     ∷ [])
-    (h / 2048) 0
+    (kindOf h) 0
 
 unfoldable pub processEnd : ℕ → List ℕ → ℕ → ℕ → ℕ → ℕ
 processEnd zero ws bound c i = 0
 processEnd (suc d) ws bound c i =
     when (ltb i (length ws))
-    (when (eqb (bitAnd (at ws i + 65536) (headMask c (at ws i / 2048))) 0) (nodeEnd (exprEnd d ws) (processEnd d ws bound) ws c bound (at ws i) i))
+    (when (eqb (bitAnd (at ws i + 65536) (headMask c (kindOf (at ws i)))) 0) (nodeEnd (exprEnd d ws) (processEnd d ws bound) ws c bound (at ws i) i))
 
--- ---- the same, node by node, with what is left to read kept for later; context 12 stands for an expression
+-- ---- the same, node by node, with what is left to read kept for later; an expression has a context of its own
 
 unfoldable pub slotOf : ℕ → ℕ → ℕ
-slotOf c h = cond (eqb c 12) (19 + h / 8192) (h / 2048)
+slotOf c h = cond (eqb c expression) (19 + tagOf h) (kindOf h)
 
 -- whether a node whose shape is t stands at i in a context, with no other words than its parts' and those the shape tells
 unfoldable pub fitsAt : List ℕ → ℕ → ℕ → ℕ → Bool
@@ -187,7 +191,7 @@ unfoldable pub partOf : ℕ → ℕ → ℕ
 partOf c how = bitAnd c (how % 16) + how / 16 % 16
 
 unfoldable pub itemEnd : List ℕ → ℕ → ℕ → ℕ → ℕ → ℕ
-itemEnd ws bound d c i = cond (eqb c 12) (exprEnd d ws i) (processEnd d ws bound c i)
+itemEnd ws bound d c i = cond (eqb c expression) (exprEnd d ws i) (processEnd d ws bound c i)
 
 -- the last n of those kept, each as 16 times its depth plus its context, from 1 on
 unfoldable pub laterEnd : List ℕ → ℕ → List ℕ → ℕ → ℕ → ℕ

@@ -3,8 +3,16 @@
 use crate::reader::list;
 use crate::reader::process;
 use crate::survey::survey;
+use layout::context::CODE;
+use layout::context::ROOT;
+use layout::context::RUNNING;
+use layout::key::NO_KEY;
 use layout::kind;
+use layout::limit::DEEPEST;
+use layout::limit::LONGEST;
 use layout::number::wide;
+use layout::unit;
+use layout::unit::WORD;
 ghost use mathlib.Core.Path.{_≡_};
 ghost use Prim.Native.Nat.{_<_, _≤_};
 ghost use lib.ListN.{length};
@@ -73,22 +81,22 @@ fn tally(ws: &[u16], at: usize, depth: usize, serial: usize, bound: usize) -> Co
         return not_counted();
     }
     let d = depth - 1;
-    match wide(ws[at]) / 2048 {
+    match wide(ws[at]) / unit::KIND {
         kind::SEQ => tally_seq(ws, at + 1, d, serial, bound),
         kind::PAR => tally_par(ws, at + 1, d, serial, bound),
         kind::SCOPE => tally_scope(ws, at + 2, d, serial, bound),
         kind::EXECUTOR => tally_executor(ws, at, d, serial, bound),
         kind::WAITER => count(
-            process(ws, at, depth, 8, bound),
+            process(ws, at, depth, RUNNING, bound),
             serial_at(ws, at, serial),
             0,
         ),
         kind::NOTICE => count(
-            process(ws, at, depth, 8, bound),
+            process(ws, at, depth, RUNNING, bound),
             0,
             serial_at(ws, at, serial),
         ),
-        _ => count(process(ws, at, depth, 8, bound), 0, 0),
+        _ => count(process(ws, at, depth, RUNNING, bound), 0, 0),
     }
 }
 
@@ -101,7 +109,7 @@ fn tally_seq(ws: &[u16], at: usize, depth: usize, serial: usize, bound: usize) -
     if e == 0 {
         return not_counted();
     }
-    count(process(ws, e, depth, 0, bound), p.waiters, p.workers)
+    count(process(ws, e, depth, CODE, bound), p.waiters, p.workers)
 }
 
 fn tally_par(ws: &[u16], at: usize, depth: usize, serial: usize, bound: usize) -> Counted
@@ -120,7 +128,7 @@ fn tally_par(ws: &[u16], at: usize, depth: usize, serial: usize, bound: usize) -
 fn tally_scope(ws: &[u16], at: usize, depth: usize, serial: usize, bound: usize) -> Counted
     ensures { λ r. ⌜ r ≡ scopeTally (tallyAt depth (now (ws .entry)) serial bound) (processEnd depth (now (ws .entry)) bound) (now (ws .entry)) at ⌝ }
 {
-    let e = list(ws, at, depth, 0, 128, bound);
+    let e = list(ws, at, depth, CODE, NO_KEY, bound);
     if e == 0 {
         return not_counted();
     }
@@ -167,7 +175,7 @@ fn total(
 pub fn ends(ws: &[u16], serial: u16) -> EndCounts
     ensures { λ r. ⌜ r ≡ endCounts (calls.ends standard (now (ws .entry)) serial) ⌝ }
 {
-    let s = survey(ws, 64, 8192, 11);
+    let s = survey(ws, DEEPEST, LONGEST, ROOT);
     let n = s.engines;
     if n == 0 {
         return refused(1);
@@ -179,7 +187,7 @@ pub fn ends(ws: &[u16], serial: u16) -> EndCounts
         return refused(12);
     }
     let starts = s.starts;
-    let t = total(ws, starts, n, 64, wide(serial), n * 65536 + wide(ws[1]));
+    let t = total(ws, starts, n, DEEPEST, wide(serial), n * WORD + wide(ws[1]));
     EndCounts {
         number: 0,
         waiters: t.waiters as u16,

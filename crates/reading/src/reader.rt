@@ -1,11 +1,27 @@
 // The reader: where the process, list or expression that begins at a position ends, or 0 if it does not fit. One pass over the words;
-// depth falls with every level. A context (`specs/Tables`) is 4 times the stratum (0 code, 1 code that may hold cH, 2 running) plus the
-// place (0 anywhere, 1 not nil, 2 a branch's guard, 3 a root). `bound` is n times 65,536 plus issued.
+// depth falls with every level. A context (`layout::context`) is where a process stands. `bound` is n times 65,536 plus issued.
+use crate::tables;
 use crate::tables::bit;
 use crate::tables::head_mask;
 use crate::tables::shape;
+use layout::context::CODE;
+use layout::context::CONTEXTS;
+use layout::context::EXPRESSION;
+use layout::context::HANDLERS;
+use layout::context::NOT_NIL;
+use layout::context::RECEIVER;
+use layout::context::RUNNING;
+use layout::context::STRATUM;
+use layout::key::NO_KEY;
+use layout::key::SCOPE_KEYS;
 use layout::kind;
+use layout::limit::BRANCHES;
+use layout::limit::ENGINES;
+use layout::mark;
 use layout::number::wide;
+use layout::tag;
+use layout::unit;
+use layout::unit::WORD;
 ghost use mathlib.Core.Path.{_≡_};
 ghost use Prim.Native.Nat.{_+_, _%_, _<_};
 ghost use mathlib.Core.Bool.{_&&_, _||_};
@@ -27,13 +43,19 @@ pub fn expression(ws: &[u16], at: usize, depth: usize) -> usize
         return 0;
     }
     let w = wide(ws[at]);
-    match w / 8192 {
-        0 => constant(ws, at, w),
-        1 => { if w % 256 == 0 { at + 1 } else { 0 } }
-        2 => operation(ws, at, depth - 1, w),
-        3 => operation(ws, at, depth - 1, w),
-        4 => operation(ws, at, depth - 1, w),
-        5 => operation(ws, at, depth - 1, w),
+    match w / unit::TAG {
+        tag::CONSTANT => constant(ws, at, w),
+        tag::VARIABLE => {
+            if w % unit::READ_VARIABLE == 0 {
+                at + 1
+            } else {
+                0
+            }
+        }
+        tag::SUM => operation(ws, at, depth - 1, w),
+        tag::DIFFERENCE => operation(ws, at, depth - 1, w),
+        tag::LESS => operation(ws, at, depth - 1, w),
+        tag::EQUAL => operation(ws, at, depth - 1, w),
         _ => 0,
     }
 }
@@ -54,7 +76,7 @@ fn operation(ws: &[u16], at: usize, depth: usize, w: usize) -> usize
     requires { ⌜ at < length (now ws) ⌝ }
     ensures { λ r. ⌜ r ≡ operationEnd (exprEnd depth (now (ws .entry))) at w ⌝ }
 {
-    if w % 8192 != 0 {
+    if w % unit::TAG != 0 {
         return 0;
     }
     let e = expression(ws, at + 1, depth);
@@ -68,23 +90,27 @@ fn operation(ws: &[u16], at: usize, depth: usize, w: usize) -> usize
 fn same_context(context: usize) -> usize
     ensures { λ r. ⌜ r ≡ contextOf context ⌝ }
 {
-    context / 4 * 4
+    context / STRATUM * STRATUM
 }
 
 fn rest_context(context: usize) -> usize
     ensures { λ r. ⌜ (r ≡ restOf context) × (r < 8) ⌝ }
 {
-    if context < 8 { context / 4 * 4 } else { 0 }
+    if context < RUNNING {
+        context / STRATUM * STRATUM
+    } else {
+        CODE
+    }
 }
 
-// Where a node's shape stands: its kind, or 19 and the first three bits of an expression.
+// Where a node's shape stands: its kind, or behind all kinds by the first three bits of an expression.
 fn slot(context: usize, h: usize) -> usize
     ensures { λ r. ⌜ r ≡ slotOf context h ⌝ }
 {
-    if context == 12 {
-        19 + h / 8192
+    if context == EXPRESSION {
+        tables::EXPRESSIONS + h / unit::TAG
     } else {
-        h / 2048
+        h / unit::KIND
     }
 }
 
@@ -93,27 +119,35 @@ fn fits(ws: &[u16], at: usize, context: usize, t: usize) -> bool
     requires { ⌜ (at < length (now ws)) × (0 < t % 4) ⌝ }
     ensures { λ r. ⌜ r ≡ fitsAt (now (ws .entry)) at context t ⌝ }
 {
-    if ws.len() - at < t % 4 {
+    if ws.len() - at < t % tables::WIDTHS {
         return false;
     }
-    let head = (wide(ws[at]) + 65536) & (t / 1048576 % 8192);
-    let middle = wide(ws[at + t % 4 / 2]) & (t / 8589934592 % 65536);
-    let last = wide(ws[at + t % 4 - 1]) & (t / 562949953421312 % 2 * 65535);
+    let head = (wide(ws[at]) + WORD) & (t / tables::HEAD % tables::HEADS);
+    let middle = wide(ws[at + t % tables::WIDTHS / 2]) & (t / tables::MIDDLE % WORD);
+    let last = wide(ws[at + t % tables::WIDTHS - 1]) & (t / tables::LAST % 2 * tables::WHOLE);
     if head + middle + last != 0 {
         return false;
     }
-    t / 1125899906842624 & bit(context) != 0
+    t / tables::STANDS & bit(context) != 0
 }
 
-// The same, if there is room to keep the node's parts for later.
+// What is left to read is kept in 16 places, of which the first is not used: a part as its depth times `KEPT` plus its context. A node's parts
+// are kept if it stands no deeper than `DEEP`, and no more than `FULL` are kept already.
+const KEPT: usize = 16;
+
+const DEEP: usize = 4095;
+
+const FULL: usize = 13;
+
+// The same as `fits`, if there is room to keep the node's parts for later.
 fn ready(ws: &[u16], at: usize, depth: usize, context: usize, n: usize, t: usize) -> bool
     requires { ⌜ (at < length (now ws)) × (0 < t % 4) ⌝ }
     ensures { λ r. ⌜ r ≡ (leb depth 4095 && leb n 13 && fitsAt (now (ws .entry)) at context t) ⌝ }
 {
-    if 4095 < depth {
+    if DEEP < depth {
         return false;
     }
-    if 13 < n {
+    if FULL < n {
         return false;
     }
     fits(ws, at, context, t)
@@ -124,7 +158,7 @@ fn part(context: usize, how: usize) -> usize
     requires { ⌜ context < 13 ⌝ }
     ensures { λ r. ⌜ r ≡ partOf context how ⌝ }
 {
-    (context & (how % 16)) + how / 16 % 16
+    (context & (how % tables::ADDED)) + how / tables::ADDED % tables::ADDED
 }
 
 // A process in a context, node by node: the parts of a node that its shape tells are kept for later, the first is read next. Any other
@@ -144,21 +178,21 @@ pub(crate) fn process(ws: &[u16], at: usize, depth: usize, context: usize, bound
         }
         let t = shape(slot(c, wide(ws[a])));
         if ready(ws, a, d, c, n, t) {
-            let p = t / 4 % 4;
-            a = a + t % 4;
+            let p = t / tables::PARTS % tables::COUNTS;
+            a = a + t % tables::WIDTHS;
             if p == 0 {
                 if n == 0 {
                     return a;
                 }
-                d = later[n] / 16;
-                c = later[n] % 16;
+                d = later[n] / KEPT;
+                c = later[n] % KEPT;
                 n = n - 1;
             } else {
                 d = d - 1;
-                let last = d * 16 + part(c, t / 4096);
+                let last = d * KEPT + part(c, t / tables::OTHERS);
                 later[n + 1] = last;
                 later[n + 2] = last;
-                c = part(c, t / 16);
+                c = part(c, t / tables::FIRST);
                 n = n + p - 1;
             }
         } else {
@@ -169,19 +203,19 @@ pub(crate) fn process(ws: &[u16], at: usize, depth: usize, context: usize, bound
             if n == 0 {
                 return a;
             }
-            d = later[n] / 16;
-            c = later[n] % 16;
+            d = later[n] / KEPT;
+            c = later[n] % KEPT;
             n = n - 1;
         }
     }
     0
 }
 
-// The same for whoever does not know that there is such a context: nothing stands in one from 12 on.
+// The same for whoever does not know that there is such a context: nothing stands in one from `CONTEXTS` on.
 pub fn read(ws: &[u16], at: usize, depth: usize, context: usize, bound: usize) -> usize
     ensures { λ r. ⌜ r ≡ processEnd depth (now (ws .entry)) bound context at ⌝ }
 {
-    if 12 <= context {
+    if CONTEXTS <= context {
         return 0;
     }
     process(ws, at, depth, context, bound)
@@ -192,7 +226,7 @@ fn whole(ws: &[u16], at: usize, depth: usize, context: usize, bound: usize) -> u
     requires { ⌜ context < 13 ⌝ }
     ensures { λ r. ⌜ r ≡ itemEnd (now (ws .entry)) bound depth context at ⌝ }
 {
-    if context == 12 {
+    if context == EXPRESSION {
         expression(ws, at, depth)
     } else {
         node(ws, at, depth, context, bound)
@@ -211,8 +245,8 @@ fn node(ws: &[u16], at: usize, depth: usize, context: usize, bound: usize) -> us
         return 0;
     }
     let h = wide(ws[at]);
-    let k = h / 2048;
-    if (h + 65536) & head_mask(context, k) != 0 {
+    let k = h / unit::KIND;
+    if (h + WORD) & head_mask(context, k) != 0 {
         return 0;
     }
     let d = depth - 1;
@@ -220,24 +254,24 @@ fn node(ws: &[u16], at: usize, depth: usize, context: usize, bound: usize) -> us
     match k {
         kind::NIL => at + 1,
         kind::ASSIGN => expression(ws, at + 1, d),
-        kind::SEQ => two(ws, at + 1, d, same_context(context) + 1, c, bound),
+        kind::SEQ => two(ws, at + 1, d, same_context(context) + NOT_NIL, c, bound),
         kind::PAR => two(
             ws,
             at + 1,
             d,
-            same_context(context) + 1,
-            same_context(context) + 1,
+            same_context(context) + NOT_NIL,
+            same_context(context) + NOT_NIL,
             bound,
         ),
         kind::IF => branch(ws, at + 1, d, c, bound),
         kind::WHILE => repeat(ws, at + 1, d, c, bound),
-        kind::CHOICE => choice(ws, at + 1, d, c, h % 2048, bound),
+        kind::CHOICE => choice(ws, at + 1, d, c, h % unit::KIND, bound),
         kind::ONE_WAY => at + 1,
         kind::REQUEST => request(ws, at, d, c, bound),
         kind::NOTIFY => notify(ws, at),
         kind::SOLICIT => solicit(ws, at, d, bound),
         kind::SCOPE => scope(ws, at, d, context, h, bound),
-        kind::INST => list(ws, at + 1, d, 4, 128, bound),
+        kind::INST => list(ws, at + 1, d, HANDLERS, NO_KEY, bound),
         kind::THROW => at + 1,
         kind::COMP => at + 1,
         kind::CH => at + 1,
@@ -291,13 +325,13 @@ fn choice(ws: &[u16], at: usize, depth: usize, context: usize, count: usize, bou
     if count == 0 {
         return 0;
     }
-    if 8 < count {
+    if BRANCHES < count {
         return 0;
     }
     let mut a = at;
     let mut left = count;
     while 0 < left {
-        a = two(ws, a, depth, context + 2, context, bound);
+        a = two(ws, a, depth, context + RECEIVER, context, bound);
         if a == 0 {
             return 0;
         }
@@ -321,7 +355,7 @@ fn request(ws: &[u16], at: usize, depth: usize, context: usize, bound: usize) ->
     requires { ⌜ (at < length (now ws)) × (context < 12) ⌝ }
     ensures { λ r. ⌜ r ≡ requestEnd (processEnd depth (now (ws .entry)) bound) (now (ws .entry)) context at ⌝ }
 {
-    if fixed(ws, at, 2048) {
+    if fixed(ws, at, unit::FIRST_VARIABLE) {
         process(ws, at + 2, depth, context, bound)
     } else {
         0
@@ -332,21 +366,25 @@ fn notify(ws: &[u16], at: usize) -> usize
     requires { ⌜ at < length (now ws) ⌝ }
     ensures { λ r. ⌜ r ≡ notifyEnd (now (ws .entry)) at ⌝ }
 {
-    if fixed(ws, at, 2048) { at + 2 } else { 0 }
+    if fixed(ws, at, unit::FIRST_VARIABLE) {
+        at + 2
+    } else {
+        0
+    }
 }
 
 fn solicit(ws: &[u16], at: usize, depth: usize, bound: usize) -> usize
     requires { ⌜ at < length (now ws) ⌝ }
     ensures { λ r. ⌜ r ≡ solicitEnd (processEnd depth (now (ws .entry)) bound) (now (ws .entry)) at ⌝ }
 {
-    if fixed(ws, at, 64) {
-        list(ws, at + 2, depth, 4, 128, bound)
+    if fixed(ws, at, unit::NEXT_VARIABLE) {
+        list(ws, at + 2, depth, HANDLERS, NO_KEY, bound)
     } else {
         0
     }
 }
 
-// A list whose entries stand in a context; the key wanted has to be there, if it is below 128.
+// A list whose entries stand in a context; the key wanted has to be there, unless it is `NO_KEY`.
 pub(crate) fn list(
     ws: &[u16],
     at: usize,
@@ -364,10 +402,10 @@ pub(crate) fn list(
     let mut left = wide(ws[at]);
     let mut a = at + 1;
     let mut least = 0;
-    let mut met = 128 <= wanted;
+    let mut met = NO_KEY <= wanted;
     while 0 < left {
         let key = key_at(ws, a, least);
-        if key == 128 {
+        if key == NO_KEY {
             return 0;
         }
         a = process(ws, a + 1, depth, entry_context(context, key), bound);
@@ -381,21 +419,21 @@ pub(crate) fn list(
     if met { a } else { 0 }
 }
 
-// The key at a position, at least `least`; 128 if there is none.
+// The key at a position, at least `least`; `NO_KEY` if there is none.
 fn key_at(ws: &[u16], at: usize, least: usize) -> usize
     ensures { λ r. ⌜ (r ≡ keyAt (now (ws .entry)) at least) × (r < 129) ⌝ }
 {
     if ws.len() <= at {
-        return 128;
+        return NO_KEY;
     }
     let w = wide(ws[at]);
-    if w % 512 != 0 {
-        return 128;
+    if w % unit::KEY != 0 {
+        return NO_KEY;
     }
-    if w / 512 < least {
-        return 128;
+    if w / unit::KEY < least {
+        return NO_KEY;
     }
-    w / 512
+    w / unit::KEY
 }
 
 pub fn met_by(met: bool, key: usize, wanted: usize) -> bool
@@ -412,10 +450,10 @@ fn entry_context(context: usize, key: usize) -> usize
     requires { ⌜ context < 12 ⌝ }
     ensures { λ r. ⌜ (r ≡ entryContext context key) × (r < 12) ⌝ }
 {
-    if context != 0 {
+    if context != CODE {
         return context;
     }
-    if 64 <= key { 1 } else { 0 }
+    if SCOPE_KEYS <= key { NOT_NIL } else { CODE }
 }
 
 // A scope whose head is `h`.
@@ -427,14 +465,14 @@ fn scope(ws: &[u16], at: usize, depth: usize, context: usize, h: usize, bound: u
         return 0;
     }
     let fault = wide(ws[at + 1]);
-    if context < 8 {
+    if context < RUNNING {
         return resting(ws, at, depth, context, fault, bound);
     }
     let e = marked(ws, at + 2, depth, h, fault, bound);
     if e == 0 {
         return 0;
     }
-    process(ws, e, depth, 8, bound)
+    process(ws, e, depth, RUNNING, bound)
 }
 
 // A scope that is code: no marked fault and an empty list.
@@ -455,27 +493,27 @@ fn resting(ws: &[u16], at: usize, depth: usize, context: usize, fault: usize, bo
 pub fn marked(ws: &[u16], at: usize, depth: usize, h: usize, fault: usize, bound: usize) -> usize
     ensures { λ r. ⌜ r ≡ markedEnd (processEnd depth (now (ws .entry)) bound) (now (ws .entry)) h fault at ⌝ }
 {
-    match h / 8 % 4 {
-        0 => {
+    match h / unit::MARK % unit::MARKS {
+        mark::UNMARKED => {
             if fault == 0 {
-                list(ws, at, depth, 0, 128, bound)
+                list(ws, at, depth, CODE, NO_KEY, bound)
             } else {
                 0
             }
         }
-        1 => {
-            if fault % 1024 == 0 {
-                list(ws, at, depth, 0, fault / 1024, bound)
+        mark::FAULTED => {
+            if fault % unit::FIRST_NAME == 0 {
+                list(ws, at, depth, CODE, fault / unit::FIRST_NAME, bound)
             } else {
                 0
             }
         }
-        2 => {
+        mark::OWN_NAME => {
             if fault != 0 {
                 return 0;
             }
-            if h / 4 % 2 == 1 {
-                list(ws, at, depth, 0, 128, bound)
+            if h / unit::ZOMBIE % 2 == 1 {
+                list(ws, at, depth, CODE, NO_KEY, bound)
             } else {
                 0
             }
@@ -497,13 +535,13 @@ fn end(ws: &[u16], at: usize, spare: usize, bound: usize) -> bool
     if w % spare != 0 {
         return false;
     }
-    if bound / 65536 <= w / spare % 8 {
+    if bound / WORD <= w / spare % ENGINES {
         return false;
     }
     if serial == 0 {
         return false;
     }
-    if bound % 65536 < serial {
+    if bound % WORD < serial {
         return false;
     }
     true
@@ -516,15 +554,15 @@ pub fn executor_fixed(ws: &[u16], at: usize, bound: usize) -> bool
     if ws.len() <= at {
         return false;
     }
-    end(ws, at, 8192, bound)
+    end(ws, at, unit::EXECUTORS_CLIENT, bound)
 }
 
 fn executor(ws: &[u16], at: usize, depth: usize, bound: usize) -> usize
     requires { ⌜ at < length (now ws) ⌝ }
     ensures { λ r. ⌜ r ≡ executorEnd (processEnd depth (now (ws .entry)) bound) (now (ws .entry)) bound at ⌝ }
 {
-    if end(ws, at, 8192, bound) {
-        process(ws, at + 3, depth, 8, bound)
+    if end(ws, at, unit::EXECUTORS_CLIENT, bound) {
+        process(ws, at + 3, depth, RUNNING, bound)
     } else {
         0
     }
@@ -534,8 +572,8 @@ fn waiter(ws: &[u16], at: usize, depth: usize, bound: usize) -> usize
     requires { ⌜ at < length (now ws) ⌝ }
     ensures { λ r. ⌜ r ≡ waiterEnd (processEnd depth (now (ws .entry)) bound) (now (ws .entry)) bound at ⌝ }
 {
-    if end(ws, at, 4096, bound) {
-        list(ws, at + 3, depth, 4, 128, bound)
+    if end(ws, at, unit::WAITERS_SERVER, bound) {
+        list(ws, at + 3, depth, HANDLERS, NO_KEY, bound)
     } else {
         0
     }
@@ -545,5 +583,9 @@ fn notice(ws: &[u16], at: usize, bound: usize) -> usize
     requires { ⌜ at < length (now ws) ⌝ }
     ensures { λ r. ⌜ r ≡ noticeEnd (now (ws .entry)) bound at ⌝ }
 {
-    if end(ws, at, 128, bound) { at + 3 } else { 0 }
+    if end(ws, at, unit::NOTICES_CLIENT, bound) {
+        at + 3
+    } else {
+        0
+    }
 }

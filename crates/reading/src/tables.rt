@@ -1,10 +1,13 @@
 // What the reader looks up: which heads may stand where. Matches and not constant arrays, which every call would lay out anew.
+use layout::context::RUNNING;
 ghost use mathlib.Core.Path.{_≡_};
 ghost use Prim.Native.Nat.{_<_};
 ghost use Rattle.reading.specs.Tables.{placesOf, bitOf, headMask, shapeOf};
 
-// By kind, first where it is code and then where it runs: the contexts where it may stand, as bits, times 2,048, and the bits of a head
-// that it does not use.
+// By kind, first where it is code and then where it runs: in the lowest 11 bits those of a head that it does not use, then the contexts where
+// it may stand, one bit each; 0 where it may not stand at all.
+const PLACES: usize = 2048;
+
 fn places(slot: usize) -> usize
     ensures { λ r. ⌜ r ≡ placesOf slot ⌝ }
 {
@@ -72,22 +75,63 @@ pub fn bit(context: usize) -> usize
     }
 }
 
+// A head's kind is below this.
+const KINDS: usize = 32;
+
+// All bits of a head with 65,536 added.
+const ALL: usize = 131071;
+
 // The bits of a head, with 65,536 added, that have to be 0. Where the kind may not stand, all of them.
 pub fn head_mask(context: usize, kind: usize) -> usize
     ensures { λ r. ⌜ r ≡ headMask context kind ⌝ }
 {
-    if 32 <= kind {
-        return 131071;
+    if KINDS <= kind {
+        return ALL;
     }
-    let p = places(kind * 2 + context / 8);
-    if p / 2048 & bit(context) == 0 {
-        return 131071;
+    let p = places(kind * 2 + context / RUNNING);
+    if p / PLACES & bit(context) == 0 {
+        return ALL;
     }
-    p % 2048
+    p % PLACES
 }
 
-// What a node with fixed parts is made of, by kind, and from 19 on by the first three bits of an expression (`specs/Tables`). A node whose
-// parts are counted has no bit among its contexts.
+// A shape's fields, by the worth of their lowest bits. From the lowest:
+// 2 bits: how many words of its own the node has, with the count of its list, which is empty;
+// 2 bits: how many parts, expressions and processes;
+// 8 bits: how the first part's context comes from the node's, and 8 bits for the others': 4 bits that are kept of it, 4 that are added;
+// 13 bits: those of the head that have to be 0; 16 bits: those of the word in the middle;
+// 1 bit: whether the last word has to be 0, the count of an empty list;
+// 13 bits: the contexts where the node may stand, one bit each.
+pub const WIDTHS: usize = 4;
+
+pub const PARTS: usize = 4;
+
+pub const COUNTS: usize = 4;
+
+pub const FIRST: usize = 16;
+
+pub const OTHERS: usize = 4096;
+
+pub const ADDED: usize = 16;
+
+pub const HEAD: usize = 1048576;
+
+pub const HEADS: usize = 8192;
+
+pub const MIDDLE: usize = 8589934592;
+
+pub const LAST: usize = 562949953421312;
+
+// All bits of a word.
+pub const WHOLE: usize = 65535;
+
+pub const STANDS: usize = 1125899906842624;
+
+// Behind the shapes of kinds stand those of expressions, by the first three bits.
+pub const EXPRESSIONS: usize = 19;
+
+// What a node with fixed parts is made of, by kind, then by the first three bits of an expression; packed from the fixed table
+// (`specs/Tables`). A node that is not read so, since its parts are counted or its list is tested, has no bit among its contexts.
 pub fn shape(slot: usize) -> usize
     ensures { λ r. ⌜ r ≡ shapeOf slot ⌝ }
 {

@@ -1,14 +1,15 @@
 -- The forms that the skip goes by say what the fixed table of kinds does.
 -- Assumes nothing.
-use Prim.Native.Nat.{ℕ, zero, suc, _+_, _*_, _/_, _%_}
+use Prim.Native.Nat.{ℕ, zero, suc, _+_, _*_, _/_, _%_, _≤_}
 use native.Mathlib.Omega.{arith}
 use native.Mathlib.Nat.{zero-add, mul-zero}
 use mathlib.Core.Path.{_≡_, refl}
 use mathlib.Core.Bool.{Bool, true, false, cond}
 use lib.Dec.{T, eqb}
-use lib.ListN.{length}
+use lib.ListN.{length, List·getD-eq-default}
+use borrow.Author.Tests.{ne-eqb}
 use Rattle.sock.specs.Kind
-use Rattle.sock.specs.Kind.{rowOf, rows}
+use Rattle.sock.specs.Kind.{rowOf, rows, noRow}
 use Rattle.sock.specs.Words.{kindOf, countOf}
 use Rattle.sock.specs.Term.{processesOf}
 use Rattle.sock.specs.Reading.{Stratum, Place, headFits}
@@ -16,6 +17,17 @@ use Rattle.sock.proofs.Fields.{From, end, _then_, fact-at}
 use Rattle.sock.proofs.ByKind.{head-tests}
 use Rattle.reading.proofs.Contexts.{allowed-kind}
 use Rattle.skipping.specs.Skip.{formOf, partsBy}
+
+-- what is no kind has one word
+no-row : (k : ℕ) → 19 ≤ k → rowOf k ≡ noRow
+unfolding rowOf rows
+no-row k far = List·getD-eq-default rows noRow far
+
+pub form-beyond : (k : ℕ) → 19 ≤ k → formOf k ≡ 1
+unfolding formOf
+form-beyond k far =
+    let other : k ≡ Kind.choice → ⊥ = λ e. omega arith in
+    rw (no-row k far, ne-eqb k Kind.choice other) refl
 
 -- what follows a process's own words, as the code numbers it: how many expressions and lists
 pub data Follows : ℕ → ℕ → ℕ → Type 0 where

@@ -5,6 +5,7 @@ use mathlib.Core.Bool.{cond}
 use mathlib.Core.List.{List}
 use lib.Dec.{eqb}
 use lib.ListN.{getD}
+use Rattle.layout.specs.Keys.{noKey}
 use Rattle.skipping.specs.Skip.{skipEnd, skipList}
 
 unfoldable pub noteAt : List ℕ → ℕ → ℕ
@@ -17,4 +18,4 @@ unfoldable pub passEnd : ℕ → List ℕ → List ℕ → ℕ → ℕ
 passEnd d ws notes i = cond (eqb (noteAt notes i) 0) (skipEnd d ws i) (noteAt notes i)
 
 unfoldable pub passList : ℕ → List ℕ → List ℕ → ℕ → ℕ
-passList d ws notes i = cond (eqb (listNoteAt notes i) 0) (skipList d ws 128 i) (listNoteAt notes i)
+passList d ws notes i = cond (eqb (listNoteAt notes i) 0) (skipList d ws noKey i) (listNoteAt notes i)

@@ -2,21 +2,20 @@
 -- it ends where the layout does; no contract of a call names it.
 use Prim.Native.Nat.{ℕ, zero, suc, _+_, _*_, _/_, _%_}
 use mathlib.Core.Bool.{Bool, _||_, cond}
-use mathlib.Core.List.{List, [], _∷_}
+use mathlib.Core.List.{List}
 use lib.Dec.{leb, ltb, eqb}
 use lib.ListN.{length, getD}
+use Rattle.sock.specs.Kind
+use Rattle.sock.specs.Kind.{rowOf}
+use Rattle.sock.specs.Words.{kindOf, countOf, keyOf, tagOf}
+use Rattle.layout.specs.Keys.{noKey}
 
--- what a process is made of, by kind: its own words; 8 if an expression follows, 16 if a list; 32 times its parts; 128 times those for each
--- branch that its head counts
+-- what a process is made of, packed from the fixed table: its own words; 8 if an expression follows, 16 if a list; 32 times its parts, but for
+-- a choice 128 times, for each branch that its head counts
 unfoldable pub formOf : ℕ → ℕ
 formOf kind =
-    getD
-    (1 ∷ 9 ∷ 65 ∷ 65  -- nil, assign, seq, par
-    ∷ 73 ∷ 41 ∷ 257 ∷ 1 ∷ 34 ∷ 2 ∷ 18  -- if to solicit
-    ∷ 50 ∷ 17 ∷ 1 ∷ 1 ∷ 1  -- scope, inst to cH
-    ∷ 35 ∷ 19 ∷ 3  -- executor, waiter, notice
-    ∷ [])
-    kind 1
+    suc (length (rowOf kind .fixed)) + 8 * rowOf kind .expressions + 16 * rowOf kind .lists
+    + cond (eqb kind Kind.choice) 128 32 * rowOf kind .processes
 
 -- an expression by the first three bits of its word: its own words, and 4 times its operands
 unfoldable pub exprForm : ℕ → ℕ
@@ -28,7 +27,7 @@ exprLoop zero ws zero i = i
 exprLoop zero ws (suc left) i = 0
 exprLoop (suc turns) ws zero i = i
 exprLoop (suc turns) ws (suc left) i =
-    cond (ltb i (length ws)) (exprLoop turns ws (left + exprForm (getD ws i 0 / 8192) / 4) (i + exprForm (getD ws i 0 / 8192) % 4)) 0
+    cond (ltb i (length ws)) (exprLoop turns ws (left + exprForm (tagOf (getD ws i 0)) / 4) (i + exprForm (tagOf (getD ws i 0)) % 4)) 0
 
 unfoldable pub exprSkip : List ℕ → ℕ → ℕ
 exprSkip ws i = exprLoop (length ws) ws 1 i
@@ -37,24 +36,24 @@ exprSkip ws i = exprLoop (length ws) ws 1 i
 unfoldable pub entriesSkip : (ℕ → ℕ) → List ℕ → ℕ → ℕ → Bool → ℕ → ℕ
 entriesSkip sub ws wanted zero met i = cond met i 0
 entriesSkip sub ws wanted (suc left) met i =
-    cond (ltb i (length ws)) (entriesSkip sub ws wanted left (met || eqb (getD ws i 0 / 512) wanted) (sub (i + 1))) 0
+    cond (ltb i (length ws)) (entriesSkip sub ws wanted left (met || eqb (keyOf (getD ws i 0)) wanted) (sub (i + 1))) 0
 
 -- a list, with a skip for its processes
 unfoldable pub listBy : (ℕ → ℕ) → List ℕ → ℕ → ℕ → ℕ
-listBy sub ws wanted i = cond (ltb i (length ws)) (entriesSkip sub ws wanted (getD ws i 0) (leb 128 wanted) (i + 1)) 0
+listBy sub ws wanted i = cond (ltb i (length ws)) (entriesSkip sub ws wanted (getD ws i 0) (leb noKey wanted) (i + 1)) 0
 
 -- behind the expression (1) or the list (2) that follows a process's own words
 unfoldable pub behindBy : (ℕ → ℕ) → List ℕ → ℕ → ℕ → ℕ
-behindBy sub ws follows i = cond (eqb follows 0) i (cond (eqb follows 1) (exprSkip ws i) (listBy sub ws 128 i))
+behindBy sub ws follows i = cond (eqb follows 0) i (cond (eqb follows 1) (exprSkip ws i) (listBy sub ws noKey i))
 
 -- the parts of a process with head h and form f
 unfoldable pub partsBy : ℕ → ℕ → ℕ
-partsBy h f = f / 32 % 4 + h % 2048 * (f / 128)
+partsBy h f = f / 32 % 4 + countOf h * (f / 128)
 
 -- `left` processes from e on; `loop` goes on behind the first one's own words, with what follows them
 unfoldable pub turnBy : (ℕ → ℕ → ℕ → ℕ) → List ℕ → ℕ → ℕ → ℕ
 turnBy loop ws left e =
-    let f = formOf (getD ws e 0 / 2048) in
+    let f = formOf (kindOf (getD ws e 0)) in
     cond (ltb e (length ws)) (loop (left + partsBy (getD ws e 0) f) (f / 8 % 4) (e + f % 8)) 0
 
 -- `left` processes, behind what follows the own words of the last one, which end at i

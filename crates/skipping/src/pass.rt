@@ -2,6 +2,7 @@
 // process that begins there and one for the list; 0 where nothing was noted, and then the words are passed over.
 use crate::skip::skip;
 use crate::skip::skip_list;
+use layout::key::NO_KEY;
 use layout::number::wide;
 ghost use mathlib.Core.Path.{_≡_};
 ghost use Prim.Native.Nat.{_*_, _<_};
@@ -44,11 +45,11 @@ pub fn pass_list(ws: &[u16], notes: &[u16], at: usize, depth: usize) -> usize
     ensures { λ r. ⌜ r ≡ passList depth (now (ws .entry)) (now (notes .entry)) at ⌝ }
 {
     if notes.len() <= at {
-        return skip_list(ws, at, depth, 128);
+        return skip_list(ws, at, depth, NO_KEY);
     }
     let e = noted(notes, at * 2 + 1);
     if e == 0 {
-        return skip_list(ws, at, depth, 128);
+        return skip_list(ws, at, depth, NO_KEY);
     }
     e
 }

@@ -1,13 +1,29 @@
 // Passing over what the reader has accepted: where a process, a list or an expression ends. Nothing is tested but that words are left, so an
 // answer says something only of words that were read.
+use layout::key::NO_KEY;
 use layout::number::wide;
+use layout::tag;
+use layout::unit;
 use reading::reader::met_by;
 ghost use mathlib.Core.Path.{_≡_};
 ghost use Prim.Native.Nat.{_<_};
 ghost use Rattle.skipping.specs.Skip.{formOf, exprForm, exprSkip, behindBy, skipEnd, skipList};
 
-// What a process is made of, by kind: its own words, and 8 if an expression follows them, 16 if a list; 32 times its parts, and 128 times
-// those for each branch that its head counts. A match, and no constant array, which every call would lay out anew.
+// A form's fields, by the worth of their lowest bits. From the lowest: 3 bits for how many words of its own a process has, 2 bits for what
+// follows them (1 an expression, 2 a list), 2 bits for how many parts, and the rest for how many for each branch that the head counts.
+const FOLLOWS: usize = 8;
+
+const PARTS: usize = 32;
+
+const BRANCHES: usize = 128;
+
+// What may follow, and how many parts there may be.
+const AN_EXPRESSION: usize = 1;
+
+const COUNTS: usize = 4;
+
+// What a process is made of, by kind; packed from the fixed table (`specs/Skip`). A match, and no constant array, which every call would lay
+// out anew.
 fn form(kind: usize) -> usize
     ensures { λ r. ⌜ (r ≡ formOf kind) × (r < 258) ⌝ }
 {
@@ -57,23 +73,23 @@ pub fn skip(ws: &[u16], at: usize, depth: usize) -> usize
             return 0;
         }
         let h = wide(ws[a]);
-        let f = form(h / 2048);
-        a = a + f % 8;
-        follows = f / 8 % 4;
-        left = left - 1 + f / 32 % 4 + h % 2048 * (f / 128);
+        let f = form(h / unit::KIND);
+        a = a + f % FOLLOWS;
+        follows = f / FOLLOWS % COUNTS;
+        left = left - 1 + f / PARTS % COUNTS + h % unit::KIND * (f / BRANCHES);
         turns = turns - 1;
     }
     0
 }
 
-// Behind the expression (1) or the list (2) that follows a process's own words, if one does. Most lists are empty.
+// Behind the expression or the list that follows a process's own words, if one does. Most lists are empty.
 fn behind(ws: &[u16], at: usize, follows: usize, depth: usize) -> usize
     ensures { λ r. ⌜ r ≡ behindBy (skipEnd depth (now (ws .entry))) (now (ws .entry)) follows at ⌝ }
 {
     if follows == 0 {
         return at;
     }
-    if follows == 1 {
+    if follows == AN_EXPRESSION {
         return skip_expression(ws, at);
     }
     if ws.len() <= at {
@@ -82,10 +98,10 @@ fn behind(ws: &[u16], at: usize, follows: usize, depth: usize) -> usize
     if ws[at] == 0 {
         return at + 1;
     }
-    skip_list(ws, at, depth, 128)
+    skip_list(ws, at, depth, NO_KEY)
 }
 
-// Where the list whose count is at `at` ends; with a key wanted below 128, 0 if no entry has it.
+// Where the list whose count is at `at` ends; 0 if no entry has the key wanted, unless that is `NO_KEY`.
 pub fn skip_list(ws: &[u16], at: usize, depth: usize, wanted: usize) -> usize
     ensures { λ r. ⌜ r ≡ skipList depth (now (ws .entry)) wanted at ⌝ }
 {
@@ -94,26 +110,28 @@ pub fn skip_list(ws: &[u16], at: usize, depth: usize, wanted: usize) -> usize
     }
     let mut left = wide(ws[at]);
     let mut a = at + 1;
-    let mut met = 128 <= wanted;
+    let mut met = NO_KEY <= wanted;
     while 0 < left {
         if ws.len() <= a {
             return 0;
         }
-        met = met_by(met, wide(ws[a]) / 512, wanted);
+        met = met_by(met, wide(ws[a]) / unit::KEY, wanted);
         a = skip(ws, a + 1, depth);
         left = left - 1;
     }
     if met { a } else { 0 }
 }
 
-// An expression by the first three bits of its word: its own words, and 4 times its operands.
+// An expression by the first three bits of its word: in the lowest 2 bits its own words, then its operands.
+const OPERANDS: usize = 4;
+
 fn expression_form(tag: usize) -> usize
     ensures { λ r. ⌜ (r ≡ exprForm tag) × (r < 10) ⌝ }
 {
-    if tag == 0 {
+    if tag == tag::CONSTANT {
         return 3;
     }
-    if tag == 1 { 1 } else { 9 }
+    if tag == tag::VARIABLE { 1 } else { 9 }
 }
 
 // Where the expression at `at` ends; `left` expressions are still to come from `a` on.
@@ -130,9 +148,9 @@ fn skip_expression(ws: &[u16], at: usize) -> usize
         if ws.len() <= a {
             return 0;
         }
-        let f = expression_form(wide(ws[a]) / 8192);
-        a = a + f % 4;
-        left = left - 1 + f / 4;
+        let f = expression_form(wide(ws[a]) / unit::TAG);
+        a = a + f % OPERANDS;
+        left = left - 1 + f / OPERANDS;
         turns = turns - 1;
     }
     0

@@ -1,14 +1,16 @@
--- `tables::places` meets its contract: each arm is its entry of the list, and the last one what stands behind it.
+-- `tables::places` meets its contract: each arm is what the fixed table packs to; what is no kind stands nowhere.
 -- Assumes nothing.
 use mathlib.Core.Path.{sym, ap}
-use lib.ListN.{List·getD-eq-default}
-use Rattle.reading.specs.Tables.{placesOf}
+use Rattle.sock.specs.Kind.{rows, rowOf}
+use Rattle.sock.specs.Reading.{allowed, placed}
+use Rattle.reading.specs.Tables.{spareOf, bitOf, placesOf}
+use Rattle.reading.proofs.Masks.{places-beyond}
 use Rattle.reading.proofs.Others.{beyond}
 use Rattle.reading.proofs.tables.places.Statement.{statement}
 use Rattle.reading.proofs.tables.places.Tie as tie
 
 pub places-spec : {M : Type 1} → statement M
-unfolding placesOf
+unfolding placesOf bitOf spareOf allowed placed rowOf rows
 places-spec =
     tie.close
     (tie.spec
@@ -50,4 +52,4 @@ places-spec =
     (λ c. ap placesOf (sym (c .match .keys36)))
     (λ c. ap placesOf (sym (c .match .keys37)))
     (λ c. ap placesOf (sym (c .match .keys38)))
-    (λ c. let far = beyond 38 _ (c .match .rest) in simp (List·getD-eq-default, far)))
+    (λ c. sym (places-beyond _ (beyond 38 _ (c .match .rest)))))

@@ -1,14 +1,16 @@
--- `tables::shape` meets its contract: each arm is its entry of the list, and the last one what stands behind it.
+-- `tables::shape` meets its contract: each arm is what the fixed table packs to; nothing stands behind the expressions.
 -- Assumes nothing.
 use mathlib.Core.Path.{sym, ap}
-use lib.ListN.{List·getD-eq-default}
-use Rattle.reading.specs.Tables.{shapeOf}
+use Rattle.sock.specs.Kind.{rows, rowOf}
+use Rattle.sock.specs.Reading.{allowed, placed}
+use Rattle.reading.specs.Tables.{spareOf, bitOf, shapeOf}
+use Rattle.reading.proofs.Fitting.{shape-beyond}
 use Rattle.reading.proofs.Others.{beyond}
 use Rattle.reading.proofs.tables.shape.Statement.{statement}
 use Rattle.reading.proofs.tables.shape.Tie as tie
 
 pub shape-spec : {M : Type 1} → statement M
-unfolding shapeOf
+unfolding shapeOf bitOf spareOf allowed placed rowOf rows
 shape-spec =
     tie.close
     (tie.spec
@@ -37,4 +39,4 @@ shape-spec =
     (λ c. ap shapeOf (sym (c .match .keys23)))
     (λ c. ap shapeOf (sym (c .match .keys24)))
     (λ c. ap shapeOf (sym (c .match .keys25)))
-    (λ c. let far = beyond 25 _ (c .match .rest) in simp (List·getD-eq-default, far)))
+    (λ c. sym (shape-beyond _ (beyond 25 _ (c .match .rest)))))

@@ -1,15 +1,16 @@
--- `form` of `skipping::skip` meets its contract: each arm is its entry of the list, and the last one what stands behind it.
+-- `form` of `skipping::skip` meets its contract: each arm is what the fixed table packs to, and the last one what it has for no kind.
 -- Assumes nothing.
 use borrow.Author.Needs.{needs}
 use mathlib.Core.Path.{sym, ap}
-use lib.ListN.{List·getD-eq-default}
+use Rattle.sock.specs.Kind.{rows, rowOf}
 use Rattle.skipping.specs.Skip.{formOf}
+use Rattle.skipping.proofs.Forms.{form-beyond}
 use Rattle.reading.proofs.Others.{beyond}
 use Rattle.skipping.proofs.skip.form.Statement.{statement}
 use Rattle.skipping.proofs.skip.form.Tie as tie
 
 pub form-spec : {M : Type 1} → statement M
-unfolding formOf
+unfolding formOf rowOf rows
 form-spec =
     tie.close
     (tie.spec
@@ -32,4 +33,4 @@ form-spec =
     (λ c. (ap formOf (sym (c .match .keys17)), search needs))
     (λ c. (ap formOf (sym (c .match .keys18)), search needs))
     (λ c. (ap formOf (sym (c .match .keys19)), search needs))
-    (λ c. let far = beyond 19 _ (c .match .rest) in (simp (List·getD-eq-default, far), search needs)))
+    (λ c. (sym (form-beyond _ (beyond 19 _ (c .match .rest))), search needs)))
