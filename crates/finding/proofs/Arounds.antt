@@ -17,7 +17,7 @@ use Rattle.sock.specs.Frames.{Frame, seqFrame, leftFrame, rightFrame, scopeFram
 use Rattle.sock.proofs.Located.{wrap}
 use Rattle.sock.proofs.Logic.{test-false}
 use Rattle.sock.proofs.Measures.{words-nil, words-seq, words-par, words-scope, words-executor, size-seq}
-use Rattle.finding.specs.declared.find.Spot.{Spot}
+use Rattle.finding.specs.declared.find.Site.{Site}
 use Rattle.finding.specs.Find.{cut}
 use Rattle.finding.proofs.Framing.{scoped, region, plug-append, region-none, nearest-self, Outer, outer-seq, outer-left, outer-right}
 use Rattle.finding.proofs.Within.{behind, lifted, orElse, within, within-seq, within-par, within-scope, within-executor, within-past}
@@ -169,8 +169,8 @@ nil-right b t = rw (test-false (isDone b) t, nil-done)
 
 module _ (f target : ℕ) (r a : Run) (i j level : ℕ) (own more : List ℕ) (o : Frame) (around : Around r a i j own more o)
     (outer : (fs : List Frame) → Outer fs o) (passes : (test : Bool → Entries → Bool) (b : Run) → stopped test (o ∷ []) b ≡ none)
-    (l : Located) (s : Spot) (sub : Spotted f target a j (level + 1) l s) (open' : T (not (s .closed))) where
-  ended : Ended a j (l .frames) (s .d)
+    (l : Located) (s : Site) (sub : Spotted f target a j (level + 1) l s) (open' : T (not (s .closed))) where
+  ended : Ended a j (l .frames) (s .end)
   ended = sub .ends open'
 
   -- x takes it, with the words `middle` and `after` of r
@@ -201,18 +201,18 @@ module _ (f target : ℕ) (r a : Run) (i j level : ℕ) (own more : List ℕ) (o
       (λ t. absurd t)
       (λ t. record { gone = λ g. met (outer (l .frames)) ended g ∙ p; bare = bare-still (outer (l .frames)) ended; till = q })
 
-module _ (f target i level : ℕ) (a : Run) (l : Located) (s : Spot) (open' : T (not (s .closed))) where
+module _ (f target i level : ℕ) (a : Run) (l : Located) (s : Site) (open' : T (not (s .closed))) where
   -- before a nil second, and before another
   pub seq-hollow :
       (q : Node) →
       words q ≡ 0 ∷ [] →
       enable q ≡ nil →
       Spotted f target a (i + 1) (level + 1) l s →
-      Spotted f target (seq a q) i level (behind (seqFrame q ∷ []) l) (cut s i (s .d + 1) (s .d + 1) (s .d + 1) true)
+      Spotted f target (seq a q) i level (behind (seqFrame q ∷ []) l) (cut s i (s .end + 1) (s .end + 1) (s .end + 1) true)
   unfolding plug seqOf isDone stopped
   seq-hollow q w e sub =
       going-on f target (seq a q) a i (i + 1) level (headOf Kind.seq 0 ∷ []) (words q) (seqFrame q) (around-seq a q i) (λ fs. outer-seq fs q)
-      (λ test b. refl) l s sub open' (s .d + 1) e
+      (λ test b. refl) l s sub open' (s .end + 1) e
       (omega (arith, sub .ends open' .till, size-seq a q, ap length w))
 
   pub seq-shut :
@@ -220,22 +220,22 @@ module _ (f target i level : ℕ) (a : Run) (l : Located) (s : Spot) (open' : T 
       runWords (enable q) ≡ words q →
       isDone (enable q) ≡ false →
       Spotted f target a (i + 1) (level + 1) l s →
-      Spotted f target (seq a q) i level (behind (seqFrame q ∷ []) l) (cut s i (s .d) (s .d) (s .d) false)
+      Spotted f target (seq a q) i level (behind (seqFrame q ∷ []) l) (cut s i (s .end) (s .end) (s .end) false)
   unfolding plug seqOf isDone stopped size
   seq-shut q w e sub =
       closing f target (seq a q) a i (i + 1) level (headOf Kind.seq 0 ∷ []) (words q) (seqFrame q) (around-seq a q i) (λ fs. outer-seq fs q)
-      (λ test b. refl) l s sub open' (enable q) (s .d) (s .d) (s .d) (headOf Kind.seq 0 ∷ runWords a) [] [] (words q) refl e w (words-seq a q)
+      (λ test b. refl) l s sub open' (enable q) (s .end) (s .end) (s .end) (headOf Kind.seq 0 ∷ runWords a) [] [] (words q) refl e w (words-seq a q)
       (omega (arith, sub .ends open' .till)) (omega arith) (omega arith)
 
   pub left-shut :
       (b : Run) →
       T (not (isDone b)) →
       Spotted f target a (i + 1) (level + 1) l s →
-      Spotted f target (par a b) i level (behind (leftFrame b ∷ []) l) (cut s i (s .d) (s .d) (s .d) false)
+      Spotted f target (par a b) i level (behind (leftFrame b ∷ []) l) (cut s i (s .end) (s .end) (s .end) false)
   unfolding plug parOf stopped size
   left-shut b t sub =
       closing f target (par a b) a i (i + 1) level (headOf Kind.par 0 ∷ []) (runWords b) (leftFrame b) (around-left a b i t) (λ fs. outer-left fs b)
-      (λ test b. refl) l s sub open' b (s .d) (s .d) (s .d) (headOf Kind.par 0 ∷ runWords a) [] [] (runWords b) (nil-left b) (test-false (isDone b) t)
+      (λ test b. refl) l s sub open' b (s .end) (s .end) (s .end) (headOf Kind.par 0 ∷ runWords a) [] [] (runWords b) (nil-left b) (test-false (isDone b) t)
       refl (words-par a b) (omega (arith, sub .ends open' .till)) (omega arith) (omega arith)
 
   pub right-shut :
@@ -243,11 +243,11 @@ module _ (f target i level : ℕ) (a : Run) (l : Located) (s : Spot) (open' : T 
       e ≡ i + 1 + size b →
       T (not (isDone b)) →
       Spotted f target a (i + 1 + size b) (level + 1) l s →
-      Spotted f target (par b a) i level (behind (rightFrame b ∷ []) l) (cut s i (i + 1) e (s .d) false)
+      Spotted f target (par b a) i level (behind (rightFrame b ∷ []) l) (cut s i (i + 1) e (s .end) false)
   unfolding plug stopped size
   right-shut b e p t sub =
       closing f target (par b a) a i (i + 1 + size b) level (headOf Kind.par 0 ∷ runWords b) [] (rightFrame b) (around-right b a i t)
-      (λ fs. outer-right fs b) (λ test b. refl) l s sub open' b (i + 1) e (s .d) (headOf Kind.par 0 ∷ []) (runWords b) (runWords a) [] (nil-right b t)
+      (λ fs. outer-right fs b) (λ test b. refl) l s sub open' b (i + 1) e (s .end) (headOf Kind.par 0 ∷ []) (runWords b) (runWords a) [] (nil-right b t)
       (test-false (isDone b) t) (sym (append-nil (runWords b)))
       (words-par b a ∙ ap (λ l. headOf Kind.par 0 ∷ (runWords b ++ l)) (sym (append-nil (runWords a))))
       (omega arith) (omega arith) (omega (arith, sub .ends open' .till))

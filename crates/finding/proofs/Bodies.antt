@@ -16,7 +16,7 @@ use Rattle.sock.specs.Layout.{entriesWords}
 use Rattle.sock.specs.Running.{Mark, Run, nil, scope, executor}
 use Rattle.sock.specs.Frames.{Frame, scopeFrame, executorFrame, Located, isDone, plug, onNearest}
 use Rattle.sock.proofs.Located.{wrap}
-use Rattle.finding.specs.declared.find.Spot.{Spot}
+use Rattle.finding.specs.declared.find.Site.{Site}
 use Rattle.finding.specs.Find.{scopeOf, levelOf}
 use Rattle.finding.proofs.Framing.{scoped, outside, plug-append, wrap-append, outside-last, outside-first, Outer, outer-executor, outer-scoped}
 use Rattle.finding.proofs.Within.{behind, lifted, orElse, within-here}
@@ -26,15 +26,15 @@ use Rattle.finding.proofs.Spots.{Spotted, Around, under}
 use Rattle.finding.proofs.Arounds.{around-executor, scopeWords, scope-kept, around-scope}
 
 -- the spot closed, with another nearest scope at another level, and another catcher
-abbrev pub closedSpot : Spot → ℕ → ℕ → ℕ → Spot
+abbrev pub closedSpot : Site → ℕ → ℕ → ℕ → Site
 closedSpot s near near-level catcher =
     record {
       at = s .at;
       level = s .level;
-      a = s .a;
-      b = s .b;
-      c = s .c;
-      d = s .d;
+      from = s .from;
+      upto = s .upto;
+      gap = s .gap;
+      end = s .end;
       hollow = s .hollow;
       closed = true;
       scope = near;
@@ -43,7 +43,7 @@ closedSpot s near near-level catcher =
     }
 
 pub executor-spotted :
-    (f target i level o y client serial : ℕ) (a : Run) (l : Located) (s : Spot) →
+    (f target i level o y client serial : ℕ) (a : Run) (l : Located) (s : Site) →
     Spotted f target a (i + 3) (level + 1) l s →
     Spotted f target (executor o y client serial a) i level (behind (executorFrame o y client serial ∷ []) l) (closedSpot s (s .scope) (s .«scope_level») (s .catcher))
 unfolding plug stopped isDone
@@ -54,12 +54,12 @@ executor-spotted f target i level o y client serial a l s sub =
     let outer : Outer (l .frames) frame = outer-executor (l .frames) o y client serial in
     under f target (executor o y client serial a) a i (i + 3) level own [] frame around (λ fs. outer-executor fs o y client serial) (λ test b. refl) l s sub
     (closedSpot s (s .scope) (s .«scope_level») (s .catcher)) refl refl refl refl refl
-    (cut-under (executor o y client serial a) a i (i + 3) own [] (l .frames) frame (around .there) outer (around .words) (s .scope) (s .a) (s .b) (s .c) (s .d)
+    (cut-under (executor o y client serial a) a i (i + 3) own [] (l .frames) frame (around .there) outer (around .words) (s .scope) (s .from) (s .upto) (s .gap) (s .end)
     (s .hollow) (λ g. around-executor o y client serial (plug (onNearest g (l .frames)) nil) i .words) (sub .cut))
     (λ t g. rw (outer .changed g, plug-append (onNearest g (l .frames)) (frame ∷ []) nil))
     (λ t. absurd t)
 
-module _ (f target i level name : ℕ) (mark : Mark) (zombie : Bool) (h : Entries) (a : Run) (l : Located) (s : Spot) (positive : 0 < i)
+module _ (f target i level name : ℕ) (mark : Mark) (zombie : Bool) (h : Entries) (a : Run) (l : Located) (s : Site) (positive : 0 < i)
     (sub : Spotted f target a (i + (3 + length (entriesWords h))) (level + 1) l s) where
   around : Around (scope name mark zombie h a) a i (i + (3 + length (entriesWords h))) (scopeWords name mark zombie h) [] (scopeFrame name mark zombie h)
   around = around-scope name mark zombie h a i
@@ -84,7 +84,7 @@ module _ (f target i level name : ℕ) (mark : Mark) (zombie : Bool) (h : Entrie
   record Pieced : Type 0 where
     swap : Swap (scope name mark zombie h a) i (l .frames ++ scopeFrame name mark zombie h ∷ []) (l .process) (scopeOf i (s .scope)) target
     cut :
-        Cut (scope name mark zombie h a) i (l .frames ++ scopeFrame name mark zombie h ∷ []) (scopeOf i (s .scope)) (s .a) (s .b) (s .c) (s .d) (s .hollow)
+        Cut (scope name mark zombie h a) i (l .frames ++ scopeFrame name mark zombie h ∷ []) (scopeOf i (s .scope)) (s .from) (s .upto) (s .gap) (s .end) (s .hollow)
     near-level : levelOf level (s .scope) (s .«scope_level») ≡ level + outside (l .frames ++ scopeFrame name mark zombie h ∷ [])
     alive : (g : Entries → Entries) → isDone (plug (onNearest g (l .frames ++ scopeFrame name mark zombie h ∷ [])) nil) ≡ false
 
@@ -113,7 +113,7 @@ module _ (f target i level name : ℕ) (mark : Mark) (zombie : Bool) (h : Entrie
         swap = rw e (swap-scope name mark zombie h a i (i + (3 + length (entriesWords h))) (l .frames) refl t (s .scope) target (l .process) (sub .swap));
         cut =
             rw e
-            (cut-scope name mark zombie h a i (i + (3 + length (entriesWords h))) (l .frames) refl t (s .scope) (s .a) (s .b) (s .c) (s .d) (s .hollow)
+            (cut-scope name mark zombie h a i (i + (3 + length (entriesWords h))) (l .frames) refl t (s .scope) (s .from) (s .upto) (s .gap) (s .end) (s .hollow)
             (sub .cut));
         near-level = omega (arith, level-first z, outside-last (l .frames) (scopeFrame name mark zombie h ∷ []) t);
         alive = λ g. rw (put-back name mark zombie h a i (i + (3 + length (entriesWords h))) (l .frames) refl t g nil);
@@ -134,7 +134,7 @@ module _ (f target i level name : ℕ) (mark : Mark) (zombie : Bool) (h : Entrie
         cut =
             rw e
             (cut-under (scope name mark zombie h a) a i (i + (3 + length (entriesWords h))) (scopeWords name mark zombie h) [] (l .frames) frame
-            (around .there) outer (around .words) (s .scope) (s .a) (s .b) (s .c) (s .d) (s .hollow)
+            (around .there) outer (around .words) (s .scope) (s .from) (s .upto) (s .gap) (s .end) (s .hollow)
             (λ g. scope-kept name mark zombie h (plug (onNearest g (l .frames)) nil)) (sub .cut));
         near-level = omega (arith, level-inner z, sub .near-level t, outside-first (l .frames) (frame ∷ []) t);
         alive = λ g. rw (outer .changed g, plug-append (onNearest g (l .frames)) (frame ∷ []) nil);

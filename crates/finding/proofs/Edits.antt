@@ -13,7 +13,7 @@ use Rattle.sock.specs.Layout.{count, entriesWords}
 use Rattle.sock.specs.Running.{Run, nil, runWords, size}
 use Rattle.sock.specs.Frames.{Frame, seqFrame, leftFrame, rightFrame, scopeFrame, executorFrame, Located, isDone, plug, nearest, onNearest}
 use Rattle.sock.proofs.Located.{size-positive}
-use Rattle.finding.specs.declared.find.Spot.{Spot}
+use Rattle.finding.specs.declared.find.Site.{Site}
 use Rattle.finding.proofs.Framing.{scoped, region}
 use Rattle.finding.proofs.Stops.{standing-none, any-none, any-some}
 use Rattle.finding.proofs.Pieces.{hole, Swap, Cut}
@@ -136,7 +136,7 @@ front-7 :
     p ++ ((x ++ (y ++ (z ++ (u ++ (v ++ (w ++ t)))))) ++ q) ≡ p ++ ((x ++ (y ++ z)) ++ (u ++ (v ++ (w ++ (t ++ q)))))
 front-7 p x y z u v w t q = simp append-assoc
 
-module _ (f target : ℕ) (r : Run) (i level : ℕ) (l : Located) (s : Spot) (ws rest : List ℕ) (words : drop i ws ≡ runWords r ++ rest)
+module _ (f target : ℕ) (r : Run) (i level : ℕ) (l : Located) (s : Site) (ws rest : List ℕ) (words : drop i ws ≡ runWords r ++ rest)
     (spotted : Spotted f target r i level l s) where
   start : length (take i ws) ≡ i
   unfolding size
@@ -149,12 +149,12 @@ module _ (f target : ℕ) (r : Run) (i level : ℕ) (l : Located) (s : Spot) (ws
   pub nil-edited :
       (g : Entries → Entries) →
       T (scoped (l .frames)) →
-      edited ws (s .scope + 2) (s .scope + 2 + length (region (l .frames))) (region (onNearest g (l .frames))) (s .a) (s .b) (hole (s .hollow)) (s .c) (s .d)
+      edited ws (s .scope + 2) (s .scope + 2 + length (region (l .frames))) (region (onNearest g (l .frames))) (s .from) (s .upto) (hole (s .hollow)) (s .gap) (s .end)
       ≡ take i ws ++ (runWords (plug (onNearest g (l .frames)) nil) ++ rest)
   nil-edited g t =
-      let c : Cut r i (l .frames) (s .scope) (s .a) (s .b) (s .c) (s .d) (s .hollow) = spotted .cut in
+      let c : Cut r i (l .frames) (s .scope) (s .from) (s .upto) (s .gap) (s .end) (s .hollow) = spotted .cut in
       edited-pieces ws (take i ws ++ c .before) (region (l .frames)) (c .between) (c .gone) (c .middle) (c .dropped) (c .after ++ rest)
-      (region (onNearest g (l .frames))) (hole (s .hollow)) (s .scope + 2) (s .scope + 2 + length (region (l .frames))) (s .a) (s .b) (s .c) (s .d)
+      (region (onNearest g (l .frames))) (hole (s .hollow)) (s .scope + 2) (s .scope + 2 + length (region (l .frames))) (s .from) (s .upto) (s .gap) (s .end)
       (split _ (c .whole) ∙ flat-7 (take i ws) (c .before) (region (l .frames)) (c .between) (c .gone) (c .middle) (c .dropped) (c .after) rest)
       (omega (arith, c .lists t, start, length-append (take i ws) (c .before)))
       refl
@@ -166,13 +166,13 @@ module _ (f target : ℕ) (r : Run) (i level : ℕ) (l : Located) (s : Spot) (ws
       (ap (λ x. take i ws ++ (x ++ rest)) (c .result g)
       ∙ flat-6 (take i ws) (c .before) (region (onNearest g (l .frames))) (c .between) (hole (s .hollow)) (c .middle) (c .after) rest)
 
-  pub nil-plain : edited ws i i [] (s .a) (s .b) (hole (s .hollow)) (s .c) (s .d) ≡ take i ws ++ (runWords (plug (l .frames) nil) ++ rest)
+  pub nil-plain : edited ws i i [] (s .from) (s .upto) (hole (s .hollow)) (s .gap) (s .end) ≡ take i ws ++ (runWords (plug (l .frames) nil) ++ rest)
   nil-plain =
-      let c : Cut r i (l .frames) (s .scope) (s .a) (s .b) (s .c) (s .d) (s .hollow) = spotted .cut in
+      let c : Cut r i (l .frames) (s .scope) (s .from) (s .upto) (s .gap) (s .end) (s .hollow) = spotted .cut in
       let front : List ℕ = c .before ++ (region (l .frames) ++ c .between) in
       let same : runWords (plug (l .frames) nil) ≡ c .before ++ (region (l .frames) ++ (c .between ++ (hole (s .hollow) ++ (c .middle ++ c .after)))) =
       rw (nearest-unchanged (l .frames)) at (c .result unchanged) in
-      edited-pieces ws (take i ws) [] front (c .gone) (c .middle) (c .dropped) (c .after ++ rest) [] (hole (s .hollow)) i i (s .a) (s .b) (s .c) (s .d)
+      edited-pieces ws (take i ws) [] front (c .gone) (c .middle) (c .dropped) (c .after ++ rest) [] (hole (s .hollow)) i i (s .from) (s .upto) (s .gap) (s .end)
       (split _ (c .whole) ∙ front-7 (take i ws) (c .before) (region (l .frames)) (c .between) (c .gone) (c .middle) (c .dropped) (c .after) rest)
       (sym start)
       (omega arith)
@@ -275,10 +275,10 @@ module _ (f target : ℕ) (r : Run) (i level : ℕ) (l : Located) (s : Spot) (ws
       )
 
   -- in order
-  pub cut-order : (i ≤ s .a) × (s .a ≤ s .b) × (s .b ≤ s .c) × (s .c ≤ s .d) × (s .d ≤ i + size r)
+  pub cut-order : (i ≤ s .from) × (s .from ≤ s .upto) × (s .upto ≤ s .gap) × (s .gap ≤ s .end) × (s .end ≤ i + size r)
   unfolding size
   cut-order =
-      let c : Cut r i (l .frames) (s .scope) (s .a) (s .b) (s .c) (s .d) (s .hollow) = spotted .cut in
+      let c : Cut r i (l .frames) (s .scope) (s .from) (s .upto) (s .gap) (s .end) (s .hollow) = spotted .cut in
       let whole = ap length (c .whole) in (
         omega (arith, c .from),
         omega (arith, c .upto),
@@ -300,9 +300,9 @@ module _ (f target : ℕ) (r : Run) (i level : ℕ) (l : Located) (s : Spot) (ws
         ),
       )
 
-  pub list-order : T (scoped (l .frames)) → (i ≤ s .scope) × (s .scope + 2 + length (region (l .frames)) ≤ s .a)
+  pub list-order : T (scoped (l .frames)) → (i ≤ s .scope) × (s .scope + 2 + length (region (l .frames)) ≤ s .from)
   list-order t =
-      let c : Cut r i (l .frames) (s .scope) (s .a) (s .b) (s .c) (s .d) (s .hollow) = spotted .cut in
+      let c : Cut r i (l .frames) (s .scope) (s .from) (s .upto) (s .gap) (s .end) (s .hollow) = spotted .cut in
       (any-some (l .frames) (l .process) t (spotted .nearest), omega (arith, c .from, c .lists t))
 
   -- no scope, no number

@@ -9,7 +9,7 @@ use borrow.Author.Tests.{lt-ltb, eq-eqb, ne-eqb}
 use lib.Dec.{ltb, eqb}
 use lib.ListN.{length, getD}
 use Rattle.skipping.specs.Pass.{noteAt, passEnd}
-use Rattle.finding.specs.declared.find.Spot.{Spot}
+use Rattle.finding.specs.declared.find.Site.{Site}
 use Rattle.finding.specs.declared.find.Found.{Found}
 use Rattle.finding.specs.declared.find.Found.the-variants.{Hit, Past}
 use Rattle.finding.specs.Find.{hereW, cut, seqSpot, inSeqW, nodeW, outsideW, findW}
@@ -93,21 +93,21 @@ node-other sub d ws notes target level i w e v k2 k3 k11 k16 t =
 
 -- the first of a seq becomes nil, before a nil and before any other
 pub seq-hollow :
-    (d : ℕ) (ws notes : List ℕ) (i : ℕ) (f : Found) (s : Spot) →
+    (d : ℕ) (ws notes : List ℕ) (i : ℕ) (f : Found) (s : Site) →
     f ≡ Hit s →
     s .closed ≡ false →
-    s .d < length ws →
-    getD ws (s .d) 0 ≡ 0 →
-    Hit (cut s i (s .d + 1) (s .d + 1) (s .d + 1) true) ≡ inSeqW d ws notes i f
+    s .end < length ws →
+    getD ws (s .end) 0 ≡ 0 →
+    Hit (cut s i (s .end + 1) (s .end + 1) (s .end + 1) true) ≡ inSeqW d ws notes i f
 unfolding inSeqW seqSpot
-seq-hollow d ws notes i f s e c l z = sym (simp (e, c, lt-ltb (s .d) (length ws) l, z))
+seq-hollow d ws notes i f s e c l z = sym (simp (e, c, lt-ltb (s .end) (length ws) l, z))
 
 pub seq-shut :
-    (d : ℕ) (ws notes : List ℕ) (i : ℕ) (f : Found) (s : Spot) →
+    (d : ℕ) (ws notes : List ℕ) (i : ℕ) (f : Found) (s : Site) →
     f ≡ Hit s →
     s .closed ≡ false →
-    s .d < length ws →
-    (getD ws (s .d) 0 ≡ 0 → ⊥) →
-    Hit (cut s i (s .d) (s .d) (s .d) false) ≡ inSeqW d ws notes i f
+    s .end < length ws →
+    (getD ws (s .end) 0 ≡ 0 → ⊥) →
+    Hit (cut s i (s .end) (s .end) (s .end) false) ≡ inSeqW d ws notes i f
 unfolding inSeqW seqSpot
-seq-shut d ws notes i f s e c l z = sym (simp (e, c, lt-ltb (s .d) (length ws) l, ne-eqb (getD ws (s .d) 0) 0 z))
+seq-shut d ws notes i f s e c l z = sym (simp (e, c, lt-ltb (s .end) (length ws) l, ne-eqb (getD ws (s .end) 0) 0 z))

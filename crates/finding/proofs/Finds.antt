@@ -20,7 +20,7 @@ use Rattle.sock.proofs.Logic.{true-test, cond-case}
 use Rattle.sock.proofs.Measures.{words-nil, size-seq, size-par, size-scope, size-executor}
 use Rattle.sock.proofs.Running.{enable-asNode, enable-done}
 use Rattle.skipping.specs.Pass.{passEnd}
-use Rattle.finding.specs.declared.find.Spot.{Spot}
+use Rattle.finding.specs.declared.find.Site.{Site}
 use Rattle.finding.specs.declared.find.Found.{Found}
 use Rattle.finding.specs.declared.find.Found.the-variants.{Hit, Past}
 use Rattle.finding.specs.Find.{cut, seqSpot, inSeqW, leftW, besideW, parSides, inBodyW, catcherOf, inScopeW}
@@ -34,7 +34,7 @@ use Rattle.finding.proofs.Bodies.{executor-spotted, scope-spotted}
 -- nothing is located, and the search says where r ends; or both find the same
 pub data Agrees (f target : ℕ) (r : Run) (i level : ℕ) : Option Located → Found → Type 0 where
   misses : {e : ℕ} → e ≡ i + size r → Agrees f target r i level none (Past e)
-  hits : {l : Located} {s : Spot} → Spotted f target r i level l s → Agrees f target r i level (some l) (Hit s)
+  hits : {l : Located} {s : Site} → Spotted f target r i level l s → Agrees f target r i level (some l) (Hit s)
 
 pub agrees-none : {f target : ℕ} {r : Run} {i level : ℕ} {o : Option Located} {x : Found} → Agrees f target r i level o x → o ≡ none → x ≡ Past (i + size r)
 agrees-none (misses p) e = ap Past p
@@ -44,7 +44,7 @@ pub agrees-some :
     {f target : ℕ} {r : Run} {i level : ℕ} {o : Option Located} {x : Found} {l : Located} →
     Agrees f target r i level o x →
     o ≡ some l →
-    (s : Spot) × ((x ≡ Hit s) × Spotted f target r i level l s)
+    (s : Site) × ((x ≡ Hit s) × Spotted f target r i level l s)
 agrees-some (misses p) e = absurd (let z : _≡_ {A = ℕ} 0 1 = cc in omega arith)
 agrees-some {f} {target} {r} {i} {level} {l = l} (hits {l = m} {s = s} sub) e =
     let same : m ≡ l = cc in
@@ -82,13 +82,13 @@ module _ {q : Node} (fits : Fits (code false) anywhere q) where
       by true e = absurd (ne (nil-head (done-nil (enable q) e)))
       by false e = e
 
-spot-hollow : (ws : List ℕ) (i : ℕ) (s : Spot) → s .d < length ws → getD ws (s .d) 0 ≡ 0 → seqSpot ws i s ≡ Hit (cut s i (s .d + 1) (s .d + 1) (s .d + 1) true)
+spot-hollow : (ws : List ℕ) (i : ℕ) (s : Site) → s .end < length ws → getD ws (s .end) 0 ≡ 0 → seqSpot ws i s ≡ Hit (cut s i (s .end + 1) (s .end + 1) (s .end + 1) true)
 unfolding seqSpot
-spot-hollow ws i s p q = rw (lt-ltb (s .d) (length ws) p, q)
+spot-hollow ws i s p q = rw (lt-ltb (s .end) (length ws) p, q)
 
-spot-shut : (ws : List ℕ) (i : ℕ) (s : Spot) → s .d < length ws → (getD ws (s .d) 0 ≡ 0 → ⊥) → seqSpot ws i s ≡ Hit (cut s i (s .d) (s .d) (s .d) false)
+spot-shut : (ws : List ℕ) (i : ℕ) (s : Site) → s .end < length ws → (getD ws (s .end) 0 ≡ 0 → ⊥) → seqSpot ws i s ≡ Hit (cut s i (s .end) (s .end) (s .end) false)
 unfolding seqSpot
-spot-shut ws i s p q = rw (lt-ltb (s .d) (length ws) p, ne-eqb (getD ws (s .d) 0) 0 q)
+spot-shut ws i s p q = rw (lt-ltb (s .end) (length ws) p, ne-eqb (getD ws (s .end) 0) 0 q)
 
 module _ (f target : ℕ) (ws notes : List ℕ) (d i level : ℕ) where
   -- ---- a seq
@@ -97,16 +97,16 @@ module _ (f target : ℕ) (ws notes : List ℕ) (d i level : ℕ) where
       (second : getD ws (i + 1 + size a) 0 ≡ headWord q)
       (read : passEnd d ws notes (i + 1 + size a) ≡ i + 1 + size a + length (words q)) where
     seq-open :
-        (l : Located) (s : Spot) →
+        (l : Located) (s : Site) →
         T (not (s .closed)) →
         Spotted f target a (i + 1) (level + 1) l s →
         Agrees f target (seq a q) i level (some (behind (seqFrame q ∷ []) l)) (seqSpot ws i s)
     seq-open l s t sub = by (eqb (headWord q) 0) refl
       where
-        there : s .d ≡ i + 1 + size a
+        there : s .end ≡ i + 1 + size a
         there = sub .ends t .till
 
-        at-second : getD ws (s .d) 0 ≡ headWord q
+        at-second : getD ws (s .end) 0 ≡ headWord q
         at-second = ap (λ k. getD ws k 0) there ∙ second
 
         by :
@@ -142,7 +142,7 @@ module _ (f target : ℕ) (ws notes : List ℕ) (d i level : ℕ) where
 
   module _ (a b : Run) (left : T (not (isDone a))) (right : T (not (isDone b))) where
     pub left-agrees :
-        (l : Located) (s : Spot) →
+        (l : Located) (s : Site) →
         Spotted f target a (i + 1) (level + 1) l s →
         Agrees f target (par a b) i level (some (behind (leftFrame b ∷ []) l)) (leftW i s)
     unfolding leftW stopped

@@ -26,7 +26,7 @@ use Rattle.skipping.specs.Skip.{skipList}
 use Rattle.skipping.specs.Pass.{noteAt, passEnd, passList}
 use Rattle.skipping.proofs.Skips.{wanted-end}
 use Rattle.skipping.proofs.Notes.{Right, RightNote, pass-run, pass-code, pass-entries}
-use Rattle.finding.specs.declared.find.Spot.{Spot}
+use Rattle.finding.specs.declared.find.Site.{Site}
 use Rattle.finding.specs.declared.find.Found.{Found}
 use Rattle.finding.specs.declared.find.Found.the-variants.{Hit, Past}
 use Rattle.finding.specs.Find.{hereW, inSeqW, inParW, inBodyW, inScopeW, faultAt, catchesW, catcherOf, nodeW, outsideW, findW}
@@ -326,5 +326,5 @@ module _ (n issued : ℕ) (few : n ≤ 8) (small : issued < 65536) (ws notes : L
     pub found :
         (l : Located) →
         within r i target ≡ some l →
-        (spot : Spot) × ((findW d ws notes target level i ≡ Hit spot) × Spotted (faultAt ws target) target r i level l spot)
+        (spot : Site) × ((findW d ws notes target level i ≡ Hit spot) × Spotted (faultAt ws target) target r i level l spot)
     found l e = agrees-some (finds s d i level rest pos deep at) e

@@ -13,7 +13,7 @@ use Rattle.sock.specs.Running.{Run, nil, runWords, size}
 use Rattle.sock.specs.Frames.{Frame, Located, isDone, plug, onNearest}
 use Rattle.sock.proofs.Located.{wrap}
 use Rattle.sock.proofs.Measures.{words-nil}
-use Rattle.finding.specs.declared.find.Spot.{Spot}
+use Rattle.finding.specs.declared.find.Site.{Site}
 use Rattle.finding.proofs.Framing.{scoped, region, outside, plug-append, wrap-append, outside-first, Outer}
 use Rattle.finding.proofs.Within.{behind, lifted, orElse, within}
 use Rattle.finding.proofs.Stops.{stopped, anyScope, catches, stopped-append, Standing, nowhere, standing-under}
@@ -27,23 +27,23 @@ pub record Ended (r : Run) (i : ℕ) (fs : List Frame) (d : ℕ) : Type 0 where
 
 -- `s` is where the process l stands: at `target`, in r, which begins at i and is `deep` levels deep; `f` is the fault to be caught, and
 -- no fault if it is no throw's
-pub record Spotted (f target : ℕ) (r : Run) (i deep : ℕ) (l : Located) (s : Spot) : Type 0 where
+pub record Spotted (f target : ℕ) (r : Run) (i deep : ℕ) (l : Located) (s : Site) : Type 0 where
   pub at : s .at ≡ target
   pub level : s .level ≡ deep + length (l .frames)
   pub wraps : wrap (l .frames) (l .process) ≡ r
   pub swap : Swap r i (l .frames) (l .process) (s .scope) target
-  pub cut : Cut r i (l .frames) (s .scope) (s .a) (s .b) (s .c) (s .d) (s .hollow)
+  pub cut : Cut r i (l .frames) (s .scope) (s .from) (s .upto) (s .gap) (s .end) (s .hollow)
   pub nearest : Standing r i (stopped anyScope (l .frames) (l .process)) (s .scope)
   pub near-level : T (scoped (l .frames)) → s .«scope_level» ≡ deep + outside (l .frames)
   pub catcher : f < 64 → Standing r i (stopped (catches f) (l .frames) (l .process)) (s .catcher)
   pub alive : T (s .closed) → (g : Entries → Entries) → isDone (plug (onNearest g (l .frames)) nil) ≡ false
-  pub ends : T (not (s .closed)) → Ended r i (l .frames) (s .d)
+  pub ends : T (not (s .closed)) → Ended r i (l .frames) (s .end)
 
 -- ---- the process itself
 
-abbrev pub hereSpot : ℕ → ℕ → ℕ → Spot
+abbrev pub hereSpot : ℕ → ℕ → ℕ → Site
 hereSpot i level e =
-    record { at = i; level = level; a = i; b = e; c = e; d = e; hollow = true; closed = false; scope = 0; «scope_level» = 0; catcher = 0 }
+    record { at = i; level = level; from = i; upto = e; gap = e; end = e; hollow = true; closed = false; scope = 0; «scope_level» = 0; catcher = 0 }
 
 pub here-spotted : (f : ℕ) (r : Run) (i level e : ℕ) → e ≡ i + size r → Spotted f i r i level (record { frames = []; process = r }) (hereSpot i level e)
 unfolding wrap plug onNearest scoped region stopped size
@@ -103,7 +103,7 @@ pub record Around (r a : Run) (i j : ℕ) (own more : List ℕ) (o : Frame) : Ty
 
 module _ (f target : ℕ) (r a : Run) (i j level : ℕ) (own more : List ℕ) (o : Frame) (around : Around r a i j own more o)
     (outer : (fs : List Frame) → Outer fs o) (passes : (test : Bool → Entries → Bool) (b : Run) → stopped test (o ∷ []) b ≡ none) where
-  module _ (l : Located) (s : Spot) (sub : Spotted f target a j (level + 1) l s) where
+  module _ (l : Located) (s : Site) (sub : Spotted f target a j (level + 1) l s) where
     stands :
         (test : Bool → Entries → Bool) (k : ℕ) →
         Standing a j (stopped test (l .frames) (l .process)) k →
@@ -116,15 +116,15 @@ module _ (f target : ℕ) (r a : Run) (i j level : ℕ) (own more : List ℕ) (o
 
     -- with another cut
     pub under :
-        (s' : Spot) →
+        (s' : Site) →
         s' .at ≡ s .at →
         s' .level ≡ s .level →
         s' .scope ≡ s .scope →
         s' .«scope_level» ≡ s .«scope_level» →
         s' .catcher ≡ s .catcher →
-        Cut r i (l .frames ++ o ∷ []) (s .scope) (s' .a) (s' .b) (s' .c) (s' .d) (s' .hollow) →
+        Cut r i (l .frames ++ o ∷ []) (s .scope) (s' .from) (s' .upto) (s' .gap) (s' .end) (s' .hollow) →
         (T (s' .closed) → (g : Entries → Entries) → isDone (plug (onNearest g (l .frames ++ o ∷ [])) nil) ≡ false) →
-        (T (not (s' .closed)) → Ended r i (l .frames ++ o ∷ []) (s' .d)) →
+        (T (not (s' .closed)) → Ended r i (l .frames ++ o ∷ []) (s' .end)) →
         Spotted f target r i level (behind (o ∷ []) l) s'
     under s' p q u w v cut alive ends =
         record {
@@ -149,7 +149,7 @@ module _ (f target : ℕ) (r a : Run) (i j level : ℕ) (own more : List ℕ) (o
     pub under-closed : T (s .closed) → Spotted f target r i level (behind (o ∷ []) l) s
     under-closed t =
         under s refl refl refl refl refl
-        (cut-under r a i j own more (l .frames) o (around .there) (outer (l .frames)) (around .words) (s .scope) (s .a) (s .b) (s .c) (s .d) (s .hollow)
+        (cut-under r a i j own more (l .frames) o (around .there) (outer (l .frames)) (around .words) (s .scope) (s .from) (s .upto) (s .gap) (s .end) (s .hollow)
         (λ g. around .kept (plug (onNearest g (l .frames)) nil) (sub .alive t g)) (sub .cut))
         (λ u g.
         rw (outer (l .frames) .changed g, plug-append (onNearest g (l .frames)) (o ∷ []) nil)

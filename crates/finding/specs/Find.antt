@@ -9,7 +9,7 @@ use Rattle.sock.specs.Kind
 use Rattle.sock.specs.Words.{kindOf, nameOf, zombieOf}
 use Rattle.skipping.specs.Skip.{skipList}
 use Rattle.skipping.specs.Pass.{noteAt, passEnd, passList}
-use Rattle.finding.specs.declared.find.Spot.{Spot}
+use Rattle.finding.specs.declared.find.Site.{Site}
 use Rattle.finding.specs.declared.find.Found.{Found}
 use Rattle.finding.specs.declared.find.Found.the-variants.{Hit, Past}
 
@@ -20,10 +20,10 @@ hereW d ws notes level i =
     (record {
       at = i;
       level = level;
-      a = i;
-      b = passEnd d ws notes i;
-      c = passEnd d ws notes i;
-      d = passEnd d ws notes i;
+      from = i;
+      upto = passEnd d ws notes i;
+      gap = passEnd d ws notes i;
+      end = passEnd d ws notes i;
       hollow = true;
       closed = false;
       scope = 0;
@@ -31,17 +31,17 @@ hereW d ws notes level i =
       catcher = 0;
     })
 
-abbrev pub cut : Spot → ℕ → ℕ → ℕ → ℕ → Bool → Spot
+abbrev pub cut : Site → ℕ → ℕ → ℕ → ℕ → Bool → Site
 cut s a b c d hollow =
-    record { at = s .at; level = s .level; a = a; b = b; c = c; d = d; hollow = hollow; closed = not hollow; scope = s .scope; «scope_level» = s .«scope_level»; catcher = s .catcher }
+    record { at = s .at; level = s .level; from = a; upto = b; gap = c; end = d; hollow = hollow; closed = not hollow; scope = s .scope; «scope_level» = s .«scope_level»; catcher = s .catcher }
 
 -- the first of a seq
-unfoldable pub seqSpot : List ℕ → ℕ → Spot → Found
+unfoldable pub seqSpot : List ℕ → ℕ → Site → Found
 seqSpot ws i s =
-    cond (ltb (s .d) (length ws))
-    (cond (eqb (getD ws (s .d) 0) 0)
-    (Hit (cut s i (s .d + 1) (s .d + 1) (s .d + 1) true))
-    (Hit (cut s i (s .d) (s .d) (s .d) false)))
+    cond (ltb (s .end) (length ws))
+    (cond (eqb (getD ws (s .end) 0) 0)
+    (Hit (cut s i (s .end + 1) (s .end + 1) (s .end + 1) true))
+    (Hit (cut s i (s .end) (s .end) (s .end) false)))
     (Past 0)
 
 unfoldable pub inSeqW : ℕ → List ℕ → List ℕ → ℕ → Found → Found
@@ -49,12 +49,12 @@ inSeqW d ws notes i (Past e) = Past (passEnd d ws notes e)
 inSeqW d ws notes i (Hit s) = cond (s .closed) (Hit s) (seqSpot ws i s)
 
 -- a side of a par
-unfoldable pub leftW : ℕ → Spot → Found
-leftW i s = cond (s .closed) (Hit s) (Hit (cut s i (s .d) (s .d) (s .d) false))
+unfoldable pub leftW : ℕ → Site → Found
+leftW i s = cond (s .closed) (Hit s) (Hit (cut s i (s .end) (s .end) (s .end) false))
 
 unfoldable pub besideW : ℕ → ℕ → Found → Found
 besideW i e (Past g) = Past g
-besideW i e (Hit s) = cond (s .closed) (Hit s) (Hit (cut s i (i + 1) e (s .d) false))
+besideW i e (Hit s) = cond (s .closed) (Hit s) (Hit (cut s i (i + 1) e (s .end) false))
 
 unfoldable pub parSides : (ℕ → Found) → ℕ → Found → Found
 parSides sub i (Hit s) = leftW i s
@@ -64,9 +64,9 @@ unfoldable pub inParW : (ℕ → Found) → ℕ → Found
 inParW sub i = parSides sub i (sub (i + 1))
 
 -- a body
-abbrev pub shutIn : Spot → ℕ → ℕ → ℕ → Spot
+abbrev pub shutIn : Site → ℕ → ℕ → ℕ → Site
 shutIn s scope level catcher =
-    record { at = s .at; level = s .level; a = s .a; b = s .b; c = s .c; d = s .d; hollow = s .hollow; closed = true; scope = scope; «scope_level» = level; catcher = catcher }
+    record { at = s .at; level = s .level; from = s .from; upto = s .upto; gap = s .gap; end = s .end; hollow = s .hollow; closed = true; scope = scope; «scope_level» = level; catcher = catcher }
 
 unfoldable pub inBodyW : Found → Found
 inBodyW (Past e) = Past e

@@ -13,13 +13,13 @@ ghost use Rattle.finding.specs.Find.{atMost, findW, nodeW, outsideW, cut
 // The process at `at`, `level` levels deep. Were it nil, the words a..b and c..d would go; `hollow` tells that a nil would stand at a.
 // `scope` is the head of the nearest scope, `scope_level` its level, `catcher` the head of the scope that stops the fault of a throw; 0
 // where there is none.
-pub struct Spot {
+pub struct Site {
     pub at: usize,
     pub level: usize,
-    pub a: usize,
-    pub b: usize,
-    pub c: usize,
-    pub d: usize,
+    pub from: usize,
+    pub upto: usize,
+    pub gap: usize,
+    pub end: usize,
     pub hollow: bool,
     pub closed: bool,
     pub scope: usize,
@@ -28,7 +28,7 @@ pub struct Spot {
 }
 
 pub enum Found {
-    Hit(Spot),
+    Hit(Site),
     Past(usize),
 }
 
@@ -114,13 +114,13 @@ fn here(ws: &[u16], notes: &[u16], at: usize, depth: usize, level: usize) -> Fou
     ensures { λ r. ⌜ r ≡ hereW depth (now (ws .entry)) (now (notes .entry)) level at ⌝ }
 {
     let e = pass(ws, notes, at, depth);
-    Found::Hit(Spot {
+    Found::Hit(Site {
         at,
         level,
-        a: at,
-        b: e,
-        c: e,
-        d: e,
+        from: at,
+        upto: e,
+        gap: e,
+        end: e,
         hollow: true,
         closed: false,
         scope: 0,
@@ -130,16 +130,16 @@ fn here(ws: &[u16], notes: &[u16], at: usize, depth: usize, level: usize) -> Fou
 }
 
 // The spot, if the words a..b and c..d go from now on; the cut goes on outwards where a nil stands.
-fn cut_at(s: Spot, a: usize, b: usize, c: usize, d: usize, hollow: bool) -> Spot
+fn cut_at(s: Site, a: usize, b: usize, c: usize, d: usize, hollow: bool) -> Site
     ensures { λ r. ⌜ r ≡ cut s a b c d hollow ⌝ }
 {
-    Spot {
+    Site {
         at: s.at,
         level: s.level,
-        a,
-        b,
-        c,
-        d,
+        from: a,
+        upto: b,
+        gap: c,
+        end: d,
         hollow,
         closed: !hollow,
         scope: s.scope,
@@ -149,16 +149,16 @@ fn cut_at(s: Spot, a: usize, b: usize, c: usize, d: usize, hollow: bool) -> Spot
 }
 
 // The spot, if the cut goes on no further, with the scopes around it.
-fn shut(s: Spot, scope: usize, level: usize, catcher: usize) -> Spot
+fn shut(s: Site, scope: usize, level: usize, catcher: usize) -> Site
     ensures { λ r. ⌜ r ≡ shutIn s scope level catcher ⌝ }
 {
-    Spot {
+    Site {
         at: s.at,
         level: s.level,
-        a: s.a,
-        b: s.b,
-        c: s.c,
-        d: s.d,
+        from: s.from,
+        upto: s.upto,
+        gap: s.gap,
+        end: s.end,
         hollow: s.hollow,
         closed: true,
         scope,
@@ -177,7 +177,7 @@ fn in_seq(ws: &[u16], notes: &[u16], at: usize, f: Found, depth: usize) -> Found
             if s.closed {
                 return Found::Hit(s);
             }
-            let q = s.d;
+            let q = s.end;
             if ws.len() <= q {
                 return Found::Past(0);
             }
@@ -201,13 +201,13 @@ fn in_par(ws: &[u16], notes: &[u16], at: usize, target: usize, depth: usize, lev
 }
 
 // The left side has the process.
-fn left(at: usize, s: Spot) -> Found
+fn left(at: usize, s: Site) -> Found
     ensures { λ r. ⌜ r ≡ leftW at s ⌝ }
 {
     if s.closed {
         return Found::Hit(s);
     }
-    Found::Hit(cut_at(s, at, s.d, s.d, s.d, false))
+    Found::Hit(cut_at(s, at, s.end, s.end, s.end, false))
 }
 
 // The left side ends at `e`.
@@ -221,7 +221,7 @@ fn beside(at: usize, e: usize, f: Found) -> Found
             if s.closed {
                 return Found::Hit(s);
             }
-            Found::Hit(cut_at(s, at, at + 1, e, s.d, false))
+            Found::Hit(cut_at(s, at, at + 1, e, s.end, false))
         }
     }
 }

@@ -1,4 +1,5 @@
 pub mod Contexts
+pub mod Heads
 pub mod Keys
 pub mod Limits
 pub mod Positions

@@ -2,7 +2,7 @@
 use crate::number::wide;
 ghost use mathlib.Core.Path.{_≡_};
 ghost use Prim.Native.Nat.{_<_};
-ghost use Rattle.sock.specs.Words.{kindOf, countOf, variableOf, nameOf, secondOf, markOf, zombieOf, firstVariable, nextVariable, firstName, executorsClient, deadOf, waitersServer, noticesClient, keyOf, tagOf, readVariable};
+ghost use Rattle.sock.specs.Words.{kindOf, countOf, variableOf, nameOf, secondOf, markOf, zombieOf, firstVariable, nextVariable, firstName, executorsClient, deadOf, waitersServer, noticesClient, keyOf, tagOf, readVariable, scopeKey, highWord, lowWord};
 
 // A head's kind.
 pub fn kind_of(h: u16) -> usize
@@ -107,6 +107,33 @@ pub fn key_of(w: u16) -> usize
     ensures { λ r. ⌜ (r ≡ keyOf w) × (r < 128) ⌝ }
 {
     wide(w) / 512
+}
+
+// The key of the scope with the head h.
+pub fn scope_key(h: u16) -> usize
+    ensures { λ r. ⌜ (r ≡ scopeKey (nameOf h)) × (r < 128) ⌝ }
+{
+    64 + wide(h) / 32 % 64
+}
+
+// The fault that the throw with the head h throws, as a word.
+pub fn fault_of(h: u16) -> u16
+    ensures { λ r. ⌜ (r ≡ nameOf h) × (r < 64) ⌝ }
+{
+    h / 32 % 64
+}
+
+// A value's words, high word first.
+pub fn high_word(v: u32) -> u16
+    ensures { λ r. ⌜ r ≡ highWord v ⌝ }
+{
+    (v / 65536) as u16
+}
+
+pub fn low_word(v: u32) -> u16
+    ensures { λ r. ⌜ r ≡ lowWord v ⌝ }
+{
+    (v % 65536) as u16
 }
 
 // What an expression is, in 3 bits.

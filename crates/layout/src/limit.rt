@@ -34,5 +34,7 @@ pub const BRANCHES: usize = 8;
 // How many words stand before the first engine: n and issued.
 pub const HEADER: usize = 2;
 
-// How many words an engine's values take, before its process.
+// How many words an engine's values take, before its process: two for each of its variables.
 pub const VALUES: usize = 64;
+
+pub const VARIABLES: usize = 32;

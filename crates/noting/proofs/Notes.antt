@@ -15,7 +15,7 @@ use Rattle.sock.specs.Kind.{rows, rowOf}
 use Rattle.sock.specs.Reading.{allowed, placed}
 use Rattle.reading.specs.Tables.{spareOf, headMask}
 use Rattle.reading.specs.Walk.{on, when, at, exprEnd, processEnd, twoEnd, restOf, entriesEnd, listEnd, markedEnd, scopeEnd, endAfter, executorEnd, nodeEnd}
-use Rattle.reading.proofs.Tests.{tests}
+use Rattle.sock.proofs.Tests.{tests}
 use Rattle.reading.proofs.Walks.{process-node, process-refused}
 use Rattle.noting.specs.Noting.{Noting, noteW, noteListW, plainPar, seqNotes, parNotes, bodyNotes, scopeNotes, executorNotes, nodeNotes, enabledNotes, notesW, enginesNotes, surveyNotes}
 

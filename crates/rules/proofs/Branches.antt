@@ -4,7 +4,7 @@ use Prim.Native.Nat.{ℕ, zero, suc, _-_, _<_}
 use native.Mathlib.Omega.{arith}
 use mathlib.Core.Path.{_≡_}
 use mathlib.Core.List.{List}
-use Rattle.rules.specs.Turning.{partEnd}
+use Rattle.rules.specs.Rewriting.{partEnd}
 use Rattle.rules.specs.Offering.{branchAt}
 
 pub branch-step :

@@ -22,18 +22,20 @@ use Rattle.sock.proofs.Running.{enable-asNode}
 use Rattle.sock.proofs.Measures.{words-seq, words-executor, depth-nil, depth-seq, depth-executor}
 use Rattle.layout.specs.Positions.{onward}
 use Rattle.writers.proofs.Laid.{Near, onward-near, Laid, laid-put, laid-then}
-use Rattle.rules.specs.declared.turn.Turn.{Turn}
+use Rattle.rules.specs.Storing.{takes}
+use Rattle.rules.specs.declared.rewriting.Rewriting.{Rewriting}
 use Rattle.rules.specs.declared.pair.Offer.{Offer}
-use Rattle.rules.specs.Turning.{vanishing, keeping, at, partW}
-use Rattle.rules.specs.Offering.{hearW, executorHead, seqFirst, threeTo, threeW, serveW}
-use Rattle.rules.proofs.Turns.{Becomes, becomes-nil, after, first-at, enable-words, part-becomes}
+use Rattle.rules.specs.Rewriting.{vanishing, keeping, at, partW}
+use Rattle.layout.specs.Heads.{executorHead}
+use Rattle.rules.specs.Offering.{hearW, seqFirst, threeTo, threeW, serveW}
+use Rattle.rules.proofs.Rewrites.{Becomes, becomes-nil, after, first-at, enable-words, part-becomes}
 use Rattle.rules.proofs.Offers.{Stands, bareStands, branchStands}
 
 -- r turns into q, no deeper, and x takes v
-pub record Takes (r q : Run) (t : Turn) (fresh : List ℕ) (x v : ℕ) : Type 0 where
+pub record Takes (r q : Run) (t : Rewriting) (fresh : List ℕ) (x v : ℕ) : Type 0 where
   pub becomes : Becomes r q t fresh
-  pub takes : t .x ≡ x
-  pub value : t .v ≡ v
+  pub takes : t .store .variable ≡ x
+  pub value : t .store .value ≡ v
   pub shallow : runDepth q ≤ runDepth r
 
 -- ---- fresh words
@@ -78,7 +80,7 @@ pub keeps :
     from ≡ length before →
     upto ≡ from + length kept →
     end ≡ upto + length behind →
-    Becomes r q (keeping count from upto end x v) fresh
+    Becomes r q (keeping count from upto end (takes x v)) fresh
 keeps {fresh = fresh} r q count from upto end x v before kept behind new lives whole made laid room c f u e =
     record {
       accepted = refl;
@@ -102,27 +104,27 @@ unfolding runDepth
 enable-depth f = ap depth (enable-asNode f)
 
 -- a part's x and v
-part-x : (ws : List ℕ) (from upto end x v : ℕ) → (partW ws from upto end x v .x ≡ x) × (partW ws from upto end x v .v ≡ v)
+part-x : (ws : List ℕ) (from upto end x v : ℕ) → (partW ws from upto end (takes x v) .store .variable ≡ x) × (partW ws from upto end (takes x v) .store .value ≡ v)
 unfolding partW
 part-x ws from upto end x v = by (eqb (at ws from) 0)
   where
     by :
         (b : Bool) →
-        ((cond b (vanishing x v) (keeping 0 from upto end x v)) .x ≡ x) × ((cond b (vanishing x v) (keeping 0 from upto end x v)) .v ≡ v)
+        ((cond b (vanishing (takes x v)) (keeping 0 from upto end (takes x v))) .store .variable ≡ x) × ((cond b (vanishing (takes x v)) (keeping 0 from upto end (takes x v))) .store .value ≡ v)
     by true = (refl, refl)
     by false = (refl, refl)
 
 -- ---- a one-way hears
 
 module _ (ws rest : List ℕ) (r : Run) (stands : ws ≡ runWords r ++ rest) (o : Offer) (fresh : List ℕ) (v : ℕ) where
-  pub hear-turns :
+  pub hear-rewrites :
       {g : ℕ} {next : Option Node} → at ws (o .guard) ≡ g → Stands r o (node g [] [] absent noParts) next →
       Takes r (followed nil next) (hearW ws o v) fresh (secondOf g) v
   unfolding hearW followed seqOf isDone depth words exprsWords
-  hear-turns {g} h (bareStands w d a b c e) =
+  hear-rewrites {g} h (bareStands w d a b c e) =
       rw (eq-eqb (o .next) 0 b, h)
       (record { becomes = becomes-nil r (g % 32) v fresh; takes = refl; value = refl; shallow = omega (arith, depth-nil) })
-  hear-turns {g} h (branchStands {q = q} before behind w f dm dq a b c e) =
+  hear-rewrites {g} h (branchStands {q = q} before behind w f dm dq a b c e) =
       let ahead : runWords r ≡ (before ++ g ∷ []) ++ (words q ++ behind) = w ∙ sym (append-assoc before (g ∷ []) (words q ++ behind)) in
       let from : o .next ≡ length (before ++ g ∷ []) = b ∙ sym (length-append before (g ∷ [])) in
       let xv = part-x ws (o .next) (o .upto) (o .end) (g % 32) v in
@@ -139,9 +141,6 @@ module _ (ws rest : List ℕ) (r : Run) (stands : ws ≡ runWords r ++ rest) (o 
 pub first-place : onward 0 1 ≡ 1
 unfolding onward
 first-place = refl
-
-executor-head : (h w : ℕ) → executorHead h w ≡ headOf 16 (nameFields (nameOf h) (firstVariable w))
-executor-head h w = omega arith
 
 module _ (g w : ℕ) (p : Node) (fp : Fits (code false) anywhere p) where
   abbrev asked : Node
@@ -162,8 +161,7 @@ module _ (g w : ℕ) (p : Node) (fp : Fits (code false) anywhere p) where
     served-words : runWords served ≡ (executorHead g w ∷ (client * 8192) ∷ serial ∷ []) ++ words p
     served-words =
         words-executor (nameOf g) (firstVariable w) client serial (enable p)
-        ∙ (ap (λ k. k ∷ (client * 8192) ∷ serial ∷ runWords (enable p)) (sym (executor-head g w))
-        ∙ ap (λ l. executorHead g w ∷ (client * 8192) ∷ serial ∷ l) (enable-words fp))
+        ∙ ap (λ l. executorHead g w ∷ (client * 8192) ∷ serial ∷ l) (enable-words fp)
 
     served-depth : runDepth served ≡ depth asked
     served-depth = depth-executor (nameOf g) (firstVariable w) client serial (enable p) ∙ (ap suc (enable-depth fp) ∙ sym asked-depth)
@@ -195,11 +193,11 @@ module _ (g w : ℕ) (p : Node) (fp : Fits (code false) anywhere p) where
         second-word = first-at ws (length before + 1) w (words p ++ (more ++ rest))
             (sym (drop-drop 1 (length before) ws) ∙ ap (drop 1) request-stands)
 
-      pub serve-turns :
+      pub serve-rewrites :
           {next : Option Node} → client < 8 → at ws (o .guard) ≡ g → Stands r o asked next →
-          Takes r (followed served next) (serveW ws o client serial v fresh .turn) (serveW ws o client serial v fresh .fresh) (secondOf g) v
+          Takes r (followed served next) (serveW ws o client serial v fresh .rewriting) (serveW ws o client serial v fresh .fresh) (secondOf g) v
       unfolding serveW seqFirst followed seqOf isDone
-      serve-turns known h (bareStands e d a b c f) =
+      serve-rewrites known h (bareStands e d a b c f) =
           let three-bits : client % 8 ≡ client = omega arith in
           let whole : runWords r ≡ [] ++ (words asked ++ []) = e ∙ sym (append-nil (words asked)) in
           let long : length (words asked) ≡ 2 + length (words p) = omega (arith, ap length asked-words) in
@@ -223,7 +221,7 @@ module _ (g w : ℕ) (p : Node) (fp : Fits (code false) anywhere p) where
             value = refl;
             shallow = omega (arith, served-depth);
           })
-      serve-turns known h (branchStands {q = q} before behind e fq dm dq a b c f) =
+      serve-rewrites known h (branchStands {q = q} before behind e fq dm dq a b c f) =
           let three-bits : client % 8 ≡ client = omega arith in
           let more = words q ++ behind in
           let long : length (words asked) ≡ 2 + length (words p) = omega (arith, ap length asked-words) in

@@ -5,7 +5,7 @@ pub mod Exchanges
 pub mod Meetings
 pub mod Offers
 pub mod Outcomes
-pub mod Plans
+pub mod Edits
 pub mod Shapes
-pub mod Turns
+pub mod Rewrites
 pub mod Waiters

@@ -17,21 +17,21 @@ use Rattle.sock.specs.Rules.{Receiver, offer, followed, Exchange, notified, sol
 use Rattle.sock.proofs.Fits.{Sound}
 use Rattle.sock.proofs.Fields.{turned-round, second-below}
 use Rattle.writers.proofs.Laid.{Near}
-use Rattle.rules.specs.declared.turn.Turn.{Turn}
+use Rattle.rules.specs.declared.rewriting.Rewriting.{Rewriting}
 use Rattle.rules.specs.declared.pair.Offer.{Offer}
-use Rattle.rules.specs.Turning.{at}
+use Rattle.rules.specs.Rewriting.{at}
 use Rattle.rules.specs.Offering.{offerW, receivesW, fitsW, hearW, serveW, awaitsW, answerW, failW}
 use Rattle.rules.proofs.Offers.{Offers, silent, hearing, serving, not-kind, offers}
-use Rattle.rules.proofs.Exchanges.{Takes, hear-turns, serve-turns}
-use Rattle.rules.proofs.Waiters.{Awaits, awaiting, elsewhere, awaits, fields, answer-turns, fail-turns}
+use Rattle.rules.proofs.Exchanges.{Takes, hear-rewrites, serve-rewrites}
+use Rattle.rules.proofs.Waiters.{Awaits, awaiting, elsewhere, awaits, fields, answer-rewrites, fail-rewrites}
 
 -- they meet: the receiver r turns as t says into q, where x takes v; or they don't
-pub data Meets (b : Bool) (r : Run) (t : Turn) (fresh : List ℕ) (v : ℕ) (made : Run → ℕ → Exchange) : Option Exchange → Type 0 where
+pub data Meets (b : Bool) (r : Run) (t : Rewriting) (fresh : List ℕ) (v : ℕ) (made : Run → ℕ → Exchange) : Option Exchange → Type 0 where
   meets : {q : Run} {x : ℕ} → b ≡ true → x < 32 → Takes r q t fresh x v → Meets b r t fresh v made (some (made q x))
   misses : b ≡ false → Meets b r t fresh v made none
 
 -- the same where no variable takes anything
-pub data Strikes (b : Bool) (r : Run) (t : Turn) (fresh : List ℕ) (made : Run → Exchange) : Option Exchange → Type 0 where
+pub data Strikes (b : Bool) (r : Run) (t : Rewriting) (fresh : List ℕ) (made : Run → Exchange) : Option Exchange → Type 0 where
   strikes : {q : Run} → b ≡ true → Takes r q t fresh 32 0 → Strikes b r t fresh made (some (made q))
   spares : b ≡ false → Strikes b r t fresh made none
 
@@ -65,7 +65,7 @@ module _ (issued : ℕ) (ws rest : List ℕ) (r : Run) (stands : ws ≡ runWords
             (b : Bool) → eqb (nameOf h) (nameOf g) ≡ b →
             Meets (fitsW ws o 7 h) r (hearW ws o v) fresh v notifies
             (guarded (eqb (nameOf h) (nameOf g)) (some (notifies (followed nil next) (secondOf g))))
-        by true e = rw e (meets (fits-at ws o 7 g h s a k ∙ e) (second-below g) (hear-turns ws rest r stands o fresh v a p))
+        by true e = rw e (meets (fits-at ws o 7 g h s a k ∙ e) (second-below g) (hear-rewrites ws rest r stands o fresh v a p))
         by false e = rw e (misses (fits-at ws o 7 g h s a k ∙ e))
 
   -- a solicit's head and value, its x and list
@@ -84,7 +84,7 @@ module _ (issued : ℕ) (ws rest : List ℕ) (r : Run) (stands : ws ≡ runWords
 
     serves-when :
         {c : Receiver} {next : Option Node} → Offers ws r o c next →
-        Meets (fitsW ws o 8 h) r (serveW ws o client (suc issued) v fresh .turn) (serveW ws o client (suc issued) v fresh .fresh) v solicits
+        Meets (fitsW ws o 8 h) r (serveW ws o client (suc issued) v fresh .rewriting) (serveW ws o client (suc issued) v fresh .fresh) v solicits
         (solicited issued client server vs (nameOf h) v x l c next)
     unfolding solicited guarded
     serves-when (silent a b) = misses (b h)
@@ -93,7 +93,7 @@ module _ (issued : ℕ) (ws rest : List ℕ) (r : Run) (stands : ws ≡ runWords
       where
         by :
             (b : Bool) → eqb (nameOf h) (nameOf g) ≡ b →
-            Meets (fitsW ws o 8 h) r (serveW ws o client (suc issued) v fresh .turn)
+            Meets (fitsW ws o 8 h) r (serveW ws o client (suc issued) v fresh .rewriting)
             (serveW ws o client (suc issued) v fresh .fresh) v solicits
             (guarded (eqb (nameOf h) (nameOf g))
             (some (solicits (followed (executor (nameOf h) (w / 2048) client (suc issued) (enable p)) next) (secondOf g))))
@@ -101,8 +101,8 @@ module _ (issued : ℕ) (ws rest : List ℕ) (r : Run) (stands : ws ≡ runWords
             let same : nameOf h ≡ nameOf g = eqb-true (nameOf h) (nameOf g) e in
             let t :
             Takes r (followed (executor (nameOf h) (w / 2048) client (suc issued) (enable p)) next)
-            (serveW ws o client (suc issued) v fresh .turn) (serveW ws o client (suc issued) v fresh .fresh) (secondOf g) v =
-            rw same (serve-turns g w p f client (suc issued) ws rest r stands close o fresh near room v low a st) in
+            (serveW ws o client (suc issued) v fresh .rewriting) (serveW ws o client (suc issued) v fresh .fresh) (secondOf g) v =
+            rw same (serve-rewrites g w p f client (suc issued) ws rest r stands close o fresh near room v low a st) in
             rw e (meets (fits-at ws o 8 g h s a k ∙ e) (second-below g) t)
         by false e = rw e (misses (fits-at ws o 8 g h s a k ∙ e))
 
@@ -113,21 +113,21 @@ module _ (n issued : ℕ) (ws : List ℕ) (few : n ≤ 8) (small : issued < 6553
     (b : Bool) (what : (ℕ → Bool → Entries → Exchange) → Option Exchange) (serial : ℕ) where
   replies-when :
       (v : ℕ) (r : Run) → Sound n issued r → runDepth r ≤ 64 → ws ≡ runWords r ++ rest → Awaits b what r →
-      Meets b r (answerW ws v fresh .turn) (answerW ws v fresh .fresh) v
+      Meets b r (answerW ws v fresh .rewriting) (answerW ws v fresh .fresh) v
       (λ q x. record { sender = nil; receiver = q; values = set vs x v; issued = issued; serial = serial; fault = 0 })
       (what (λ x dead l. replied issued serial vs v x l))
   unfolding replied
   replies-when v r s deep stands (awaiting e k) =
-      rw (k _) (meets e (fields s .1) (answer-turns n issued ws few small rest s deep stands v fresh room))
+      rw (k _) (meets e (fields s .1) (answer-rewrites n issued ws few small rest s deep stands v fresh room))
   replies-when v r s deep stands (elsewhere e k) = rw (k _) (misses e)
 
   faults-when :
       (w : ℕ) (r : Run) → Sound n issued r → runDepth r ≤ 64 → ws ≡ runWords r ++ rest → Awaits b what r →
-      Strikes b r (failW ws w fresh .turn) (failW ws w fresh .fresh)
+      Strikes b r (failW ws w fresh .rewriting) (failW ws w fresh .fresh)
       (λ q. record { sender = nil; receiver = q; values = vs; issued = issued; serial = serial; fault = 1 })
       (what (λ x dead l. faulting issued serial vs (firstName w) dead))
   unfolding faulting
-  faults-when w r s deep stands (awaiting e k) = rw (k _) (strikes e (fail-turns n issued ws few small rest s deep stands w fresh room))
+  faults-when w r s deep stands (awaiting e k) = rw (k _) (strikes e (fail-rewrites n issued ws few small rest s deep stands w fresh room))
   faults-when w r s deep stands (elsewhere e k) = rw (k _) (spares e)
 
 -- ---- by rule
@@ -146,7 +146,7 @@ module _ (n issued : ℕ) (ws : List ℕ) (few : n ≤ 8) (small : issued < 6553
   pub solicit-meets :
       (i h v client server x : ℕ) → client < 8 → (l : Entries) (fresh : List ℕ) → Near (length ws) → Near (length fresh) → 4 ≤ length fresh →
       Meets (fitsW ws (offerW ws i) 8 h) r
-      (serveW ws (offerW ws i) client (suc issued) v fresh .turn) (serveW ws (offerW ws i) client (suc issued) v fresh .fresh) v
+      (serveW ws (offerW ws i) client (suc issued) v fresh .rewriting) (serveW ws (offerW ws i) client (suc issued) v fresh .fresh) v
       (λ q y.
       record {
         sender = waiter (nameOf h) x false server (suc issued) l;
@@ -165,7 +165,7 @@ module _ (n issued : ℕ) (ws : List ℕ) (few : n ≤ 8) (small : issued < 6553
     -- h is the executor's head
     pub reply-meets :
         (v : ℕ) →
-        Meets (awaitsW ws h serial client sender receiver) r (answerW ws v fresh .turn) (answerW ws v fresh .fresh) v
+        Meets (awaitsW ws h serial client sender receiver) r (answerW ws v fresh .rewriting) (answerW ws v fresh .fresh) v
         (λ q x. record { sender = nil; receiver = q; values = set vs x v; issued = issued; serial = serial; fault = 0 })
         (awaited sender receiver 0 (nameOf h) client serial r (λ x dead l. replied issued serial vs v x l))
     reply-meets v =
@@ -175,7 +175,7 @@ module _ (n issued : ℕ) (ws : List ℕ) (few : n ≤ 8) (small : issued < 6553
     -- h and w are the notice's first words
     pub fault-strikes :
         (w : ℕ) →
-        Strikes (awaitsW ws h serial client sender receiver) r (failW ws w fresh .turn) (failW ws w fresh .fresh)
+        Strikes (awaitsW ws h serial client sender receiver) r (failW ws w fresh .rewriting) (failW ws w fresh .fresh)
         (λ q. record { sender = nil; receiver = q; values = vs; issued = issued; serial = serial; fault = 1 })
         (awaited sender receiver 0 (nameOf h) client serial r (λ x dead l. faulting issued serial vs (firstName w) dead))
     fault-strikes w =

@@ -23,10 +23,10 @@ use Rattle.sock.proofs.ByKind.{runKind, kind-asNode}
 use Rattle.sock.proofs.Measures.{words-act, depth-act}
 use Rattle.skipping.proofs.Skips.{code-end}
 use Rattle.rules.specs.declared.pair.Offer.{Offer}
-use Rattle.rules.specs.Turning.{at, partEnd}
+use Rattle.rules.specs.Rewriting.{at, partEnd}
 use Rattle.rules.specs.Offering.{offering, noOffer, bareW, branchAt, chosenW, choiceW, offerW, receivesW, fitsW}
 use Rattle.rules.proofs.Shapes.{Shape, assigns, branches, repeats, chooses, hears, serves, notifies, solicits, installs, throws, compensates, shape}
-use Rattle.rules.proofs.Turns.{head-on}
+use Rattle.rules.proofs.Rewrites.{head-on}
 
 -- ---- what code receives
 

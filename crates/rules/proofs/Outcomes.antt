@@ -1,4 +1,4 @@
--- What a rule alone makes of an engine's process, as a plan.
+-- What a rule alone makes of an engine's process, as an edit.
 -- Assumes nothing.
 use Prim.Native.Nat.{ℕ, _+_, _≤_, _<_}
 use native.Mathlib.Omega.{arith}
@@ -13,23 +13,23 @@ use Rattle.sock.proofs.Fits.{SoundFrames}
 use Rattle.sock.proofs.Located.{wrap, size-positive}
 use Rattle.sock.proofs.Measures.{size-nil, depth-nil}
 use Rattle.sock.proofs.Shrinking.{NoLarger, plug-shrinks}
-use Rattle.finding.specs.declared.find.Spot.{Spot}
+use Rattle.finding.specs.declared.find.Site.{Site}
 use Rattle.finding.proofs.Spots.{Spotted}
 use Rattle.writers.proofs.Laid.{Near}
-use Rattle.rules.specs.declared.turn.Turn.{Turn}
-use Rattle.rules.specs.declared.plan.Plan.{Plan}
-use Rattle.rules.specs.Planning.{plainW}
-use Rattle.rules.proofs.Turns.{Becomes, Outcome, deepens, becomes}
-use Rattle.rules.proofs.Plans.{Plans, done-nil, plain-plans}
+use Rattle.rules.specs.declared.rewriting.Rewriting.{Rewriting}
+use Rattle.rules.specs.declared.edit.Edit.{Edit}
+use Rattle.rules.specs.Editing.{plainW}
+use Rattle.rules.proofs.Rewrites.{Becomes, Outcome, deepens, becomes}
+use Rattle.rules.proofs.Edits.{Edits, done-nil, plain-edits}
 use Rattle.rules.proofs.Depths.{depth-some, plug-fits, plug-too-deep}
 
 -- the rule's result for the process start..end: none where something can't be killed
-pub data Ruled (ws : List ℕ) (start end : ℕ) (p : Plan) (fresh : List ℕ) : Option Run → Type 0 where
+pub data Ruled (ws : List ℕ) (start end : ℕ) (p : Edit) (fresh : List ℕ) : Option Run → Type 0 where
   unkillable : p .number ≡ 6 → Ruled ws start end p fresh none
   tooDeep : {q : Run} → p .number ≡ 8 → 64 < runDepth q → Ruled ws start end p fresh (some q)
-  ruled : {q : Run} → p .number ≡ 0 → Plans ws start end p fresh q → runDepth q ≤ 64 → Ruled ws start end p fresh (some q)
+  ruled : {q : Run} → p .number ≡ 0 → Edits ws start end p fresh q → runDepth q ≤ 64 → Ruled ws start end p fresh (some q)
 
-module _ (f target : ℕ) (r : Run) (start : ℕ) (l : Located) (s : Spot) (ws : List ℕ) (words : drop start ws ≡ runWords r ++ drop (start + size r) ws)
+module _ (f target : ℕ) (r : Run) (start : ℕ) (l : Located) (s : Site) (ws : List ℕ) (words : drop start ws ≡ runWords r ++ drop (start + size r) ws)
     (spotted : Spotted f target r start 1 l s) (near : Near (length ws)) {n issued : ℕ} (frames : SoundFrames n issued (l .frames)) (deep : runDepth r ≤ 64) where
   whole : wrap (l .frames) (l .process) ≡ r
   whole = spotted .wraps
@@ -42,10 +42,10 @@ module _ (f target : ℕ) (r : Run) (start : ℕ) (l : Located) (s : Spot) (ws :
       omega (arith, p, ap runDepth whole)
 
   pub becomes-ruled :
-      (q : Run) (t : Turn) (fresh : List ℕ) → 0 < length fresh → Near (length fresh) → Becomes (l .process) q t fresh → s .level + runDepth q ≤ 65 →
-      (let u = plainW s start t fresh in Ruled ws start (start + size r) (u .plan) (u .fresh) (some (plug (l .frames) q)) × (u .plan .x ≡ t .x) × (u .plan .v ≡ t .v))
+      (q : Run) (t : Rewriting) (fresh : List ℕ) → 0 < length fresh → Near (length fresh) → Becomes (l .process) q t fresh → s .level + runDepth q ≤ 65 →
+      (let u = plainW s start t fresh in Ruled ws start (start + size r) (u .edit) (u .fresh) (some (plug (l .frames) q)) × (u .edit .store .variable ≡ t .store .variable) × (u .edit .store .value ≡ t .store .value))
   becomes-ruled q t fresh room big b low =
-      let p = plain-plans f target r start 1 l s ws words spotted near q t fresh room big b in
+      let p = plain-edits f target r start 1 l s ws words spotted near q t fresh room big b in
       (ruled (p .1) (p .0) (by (isDone q) refl), p .2, p .3)
     where
       by : (b : Bool) → isDone q ≡ b → runDepth (plug (l .frames) q) ≤ 64
@@ -53,8 +53,8 @@ module _ (f target : ℕ) (r : Run) (start : ℕ) (l : Located) (s : Spot) (ws :
       by false e = plug-fits frames (l .process) q 64 e (omega (arith, deep, ap runDepth whole)) (omega (arith, spotted .level))
 
   pub outcome-ruled :
-      (q : Run) (t : Turn) (fresh : List ℕ) → 0 < length fresh → Near (length fresh) → Outcome (l .process) (s .level) q t fresh →
-      (let u = plainW s start t fresh in Ruled ws start (start + size r) (u .plan) (u .fresh) (some (plug (l .frames) q)))
+      (q : Run) (t : Rewriting) (fresh : List ℕ) → 0 < length fresh → Near (length fresh) → Outcome (l .process) (s .level) q t fresh →
+      (let u = plainW s start t fresh in Ruled ws start (start + size r) (u .edit) (u .fresh) (some (plug (l .frames) q)))
   unfolding plainW
   outcome-ruled q t fresh room big (deepens a e d h) = rw e (tooDeep a (plug-too-deep frames q 64 d (omega (arith, spotted .level))))
   outcome-ruled q t fresh room big (becomes b x low) = becomes-ruled q t fresh room big b low .0

@@ -6,10 +6,10 @@ use mathlib.Core.Path.{_≡_, refl, sym, ap, _∙_}
 use mathlib.Core.Bool.{Bool, true, false, _&&_, cond}
 use mathlib.Core.Option.{Option, none, some}
 use mathlib.Core.List.{List, [], _∷_, _++_, append-nil}
-use borrow.Author.Tests.{ne-eqb, le-leb, lt-leb}
-use lib.Dec.{T, eqb, leb}
+use borrow.Author.Tests.{eq-eqb, ne-eqb}
+use lib.Dec.{T, eqb}
 use lib.ListN.{length, set}
-use Rattle.sock.specs.Words.{kindOf, nameOf, nextVariable, firstName, bit, headOf, nameFields}
+use Rattle.sock.specs.Words.{kindOf, nameOf, nextVariable, firstName, deadOf, waitersServer, bit, headOf, nameFields}
 use Rattle.sock.specs.Term.{Node, node, list, Entries, noParts}
 use Rattle.sock.specs.Layout.{words, entriesWords, count, depth, exprsWords, exprsDepth}
 use Rattle.sock.specs.Reading.{code, anywhere, endFits}
@@ -23,19 +23,15 @@ use Rattle.sock.proofs.ByKind.{runKind, kind-asNode, code-kind}
 use Rattle.sock.proofs.Measures.{words-act, words-waiter, depth-nil, depth-act, depth-waiter}
 use Rattle.skipping.proofs.Skips.{code-end, run-end}
 use Rattle.writers.proofs.Laid.{Near, laid-put}
-use Rattle.rules.specs.Turning.{turned, vanishing, keeping, at, partEnd}
-use Rattle.rules.specs.Offering.{receivesW, waiterHead, askW, waitsW, awaitsW, answerW, throwHead, failW}
-use Rattle.rules.proofs.Turns.{becomes-nil, head-on}
+use Rattle.rules.specs.Storing.{takes, unchanged}
+use Rattle.rules.specs.Rewriting.{rewritten, vanishing, keeping, at, partEnd}
+use Rattle.layout.specs.Heads.{waiterHead, throwHead}
+use Rattle.rules.specs.Offering.{receivesW, askW, waitsW, awaitsW, answerW, failW}
+use Rattle.rules.proofs.Rewrites.{becomes-nil, head-on}
 use Rattle.rules.proofs.Exchanges.{Takes, keeps, three-to, three-laid, first-place}
-
-waiter-head : (h w : ℕ) → waiterHead h w ≡ headOf 17 (nameFields (nameOf h) (nextVariable w))
-waiter-head h w = omega arith
 
 server-word : (server : ℕ) → server * 4096 ≡ bit false * 32768 + server * 4096
 server-word server = omega arith
-
-throw-head : (w : ℕ) → throwHead w ≡ headOf 13 (firstName w * 32)
-throw-head w = omega arith
 
 -- the list's words, behind those of its own
 abbrev listed : Entries → List ℕ
@@ -60,12 +56,12 @@ module _ (n issued : ℕ) (ws : List ℕ) (few : n ≤ 8) (small : issued < 6553
     asks-end : partEnd ws 0 ≡ 2 + length (listed l)
     asks-end = code-end ws f 64 0 deep rest stands ∙ omega (arith, ap length asks-words)
 
-    pub ask-turns :
+    pub ask-rewrites :
         (server serial : ℕ) → server < 8 → (fresh : List ℕ) → Near (length fresh) → 3 ≤ length fresh →
-        Takes (act m) (waiter (nameOf h) (nextVariable w) false server serial l) (askW ws server serial fresh .turn)
+        Takes (act m) (waiter (nameOf h) (nextVariable w) false server serial l) (askW ws server serial fresh .rewriting)
         (askW ws server serial fresh .fresh) 32 0
     unfolding askW isDone depth exprsDepth
-    ask-turns server serial known fresh near room =
+    ask-rewrites server serial known fresh near room =
         let three-bits : server % 8 ≡ server = omega arith in
         let full : ws ≡ h ∷ w ∷ (listed l ++ rest) = stands ∙ ap (λ a. a ++ rest) asks-words in
         let first : at ws 0 ≡ h = ap (λ a. at a 0) full in
@@ -75,8 +71,7 @@ module _ (n issued : ℕ) (ws : List ℕ) (few : n ≤ 8) (small : issued < 6553
         let q = waiter (nameOf h) (nextVariable w) false server serial l in
         let made : runWords q ≡ (waiterHead h w ∷ (server * 4096) ∷ serial ∷ []) ++ listed l =
         words-waiter (nameOf h) (nextVariable w) false server serial l
-        ∙ (ap (λ k. k ∷ (bit false * 32768 + server * 4096) ∷ serial ∷ listed l) (sym (waiter-head h w))
-        ∙ ap (λ k. waiterHead h w ∷ k ∷ serial ∷ listed l) (sym (server-word server))) in
+        ∙ ap (λ k. waiterHead h w ∷ k ∷ serial ∷ listed l) (sym (server-word server)) in
         rw (first, second, asks-end, three-bits, three-to fresh 0 near (omega arith))
         (record {
           becomes =
@@ -120,11 +115,11 @@ module _ (n issued : ℕ) (ws : List ℕ) (few : n ≤ 8) (small : issued < 6553
     unfolding size
     waits-end = run-end ws n issued few small s 64 0 deep rest stands ∙ omega (arith, ap length waits-words)
 
-    pub answer-turns :
+    pub answer-rewrites :
         (v : ℕ) (fresh : List ℕ) → 1 ≤ length fresh →
-        Takes r (act (instOf l)) (answerW ws v fresh .turn) (answerW ws v fresh .fresh) x v
+        Takes r (act (instOf l)) (answerW ws v fresh .rewriting) (answerW ws v fresh .fresh) x v
     unfolding answerW isDone words exprsWords depth exprsDepth
-    answer-turns v fresh room =
+    answer-rewrites v fresh room =
         let mine : runWords r ≡ own ++ (listed l ++ []) = waits-words ∙ ap (λ a. own ++ a) (sym (append-nil (listed l))) in
         let made : runWords (act (instOf l)) ≡ (24576 ∷ []) ++ listed l = words-act (instOf l)
         ∙ ap (λ a. 24576 ∷ count l ∷ a) (append-nil (entriesWords l)) in
@@ -139,27 +134,27 @@ module _ (n issued : ℕ) (ws : List ℕ) (few : n ≤ 8) (small : issued < 6553
           shallow = omega (arith, depth-waiter o x dead server serial l, depth-act (instOf l));
         })
 
-    is-dead : leb 32768 (bit dead * 32768 + server * 4096) ≡ dead
+    is-dead : eqb (deadOf (bit dead * 32768 + server * 4096)) 1 ≡ dead
     is-dead = by dead
       where
-        by : (d : Bool) → leb 32768 (bit d * 32768 + server * 4096) ≡ d
-        by true = le-leb 32768 (bit true * 32768 + server * 4096) (omega arith)
-        by false = lt-leb 32768 (bit false * 32768 + server * 4096) (omega (arith, below))
+        by : (d : Bool) → eqb (deadOf (bit d * 32768 + server * 4096)) 1 ≡ d
+        by true = eq-eqb (deadOf (bit true * 32768 + server * 4096)) 1 (omega (arith, below))
+        by false = ne-eqb (deadOf (bit false * 32768 + server * 4096)) 1 (λ z. omega (arith, below))
 
-    pub fail-turns :
+    pub fail-rewrites :
         (w : ℕ) (fresh : List ℕ) → 1 ≤ length fresh →
-        Takes r (cond dead nil (act (throwOf (firstName w)))) (failW ws w fresh .turn) (failW ws w fresh .fresh) 32 0
+        Takes r (cond dead nil (act (throwOf (firstName w)))) (failW ws w fresh .rewriting) (failW ws w fresh .fresh) 32 0
     unfolding failW isDone words exprsWords depth exprsDepth
-    fail-turns w fresh room = rw (second-word, is-dead, waits-end, first-place) (by dead)
+    fail-rewrites w fresh room = rw (second-word, is-dead, waits-end, first-place) (by dead)
       where
         by :
             (d : Bool) →
             Takes r (cond d nil (act (throwOf (firstName w))))
-            (cond d (turned (vanishing 32 0) fresh)
-            (turned (keeping 1 (3 + length (listed l)) (3 + length (listed l)) (3 + length (listed l)) 32 0)
-            (set fresh 0 (throwHead w))) .turn)
-            (cond d (turned (vanishing 32 0) fresh)
-            (turned (keeping 1 (3 + length (listed l)) (3 + length (listed l)) (3 + length (listed l)) 32 0)
+            (cond d (rewritten (vanishing unchanged) fresh)
+            (rewritten (keeping 1 (3 + length (listed l)) (3 + length (listed l)) (3 + length (listed l)) unchanged)
+            (set fresh 0 (throwHead w))) .rewriting)
+            (cond d (rewritten (vanishing unchanged) fresh)
+            (rewritten (keeping 1 (3 + length (listed l)) (3 + length (listed l)) (3 + length (listed l)) unchanged)
             (set fresh 0 (throwHead w))) .fresh)
             32 0
         by true =
@@ -167,8 +162,7 @@ module _ (n issued : ℕ) (ws : List ℕ) (few : n ≤ 8) (small : issued < 6553
             record { becomes = becomes-nil r 32 0 fresh; takes = refl; value = refl; shallow = d }
         by false =
             let mine : runWords r ≡ runWords r ++ ([] ++ []) = sym (append-nil (runWords r)) in
-            let made : runWords (act (throwOf (firstName w))) ≡ (throwHead w ∷ []) ++ [] = words-act (throwOf (firstName w))
-            ∙ ap (λ k. k ∷ []) (sym (throw-head w)) in
+            let made : runWords (act (throwOf (firstName w))) ≡ (throwHead w ∷ []) ++ [] = words-act (throwOf (firstName w)) in
             record {
               becomes =
                   keeps r (act (throwOf (firstName w))) 1 (3 + length (listed l)) (3 + length (listed l)) (3 + length (listed l)) 32 0
@@ -211,7 +205,7 @@ module _ (ws rest : List ℕ) (h serial client sender receiver : ℕ) where
   -- no waiter
   not-waiting : (r : Run) → ws ≡ runWords r ++ rest → (kindOf (at ws 0) ≡ 17 → ⊥) → awaitsW ws h serial client sender receiver ≡ false
   unfolding awaitsW waitsW receivesW
-  not-waiting r stands never = rw (ne-eqb (kindOf (at ws 0)) 17 never) (by (eqb client receiver) (eqb (at ws 1 / 4096 % 8) sender))
+  not-waiting r stands never = rw (ne-eqb (kindOf (at ws 0)) 17 never) (by (eqb client receiver) (eqb (waitersServer (at ws 1)) sender))
     where
       by : (a b : Bool) → cond a (cond b false false) false ≡ false
       by true true = refl

@@ -1,3 +1,4 @@
+pub mod Editing
 pub mod Offering
-pub mod Planning
-pub mod Turning
+pub mod Rewriting
+pub mod Storing

@@ -1,14 +1,16 @@
 -- The rules between two engines on words, as the code goes. No contract of a call names it.
-use Prim.Native.Nat.{ℕ, zero, suc, _+_, _-_, _*_, _/_, _%_}
+use Prim.Native.Nat.{ℕ, zero, suc, _-_}
 use mathlib.Core.Bool.{Bool, true, false, cond}
 use mathlib.Core.List.{List}
-use lib.Dec.{leb, ltb, eqb}
+use lib.Dec.{ltb, eqb}
 use lib.ListN.{set}
 use Rattle.sock.specs.Kind
-use Rattle.sock.specs.Words.{kindOf, countOf}
+use Rattle.sock.specs.Words.{kindOf, countOf, nameOf, secondOf, deadOf, waitersServer}
+use Rattle.layout.specs.Heads.{executorHead, clientWord, waiterHead, serverWord, throwHead}
 use Rattle.layout.specs.Positions.{onward}
-use Rattle.rules.specs.Turning.{Turned, turned, vanishing, keeping, at, partW, partEnd}
-use Rattle.rules.specs.declared.turn.Turn.{Turn}
+use Rattle.rules.specs.Storing.{takes, unchanged}
+use Rattle.rules.specs.Rewriting.{Rewritten, rewritten, vanishing, keeping, at, partW, partEnd}
+use Rattle.rules.specs.declared.rewriting.Rewriting.{Rewriting}
 use Rattle.rules.specs.declared.pair.Offer.{Offer}
 
 -- ---- what is offered
@@ -36,7 +38,7 @@ unfoldable pub offerW : List ℕ → ℕ → Offer
 offerW ws i = cond (eqb (kindOf (at ws 0)) Kind.choice) (choiceW ws (countOf (at ws 0)) i) (bareW ws i)
 
 unfoldable pub receivesW : ℕ → ℕ → ℕ → Bool
-receivesW g kind h = cond (eqb (g / 2048) kind) (cond (eqb (g / 32 % 64) (h / 32 % 64)) true false) false
+receivesW g kind h = cond (eqb (kindOf g) kind) (cond (eqb (nameOf g) (nameOf h)) true false) false
 
 unfoldable pub fitsW : List ℕ → Offer → ℕ → ℕ → Bool
 fitsW ws o kind h =
@@ -44,19 +46,10 @@ fitsW ws o kind h =
 
 -- ---- what the two turn into
 
-unfoldable pub hearW : List ℕ → Offer → ℕ → Turn
+unfoldable pub hearW : List ℕ → Offer → ℕ → Rewriting
 hearW ws o v =
-    cond (eqb (o .next) 0) (vanishing (at ws (o .guard) % 32) v)
-    (partW ws (o .next) (o .upto) (o .end) (at ws (o .guard) % 32) v)
-
-abbrev pub executorHead : ℕ → ℕ → ℕ
-executorHead h w = 32768 + h / 32 % 64 * 32 + w / 2048
-
-abbrev pub waiterHead : ℕ → ℕ → ℕ
-waiterHead h w = 34816 + h / 32 % 64 * 32 + w / 64 % 32
-
-abbrev pub throwHead : ℕ → ℕ
-throwHead w = 26624 + w / 1024 * 32
+    cond (eqb (o .next) 0) (vanishing (takes (secondOf (at ws (o .guard))) v))
+    (partW ws (o .next) (o .upto) (o .end) (takes (secondOf (at ws (o .guard))) v))
 
 -- a place in the fresh words, and those
 pub record Placed : Type 0 where
@@ -76,30 +69,30 @@ threeTo to = onward (onward (onward to 1) 1) 1
 unfoldable pub threeW : List ℕ → ℕ → ℕ → ℕ → ℕ → List ℕ
 threeW fresh to a b c = set (set (set fresh to a) (onward to 1) b) (onward (onward to 1) 1) c
 
-unfoldable pub serveW : List ℕ → Offer → ℕ → ℕ → ℕ → List ℕ → Turned
+unfoldable pub serveW : List ℕ → Offer → ℕ → ℕ → ℕ → List ℕ → Rewritten
 serveW ws o client serial v fresh =
     let h = at ws (o .guard) in
     let s = seqFirst (o .next) fresh in
-    turned (keeping (threeTo (s .to)) (onward (o .guard) 2) (o .upto) (o .end) (h % 32) v)
-    (threeW (s .fresh) (s .to) (executorHead h (at ws (onward (o .guard) 1))) (client % 8 * 8192) serial)
+    rewritten (keeping (threeTo (s .to)) (onward (o .guard) 2) (o .upto) (o .end) (takes (secondOf h) v))
+    (threeW (s .fresh) (s .to) (executorHead h (at ws (onward (o .guard) 1))) (clientWord client) serial)
 
-unfoldable pub askW : List ℕ → ℕ → ℕ → List ℕ → Turned
+unfoldable pub askW : List ℕ → ℕ → ℕ → List ℕ → Rewritten
 askW ws server serial fresh =
-    turned (keeping (threeTo 0) 2 (partEnd ws 0) (partEnd ws 0) 32 0)
-    (threeW fresh 0 (waiterHead (at ws 0) (at ws 1)) (server % 8 * 4096) serial)
+    rewritten (keeping (threeTo 0) 2 (partEnd ws 0) (partEnd ws 0) unchanged)
+    (threeW fresh 0 (waiterHead (at ws 0) (at ws 1)) (serverWord server) serial)
 
 unfoldable pub waitsW : List ℕ → ℕ → ℕ → Bool
-waitsW ws h serial = cond (receivesW (at ws 0) 17 h) (eqb (at ws 2) serial) false
+waitsW ws h serial = cond (receivesW (at ws 0) Kind.waiter h) (eqb (at ws 2) serial) false
 
 unfoldable pub awaitsW : List ℕ → ℕ → ℕ → ℕ → ℕ → ℕ → Bool
 awaitsW ws h serial client sender receiver =
-    cond (eqb client receiver) (cond (eqb (at ws 1 / 4096 % 8) sender) (waitsW ws h serial) false) false
+    cond (eqb client receiver) (cond (eqb (waitersServer (at ws 1)) sender) (waitsW ws h serial) false) false
 
-unfoldable pub answerW : List ℕ → ℕ → List ℕ → Turned
+unfoldable pub answerW : List ℕ → ℕ → List ℕ → Rewritten
 answerW ws v fresh =
-    turned (keeping (onward 0 1) 3 (partEnd ws 0) (partEnd ws 0) (at ws 0 % 32) v) (set fresh 0 24576)
+    rewritten (keeping (onward 0 1) 3 (partEnd ws 0) (partEnd ws 0) (takes (secondOf (at ws 0)) v)) (set fresh 0 24576)
 
-unfoldable pub failW : List ℕ → ℕ → List ℕ → Turned
+unfoldable pub failW : List ℕ → ℕ → List ℕ → Rewritten
 failW ws w fresh =
-    cond (leb 32768 (at ws 1)) (turned (vanishing 32 0) fresh)
-    (turned (keeping (onward 0 1) (partEnd ws 0) (partEnd ws 0) (partEnd ws 0) 32 0) (set fresh 0 (throwHead w)))
+    cond (eqb (deadOf (at ws 1)) 1) (rewritten (vanishing unchanged) fresh)
+    (rewritten (keeping (onward 0 1) (partEnd ws 0) (partEnd ws 0) (partEnd ws 0) unchanged) (set fresh 0 (throwHead w)))

@@ -1,5 +1,6 @@
 // The rules that look at no scope's list: what a process turns into, alone or between two engines.
 pub mod alone;
+pub mod edit;
 pub mod pair;
-pub mod plan;
-pub mod turn;
+pub mod rewriting;
+pub mod store;

@@ -1,19 +1,26 @@
 // The rules between two engines: what is offered to a sender, whether the two fit, and what each of them turns into.
-use crate::turn::Turn;
-use crate::turn::keep;
-use crate::turn::to_nil;
-use crate::turn::to_part;
+use crate::rewriting::Rewriting;
+use crate::rewriting::keep;
+use crate::rewriting::to_nil;
+use crate::rewriting::to_part;
+use crate::store::nothing;
+use crate::store::one;
+use layout::field::count_of;
+use layout::field::dead_of;
+use layout::field::kind_of;
+use layout::field::name_of;
+use layout::field::second_of;
+use layout::field::waiters_server;
 use layout::head;
 use layout::kind;
 use layout::limit::FUEL;
 use layout::number::further;
-use layout::number::wide;
 use layout::number::word;
 use skipping::skip::skip;
 use writers::write::put;
 ghost use mathlib.Core.Path.{_≡_};
 ghost use Prim.Native.Nat.{_<_};
-ghost use Rattle.rules.specs.Offering.{noOffer, bareW, branchAt, choiceW, offerW, receivesW, fitsW, hearW, executorHead, seqFirst, threeTo, threeW, serveW, waiterHead, askW, waitsW, awaitsW, answerW, throwHead, failW};
+ghost use Rattle.rules.specs.Offering.{noOffer, bareW, branchAt, choiceW, offerW, receivesW, fitsW, hearW, seqFirst, threeTo, threeW, serveW, askW, waitsW, awaitsW, answerW, failW};
 
 // Where a receiver stands in the words, and from next..upto the process that follows a chosen branch; next is 0 where none does.
 pub struct Offer {
@@ -24,7 +31,7 @@ pub struct Offer {
     pub end: usize,
 }
 
-fn nothing() -> Offer
+fn no_offer() -> Offer
     ensures { λ r. ⌜ r ≡ noOffer ⌝ }
 {
     Offer {
@@ -41,7 +48,7 @@ fn bare(part: &[u16], branch: usize) -> Offer
     ensures { λ r. ⌜ r ≡ bareW (now (part .entry)) branch ⌝ }
 {
     if branch != 0 {
-        return nothing();
+        return no_offer();
     }
     let end = skip(part, 0, FUEL);
     Offer {
@@ -72,10 +79,10 @@ fn chosen(part: &[u16], count: usize, branch: usize) -> Offer
     ensures { λ r. ⌜ r ≡ choiceW (now (part .entry)) count branch ⌝ }
 {
     if branch == 0 {
-        return nothing();
+        return no_offer();
     }
     if count < branch {
-        return nothing();
+        return no_offer();
     }
     let guard = branch_at(part, branch - 1);
     let next = skip(part, guard, FUEL);
@@ -93,51 +100,45 @@ fn chosen(part: &[u16], count: usize, branch: usize) -> Offer
 pub fn offered(part: &[u16], branch: usize) -> Offer
     ensures { λ r. ⌜ r ≡ offerW (now (part .entry)) branch ⌝ }
 {
-    let h = wide(word(part, 0));
-    if h / 2048 == kind::CHOICE {
-        return chosen(part, h % 2048, branch);
+    let h = word(part, 0);
+    if kind_of(h) == kind::CHOICE {
+        return chosen(part, count_of(h), branch);
     }
     bare(part, branch)
 }
 
 // Whether the head g is of that kind, with the operation of the head h.
-fn receives(g: usize, kind: usize, h: usize) -> bool
+fn receives(g: u16, kind: usize, h: u16) -> bool
     ensures { λ r. ⌜ r ≡ receivesW g kind h ⌝ }
 {
-    if g / 2048 != kind {
+    if kind_of(g) != kind {
         return false;
     }
-    if g / 32 % 64 != h / 32 % 64 {
+    if name_of(g) != name_of(h) {
         return false;
     }
     true
 }
 
 // Whether a receiver of that kind stands there, with the operation of the head h.
-pub fn fits(part: &[u16], o: Offer, kind: usize, h: usize) -> bool
+pub fn fits(part: &[u16], o: Offer, kind: usize, h: u16) -> bool
     ensures { λ r. ⌜ r ≡ fitsW (now (part .entry)) o kind h ⌝ }
 {
     if o.some {
-        return receives(wide(word(part, o.guard)), kind, h);
+        return receives(word(part, o.guard), kind, h);
     }
     false
 }
 
 // A one-way hears v.
-pub fn hear(part: &[u16], o: Offer, v: u32) -> Turn
+pub fn hear(part: &[u16], o: Offer, v: u32) -> Rewriting
     ensures { λ r. ⌜ r ≡ hearW (now (part .entry)) o v ⌝ }
 {
-    let x = wide(word(part, o.guard)) % 32;
+    let x = second_of(word(part, o.guard));
     if o.next == 0 {
-        return to_nil(x, v);
+        return to_nil(one(x, v));
     }
-    to_part(part, o.next, o.upto, o.end, x, v)
-}
-
-fn executor_head(h: u16, w: u16) -> u16
-    ensures { λ r. ⌜ r ≡ executorHead h w ⌝ }
-{
-    32768 + h / 32 % 64 * 32 + w / 2048
+    to_part(part, o.next, o.upto, o.end, one(x, v))
 }
 
 // The head of a seq, where a process follows.
@@ -159,43 +160,50 @@ fn three(fresh: &mut [u16], to: usize, a: u16, b: u16, c: u16) -> usize
     put(fresh, u, c)
 }
 
-// A request hears v and becomes an executor. An engine's number has three bits.
-pub fn serve(part: &[u16], o: Offer, client: u16, serial: u16, v: u32, fresh: &mut [u16]) -> Turn
-    ensures { λ r. ⌜ (r ≡ serveW (now (part .entry)) o client serial v (now (fresh .entry)) .turn) × (now (fresh .exit) ≡ serveW (now (part .entry)) o client serial v (now (fresh .entry)) .fresh) ⌝ }
+// A request hears v and becomes an executor.
+pub fn serve(
+    part: &[u16],
+    o: Offer,
+    client: u16,
+    serial: u16,
+    v: u32,
+    fresh: &mut [u16],
+) -> Rewriting
+    ensures { λ r. ⌜ (r ≡ serveW (now (part .entry)) o client serial v (now (fresh .entry)) .rewriting) × (now (fresh .exit) ≡ serveW (now (part .entry)) o client serial v (now (fresh .entry)) .fresh) ⌝ }
 {
     let h = word(part, o.guard);
     let y = word(part, further(o.guard, 1));
     let a = seq_first(o.next, fresh);
-    let g = three(fresh, a, executor_head(h, y), client % 8 * 8192, serial);
-    keep(g, further(o.guard, 2), o.upto, o.end, wide(h) % 32, v)
-}
-
-fn waiter_head(h: u16, w: u16) -> u16
-    ensures { λ r. ⌜ r ≡ waiterHead h w ⌝ }
-{
-    34816 + h / 32 % 64 * 32 + w / 64 % 32
+    let g = three(
+        fresh,
+        a,
+        head::executor(h, y),
+        head::client_word(client),
+        serial,
+    );
+    keep(g, further(o.guard, 2), o.upto, o.end, one(second_of(h), v))
 }
 
 // A solicit becomes a waiter.
-pub fn ask(part: &[u16], server: u16, serial: u16, fresh: &mut [u16]) -> Turn
-    ensures { λ r. ⌜ (r ≡ askW (now (part .entry)) server serial (now (fresh .entry)) .turn) × (now (fresh .exit) ≡ askW (now (part .entry)) server serial (now (fresh .entry)) .fresh) ⌝ }
+pub fn ask(part: &[u16], server: u16, serial: u16, fresh: &mut [u16]) -> Rewriting
+    ensures { λ r. ⌜ (r ≡ askW (now (part .entry)) server serial (now (fresh .entry)) .rewriting) × (now (fresh .exit) ≡ askW (now (part .entry)) server serial (now (fresh .entry)) .fresh) ⌝ }
 {
     let g = three(
         fresh,
         0,
-        waiter_head(word(part, 0), word(part, 1)),
-        server % 8 * 4096,
+        head::waiter(word(part, 0), word(part, 1)),
+        head::server_word(server),
         serial,
     );
     let end = skip(part, 0, FUEL);
-    keep(g, 2, end, end, 32, 0)
+    keep(g, 2, end, end, nothing())
 }
 
 // Whether a waiter stands in `part`, with the operation of the head h and that serial.
-fn waits(part: &[u16], h: usize, serial: u16) -> bool
+fn waits(part: &[u16], h: u16, serial: u16) -> bool
     ensures { λ r. ⌜ r ≡ waitsW (now (part .entry)) h serial ⌝ }
 {
-    if receives(wide(word(part, 0)), 17, h) {
+    if receives(word(part, 0), kind::WAITER, h) {
         return word(part, 2) == serial;
     }
     false
@@ -204,7 +212,7 @@ fn waits(part: &[u16], h: usize, serial: u16) -> bool
 // Whether it does so for an end in the engine `sender` that names `client`, itself in the engine `receiver`.
 pub fn awaits(
     part: &[u16],
-    h: usize,
+    h: u16,
     serial: u16,
     client: usize,
     sender: usize,
@@ -215,35 +223,29 @@ pub fn awaits(
     if client != receiver {
         return false;
     }
-    if wide(word(part, 1)) / 4096 % 8 != sender {
+    if waiters_server(word(part, 1)) != sender {
         return false;
     }
     waits(part, h, serial)
 }
 
 // A reply: x takes v, and the waiter becomes inst of its list.
-pub fn answer(part: &[u16], v: u32, fresh: &mut [u16]) -> Turn
-    ensures { λ r. ⌜ (r ≡ answerW (now (part .entry)) v (now (fresh .entry)) .turn) × (now (fresh .exit) ≡ answerW (now (part .entry)) v (now (fresh .entry)) .fresh) ⌝ }
+pub fn answer(part: &[u16], v: u32, fresh: &mut [u16]) -> Rewriting
+    ensures { λ r. ⌜ (r ≡ answerW (now (part .entry)) v (now (fresh .entry)) .rewriting) × (now (fresh .exit) ≡ answerW (now (part .entry)) v (now (fresh .entry)) .fresh) ⌝ }
 {
     let g = put(fresh, 0, head::INST);
     let end = skip(part, 0, FUEL);
-    keep(g, 3, end, end, wide(word(part, 0)) % 32, v)
-}
-
-fn throw_head(w: u16) -> u16
-    ensures { λ r. ⌜ r ≡ throwHead w ⌝ }
-{
-    26624 + w / 1024 * 32
+    keep(g, 3, end, end, one(second_of(word(part, 0)), v))
 }
 
 // A fault, from the word w of its notice: a live waiter becomes throw, a dead one nil.
-pub fn fail(part: &[u16], w: u16, fresh: &mut [u16]) -> Turn
-    ensures { λ r. ⌜ (r ≡ failW (now (part .entry)) w (now (fresh .entry)) .turn) × (now (fresh .exit) ≡ failW (now (part .entry)) w (now (fresh .entry)) .fresh) ⌝ }
+pub fn fail(part: &[u16], w: u16, fresh: &mut [u16]) -> Rewriting
+    ensures { λ r. ⌜ (r ≡ failW (now (part .entry)) w (now (fresh .entry)) .rewriting) × (now (fresh .exit) ≡ failW (now (part .entry)) w (now (fresh .entry)) .fresh) ⌝ }
 {
-    if 32768 <= word(part, 1) {
-        return to_nil(32, 0);
+    if dead_of(word(part, 1)) == 1 {
+        return to_nil(nothing());
     }
-    let g = put(fresh, 0, throw_head(w));
+    let g = put(fresh, 0, head::throw(w));
     let end = skip(part, 0, FUEL);
-    keep(g, end, end, end, 32, 0)
+    keep(g, end, end, end, nothing())
 }

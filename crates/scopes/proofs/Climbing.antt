@@ -15,7 +15,7 @@ use Rattle.sock.proofs.Logic.{and-left, and-right, and-both, test-false}
 use Rattle.sock.proofs.Located.{wrap}
 use Rattle.finding.proofs.Stops.{stopped, catches}
 use Rattle.sock.proofs.Around.{free}
-use Rattle.rules.proofs.Turns.{both-ways}
+use Rattle.rules.proofs.Rewrites.{both-ways}
 
 -- the scope among the frames that stops the fault f, around a: the frames inside it let f pass
 pub record Stopped (f : ℕ) (fs : List Frame) (a : Run) (l : Located) : Type 0 where

@@ -24,7 +24,7 @@ use Rattle.sock.proofs.Measures.{words-act}
 use Rattle.reading.specs.Walk.{processEnd}
 use Rattle.reading.proofs.Combining.{Words}
 use Rattle.skipping.proofs.Notes.{Right}
-use Rattle.finding.specs.declared.find.Spot.{Spot}
+use Rattle.finding.specs.declared.find.Site.{Site}
 use Rattle.finding.proofs.Framing.{scoped, region, nearest-self}
 use Rattle.finding.proofs.Spots.{Spotted}
 use Rattle.finding.proofs.Edits.{part, edited, swap-edited, process-at, list-at, region-changed, scope-none}
@@ -33,31 +33,25 @@ use Rattle.writers.proofs.Laid.{Near, onward-near, Laid, laid-under, laid-copy,
 use Rattle.handling.specs.Taking.{Took, takeW}
 use Rattle.handling.proofs.Takes.{Takes, takes, Stands, without-absent}
 use Rattle.handling.proofs.Stays.{without-shallow, without-short}
-use Rattle.rules.specs.Planning.{Planned, planned, refusedPlan, nilW}
-use Rattle.rules.proofs.Turns.{first-at, enable-words}
+use Rattle.rules.specs.Storing.{unchanged}
+use Rattle.rules.specs.Editing.{Edited, refusedEdit, nilW}
+use Rattle.rules.specs.Editing.{edited as editing}
+use Rattle.rules.proofs.Rewrites.{first-at, enable-words}
 use Rattle.rules.proofs.Deep.{code-fits}
 use Rattle.rules.proofs.Depths.{spread, plug-depth, plug-too-deep}
-use Rattle.rules.proofs.Plans.{Plans, plans-of, done-nil}
+use Rattle.rules.proofs.Edits.{Edits, edits-of, done-nil}
 use Rattle.rules.proofs.Outcomes.{Ruled, tooDeep, ruled}
-use Rattle.scopes.specs.Compensating.{levelsAt, movedW, compensatedW}
+use Rattle.scopes.specs.Compensating.{movedW, compensatedW}
 use Rattle.scopes.proofs.NilLists.{laid-part}
 use Rattle.scopes.proofs.NearestLists.{nearest-empty, nearest-kept, nearest-length, nearest-spread, nearest-within, without-keeps, handler-lives}
 use Rattle.scopes.proofs.ScopeLists.{whole-inside, frames-deep, level-low, nil-ruled, process-inside, list-deep, region-length, list-first, list-before, list-inside, to-list, list-ends}
 use Rattle.scopes.proofs.Scratch.{Roomy}
 
-levels-at : (level : ℕ) → levelsAt level ≡ 65 - level
-unfolding levelsAt
-levels-at level = by (ltb level 65) refl
-  where
-    by : (b : Bool) → ltb level 65 ≡ b → cond b (65 - level) 0 ≡ 65 - level
-    by true q = refl
-    by false q = let z : 65 ≤ level = ltb-false level 65 q in omega arith
-
 node-some : (x : Node) → 0 < length (words x)
 unfolding words
 node-some (node a b c d e) = omega arith
 
-module _ (f target : ℕ) (r : Run) (start : ℕ) (l : Located) (s : Spot) (ws notes : List ℕ) (right : Right ws notes)
+module _ (f target : ℕ) (r : Run) (start : ℕ) (l : Located) (s : Site) (ws notes : List ℕ) (right : Right ws notes)
     (words-at : drop start ws ≡ runWords r ++ drop (start + size r) ws)
     (spotted : Spotted f target r start 1 l s) (near : Near (length ws)) {n issued : ℕ} (frames : SoundFrames n issued (l .frames))
     (deep : runDepth r ≤ 64)
@@ -99,10 +93,10 @@ module _ (f target : ℕ) (r : Run) (start : ℕ) (l : Located) (s : Spot) (ws n
   gone : m ≡ nilNode → changed ≡ l .frames → plug (l .frames) nil ≡ plug changed (enable m)
   gone e c = sym (ap (λ fs. plug fs (enable m)) c ∙ ap (plug (l .frames)) (done-nil (enable m) (enable-done fitting ∙ ap isNil e)))
 
-  abbrev Result : Planned → Type 0
-  Result u = Ruled ws start (start + size r) (u .plan) (u .fresh) (some (plug changed (enable m))) × (u .plan .x ≡ 32)
+  abbrev Result : Edited → Type 0
+  Result u = Ruled ws start (start + size r) (u .edit) (u .fresh) (some (plug changed (enable m))) × (u .edit .store .variable ≡ 32)
 
-  stays-nil : (made : List ℕ) → length made ≡ length fresh → m ≡ nilNode → changed ≡ l .frames → Result (nilW s start start 0 32 0 made)
+  stays-nil : (made : List ℕ) → length made ≡ length fresh → m ≡ nilNode → changed ≡ l .frames → Result (nilW s start start 0 unchanged made)
   stays-nil made same e c =
       rw (← (gone e c)) (nil-ruled f target r start l s ws words-at spotted near frames deep made (omega arith) (rw same big))
 
@@ -197,7 +191,7 @@ module _ (f target : ℕ) (r : Run) (start : ℕ) (l : Located) (s : Spot) (ws n
       handler-made : part to (to + length (words m)) (pasted ws from upto (took .out) to) ≡ words m
       handler-made = laid-part (omega (arith, room-enough, taking .keeps)) pasting refl
 
-      moves : Plans ws start (start + size r) (movedW ws notes s (took .answer) (took .out) .plan)
+      moves : Edits ws start (start + size r) (movedW ws notes s (took .answer) (took .out) .edit)
           (movedW ws notes s (took .answer) (took .out) .fresh)
           (plug changed (enable m))
       unfolding movedW
@@ -211,7 +205,7 @@ module _ (f target : ℕ) (r : Run) (start : ℕ) (l : Located) (s : Spot) (ws n
             onward-near target 1 (length ws) near (omega (arith, inside, one-inside)),
             pasted-to,
           )
-          (plans-of ws start (start + size r) _ (pasted ws from upto (took .out) to)
+          (edits-of ws start (start + size r) _ (pasted ws from upto (took .out) to)
           (record {
             l-in = omega (arith, list-first f target r start l s ws words-at spotted near frames deep t);
             m-in = omega arith;
@@ -233,8 +227,8 @@ module _ (f target : ℕ) (r : Run) (start : ℕ) (l : Located) (s : Spot) (ws n
           (omega arith) (omega arith) (omega arith) (without k) t)))
 
       -- if there are levels left for it
-      placed : (b : Bool) → leb (depth m) (levelsAt (s .level)) ≡ b →
-          Result (cond (eqb (cond b (from + length (words m)) 0) 0) (planned (refusedPlan 8) (took .out))
+      placed : (b : Bool) → leb (depth m) (65 - s .level) ≡ b →
+          Result (cond (eqb (cond b (from + length (words m)) 0) 0) (editing (refusedEdit 8) (took .out))
           (movedW ws notes s (took .answer) (took .out)))
       unfolding movedW
       placed false e =
@@ -244,8 +238,7 @@ module _ (f target : ℕ) (r : Run) (start : ℕ) (l : Located) (s : Spot) (ws n
                 (omega (
                   arith,
                   enabled-deep,
-                  leb-false (depth m) (levelsAt (s .level)) e,
-                  levels-at (s .level),
+                  leb-false (depth m) (65 - s .level) e,
                   spotted .level,
                   nearest-length (without k) (l .frames),
                   low,
@@ -262,8 +255,7 @@ module _ (f target : ℕ) (r : Run) (start : ℕ) (l : Located) (s : Spot) (ws n
                   d,
                   changed-deep,
                   enabled-deep,
-                  leb-true (depth m) (levelsAt (s .level)) e,
-                  levels-at (s .level),
+                  leb-true (depth m) (65 - s .level) e,
                   spotted .level,
                   nearest-length (without k) (l .frames),
                   low,
@@ -278,16 +270,16 @@ module _ (f target : ℕ) (r : Run) (start : ℕ) (l : Located) (s : Spot) (ws n
         rw (ne-eqb (s .scope) 0 (λ z. omega arith), to-list f target r start l s ws words-at spotted near frames deep t, head-at) (by b e)
       where
         by : (b : Bool) → holds k es ≡ b →
-            Result (cond (eqb (took .answer .upto) 0) (nilW s start start 0 32 0 (took .out))
-            (cond (eqb (processEnd (levelsAt (s .level)) ws bound 0 (took .answer .from)) 0) (planned (refusedPlan 8) (took .out))
+            Result (cond (eqb (took .answer .upto) 0) (nilW s start start 0 unchanged (took .out))
+            (cond (eqb (processEnd (65 - s .level) ws bound 0 (took .answer .from)) 0) (editing (refusedEdit 8) (took .out))
             (movedW ws notes s (took .answer) (took .out))))
         by true e =
             let x : Stands ws (took .answer .from) (took .answer .upto) m = stands e in
             rw (
               ne-eqb (took .answer .upto) 0 (λ z. omega (arith, x .1 .1, some-words e)),
-              code-fits ws ok n issued small fitting (levelsAt (s .level)) (took .answer .from) (x .0) (x .1 .0),
+              code-fits ws ok n issued small fitting (65 - s .level) (took .answer .from) (x .0) (x .1 .0),
             )
-            (placed e (leb (depth m) (levelsAt (s .level))) refl)
+            (placed e (leb (depth m) (65 - s .level)) refl)
         by false e =
             rw (eq-eqb (took .answer .upto) 0 (taking .absent e .0))
             (stays-nil (took .out) (taking .keeps) (taking .absent e .1) (nearest-kept (without k) (l .frames) (without-absent k es e)))
@@ -295,9 +287,9 @@ module _ (f target : ℕ) (r : Run) (start : ℕ) (l : Located) (s : Spot) (ws n
   -- the rule
   pub compensates :
       (let u = compensatedW (n * 65536 + issued) ws notes start s fresh in
-      Ruled ws start (start + size r) (u .plan) (u .fresh)
+      Ruled ws start (start + size r) (u .edit) (u .fresh)
       (some (plug (onNearest (without (scopeKey (nameOf h))) (l .frames)) (enable (handler (scopeKey (nameOf h)) (nearest (l .frames))))))
-      × (u .plan .x ≡ 32))
+      × (u .edit .store .variable ≡ 32))
   compensates = by (scoped (l .frames)) refl
     where
       by : (b : Bool) → scoped (l .frames) ≡ b → Result (compensatedW bound ws notes start s fresh)

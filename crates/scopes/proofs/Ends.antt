@@ -17,12 +17,13 @@ use Rattle.sock.specs.Frames.{Located, plug, onNearest}
 use Rattle.sock.specs.Rules.{ending}
 use Rattle.sock.proofs.Fits.{FitsEntries, Sound, SoundFrames}
 use Rattle.skipping.proofs.Notes.{Right}
-use Rattle.finding.specs.declared.find.Spot.{Spot}
+use Rattle.finding.specs.declared.find.Site.{Site}
 use Rattle.finding.proofs.Framing.{scoped, nearest-self}
 use Rattle.finding.proofs.Spots.{Spotted}
 use Rattle.finding.proofs.Edits.{scope-none}
 use Rattle.writers.proofs.Laid.{Near}
-use Rattle.rules.specs.Planning.{nilW}
+use Rattle.rules.specs.Storing.{unchanged}
+use Rattle.rules.specs.Editing.{nilW}
 use Rattle.rules.proofs.Outcomes.{Ruled}
 use Rattle.scopes.specs.Ending.{endingW, endedW}
 use Rattle.scopes.proofs.ScopeLists.{nil-ruled, list-first}
@@ -31,7 +32,7 @@ use Rattle.scopes.proofs.Resumes.{resumes}
 use Rattle.scopes.proofs.Promotes.{promotes}
 use Rattle.scopes.proofs.Scratch.{Roomy}
 
-module _ (f target : ℕ) (r : Run) (start : ℕ) (l : Located) (s : Spot) (ws notes : List ℕ) (right : Right ws notes)
+module _ (f target : ℕ) (r : Run) (start : ℕ) (l : Located) (s : Site) (ws notes : List ℕ) (right : Right ws notes)
     (words-at : drop start ws ≡ runWords r ++ drop (start + size r) ws)
     (spotted : Spotted f target r start 1 l s) (near : Near (length ws)) {n issued : ℕ} (frames : SoundFrames n issued (l .frames))
     (deep : runDepth r ≤ 64)
@@ -40,7 +41,7 @@ module _ (f target : ℕ) (r : Run) (start : ℕ) (l : Located) (s : Spot) (ws n
   abbrev Result : ℕ → Mark → Bool → Entries → Type 0
   Result name mark zombie h =
       (let u = endedW ws notes start s fresh in
-      Ruled ws start (start + size r) (u .plan) (u .fresh) (some (ending name mark zombie h (l .frames))) × (u .plan .x ≡ 32))
+      Ruled ws start (start + size r) (u .edit) (u .fresh) (some (ending name mark zombie h (l .frames))) × (u .edit .store .variable ≡ 32))
 
   module _ (name : ℕ) (mark : Mark) (zombie : Bool) (h : Entries) (is : l .process ≡ scope name mark zombie h nil) where
     inner : Sound n issued (scope name mark zombie h nil)
@@ -56,20 +57,20 @@ module _ (f target : ℕ) (r : Run) (start : ℕ) (l : Located) (s : Spot) (ws n
   live :
       (name : ℕ) (h : Entries) → l .process ≡ scope name unmarked false h nil →
       (let u =
-      cond (eqb (s .scope) 0) (nilW s start start 0 32 0 fresh) (endingW ws notes s (scopeKey name) fresh) in
-      Ruled ws start (start + size r) (u .plan) (u .fresh)
+      cond (eqb (s .scope) 0) (nilW s start start 0 unchanged fresh) (endingW ws notes s (scopeKey name) fresh) in
+      Ruled ws start (start + size r) (u .edit) (u .fresh)
       (some
       (plug (onNearest (λ outer. update outer (entry (scopeKey name) (handler (scopeKey name) h) noEntries)) (l .frames)) nil))
-      × (u .plan .x ≡ 32))
+      × (u .edit .store .variable ≡ 32))
   live name h is = by (scoped (l .frames)) refl
     where
       by : (c : Bool) → scoped (l .frames) ≡ c →
           (let u =
-          cond (eqb (s .scope) 0) (nilW s start start 0 32 0 fresh) (endingW ws notes s (scopeKey name) fresh) in
-          Ruled ws start (start + size r) (u .plan) (u .fresh)
+          cond (eqb (s .scope) 0) (nilW s start start 0 unchanged fresh) (endingW ws notes s (scopeKey name) fresh) in
+          Ruled ws start (start + size r) (u .edit) (u .fresh)
           (some
           (plug (onNearest (λ outer. update outer (entry (scopeKey name) (handler (scopeKey name) h) noEntries)) (l .frames)) nil))
-          × (u .plan .x ≡ 32))
+          × (u .edit .store .variable ≡ 32))
       by true e =
           let t : T (scoped (l .frames)) = rw e tt in
           let first = list-first f target r start l s ws words-at spotted near frames deep t in

@@ -22,7 +22,7 @@ use Rattle.sock.proofs.Measures.{words-act, size-nil, depth-nil, depth-act}
 use Rattle.sock.proofs.Positions.{at-head}
 use Rattle.sock.proofs.Shrinking.{NoLarger, plug-shrinks}
 use Rattle.skipping.proofs.Notes.{Right}
-use Rattle.finding.specs.declared.find.Spot.{Spot}
+use Rattle.finding.specs.declared.find.Site.{Site}
 use Rattle.finding.proofs.Framing.{scoped, region, outside, nearest-self}
 use Rattle.finding.proofs.Pieces.{hole}
 use Rattle.finding.proofs.Spots.{Spotted}
@@ -34,13 +34,13 @@ use Rattle.handling.proofs.Replaces.{replaces}
 use Rattle.handling.proofs.Grows.{replaced-small}
 use Rattle.handling.proofs.Sizes.{update-small}
 use Rattle.handling.proofs.Updates.{Updates, updates}
-use Rattle.rules.specs.Planning.{Planned, planned, refusedPlan, nilW}
+use Rattle.rules.specs.Editing.{Edited, edited, refusedEdit, nilW}
 use Rattle.rules.proofs.Depths.{wrap-depth, depth-some}
 use Rattle.rules.proofs.Outcomes.{Ruled, tooDeep, ruled}
 use Rattle.scopes.specs.Installing.{tooDeepW, updatedW, installedW}
 use Rattle.scopes.proofs.NearestLists.{nearest-length, nearest-spread, nearest-within, nearest-deep, update-keeps}
 use Rattle.scopes.proofs.ScopeLists.{whole-inside, frames-deep, nil-ruled, process-inside, list-deep, region-length, list-first, list-inside, to-list, list-ends}
-use Rattle.scopes.proofs.NilLists.{hollow-to, list-plans}
+use Rattle.scopes.proofs.NilLists.{hollow-to, list-edits}
 use Rattle.scopes.proofs.Scratch.{Spacious}
 
 too-deep : (level levels : ℕ) → level ≤ 64 → tooDeepW level levels ≡ ltb 64 (level + levels)
@@ -57,7 +57,7 @@ hole-short : (b : Bool) → length (hole b) ≤ 1
 hole-short true = omega arith
 hole-short false = omega arith
 
-module _ (f target : ℕ) (r : Run) (start : ℕ) (l : Located) (s : Spot) (ws notes : List ℕ) (right : Right ws notes)
+module _ (f target : ℕ) (r : Run) (start : ℕ) (l : Located) (s : Site) (ws notes : List ℕ) (right : Right ws notes)
     (words-at : drop start ws ≡ runWords r ++ drop (start + size r) ws)
     (spotted : Spotted f target r start 1 l s) (near : Near (length ws)) {n issued : ℕ} (frames : SoundFrames n issued (l .frames))
     (deep : runDepth r ≤ 64)
@@ -84,8 +84,8 @@ module _ (f target : ℕ) (r : Run) (start : ℕ) (l : Located) (s : Spot) (ws n
   unfolding depth exprsDepth
   its-depth = ap runDepth is ∙ (depth-act (node h [] [] (list new) noParts) ∙ omega arith)
 
-  abbrev Result : Planned → Type 0
-  Result u = Spacious u fresh → Ruled ws start (start + size r) (u .plan) (u .fresh) (some (plug changed nil)) × (u .plan .x ≡ 32)
+  abbrev Result : Edited → Type 0
+  Result u = Spacious u fresh → Ruled ws start (start + size r) (u .edit) (u .fresh) (some (plug changed nil)) × (u .edit .store .variable ≡ 32)
 
   bare : T (not (scoped (l .frames))) → Result (installedW ws notes start s fresh)
   unfolding installedW
@@ -184,13 +184,13 @@ module _ (f target : ℕ) (r : Run) (start : ℕ) (l : Located) (s : Spot) (ws n
     -- if there are levels left for it
     placed :
         (b : Bool) → ltb 64 (suc (outside (l .frames)) + made .answer .levels) ≡ b →
-        Result (cond b (planned (refusedPlan 8) (made .out)) (updatedW ws notes s (s .scope + 2) (made .answer .to) (made .out)))
+        Result (cond b (edited (refusedEdit 8) (made .out)) (updatedW ws notes s (s .scope + 2) (made .answer .to) (made .out)))
     unfolding updatedW nilW
     placed true e = λ w. (tooDeep refl (changed-deep (ltb-true 64 (suc (outside (l .frames)) + made .answer .levels) e)), refl)
     placed false e = λ w.
         rw (list-ends f target r start l s ws words-at spotted near frames deep t notes right) (
           ruled refl
-              (list-plans f target r start l s ws words-at spotted near frames deep t change (made .answer .to) (made .out)
+              (list-edits f target r start l s ws words-at spotted near frames deep t change (made .answer .to) (made .out)
               (updating .reaches)
               to-near
               (λ x. omega (arith, updating .keeps, spared w x)) (λ x. list-laid (spared w x)) 32 0)
@@ -214,8 +214,8 @@ module _ (f target : ℕ) (r : Run) (start : ℕ) (l : Located) (s : Spot) (ws n
   pub installs :
       (let u = installedW ws notes start s fresh in
       Spacious u fresh →
-      Ruled ws start (start + size r) (u .plan) (u .fresh) (some (plug (onNearest (λ x. update x new) (l .frames)) nil))
-      × (u .plan .x ≡ 32))
+      Ruled ws start (start + size r) (u .edit) (u .fresh) (some (plug (onNearest (λ x. update x new) (l .frames)) nil))
+      × (u .edit .store .variable ≡ 32))
   installs = by (scoped (l .frames)) refl
     where
       by : (b : Bool) → scoped (l .frames) ≡ b → Result (installedW ws notes start s fresh)

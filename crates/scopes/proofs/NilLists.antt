@@ -1,4 +1,4 @@
--- The process becomes nil and the nearest scope's list another, whose words are the first fresh ones: what the plan says.
+-- The process becomes nil and the nearest scope's list another, whose words are the first fresh ones: what the edit says.
 -- Assumes nothing.
 use Prim.Native.Nat.{ℕ, _+_, _-_, _≤_, _<_}
 use native.Mathlib.Omega.{arith}
@@ -13,15 +13,16 @@ use Rattle.sock.specs.Layout.{entriesWords}
 use Rattle.sock.specs.Running.{Run, nil, runWords, size, runDepth}
 use Rattle.sock.specs.Frames.{Located, plug, nearest, onNearest}
 use Rattle.sock.proofs.Fits.{SoundFrames}
-use Rattle.finding.specs.declared.find.Spot.{Spot}
+use Rattle.finding.specs.declared.find.Site.{Site}
 use Rattle.finding.proofs.Framing.{scoped, region}
 use Rattle.finding.proofs.Pieces.{hole, Cut}
 use Rattle.finding.proofs.Spots.{Spotted}
 use Rattle.finding.proofs.Edits.{part, edited, nil-edited, cut-order, list-order, region-changed}
 use Rattle.writers.proofs.Laid.{Near, onward-near, Laid, laid-put, laid-under}
-use Rattle.rules.specs.declared.plan.Plan.{Plan}
-use Rattle.rules.specs.Planning.{hollowW, nilW}
-use Rattle.rules.proofs.Plans.{Ordered, Plans, edited-words}
+use Rattle.rules.specs.Storing.{takes}
+use Rattle.rules.specs.declared.edit.Edit.{Edit}
+use Rattle.rules.specs.Editing.{hollowW, nilW}
+use Rattle.rules.proofs.Edits.{Ordered, Edits, edited-words}
 use Rattle.scopes.proofs.ScopeLists.{whole-inside}
 
 -- words laid behind others
@@ -50,7 +51,7 @@ hollow-laid true f out h =
     (laid-under (omega arith) l, laid-part (omega arith) l refl)
 hollow-laid false f out h = let z : f + 0 - f ≡ 0 = omega arith in (refl, ap (λ k. take k (drop f out)) z)
 
-module _ (f target : ℕ) (r : Run) (start : ℕ) (l : Located) (s : Spot) (ws : List ℕ)
+module _ (f target : ℕ) (r : Run) (start : ℕ) (l : Located) (s : Site) (ws : List ℕ)
     (words : drop start ws ≡ runWords r ++ drop (start + size r) ws)
     (spotted : Spotted f target r start 1 l s) (near : Near (length ws)) {n issued : ℕ} (frames : SoundFrames n issued (l .frames))
     (deep : runDepth r ≤ 64)
@@ -60,8 +61,8 @@ module _ (f target : ℕ) (r : Run) (start : ℕ) (l : Located) (s : Spot) (ws :
   abbrev m : ℕ
   m = s .scope + 2 + length (region (l .frames))
 
-  abbrev p : Plan
-  p = nilW s (s .scope + 2) m to x v out .plan
+  abbrev p : Edit
+  p = nilW s (s .scope + 2) m to (takes x v) out .edit
 
   abbrev q : Run
   q = plug (onNearest g (l .frames)) nil
@@ -85,10 +86,10 @@ module _ (f target : ℕ) (r : Run) (start : ℕ) (l : Located) (s : Spot) (ws :
   new-length : length (region (onNearest g (l .frames))) ≡ to
   new-length = ap length (region-changed g (l .frames) t) ∙ omega (arith, reaches)
 
-  sizes : size q + ((p .m - p .l) + ((p .b - p .a) + (p .d - p .c))) ≡ (start + size r - start) + p .g
+  sizes : size q + ((p .past - p .list) + ((p .upto - p .from) + (p .end - p .gap))) ≡ (start + size r - start) + p .fresh
   unfolding nilW size
   sizes =
-      let c : Cut r start (l .frames) (s .scope) (s .a) (s .b) (s .c) (s .d) (s .hollow) = spotted .cut in
+      let c : Cut r start (l .frames) (s .scope) (s .from) (s .upto) (s .gap) (s .end) (s .hollow) = spotted .cut in
       let h = hollow-to (s .hollow) to out low in
       let new = new-length in
       let whole = ap length (c .whole) in
@@ -104,7 +105,7 @@ module _ (f target : ℕ) (r : Run) (start : ℕ) (l : Located) (s : Spot) (ws :
       let y3 = length-append (c .between) (hole (s .hollow) ++ (c .middle ++ c .after)) in
       let y4 = length-append (hole (s .hollow)) (c .middle ++ c .after) in
       let y5 = length-append (c .middle) (c .after) in
-      sums _ _ (s .scope + 2) (length (region (l .frames))) (s .a) (s .b) (s .c) (s .d) start _ to (length (hole (s .hollow)))
+      sums _ _ (s .scope + 2) (length (region (l .frames))) (s .from) (s .upto) (s .gap) (s .end) start _ to (length (hole (s .hollow)))
       (length (c .before))
       (length (c .between)) (length (c .gone)) (length (c .middle)) (length (c .dropped)) (length (c .after))
       (made ∙ rw (y1, y2, new, y3, y4, y5)) (whole ∙ rw (x1, x2, x3, x4, x5, x6)) (c .upto) (c .again) (c .till) h
@@ -115,9 +116,9 @@ module _ (f target : ℕ) (r : Run) (start : ℕ) (l : Located) (s : Spot) (ws :
           sq + ((sc + re - sc) + ((b - a) + (d - c))) ≡ (st + sr - st) + g
       sums sq sr sc re a b c d st g to ho be bt go mi dr af h1 h2 h3 h4 h5 h6 = omega arith
 
-  pub list-plans : Plans ws start (start + size r) p (nilW s (s .scope + 2) m to x v out .fresh) q
+  pub list-edits : Edits ws start (start + size r) p (nilW s (s .scope + 2) m to (takes x v) out .fresh) q
   unfolding nilW
-  list-plans =
+  list-edits =
       record {
         order = order;
         sized = sizes;
@@ -127,10 +128,10 @@ module _ (f target : ℕ) (r : Run) (start : ℕ) (l : Located) (s : Spot) (ws :
             let w = hollow-laid (s .hollow) to out (room (omega arith)) in
             edited-words ws start (start + size r) p (hollowW (s .hollow) to out .fresh) order
             (whole-inside f target r start l s ws words spotted near frames deep) q
-            (ap (λ new. edited ws (s .scope + 2) m new (s .a) (s .b)
-            (part to (hollowW (s .hollow) to out .to) (hollowW (s .hollow) to out .fresh)) (s .c) (s .d))
+            (ap (λ new. edited ws (s .scope + 2) m new (s .from) (s .upto)
+            (part to (hollowW (s .hollow) to out .to) (hollowW (s .hollow) to out .fresh)) (s .gap) (s .end))
             (w .0 ∙ laid (omega arith))
-            ∙ (ap (λ new. edited ws (s .scope + 2) m (region (onNearest g (l .frames))) (s .a) (s .b) new (s .c) (s .d))
+            ∙ (ap (λ new. edited ws (s .scope + 2) m (region (onNearest g (l .frames))) (s .from) (s .upto) new (s .gap) (s .end))
             (ap (λ k. part to k (hollowW (s .hollow) to out .fresh)) e ∙ w .1)
             ∙ nil-edited f target r start 1 l s ws (drop (start + size r) ws) words spotted g t));
       }

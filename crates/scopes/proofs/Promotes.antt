@@ -26,7 +26,7 @@ use Rattle.sock.proofs.Located.{wrap, size-positive}
 use Rattle.sock.proofs.Measures.{size-nil, depth-nil}
 use Rattle.sock.proofs.Shrinking.{NoLarger, plug-shrinks}
 use Rattle.skipping.proofs.Notes.{Right}
-use Rattle.finding.specs.declared.find.Spot.{Spot}
+use Rattle.finding.specs.declared.find.Site.{Site}
 use Rattle.finding.proofs.Framing.{scoped, outside}
 use Rattle.finding.proofs.Spots.{Spotted}
 use Rattle.finding.proofs.Edits.{list-at, region-changed}
@@ -37,14 +37,14 @@ use Rattle.handling.proofs.Replaces.{replaces}
 use Rattle.handling.proofs.Takes.{Takes, takes, Stands, Keyed}
 use Rattle.handling.proofs.Updates.{Updates, updates-by}
 use Rattle.handling.proofs.Stays.{one-shallow, one-short, update-nil, without-short}
-use Rattle.rules.specs.Planning.{Planned, nilW}
+use Rattle.rules.specs.Editing.{Edited, nilW}
 use Rattle.rules.proofs.Depths.{wrap-depth, depth-some}
 use Rattle.rules.proofs.Outcomes.{Ruled, ruled}
 use Rattle.scopes.specs.Installing.{updatedW}
 use Rattle.scopes.specs.Ending.{promotedTo, promotedW, endingW}
 use Rattle.scopes.proofs.NearestLists.{nearest-length, nearest-spread, nearest-within, update-keeps}
 use Rattle.scopes.proofs.ScopeLists.{frames-deep, list-deep, region-length, list-before, to-list, list-ends}
-use Rattle.scopes.proofs.NilLists.{list-plans}
+use Rattle.scopes.proofs.NilLists.{list-edits}
 use Rattle.scopes.proofs.ScopeWords.{node-some, handler-shallow, handler-short, its-place, its-inside, to-own, own-list}
 use Rattle.scopes.proofs.Scratch.{Roomy}
 
@@ -58,7 +58,7 @@ outside-less (rightFrame b ∷ fs) t = let r = outside-less fs t in omega arith
 outside-less (scopeFrame name mark zombie h ∷ fs) t = omega arith
 outside-less (executorFrame o y client serial ∷ fs) t = let r = outside-less fs t in omega arith
 
-module _ (f target : ℕ) (r : Run) (start : ℕ) (l : Located) (s : Spot) (ws notes : List ℕ) (right : Right ws notes)
+module _ (f target : ℕ) (r : Run) (start : ℕ) (l : Located) (s : Site) (ws notes : List ℕ) (right : Right ws notes)
     (words-at : drop start ws ≡ runWords r ++ drop (start + size r) ws)
     (spotted : Spotted f target r start 1 l s) (near : Near (length ws)) {n issued : ℕ} (frames : SoundFrames n issued (l .frames))
     (deep : runDepth r ≤ 64)
@@ -132,8 +132,8 @@ module _ (f target : ℕ) (r : Run) (start : ℕ) (l : Located) (s : Spot) (ws n
         own-place,
       )
 
-  abbrev Result : Planned → Type 0
-  Result u = Ruled ws start (start + size r) (u .plan) (u .fresh) (some (plug changed nil)) × (u .plan .x ≡ 32)
+  abbrev Result : Edited → Type 0
+  Result u = Ruled ws start (start + size r) (u .edit) (u .fresh) (some (plug changed nil)) × (u .edit .store .variable ≡ 32)
 
   -- once the new list stands in the fresh words
   placed :
@@ -143,7 +143,7 @@ module _ (f target : ℕ) (r : Run) (start : ℕ) (l : Located) (s : Spot) (ws n
   placed to out reaches keeps laid =
       rw (list-ends f target r start l s ws words-at spotted near frames deep t notes right) (
         ruled refl
-            (list-plans f target r start l s ws words-at spotted near frames deep t change to out reaches
+            (list-edits f target r start l s ws words-at spotted near frames deep t change to out reaches
             (near-of (to + 1) (omega (arith, not-huge))) (λ x. omega (arith, not-huge))
             (λ x. laid x ∙ sym (region-changed change (l .frames) t)) 32 0)
             changed-fits,
@@ -217,10 +217,10 @@ module _ (f target : ℕ) (r : Run) (start : ℕ) (l : Located) (s : Spot) (ws n
 
   pub promotes :
       (let u = endingW ws notes s (scopeKey name) fresh in
-      Ruled ws start (start + size r) (u .plan) (u .fresh)
+      Ruled ws start (start + size r) (u .edit) (u .fresh)
       (some
       (plug (onNearest (λ outer. update outer (entry (scopeKey name) (handler (scopeKey name) h) noEntries)) (l .frames)) nil))
-      × (u .plan .x ≡ 32))
+      × (u .edit .store .variable ≡ 32))
   unfolding endingW promotedTo promotedW
   promotes =
       rw (

@@ -20,7 +20,7 @@ use Rattle.sock.proofs.Handlers.{handler-fits}
 use Rattle.sock.proofs.Running.{enable-asNode}
 use Rattle.sock.proofs.Measures.{words-scope, depth-scope}
 use Rattle.skipping.proofs.Notes.{Right}
-use Rattle.finding.specs.declared.find.Spot.{Spot}
+use Rattle.finding.specs.declared.find.Site.{Site}
 use Rattle.finding.proofs.Spots.{Spotted}
 use Rattle.finding.proofs.Edits.{edited, swap-plain}
 use Rattle.layout.specs.Positions.{onward}
@@ -28,9 +28,9 @@ use Rattle.writers.proofs.Laid.{Near, onward-near, Laid, laid-put, laid-then, l
 use Rattle.handling.specs.Taking.{Took, takeW}
 use Rattle.handling.proofs.Takes.{Takes, takes, Stands}
 use Rattle.handling.proofs.Stays.{without-shallow, without-short}
-use Rattle.rules.proofs.Turns.{enable-words}
+use Rattle.rules.proofs.Rewrites.{enable-words}
 use Rattle.rules.proofs.Depths.{plug-fits}
-use Rattle.rules.proofs.Plans.{Plans, plans-of, part-first}
+use Rattle.rules.proofs.Edits.{Edits, edits-of, part-first}
 use Rattle.rules.proofs.Outcomes.{Ruled, ruled}
 use Rattle.scopes.specs.Ending.{took, takeBehindW, takenTo, takenW, resumedW}
 use Rattle.scopes.proofs.ScopeLists.{whole-inside, process-inside, process-begins}
@@ -84,7 +84,7 @@ module _ (ws : List ℕ) (k : ℕ) (h : Entries) (lent : List ℕ) (t : Took) (t
             onward-near to 1 (length out) big (omega arith),
           )
 
-module _ (f target : ℕ) (r : Run) (start : ℕ) (l : Located) (s : Spot) (ws notes : List ℕ) (right : Right ws notes)
+module _ (f target : ℕ) (r : Run) (start : ℕ) (l : Located) (s : Site) (ws notes : List ℕ) (right : Right ws notes)
     (words-at : drop start ws ≡ runWords r ++ drop (start + size r) ws)
     (spotted : Spotted f target r start 1 l s) (near : Near (length ws)) {n issued : ℕ} (frames : SoundFrames n issued (l .frames))
     (deep : runDepth r ≤ 64)
@@ -168,11 +168,11 @@ module _ (f target : ℕ) (r : Run) (start : ℕ) (l : Located) (s : Spot) (ws n
   abbrev end : ℕ
   end = target + 4 + length (entriesWords h)
 
-  plans :
-      Plans ws start (start + size r) (resumedW ws notes start (s .at) k fresh .plan) (resumedW ws notes start (s .at) k fresh .fresh)
+  edits :
+      Edits ws start (start + size r) (resumedW ws notes start (s .at) k fresh .edit) (resumedW ws notes start (s .at) k fresh .fresh)
       (plug (l .frames) q)
   unfolding resumedW size isDone
-  plans =
+  edits =
       let size-is = its-size f target r start l s ws words-at spotted near frames deep name mark zombie h is in
       let first : start ≤ target = process-begins f target r start l s ws words-at spotted near frames deep in
       let behind = process-inside f target r start l s ws words-at spotted near frames deep in
@@ -190,7 +190,7 @@ module _ (f target : ℕ) (r : Run) (start : ℕ) (l : Located) (s : Spot) (ws n
         handled .1,
         spotted .at,
       )
-      (plans-of ws start (start + size r) _ (takenW ws (t .answer) made to)
+      (edits-of ws start (start + size r) _ (takenW ws (t .answer) made to)
       (record {
         l-in = omega arith;
         m-in = omega arith;
@@ -230,8 +230,8 @@ module _ (f target : ℕ) (r : Run) (start : ℕ) (l : Located) (s : Spot) (ws n
 
   pub resumes :
       (let u = resumedW ws notes start (s .at) k fresh in
-      Ruled ws start (start + size r) (u .plan) (u .fresh)
+      Ruled ws start (start + size r) (u .edit) (u .fresh)
       (some (plug (l .frames) (scope name unmarked zombie (without k h) (enable (handler k h)))))
-      × (u .plan .x ≡ 32))
+      × (u .edit .store .variable ≡ 32))
   unfolding resumedW
-  resumes = (ruled refl plans fits-in, refl)
+  resumes = (ruled refl edits fits-in, refl)

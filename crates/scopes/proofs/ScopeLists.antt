@@ -16,21 +16,22 @@ use Rattle.sock.proofs.Located.{wrap, size-positive}
 use Rattle.sock.proofs.Measures.{depth-nil}
 use Rattle.skipping.specs.Pass.{passList}
 use Rattle.skipping.proofs.Notes.{Right, pass-entries}
-use Rattle.finding.specs.declared.find.Spot.{Spot}
+use Rattle.finding.specs.declared.find.Site.{Site}
 use Rattle.finding.proofs.Framing.{scoped, region}
 use Rattle.finding.proofs.Pieces.{Swap}
 use Rattle.finding.proofs.Spots.{Spotted}
 use Rattle.finding.proofs.Edits.{region-nearest, list-at, list-order}
 use Rattle.layout.specs.Positions.{onward}
 use Rattle.writers.proofs.Laid.{Near, onward-near}
-use Rattle.rules.specs.Turning.{vanishing}
-use Rattle.rules.specs.Planning.{nilW, plainW}
-use Rattle.rules.proofs.Turns.{becomes-nil}
+use Rattle.rules.specs.Storing.{unchanged}
+use Rattle.rules.specs.Rewriting.{vanishing}
+use Rattle.rules.specs.Editing.{nilW, plainW}
+use Rattle.rules.proofs.Rewrites.{becomes-nil}
 use Rattle.rules.proofs.Depths.{spread, wrap-depth, depth-some}
 use Rattle.rules.proofs.Outcomes.{Ruled, becomes-ruled}
 use Rattle.scopes.proofs.NearestLists.{nearest-within}
 
-module _ (f target : ℕ) (r : Run) (start : ℕ) (l : Located) (s : Spot) (ws : List ℕ)
+module _ (f target : ℕ) (r : Run) (start : ℕ) (l : Located) (s : Site) (ws : List ℕ)
     (words : drop start ws ≡ runWords r ++ drop (start + size r) ws)
     (spotted : Spotted f target r start 1 l s) (near : Near (length ws)) {n issued : ℕ} (frames : SoundFrames n issued (l .frames))
     (deep : runDepth r ≤ 64) where
@@ -58,13 +59,13 @@ module _ (f target : ℕ) (r : Run) (start : ℕ) (l : Located) (s : Spot) (ws :
   -- the process becomes nil, no list changes
   pub nil-ruled :
       (fresh : List ℕ) → 0 < length fresh → Near (length fresh) →
-      (let u = nilW s start start 0 32 0 fresh in
-      Ruled ws start (start + size r) (u .plan) (u .fresh) (some (plug (l .frames) nil)) × (u .plan .x ≡ 32))
+      (let u = nilW s start start 0 unchanged fresh in
+      Ruled ws start (start + size r) (u .edit) (u .fresh) (some (plug (l .frames) nil)) × (u .edit .store .variable ≡ 32))
   unfolding plainW
   nil-ruled fresh room big =
       let low : s .level + runDepth nil ≤ 65 = omega (arith, level-low, depth-nil) in
       let b =
-      becomes-ruled f target r start l s ws words spotted near frames deep nil (vanishing 32 0) fresh room big
+      becomes-ruled f target r start l s ws words spotted near frames deep nil (vanishing unchanged) fresh room big
       (becomes-nil (l .process) 32 0 fresh) low in
       (b .0, b .1)
 

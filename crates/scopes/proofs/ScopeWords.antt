@@ -20,12 +20,13 @@ use Rattle.sock.proofs.Measures.{words-nil, words-scope, depth-nil, depth-scope
 use Rattle.sock.proofs.Positions.{At, at-head}
 use Rattle.skipping.specs.Pass.{passList}
 use Rattle.skipping.proofs.Notes.{Right, pass-entries}
-use Rattle.finding.specs.declared.find.Spot.{Spot}
+use Rattle.finding.specs.declared.find.Site.{Site}
 use Rattle.finding.proofs.Spots.{Spotted}
 use Rattle.finding.proofs.Edits.{process-at}
 use Rattle.layout.specs.Positions.{onward}
 use Rattle.writers.proofs.Laid.{Near, onward-near}
-use Rattle.scopes.specs.Ending.{clearedW, keyAtW}
+use Rattle.layout.specs.Heads.{clearedHead}
+use Rattle.scopes.specs.Ending.{keyAtW}
 use Rattle.scopes.proofs.ScopeLists.{whole-inside, frames-deep, process-inside}
 
 -- ---- what is in frames is sound if the whole is
@@ -80,8 +81,7 @@ module _ (name : ℕ) (mark : Mark) (zombie : Bool) (low : name < 64) where
   pub head-name : scopeHead name mark zombie / 32 % 64 ≡ name
   head-name = omega (arith, bit-small zombie, mark-small mark)
 
-  pub head-cleared : clearedW (scopeHead name mark zombie) ≡ scopeHead name unmarked zombie
-  unfolding clearedW
+  pub head-cleared : clearedHead (scopeHead name mark zombie) ≡ scopeHead name unmarked zombie
   head-cleared = omega (arith, bit-small zombie, mark-small mark)
 
 -- the key of the handler it runs or hands on
@@ -113,7 +113,7 @@ handler-short k (entry j p es) =
 
 -- ---- where it stands
 
-module _ (f target : ℕ) (r : Run) (start : ℕ) (l : Located) (s : Spot) (ws : List ℕ)
+module _ (f target : ℕ) (r : Run) (start : ℕ) (l : Located) (s : Site) (ws : List ℕ)
     (words-at : drop start ws ≡ runWords r ++ drop (start + size r) ws)
     (spotted : Spotted f target r start 1 l s) (near : Near (length ws)) {n issued : ℕ} (frames : SoundFrames n issued (l .frames))
     (deep : runDepth r ≤ 64)

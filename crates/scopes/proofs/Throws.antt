@@ -1,4 +1,4 @@
--- The law of throw: with notes that are right, what the plan makes of an engine's process is the climb of the fault.
+-- The law of throw: with notes that are right, what the edit makes of an engine's process is the climb of the fault.
 -- Assumes nothing.
 use Prim.Native.Nat.{ℕ, zero, _+_, _-_, _*_, _/_, _≤_, _<_}
 use native.Mathlib.Omega.{arith}
@@ -24,7 +24,7 @@ use Rattle.sock.proofs.Located.{wrap, located-wraps, located-before, size-posit
 use Rattle.sock.proofs.Measures.{words-scope, words-act, size-scope, depth-nil, depth-scope}
 use Rattle.skipping.proofs.Skips.{wanted-end}
 use Rattle.skipping.proofs.Notes.{Right, pass-entries}
-use Rattle.finding.specs.declared.find.Spot.{Spot}
+use Rattle.finding.specs.declared.find.Site.{Site}
 use Rattle.finding.specs.Find.{faultAt}
 use Rattle.finding.proofs.Within.{within, within-locate}
 use Rattle.finding.proofs.Edits.{edited, swap-plain, process-at}
@@ -38,11 +38,12 @@ use Rattle.sock.proofs.Positions.{stands-within, word-at, at-past, drop-after}
 use Rattle.sock.proofs.Around.{Throws, free}
 use Rattle.killing.proofs.Gives.{Gives, stops, gives}
 use Rattle.killing.proofs.Killed.{kill-climb}
-use Rattle.rules.proofs.Turns.{head-on}
-use Rattle.rules.proofs.Plans.{part-first, plans-of}
+use Rattle.rules.proofs.Rewrites.{head-on}
+use Rattle.rules.proofs.Edits.{part-first, edits-of}
 use Rattle.rules.proofs.Depths.{wrap-depth, depth-some}
 use Rattle.rules.proofs.Outcomes.{Ruled, unkillable, ruled}
-use Rattle.scopes.specs.Throwing.{faultW, faultedHead, faultedWord, clearedW, clearedBy, uncaughtW, listedW, markedW, bodyW, openedTo, openedW, caughtW, thrownW}
+use Rattle.layout.specs.Heads.{faultedHead, faultWord}
+use Rattle.scopes.specs.Throwing.{faultW, clearedW, clearedBy, uncaughtW, listedW, markedW, bodyW, openedTo, openedW, caughtW, thrownW}
 use Rattle.scopes.proofs.ClimbingDepths.{climb-shallow}
 use Rattle.scopes.proofs.Climbing.{Sought, unstopped, stoppedBy, sought, markFor, also-same, climb-through, climb-stops}
 use Rattle.scopes.proofs.ClimbingPlaces.{offset, locate-offset, offset-found, offset-append, offset-scope}
@@ -61,7 +62,7 @@ within-from r i k l e = by (leb i k) refl e
 -- ---- what was killed becomes the fresh words
 
 cleared-stuck :
-    (start a : ℕ) (k : Killed) → k .moved .end ≡ 0 → (clearedBy start a k .plan .number ≡ 6) × (clearedBy start a k .plan .x ≡ 32)
+    (start a : ℕ) (k : Killed) → k .moved .end ≡ 0 → (clearedBy start a k .edit .number ≡ 6) × (clearedBy start a k .edit .store .variable ≡ 32)
 unfolding clearedBy clearedW
 cleared-stuck start a k e = rw e (refl, refl)
 
@@ -70,12 +71,12 @@ module _ (ws : List ℕ) (start end : ℕ) (inside : end ≤ length ws) (q : Run
     (room : to ≤ length (k .out)) where
   cleared-ruled :
       edited ws start start [] a e (take to (k .out)) e e ≡ take start ws ++ (runWords q ++ drop end ws) →
-      (let u = clearedBy start a k in Ruled ws start end (u .plan) (u .fresh) (some q) × (u .plan .x ≡ 32))
+      (let u = clearedBy start a k in Ruled ws start end (u .edit) (u .fresh) (some q) × (u .edit .store .variable ≡ 32))
   unfolding clearedBy clearedW
   cleared-ruled w =
       rw (ends, reaches, ne-eqb e 0 (λ z. omega arith)) (
         ruled refl
-            (plans-of ws start end _ (k .out)
+            (edits-of ws start end _ (k .out)
             (record {
               l-in = omega arith;
               m-in = omega arith;
@@ -123,7 +124,7 @@ module _ (ws notes : List ℕ) (right : Right ws notes) (n issued : ℕ) (few : 
       (passes : T (free f (l .frames))) where
     uncaught-by :
         {k : Killed} {o : Option Run} → Gives r fresh 0 (start + size r) k o → All (λ q. runDepth q ≤ 64) o →
-        (let u = clearedBy start start k in Ruled ws start (start + size r) (u .plan) (u .fresh) o × (u .plan .x ≡ 32))
+        (let u = clearedBy start start k in Ruled ws start (start + size r) (u .edit) (u .fresh) o × (u .edit .store .variable ≡ 32))
     unfolding clearedBy size
     uncaught-by {k = k} (stops e) a = let c = cleared-stuck start start k e in (unkillable (c .0), c .1)
     uncaught-by {k = k} (gives {s = q} g) a =
@@ -136,7 +137,7 @@ module _ (ws notes : List ℕ) (right : Right ws notes) (n issued : ℕ) (few : 
 
     pub uncaught-ruled :
         (let u = uncaughtW ws notes start f target fresh in
-        Ruled ws start (start + size r) (u .plan) (u .fresh) (climb f (l .frames) nil) × (u .plan .x ≡ 32))
+        Ruled ws start (start + size r) (u .edit) (u .fresh) (climb f (l .frames) nil) × (u .edit .store .variable ≡ 32))
     unfolding uncaughtW
     uncaught-ruled =
         let h : start ≤ target = within-from r start target l place in
@@ -179,7 +180,7 @@ module _ (ws notes : List ℕ) (right : Right ws notes) (n issued : ℕ) (few : 
         omega (arith, p, q, later, b, offset-append inner (scopeFrame name mark zombie h ∷ outer), offset-scope name mark zombie h outer)
 
     -- the scope in the words
-    spot : (s : Spot) × Spotted (faultAt ws c) c r start 1 (record { frames = outer; process = whole }) s
+    spot : (s : Site) × Spotted (faultAt ws c) c r start 1 (record { frames = outer; process = whole }) s
     spot =
         let g = found n issued few small ws notes right c sound 64 start 1
         (drop (start + size r) ws) pos deep words _ stopping in
@@ -269,7 +270,7 @@ module _ (ws notes : List ℕ) (right : Right ws notes) (n issued : ℕ) (few : 
     marked-head : faultedHead (scopeHead name mark zombie) ≡ scopeHead name (faulted f) zombie
     marked-head = omega (arith, mark-below mark, bit-below zombie, parts .0)
 
-    marked-word : faultedWord f ≡ f * 1024
+    marked-word : faultWord f ≡ f * 1024
     marked-word = omega arith
 
     marked-at : markedW ws c f fresh ≡ set (set fresh 0 (scopeHead name marked zombie)) 1 (markedFault marked * 1024)
@@ -278,7 +279,7 @@ module _ (ws notes : List ℕ) (right : Right ws notes) (n issued : ℕ) (few : 
       where
         by :
             (b : Bool) →
-            cond b (set (set fresh 0 (faultedHead (scopeHead name mark zombie))) 1 (faultedWord f))
+            cond b (set (set fresh 0 (faultedHead (scopeHead name mark zombie))) 1 (faultWord f))
             (set (set fresh 0 (scopeHead name mark zombie)) 1 (markedFault mark * 1024))
             ≡ set (set fresh 0 (scopeHead name (cond b (faulted f) mark) zombie)) 1 (markedFault (cond b (faulted f) mark) * 1024)
         by true = rw (marked-head, marked-word)
@@ -318,8 +319,8 @@ module _ (ws notes : List ℕ) (right : Right ws notes) (n issued : ℕ) (few : 
         {mid : List ℕ} {k : Killed} {o : Option Run} → Laid fresh 0 (own marked) mid →
         Gives a mid (length (own marked)) (body + size a) k o →
         All (λ q. runDepth q ≤ 64) (also o λ p. some (caughtBy p)) →
-        (let u = clearedBy start c k in Ruled ws start (start + size r) (u .plan) (u .fresh) (also o λ p. some (caughtBy p))
-        × (u .plan .x ≡ 32))
+        (let u = clearedBy start c k in Ruled ws start (start + size r) (u .edit) (u .fresh) (also o λ p. some (caughtBy p))
+        × (u .edit .store .variable ≡ 32))
     unfolding also size isDone
     caught-by {k = k} laid (stops e) d = let z = cleared-stuck start c k e in (unkillable (z .0), z .1)
     caught-by {k = k} laid (gives {s = p} g) d =
@@ -349,8 +350,8 @@ module _ (ws notes : List ℕ) (right : Right ws notes) (n issued : ℕ) (few : 
 
     pub caught-ruled :
         (let u = caughtW ws notes start c f target fresh in
-        Ruled ws start (start + size r) (u .plan) (u .fresh) (climb f (inner ++ scopeFrame name mark zombie h ∷ outer) nil)
-        × (u .plan .x ≡ 32))
+        Ruled ws start (start + size r) (u .edit) (u .fresh) (climb f (inner ++ scopeFrame name mark zombie h ∷ outer) nil)
+        × (u .edit .store .variable ≡ 32))
     unfolding caughtW
     caught-ruled =
         let g = kill-climb ws notes right n issued few small f low (parts .2) 64 body (parts-deep .1) (stands .0) body-stands
@@ -363,13 +364,13 @@ module _ (ws notes : List ℕ) (right : Right ws notes) (n issued : ℕ) (few : 
 
   -- ---- the whole
 
-  module _ (target : ℕ) (l : Located) (s : Spot) (place : within r start target ≡ some l) (spotted : Spotted f target r start 1 l s)
+  module _ (target : ℕ) (l : Located) (s : Site) (place : within r start target ≡ some l) (spotted : Spotted f target r start 1 l s)
       (throws : Throws (l .process)) where
     thrown-by :
         {o : Option Located} {k : ℕ} → Standing r start o k → Sought f (l .frames) (l .process) o →
         (let u = cond (eqb k 0) (uncaughtW ws notes start f target fresh)
         (caughtW ws notes start k f target fresh) in
-        Ruled ws start (start + size r) (u .plan) (u .fresh) (climb f (l .frames) nil) × (u .plan .x ≡ 32))
+        Ruled ws start (start + size r) (u .edit) (u .fresh) (climb f (l .frames) nil) × (u .edit .store .variable ≡ 32))
     thrown-by nowhere (unstopped t) = uncaught-ruled target l place throws t
     thrown-by (somewhere {k = k} h e) (stoppedBy {l = g} w) =
         rw (ne-eqb k 0 (λ z. omega arith), w .frames)
@@ -381,7 +382,7 @@ module _ (ws notes : List ℕ) (right : Right ws notes) (n issued : ℕ) (few : 
     pub climb-ruled :
         faultW ws target ≡ f →
         (let u = thrownW ws notes start s fresh in
-        Ruled ws start (start + size r) (u .plan) (u .fresh) (climb f (l .frames) nil) × (u .plan .x ≡ 32))
+        Ruled ws start (start + size r) (u .edit) (u .fresh) (climb f (l .frames) nil) × (u .edit .store .variable ≡ 32))
     unfolding thrownW
     climb-ruled e = rw (spotted .at, e) (thrown-by (spotted .catcher low) (sought f (l .frames) (l .process)))
 
@@ -390,12 +391,12 @@ module _ (ws notes : List ℕ) (right : Right ws notes) (n issued : ℕ) (few : 
     {r : Run} (sound : Sound n issued r)
     (start : ℕ) (words : drop start ws ≡ runWords r ++ drop (start + size r) ws) (pos : 0 < start)
     (deep : runDepth r ≤ 64) (short : length ws ≤ 8192) (fresh : List ℕ) (large : Roomy ws fresh) (near : Near (length fresh))
-    (target : ℕ) (l : Located) (s : Spot) (place : within r start target ≡ some l)
+    (target : ℕ) (l : Located) (s : Site) (place : within r start target ≡ some l)
     (spotted : Spotted (faultAt ws target) target r start 1 l s) where
   pub thrown-ruled :
       (m : Node) → l .process ≡ act m → kind m ≡ 13 →
       (let u = thrownW ws notes start s fresh in
-      Ruled ws start (start + size r) (u .plan) (u .fresh) (climb (nameOf (headWord m)) (l .frames) nil) × (u .plan .x ≡ 32))
+      Ruled ws start (start + size r) (u .edit) (u .fresh) (climb (nameOf (headWord m)) (l .frames) nil) × (u .edit .store .variable ≡ 32))
   unfolding faultAt faultW
   thrown-ruled m e k =
       let p = process-at (faultAt ws target) target r start 1 l s ws (drop (start + size r) ws) words spotted in

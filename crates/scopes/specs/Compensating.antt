@@ -1,43 +1,41 @@
--- comp as a plan on words, as the code goes.
-use Prim.Native.Nat.{ℕ, _+_, _-_, _/_, _%_}
+-- comp as an edit on words, as the code goes.
+use Prim.Native.Nat.{ℕ, _-_}
 use mathlib.Core.Bool.{cond}
 use mathlib.Core.List.{List}
-use lib.Dec.{ltb, eqb}
+use lib.Dec.{eqb}
 use lib.ListN.{getD}
+use Rattle.sock.specs.Words.{nameOf, scopeKey}
 use Rattle.reading.specs.Walk.{processEnd}
 use Rattle.skipping.specs.Pass.{passList}
 use Rattle.layout.specs.Positions.{onward}
 use Rattle.writers.specs.Writing.{pasted, pastedEnd}
-use Rattle.finding.specs.declared.find.Spot.{Spot}
+use Rattle.finding.specs.declared.find.Site.{Site}
 use Rattle.handling.specs.declared.take.Taken.{Taken}
 use Rattle.handling.specs.Taking.{takeW}
-use Rattle.rules.specs.Planning.{Planned, planned, refusedPlan, nilW}
+use Rattle.rules.specs.Storing.{unchanged}
+use Rattle.rules.specs.Editing.{Edited, edited, refusedEdit, nilW}
 
-unfoldable pub levelsAt : ℕ → ℕ
-levelsAt level = cond (ltb level 65) (65 - level) 0
-
-unfoldable pub movedW : List ℕ → List ℕ → Spot → Taken → List ℕ → Planned
+unfoldable pub movedW : List ℕ → List ℕ → Site → Taken → List ℕ → Edited
 movedW ws notes s t fresh =
-    planned
+    edited
     (record {
       number = 0;
-      l = onward (s .scope) 2;
-      m = passList 64 ws notes (onward (s .scope) 2);
-      f = t .to;
-      a = s .at;
-      b = onward (s .at) 1;
-      g = pastedEnd ws (t .from) (t .upto) (t .to);
-      c = onward (s .at) 1;
-      d = onward (s .at) 1;
-      x = 32;
-      v = 0;
+      list = onward (s .scope) 2;
+      past = passList 64 ws notes (onward (s .scope) 2);
+      listed = t .to;
+      from = s .at;
+      upto = onward (s .at) 1;
+      fresh = pastedEnd ws (t .from) (t .upto) (t .to);
+      gap = onward (s .at) 1;
+      end = onward (s .at) 1;
+      store = unchanged;
     })
     (pasted ws (t .from) (t .upto) fresh (t .to))
 
-unfoldable pub compensatedW : ℕ → List ℕ → List ℕ → ℕ → Spot → List ℕ → Planned
+unfoldable pub compensatedW : ℕ → List ℕ → List ℕ → ℕ → Site → List ℕ → Edited
 compensatedW bound ws notes start s fresh =
-    cond (eqb (s .scope) 0) (nilW s start start 0 32 0 fresh)
-    (let t = takeW 64 ws (onward (s .scope) 2) (64 + getD ws (s .at) 0 / 32 % 64) fresh in
-    cond (eqb (t .answer .upto) 0) (nilW s start start 0 32 0 (t .out))
-    (cond (eqb (processEnd (levelsAt (s .level)) ws bound 0 (t .answer .from)) 0) (planned (refusedPlan 8) (t .out))
+    cond (eqb (s .scope) 0) (nilW s start start 0 unchanged fresh)
+    (let t = takeW 64 ws (onward (s .scope) 2) (scopeKey (nameOf (getD ws (s .at) 0))) fresh in
+    cond (eqb (t .answer .upto) 0) (nilW s start start 0 unchanged (t .out))
+    (cond (eqb (processEnd (65 - s .level) ws bound 0 (t .answer .from)) 0) (edited (refusedEdit 8) (t .out))
     (movedW ws notes s (t .answer) (t .out))))

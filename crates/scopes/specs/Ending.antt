@@ -1,25 +1,25 @@
--- A scope whose body is nil as a plan on words, as the code goes.
-use Prim.Native.Nat.{ℕ, _+_, _-_, _*_, _/_, _%_}
+-- A scope whose body is nil as an edit on words, as the code goes.
+use Prim.Native.Nat.{ℕ, _-_}
 use mathlib.Core.Bool.{cond}
 use mathlib.Core.List.{List, _++_}
 use lib.Dec.{ltb, eqb}
 use lib.ListN.{length, getD, set, take, drop}
+use Rattle.sock.specs.Words.{nameOf, markOf, zombieOf, firstName, scopeKey}
 use Rattle.skipping.specs.Pass.{passList}
 use Rattle.layout.specs.Positions.{onward}
+use Rattle.layout.specs.Heads.{clearedHead}
 use Rattle.writers.specs.Writing.{pasted, pastedEnd}
-use Rattle.finding.specs.declared.find.Spot.{Spot}
+use Rattle.finding.specs.declared.find.Site.{Site}
 use Rattle.handling.specs.declared.take.Taken.{Taken}
 use Rattle.handling.specs.Taking.{Took, takeW}
 use Rattle.handling.specs.Updating.{updateByW}
-use Rattle.rules.specs.Planning.{Planned, planned, nilW}
+use Rattle.rules.specs.Storing.{unchanged}
+use Rattle.rules.specs.Editing.{Edited, edited, nilW}
 use Rattle.scopes.specs.Installing.{updatedW}
-
-unfoldable pub clearedW : ℕ → ℕ
-clearedW head = head / 32 * 32 + head / 4 % 2 * 4
 
 unfoldable pub keyAtW : List ℕ → ℕ → ℕ
 keyAtW ws at =
-    cond (eqb (getD ws at 0 / 8 % 4) 1) (getD ws (onward at 1) 0 / 1024) (64 + getD ws at 0 / 32 % 64)
+    cond (eqb (markOf (getD ws at 0)) 1) (firstName (getD ws (onward at 1) 0)) (scopeKey (nameOf (getD ws at 0)))
 
 abbrev pub took : Taken → List ℕ → Took
 took t out = record { answer = t; out = out }
@@ -37,23 +37,22 @@ takenTo ws t to = cond (eqb (t .upto) 0) (onward to 1) (pastedEnd ws (t .from) (
 unfoldable pub takenW : List ℕ → Taken → List ℕ → ℕ → List ℕ
 takenW ws t fresh to = cond (eqb (t .upto) 0) (set fresh to 0) (pasted ws (t .from) (t .upto) fresh to)
 
-unfoldable pub resumedW : List ℕ → List ℕ → ℕ → ℕ → ℕ → List ℕ → Planned
+unfoldable pub resumedW : List ℕ → List ℕ → ℕ → ℕ → ℕ → List ℕ → Edited
 resumedW ws notes start at key fresh =
-    let t = takeBehindW ws (onward at 2) key (set (set fresh 0 (clearedW (getD ws at 0))) 1 0) in
+    let t = takeBehindW ws (onward at 2) key (set (set fresh 0 (clearedHead (getD ws at 0))) 1 0) in
     let end = onward (passList 64 ws notes (onward at 2)) 1 in
-    planned
+    edited
     (record {
       number = 0;
-      l = start;
-      m = start;
-      f = 0;
-      a = at;
-      b = end;
-      g = takenTo ws (t .answer) (onward 2 (t .answer .to));
-      c = end;
-      d = end;
-      x = 32;
-      v = 0;
+      list = start;
+      past = start;
+      listed = 0;
+      from = at;
+      upto = end;
+      fresh = takenTo ws (t .answer) (onward 2 (t .answer .to));
+      gap = end;
+      end = end;
+      store = unchanged;
     })
     (takenW ws (t .answer) (t .out) (onward 2 (t .answer .to)))
 
@@ -65,17 +64,17 @@ unfoldable pub promotedW : List ℕ → ℕ → Taken → ℕ → List ℕ → L
 promotedW ws l t key fresh =
     cond (eqb (t .upto) 0) (takeW 64 ws l key fresh .out) (updateByW 64 ws l (t .from - 1) 1 fresh .out)
 
-unfoldable pub endingW : List ℕ → List ℕ → Spot → ℕ → List ℕ → Planned
+unfoldable pub endingW : List ℕ → List ℕ → Site → ℕ → List ℕ → Edited
 endingW ws notes s key fresh =
     let t = takeW 64 ws (onward (s .at) 2) key fresh in
     let l = onward (s .scope) 2 in
     updatedW ws notes s l (promotedTo ws l (t .answer) key (t .out)) (promotedW ws l (t .answer) key (t .out))
 
-unfoldable pub endedW : List ℕ → List ℕ → ℕ → Spot → List ℕ → Planned
+unfoldable pub endedW : List ℕ → List ℕ → ℕ → Site → List ℕ → Edited
 endedW ws notes start s fresh =
     let h = getD ws (s .at) 0 in
     let key = keyAtW ws (s .at) in
-    cond (ltb 0 (h / 8 % 4)) (resumedW ws notes start (s .at) key fresh)
-    (cond (eqb (h / 4 % 2) 1) (nilW s start start 0 32 0 fresh)
-    (cond (eqb (s .scope) 0) (nilW s start start 0 32 0 fresh)
+    cond (ltb 0 (markOf h)) (resumedW ws notes start (s .at) key fresh)
+    (cond (eqb (zombieOf h) 1) (nilW s start start 0 unchanged fresh)
+    (cond (eqb (s .scope) 0) (nilW s start start 0 unchanged fresh)
     (endingW ws notes s key fresh)))

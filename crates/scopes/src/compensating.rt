@@ -1,30 +1,26 @@
 // comp: the handler under a name takes its place, and the nearest scope loses it.
-use finding::find::Spot;
+use finding::find::Site;
 use handling::take::Taken;
 use handling::take::take;
+use layout::field::scope_key;
+use layout::limit::DEEPEST;
 use layout::limit::FUEL;
 use layout::number::further;
-use layout::number::wide;
+use layout::number::less;
 use layout::number::word;
 use reading::reader::read;
-use rules::plan::Plan;
-use rules::plan::become_nil;
-use rules::plan::refuse;
+use rules::edit::Edit;
+use rules::edit::become_nil;
+use rules::edit::refuse;
+use rules::store::nothing;
 use skipping::pass::pass_list;
 use writers::write::copy;
 ghost use mathlib.Core.Path.{_≡_};
-ghost use Rattle.scopes.specs.Compensating.{levelsAt, movedW, compensatedW};
-
-// How many levels a process may have that stands at a level.
-fn levels_at(level: usize) -> usize
-    ensures { λ r. ⌜ r ≡ levelsAt level ⌝ }
-{
-    if level < 65 { 65 - level } else { 0 }
-}
+ghost use Rattle.scopes.specs.Compensating.{movedW, compensatedW};
 
 // What was taken out of the list stands in the place of the process; the list without it is in the first fresh words.
-fn moved(ws: &[u16], notes: &[u16], s: Spot, t: Taken, fresh: &mut [u16]) -> Plan
-    ensures { λ r. ⌜ (r ≡ movedW (now (ws .entry)) (now (notes .entry)) s t (now (fresh .entry)) .plan) × (now (fresh .exit) ≡ movedW (now (ws .entry)) (now (notes .entry)) s t (now (fresh .entry)) .fresh) ⌝ }
+fn moved(ws: &[u16], notes: &[u16], s: Site, t: Taken, fresh: &mut [u16]) -> Edit
+    ensures { λ r. ⌜ (r ≡ movedW (now (ws .entry)) (now (notes .entry)) s t (now (fresh .entry)) .edit) × (now (fresh .exit) ≡ movedW (now (ws .entry)) (now (notes .entry)) s t (now (fresh .entry)) .fresh) ⌝ }
 {
     let l = further(s.scope, 2);
     let m = pass_list(ws, notes, l, FUEL);
@@ -34,18 +30,17 @@ fn moved(ws: &[u16], notes: &[u16], s: Spot, t: Taken, fresh: &mut [u16]) -> Pla
     let g = copy(ws, from, upto, fresh, f);
     let a = s.at;
     let b = further(a, 1);
-    Plan {
+    Edit {
         number: 0,
-        l,
-        m,
-        f,
-        a,
-        b,
-        g,
-        c: b,
-        d: b,
-        x: 32,
-        v: 0,
+        list: l,
+        past: m,
+        listed: f,
+        from: a,
+        upto: b,
+        fresh: g,
+        gap: b,
+        end: b,
+        store: nothing(),
     }
 }
 
@@ -54,21 +49,21 @@ pub fn compensated(
     ws: &[u16],
     notes: &[u16],
     start: usize,
-    s: Spot,
+    s: Site,
     bound: usize,
     fresh: &mut [u16],
-) -> Plan
-    ensures { λ r. ⌜ (r ≡ compensatedW bound (now (ws .entry)) (now (notes .entry)) start s (now (fresh .entry)) .plan) × (now (fresh .exit) ≡ compensatedW bound (now (ws .entry)) (now (notes .entry)) start s (now (fresh .entry)) .fresh) ⌝ }
+) -> Edit
+    ensures { λ r. ⌜ (r ≡ compensatedW bound (now (ws .entry)) (now (notes .entry)) start s (now (fresh .entry)) .edit) × (now (fresh .exit) ≡ compensatedW bound (now (ws .entry)) (now (notes .entry)) start s (now (fresh .entry)) .fresh) ⌝ }
 {
     if s.scope == 0 {
-        return become_nil(s, start, start, 0, 32, 0, fresh);
+        return become_nil(s, start, start, 0, nothing(), fresh);
     }
-    let key = 64 + wide(word(ws, s.at)) / 32 % 64;
+    let key = scope_key(word(ws, s.at));
     let t = take(ws, further(s.scope, 2), key, FUEL, fresh);
     if t.upto == 0 {
-        return become_nil(s, start, start, 0, 32, 0, fresh);
+        return become_nil(s, start, start, 0, nothing(), fresh);
     }
-    if read(ws, t.from, levels_at(s.level), 0, bound) == 0 {
+    if read(ws, t.from, less(DEEPEST + 1, s.level), 0, bound) == 0 {
         return refuse(8);
     }
     moved(ws, notes, s, t, fresh)

@@ -1,38 +1,36 @@
 // A scope whose body is nil: with a mark it runs the handler under its key, else it ends.
 use crate::installing::updated;
-use finding::find::Spot;
+use finding::find::Site;
 use handling::take::Taken;
 use handling::take::take;
 use handling::update::update_by;
+use layout::field::first_name;
+use layout::field::mark_of;
+use layout::field::scope_key;
+use layout::field::zombie_of;
+use layout::head;
 use layout::limit::FUEL;
 use layout::number::further;
 use layout::number::less_one;
-use layout::number::wide;
 use layout::number::word;
-use rules::plan::Plan;
-use rules::plan::become_nil;
+use rules::edit::Edit;
+use rules::edit::become_nil;
+use rules::store::nothing;
 use skipping::pass::pass_list;
 use writers::write::copy;
 use writers::write::put;
 ghost use mathlib.Core.Path.{_≡_};
-ghost use Rattle.scopes.specs.Ending.{clearedW, keyAtW, takeBehindW, takenTo, takenW, resumedW, promotedTo, promotedW, endingW, endedW};
-
-// A scope's head with its mark cleared.
-fn cleared(head: u16) -> u16
-    ensures { λ r. ⌜ r ≡ clearedW head ⌝ }
-{
-    head / 32 * 32 + head / 4 % 2 * 4
-}
+ghost use Rattle.scopes.specs.Ending.{keyAtW, takeBehindW, takenTo, takenW, resumedW, promotedTo, promotedW, endingW, endedW};
 
 // The key of the handler it runs or hands on: the fault with mark 1, else its own name.
 fn key_at(ws: &[u16], at: usize) -> usize
     ensures { λ r. ⌜ r ≡ keyAtW (now (ws .entry)) at ⌝ }
 {
-    let h = wide(word(ws, at));
-    if h / 8 % 4 == 1 {
-        return wide(word(ws, further(at, 1))) / 1024;
+    let h = word(ws, at);
+    if mark_of(h) == 1 {
+        return first_name(word(ws, further(at, 1)));
     }
-    64 + h / 32 % 64
+    scope_key(h)
 }
 
 // The list without the entry of a key, behind two words.
@@ -69,10 +67,10 @@ fn resumed(
     at: usize,
     key: usize,
     fresh: &mut [u16],
-) -> Plan
-    ensures { λ r. ⌜ (r ≡ resumedW (now (ws .entry)) (now (notes .entry)) start at key (now (fresh .entry)) .plan) × (now (fresh .exit) ≡ resumedW (now (ws .entry)) (now (notes .entry)) start at key (now (fresh .entry)) .fresh) ⌝ }
+) -> Edit
+    ensures { λ r. ⌜ (r ≡ resumedW (now (ws .entry)) (now (notes .entry)) start at key (now (fresh .entry)) .edit) × (now (fresh .exit) ≡ resumedW (now (ws .entry)) (now (notes .entry)) start at key (now (fresh .entry)) .fresh) ⌝ }
 {
-    let h = cleared(word(ws, at));
+    let h = head::cleared(word(ws, at));
     put(fresh, 0, h);
     put(fresh, 1, 0);
     let l = further(at, 2);
@@ -80,18 +78,17 @@ fn resumed(
     let to = further(2, t.to);
     let g = put_taken(ws, t, fresh, to);
     let end = further(pass_list(ws, notes, l, FUEL), 1);
-    Plan {
+    Edit {
         number: 0,
-        l: start,
-        m: start,
-        f: 0,
-        a: at,
-        b: end,
-        g,
-        c: end,
-        d: end,
-        x: 32,
-        v: 0,
+        list: start,
+        past: start,
+        listed: 0,
+        from: at,
+        upto: end,
+        fresh: g,
+        gap: end,
+        end,
+        store: nothing(),
     }
 }
 
@@ -108,8 +105,8 @@ fn promoted(ws: &[u16], l: usize, t: Taken, key: usize, fresh: &mut [u16]) -> us
 }
 
 // The scope becomes nil, and the nearest is updated by its name and the handler under it.
-fn ending(ws: &[u16], notes: &[u16], s: Spot, key: usize, fresh: &mut [u16]) -> Plan
-    ensures { λ r. ⌜ (r ≡ endingW (now (ws .entry)) (now (notes .entry)) s key (now (fresh .entry)) .plan) × (now (fresh .exit) ≡ endingW (now (ws .entry)) (now (notes .entry)) s key (now (fresh .entry)) .fresh) ⌝ }
+fn ending(ws: &[u16], notes: &[u16], s: Site, key: usize, fresh: &mut [u16]) -> Edit
+    ensures { λ r. ⌜ (r ≡ endingW (now (ws .entry)) (now (notes .entry)) s key (now (fresh .entry)) .edit) × (now (fresh .exit) ≡ endingW (now (ws .entry)) (now (notes .entry)) s key (now (fresh .entry)) .fresh) ⌝ }
 {
     let t = take(ws, further(s.at, 2), key, FUEL, fresh);
     let l = further(s.scope, 2);
@@ -118,20 +115,20 @@ fn ending(ws: &[u16], notes: &[u16], s: Spot, key: usize, fresh: &mut [u16]) -> 
 }
 
 // The scope with nil body at `s`, in the engine's process that begins at `start`.
-pub fn ended(ws: &[u16], notes: &[u16], start: usize, s: Spot, fresh: &mut [u16]) -> Plan
-    ensures { λ r. ⌜ (r ≡ endedW (now (ws .entry)) (now (notes .entry)) start s (now (fresh .entry)) .plan) × (now (fresh .exit) ≡ endedW (now (ws .entry)) (now (notes .entry)) start s (now (fresh .entry)) .fresh) ⌝ }
+pub fn ended(ws: &[u16], notes: &[u16], start: usize, s: Site, fresh: &mut [u16]) -> Edit
+    ensures { λ r. ⌜ (r ≡ endedW (now (ws .entry)) (now (notes .entry)) start s (now (fresh .entry)) .edit) × (now (fresh .exit) ≡ endedW (now (ws .entry)) (now (notes .entry)) start s (now (fresh .entry)) .fresh) ⌝ }
 {
     let at = s.at;
-    let h = wide(word(ws, at));
+    let h = word(ws, at);
     let key = key_at(ws, at);
-    if 0 < h / 8 % 4 {
+    if 0 < mark_of(h) {
         return resumed(ws, notes, start, at, key, fresh);
     }
-    if h / 4 % 2 == 1 {
-        return become_nil(s, start, start, 0, 32, 0, fresh);
+    if zombie_of(h) == 1 {
+        return become_nil(s, start, start, 0, nothing(), fresh);
     }
     if s.scope == 0 {
-        return become_nil(s, start, start, 0, 32, 0, fresh);
+        return become_nil(s, start, start, 0, nothing(), fresh);
     }
     ending(ws, notes, s, key, fresh)
 }

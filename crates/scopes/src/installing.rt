@@ -1,11 +1,13 @@
 // inst: the nearest scope's list is updated by its own.
-use finding::find::Spot;
+use finding::find::Site;
 use handling::update::update;
+use layout::limit::DEEPEST;
 use layout::limit::FUEL;
 use layout::number::further;
-use rules::plan::Plan;
-use rules::plan::become_nil;
-use rules::plan::refuse;
+use rules::edit::Edit;
+use rules::edit::become_nil;
+use rules::edit::refuse;
+use rules::store::nothing;
 use skipping::pass::pass_list;
 ghost use mathlib.Core.Path.{_≡_};
 ghost use Rattle.scopes.specs.Installing.{tooDeepW, updatedW, installedW};
@@ -14,26 +16,26 @@ ghost use Rattle.scopes.specs.Installing.{tooDeepW, updatedW, installedW
 fn too_deep(level: usize, levels: usize) -> bool
     ensures { λ r. ⌜ r ≡ tooDeepW level levels ⌝ }
 {
-    if 64 < levels {
+    if DEEPEST < levels {
         return true;
     }
-    64 < further(level, levels)
+    DEEPEST < further(level, levels)
 }
 
 // The list at `l` becomes the first `f` fresh words, the process nil.
-pub fn updated(ws: &[u16], notes: &[u16], s: Spot, l: usize, f: usize, fresh: &mut [u16]) -> Plan
-    ensures { λ r. ⌜ (r ≡ updatedW (now (ws .entry)) (now (notes .entry)) s l f (now (fresh .entry)) .plan) × (now (fresh .exit) ≡ updatedW (now (ws .entry)) (now (notes .entry)) s l f (now (fresh .entry)) .fresh) ⌝ }
+pub fn updated(ws: &[u16], notes: &[u16], s: Site, l: usize, f: usize, fresh: &mut [u16]) -> Edit
+    ensures { λ r. ⌜ (r ≡ updatedW (now (ws .entry)) (now (notes .entry)) s l f (now (fresh .entry)) .edit) × (now (fresh .exit) ≡ updatedW (now (ws .entry)) (now (notes .entry)) s l f (now (fresh .entry)) .fresh) ⌝ }
 {
     let m = pass_list(ws, notes, l, FUEL);
-    become_nil(s, l, m, f, 32, 0, fresh)
+    become_nil(s, l, m, f, nothing(), fresh)
 }
 
 // The inst at `s`, in the engine's process that begins at `start`.
-pub fn installed(ws: &[u16], notes: &[u16], start: usize, s: Spot, fresh: &mut [u16]) -> Plan
-    ensures { λ r. ⌜ (r ≡ installedW (now (ws .entry)) (now (notes .entry)) start s (now (fresh .entry)) .plan) × (now (fresh .exit) ≡ installedW (now (ws .entry)) (now (notes .entry)) start s (now (fresh .entry)) .fresh) ⌝ }
+pub fn installed(ws: &[u16], notes: &[u16], start: usize, s: Site, fresh: &mut [u16]) -> Edit
+    ensures { λ r. ⌜ (r ≡ installedW (now (ws .entry)) (now (notes .entry)) start s (now (fresh .entry)) .edit) × (now (fresh .exit) ≡ installedW (now (ws .entry)) (now (notes .entry)) start s (now (fresh .entry)) .fresh) ⌝ }
 {
     if s.scope == 0 {
-        return become_nil(s, start, start, 0, 32, 0, fresh);
+        return become_nil(s, start, start, 0, nothing(), fresh);
     }
     let scope = s.scope;
     let l = further(scope, 2);

@@ -1,4 +1,4 @@
-// The rules that look at scopes: endings, inst, comp and throw, as plans.
+// The rules that look at scopes: endings, inst, comp and throw, as edits.
 pub mod compensating;
 pub mod ending;
 pub mod installing;

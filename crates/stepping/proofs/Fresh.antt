@@ -5,17 +5,20 @@ use native.Mathlib.Omega.{arith}
 use mathlib.Core.Path.{_≡_, refl, _∙_}
 use mathlib.Core.Bool.{Bool, true, false, cond}
 use mathlib.Core.List.{List}
-use lib.Dec.{eqb, leb, lit<}
+use lib.Dec.{eqb, lit<}
 use lib.ListN.{length, getD, set, length-set, length-replicate}
+use Rattle.sock.specs.Words.{deadOf}
 use Rattle.layout.specs.Positions.{onward}
 use Rattle.writers.proofs.Laid.{Near, near-of}
+use Rattle.rules.specs.Storing.{takes, unchanged}
 use Rattle.rules.specs.declared.pair.Offer.{Offer}
-use Rattle.rules.specs.declared.turn.Turn.{Turn}
-use Rattle.finding.specs.declared.find.Spot.{Spot}
+use Rattle.rules.specs.declared.rewriting.Rewriting.{Rewriting}
+use Rattle.finding.specs.declared.find.Site.{Site}
 use Rattle.evaluating.specs.Evaluating.{valueIn}
-use Rattle.rules.specs.Turning.{Turned, turned, vanishing, keeping, partW, partEnd}
-use Rattle.rules.specs.Offering.{placed, throwHead, hearW, seqFirst, threeW, serveW, askW, answerW, failW}
-use Rattle.rules.specs.Planning.{planned, hollowW, nilW, plainW}
+use Rattle.rules.specs.Rewriting.{Rewritten, rewritten, vanishing, keeping, partW, partEnd}
+use Rattle.layout.specs.Heads.{throwHead}
+use Rattle.rules.specs.Offering.{placed, hearW, seqFirst, threeW, serveW, askW, answerW, failW}
+use Rattle.rules.specs.Editing.{edited, hollowW, nilW, plainW}
 use Rattle.rules.proofs.Exchanges.{three-to, first-place}
 use Rattle.stepping.specs.Exchanging.{blank}
 use Rattle.stepping.specs.Meeting.{sendW, receiveW}
@@ -47,16 +50,16 @@ first-to next fresh = by (eqb next 0)
     by true = omega arith
     by false = omega (arith, first-place)
 
--- a turn with few fresh words, in scratch of the same length
-abbrev Few : Turned → List ℕ → Type 0
-Few t fresh = (t .turn .fresh ≤ 4) × (length (t .fresh) ≡ length fresh)
+-- a rewriting with few fresh words, in scratch of the same length
+abbrev Few : Rewritten → List ℕ → Type 0
+Few t fresh = (t .rewriting .fresh ≤ 4) × (length (t .fresh) ≡ length fresh)
 
 module _ (fresh : List ℕ) (near : Near (length fresh)) (room : 4 ≤ length fresh) where
   pub send-few : (ws : List ℕ) (kind server serial : ℕ) → Few (sendW ws kind server serial fresh) fresh
   unfolding sendW askW
   send-few ws kind server serial = by (eqb kind 10)
     where
-      by : (b : Bool) → Few (cond b (askW ws server serial fresh) (turned (vanishing 32 0) fresh)) fresh
+      by : (b : Bool) → Few (cond b (askW ws server serial fresh) (rewritten (vanishing unchanged) fresh)) fresh
       by true = (omega (arith, three-to fresh 0 near (omega arith)), three-length fresh 0 _ _ _)
       by false = (omega arith, refl)
 
@@ -64,7 +67,7 @@ module _ (fresh : List ℕ) (near : Near (length fresh)) (room : 4 ≤ length fr
   unfolding hearW partW
   hear-few ws o v = by (eqb (o .next) 0) (eqb (getD ws (o .next) 0) 0)
     where
-      by : (a b : Bool) → cond a (vanishing (getD ws (o .guard) 0 % 32) v) (cond b (vanishing (getD ws (o .guard) 0 % 32) v) (keeping 0 (o .next) (o .upto) (o .end) (getD ws (o .guard) 0 % 32) v)) .fresh ≤ 4
+      by : (a b : Bool) → cond a (vanishing (takes (getD ws (o .guard) 0 % 32) v)) (cond b (vanishing (takes (getD ws (o .guard) 0 % 32) v)) (keeping 0 (o .next) (o .upto) (o .end) (takes (getD ws (o .guard) 0 % 32) v))) .fresh ≤ 4
       by true b = omega arith
       by false true = omega arith
       by false false = omega arith
@@ -79,11 +82,11 @@ module _ (fresh : List ℕ) (near : Near (length fresh)) (room : 4 ≤ length fr
 
   fail-few : (ws : List ℕ) (w : ℕ) → Few (failW ws w fresh) fresh
   unfolding failW
-  fail-few ws w = by (leb 32768 (getD ws 1 0))
+  fail-few ws w = by (eqb (deadOf (getD ws 1 0)) 1)
     where
       by :
           (b : Bool) →
-          Few (cond b (turned (vanishing 32 0) fresh) (turned (keeping (onward 0 1) (partEnd ws 0) (partEnd ws 0) (partEnd ws 0) 32 0) (set fresh 0 (throwHead w)))) fresh
+          Few (cond b (rewritten (vanishing unchanged) fresh) (rewritten (keeping (onward 0 1) (partEnd ws 0) (partEnd ws 0) (partEnd ws 0) unchanged) (set fresh 0 (throwHead w)))) fresh
       by true = (omega arith, refl)
       by false = (omega (arith, first-place), length-set fresh 0 _)
 
@@ -93,7 +96,7 @@ module _ (fresh : List ℕ) (near : Near (length fresh)) (room : 4 ≤ length fr
     where
       by :
           (a b d : Bool) →
-          Few (cond a (turned (hearW other o (valueIn vs (getD ws 0 0 % 32))) fresh)
+          Few (cond a (rewritten (hearW other o (valueIn vs (getD ws 0 0 % 32))) fresh)
           (cond b (serveW other o client serial (valueIn vs (getD ws 0 0 % 32)) fresh)
           (cond d (answerW other (valueIn vs (getD ws 0 0 % 32)) fresh) (failW other (getD ws 1 0) fresh)))) fresh
       by true b d = (hear-few other o _, refl)
@@ -101,20 +104,20 @@ module _ (fresh : List ℕ) (near : Near (length fresh)) (room : 4 ≤ length fr
       by false false true = (omega (arith, first-place), length-set fresh 0 24576)
       by false false false = fail-few other _
 
-  -- a plan made of such a turn
-  pub plain-few : (s : Spot) (start : ℕ) (t : Turn) → t .fresh ≤ 4 → plainW s start t fresh .plan .g ≤ 8192
+  -- an edit made of such a rewriting
+  pub plain-few : (s : Site) (start : ℕ) (t : Rewriting) → t .fresh ≤ 4 → plainW s start t fresh .edit .fresh ≤ 8192
   unfolding plainW nilW hollowW
   plain-few s start t h = by (t .nil) (s .hollow)
     where
       by :
           (a b : Bool) →
           cond a
-          (planned
-          (record { number = 0; l = start; m = start; f = 0; a = s .a; b = s .b; g = cond b (placed (onward 0 1) (set fresh 0 0)) (placed 0 fresh) .to; c = s .c; d = s .d; x = t .x; v = t .v })
+          (edited
+          (record { number = 0; list = start; past = start; listed = 0; from = s .from; upto = s .upto; fresh = cond b (placed (onward 0 1) (set fresh 0 0)) (placed 0 fresh) .to; gap = s .gap; end = s .end; store = record { variable = t .store .variable; value = t .store .value } })
           (cond b (placed (onward 0 1) (set fresh 0 0)) (placed 0 fresh) .fresh))
-          (planned
-          (record { number = t .number; l = start; m = start; f = 0; a = s .at; b = onward (s .at) (t .from); g = t .fresh; c = onward (s .at) (t .upto); d = onward (s .at) (t .end); x = t .x; v = t .v })
-          fresh) .plan .g ≤ 8192
+          (edited
+          (record { number = t .number; list = start; past = start; listed = 0; from = s .at; upto = onward (s .at) (t .from); fresh = t .fresh; gap = onward (s .at) (t .upto); end = onward (s .at) (t .end); store = record { variable = t .store .variable; value = t .store .value } })
+          fresh) .edit .fresh ≤ 8192
       by true true = omega (arith, first-place)
       by true false = omega arith
       by false b = omega arith

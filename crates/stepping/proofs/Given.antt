@@ -11,8 +11,8 @@ use Rattle.sock.specs.Configuration.{Engine, Config, encode, enginesDepth}
 use Rattle.sock.specs.Calls.{Stepped, engineAt, withEngine}
 use Rattle.sock.proofs.Fits.{FitsConfig}
 use Rattle.sock.proofs.Located.{startOf}
-use Rattle.rules.specs.declared.plan.Plan.{Plan}
-use Rattle.rules.proofs.Plans.{Plans}
+use Rattle.rules.specs.declared.edit.Edit.{Edit}
+use Rattle.rules.proofs.Edits.{Edits}
 use Rattle.stepping.specs.declared.answer.Answer.{Answer}
 use Rattle.stepping.specs.Answering.{answered, refusing, sizedW, lengthOf, writeOneW, oneW, writeTwoW, twoW}
 use Rattle.stepping.proofs.Goal.{given, fitted, fitted-deep, fitted-by}
@@ -46,7 +46,7 @@ told n h = omega arith
 module _ (c : Config) (fits : FitsConfig c) (deep : enginesDepth (c .engines) ≤ 64) (ws : List ℕ) (same : encode c ≡ ws) (short : length ws ≤ 8192) where
   -- ---- one
 
-  module _ (e : ℕ) (h : e < length (c .engines)) (p : Plan) (fresh : List ℕ) (kind : ℕ) (out : List ℕ) where
+  module _ (e : ℕ) (h : e < length (c .engines)) (p : Edit) (fresh : List ℕ) (kind : ℕ) (out : List ℕ) where
     abbrev start : ℕ
     start = startOf c e
 
@@ -67,29 +67,29 @@ module _ (c : Config) (fits : FitsConfig c) (deep : enginesDepth (c .engines) �
         ∙ sym (fitted-deep (made vs q) out (omega (arith, fits .word)) (depth-over (c .engines) e _ 64 h d)))
 
     pub one-given :
-        (vs : List ℕ) (q : Run) → p .number ≡ 0 → Plans ws start end p fresh q → runDepth q ≤ 64 →
-        vs ≡ valued (engineAt c e .values) (p .x) (p .v) →
+        (vs : List ℕ) (q : Run) → p .number ≡ 0 → Edits ws start end p fresh q → runDepth q ≤ 64 →
+        vs ≡ valued (engineAt c e .values) (p .store .variable) (p .store .value) →
         oneW ws start end p kind fresh out ≡ given (fitted (length out) (made vs q)) out
     unfolding oneW
-    one-given vs q z plans d v =
+    one-given vs q z edits d v =
         rw (eq-eqb (p .number) 0 z, v)
-        (fitted-by (made (valued (engineAt c e .values) (p .x) (p .v)) q) out (writeOneW ws start end p fresh out .out) (sizedW (length ws) p) (sizedW (length ws) p % 65536)
-        (omega (arith, fits .word)) (depth-set (c .engines) e _ 64 deep d) (next-fits c fits e h ws same p fresh q plans short (length out)) λ a b.
-        let s = next-sized c fits e h ws same p fresh q plans short (omega (arith, next-few c fits e h ws same p fresh q plans)) in
-        (ap (λ k. k % 65536) s ∙ told _ a, next-written c fits e h ws same p fresh q plans out a b))
+        (fitted-by (made (valued (engineAt c e .values) (p .store .variable) (p .store .value)) q) out (writeOneW ws start end p fresh out .out) (sizedW (length ws) p) (sizedW (length ws) p % 65536)
+        (omega (arith, fits .word)) (depth-set (c .engines) e _ 64 deep d) (next-fits c fits e h ws same p fresh q edits short (length out)) λ a b.
+        let s = next-sized c fits e h ws same p fresh q edits short (omega (arith, next-few c fits e h ws same p fresh q edits)) in
+        (ap (λ k. k % 65536) s ∙ told _ a, next-written c fits e h ws same p fresh q edits out a b))
 
   -- ---- two, in the order of the words
 
-  module _ (e i : ℕ) (low : e < i) (high : i < length (c .engines)) (p1 : Plan) (f1 : List ℕ) (q1 : Run)
-      (plans1 : Plans ws (startOf c e) (startOf c e + size (engineAt c e .process)) p1 f1 q1) (p2 : Plan) (f2 : List ℕ) (q2 : Run)
-      (plans2 : Plans ws (startOf c i) (startOf c i + size (engineAt c i .process)) p2 f2 q2) (issued : ℕ) where
+  module _ (e i : ℕ) (low : e < i) (high : i < length (c .engines)) (p1 : Edit) (f1 : List ℕ) (q1 : Run)
+      (edits1 : Edits ws (startOf c e) (startOf c e + size (engineAt c e .process)) p1 f1 q1) (p2 : Edit) (f2 : List ℕ) (q2 : Run)
+      (edits2 : Edits ws (startOf c i) (startOf c i + size (engineAt c i .process)) p2 f2 q2) (issued : ℕ) where
     pub two-given :
-        (a : Answer) (out : List ℕ) → issued ≤ 65535 → runDepth q1 ≤ 64 → runDepth q2 ≤ 64 → p1 .g ≤ 8192 → p2 .g ≤ 8192 →
+        (a : Answer) (out : List ℕ) → issued ≤ 65535 → runDepth q1 ≤ 64 → runDepth q2 ≤ 64 → p1 .fresh ≤ 8192 → p2 .fresh ≤ 8192 →
         twoW ws (startOf c e) (startOf c e + size (engineAt c e .process)) p1 f1 (startOf c i) (startOf c i + size (engineAt c i .process)) p2 f2 issued a out
         ≡ given
         (fitted (length out)
         (record {
-          config = two.next c fits e i low high ws same p1 f1 q1 plans1 p2 f2 q2 plans2 issued;
+          config = two.next c fits e i low high ws same p1 f1 q1 edits1 p2 f2 q2 edits2 issued;
           kind = a .kind;
           serial = a .serial;
           fault = a .fault;
@@ -97,8 +97,8 @@ module _ (c : Config) (fits : FitsConfig c) (deep : enginesDepth (c .engines) �
         out
     unfolding twoW
     two-given a out fine d1 d2 g1 g2 =
-        let s = two.two-sized c fits e i low high ws same p1 f1 q1 plans1 p2 f2 q2 plans2 issued short g1 g2 in
+        let s = two.two-sized c fits e i low high ws same p1 f1 q1 edits1 p2 f2 q2 edits2 issued short g1 g2 in
         fitted-by _ out (writeTwoW ws (startOf c e) (startOf c e + size (engineAt c e .process)) p1 f1 (startOf c i) (startOf c i + size (engineAt c i .process)) p2 f2 issued out)
         (sizedW (sizedW (length ws) p1) p2) (sizedW (sizedW (length ws) p1) p2 % 65536) fine
         (depth-set (set (c .engines) e _) i _ 64 (depth-set (c .engines) e _ 64 deep d1) d2) (ap (λ k. lengthOf k (length out)) s) λ x y.
-        (ap (λ k. k % 65536) s ∙ told _ x, two.two-written c fits e i low high ws same p1 f1 q1 plans1 p2 f2 q2 plans2 issued out x y)
+        (ap (λ k. k % 65536) s ∙ told _ x, two.two-written c fits e i low high ws same p1 f1 q1 edits1 p2 f2 q2 edits2 issued out x y)

@@ -26,11 +26,11 @@ use Rattle.skipping.proofs.Notes.{Right}
 use Rattle.noting.specs.Noting.{surveyNotes}
 use Rattle.noting.proofs.Noted.{survey-right}
 use Rattle.layout.specs.Positions.{onward}
-use Rattle.finding.specs.declared.find.Spot.{Spot}
+use Rattle.finding.specs.declared.find.Site.{Site}
 use Rattle.finding.specs.declared.find.Found.{Found}
 use Rattle.finding.specs.Find.{findW}
-use Rattle.rules.specs.Turning.{at}
-use Rattle.rules.proofs.Turns.{head-on}
+use Rattle.rules.specs.Rewriting.{at}
+use Rattle.rules.proofs.Rewrites.{head-on}
 use Rattle.stepping.specs.Answers.{answerAs}
 use Rattle.stepping.specs.Answering.{Answered, answered, refusing}
 use Rattle.stepping.specs.Alone.{aloneW}
@@ -81,7 +81,7 @@ module _ (ws : List ℕ) (ok : Words ws) (k : Numbers) (position-low : k .positi
     bound = n * 65536 + c .issued
 
     -- the process found, by its kind
-    module _ (target : ℕ) (l : Located) (sp : Spot) (found : Seen ws ok s known (k .engine) target l sp) where
+    module _ (target : ℕ) (l : Located) (sp : Site) (found : Seen ws ok s known (k .engine) target l sp) where
       abbrev a : Place
       a = placed ws ok s known (k .engine) l
 

@@ -1,4 +1,4 @@
--- What a rule alone makes: the plan for the engine's process, and its values.
+-- What a rule alone makes: the edit for the engine's process, and its values.
 -- Assumes nothing.
 use Prim.Native.Nat.{ℕ, zero, suc, _+_, _-_, _*_, _≤_, _<_}
 use native.Mathlib.Omega.{arith}
@@ -37,16 +37,17 @@ use Rattle.writers.specs.Writing.{pasted, pastedEnd}
 use Rattle.evaluating.specs.Evaluating.{evaluated}
 use Rattle.writers.proofs.Laid.{Near, near-of, near-below}
 use Rattle.handling.proofs.Leaves.{pasted-keeps}
-use Rattle.finding.specs.declared.find.Spot.{Spot}
+use Rattle.finding.specs.declared.find.Site.{Site}
 use Rattle.finding.specs.Find.{faultAt}
 use Rattle.finding.proofs.Within.{within, within-locate}
 use Rattle.finding.proofs.Spots.{Spotted}
 use Rattle.finding.proofs.Edits.{part, process-at}
-use Rattle.rules.specs.declared.turn.Turn.{Turn}
-use Rattle.rules.specs.Turning.{turned, vanishing, keeping, refused, at, partW, assignW, partEnd, branchW, levelsLeft, unrollW, repeatW}
-use Rattle.rules.specs.Planning.{Planned, plainW}
-use Rattle.rules.proofs.Turns.{Becomes, becomes-nil, Outcome, deepens, becomes, assign-turns, branch-turns, repeat-turns}
-use Rattle.rules.proofs.Plans.{done-nil}
+use Rattle.rules.specs.Storing.{takes, unchanged}
+use Rattle.rules.specs.declared.rewriting.Rewriting.{Rewriting}
+use Rattle.rules.specs.Rewriting.{rewritten, vanishing, keeping, refused, at, partW, assignW, partEnd, branchW, unrollW, repeatW}
+use Rattle.rules.specs.Editing.{Edited, plainW}
+use Rattle.rules.proofs.Rewrites.{Becomes, becomes-nil, Outcome, deepens, becomes, assign-rewrites, branch-rewrites, repeat-rewrites}
+use Rattle.rules.proofs.Edits.{done-nil}
 use Rattle.rules.proofs.Shapes.{Shape, assigns, branches, repeats, chooses, hears, serves, notifies, solicits, installs, throws, compensates, shape}
 use Rattle.rules.proofs.Outcomes.{Ruled, becomes-ruled, outcome-ruled}
 use Rattle.scopes.proofs.ScopeLists.{whole-inside, frames-deep, process-inside, level-low}
@@ -56,7 +57,7 @@ use Rattle.scopes.proofs.Throws.{thrown-ruled}
 use Rattle.scopes.proofs.Ends.{ends}
 use Rattle.scopes.proofs.Scratch.{Roomy, Spacious}
 use Rattle.stepping.specs.Exchanging.{lent}
-use Rattle.stepping.specs.Alone.{turnW, valuedW, scopedW, ruleW}
+use Rattle.stepping.specs.Alone.{rewrittenW, valuedW, scopedW, ruleW}
 use Rattle.stepping.proofs.Writes.{valued}
 use Rattle.stepping.proofs.Results.{one-stands, one-behind, one-values}
 
@@ -72,16 +73,16 @@ enabled-depth : {m : Node} → Fits (code false) anywhere m → runDepth (enable
 unfolding runDepth
 enabled-depth f = ap depth (enable-asNode f)
 
--- no turn of an if takes a value
-part-none : (ws : List ℕ) (from upto end : ℕ) → partW ws from upto end 32 0 .x ≡ 32
+-- no rewriting of an if takes a value
+part-none : (ws : List ℕ) (from upto end : ℕ) → partW ws from upto end unchanged .store .variable ≡ 32
 unfolding partW
 part-none ws from upto end = by (eqb (at ws from) 0)
   where
-    by : (b : Bool) → cond b (vanishing 32 0) (keeping 0 from upto end 32 0) .x ≡ 32
+    by : (b : Bool) → cond b (vanishing unchanged) (keeping 0 from upto end unchanged) .store .variable ≡ 32
     by true = refl
     by false = refl
 
-branch-none : (ws values : List ℕ) → branchW ws values .x ≡ 32
+branch-none : (ws values : List ℕ) → branchW ws values .store .variable ≡ 32
 unfolding branchW
 branch-none ws values = by (eqb (evaluated 64 ws values 1 .value) 0)
   where
@@ -89,11 +90,11 @@ branch-none ws values = by (eqb (evaluated 64 ws values 1 .value) 0)
         (let e = evaluated 64 ws values 1 in
         let middle : ℕ = partEnd ws (e .end) in
         let last : ℕ = partEnd ws middle in
-        cond b (partW ws middle last last 32 0) (partW ws (e .end) middle last 32 0) .x ≡ 32)
+        cond b (partW ws middle last last unchanged) (partW ws (e .end) middle last unchanged) .store .variable ≡ 32)
     by true = part-none ws _ _ _
     by false = part-none ws _ _ _
 
-plain-number : (s : Spot) (start : ℕ) (t : Turn) (fresh : List ℕ) → t .nil ≡ false → plainW s start t fresh .plan .number ≡ t .number
+plain-number : (s : Site) (start : ℕ) (t : Rewriting) (fresh : List ℕ) → t .nil ≡ false → plainW s start t fresh .edit .number ≡ t .number
 unfolding plainW
 plain-number s start t fresh e = rw e
 
@@ -102,16 +103,16 @@ repeat-keeps : (level bound : ℕ) (ws values fresh : List ℕ) → length (repe
 unfolding repeatW unrollW
 repeat-keeps level bound ws values fresh =
     let e = evaluated 64 ws values 1 in
-    by (eqb (e .value) 0) (eqb (at ws (e .end)) 0) (eqb (processEnd (levelsLeft level) ws bound 0 0) 0)
+    by (eqb (e .value) 0) (eqb (at ws (e .end)) 0) (eqb (processEnd (64 - level) ws bound 0 0) 0)
   where
     by : (a b c : Bool) →
         (let e = evaluated 64 ws values 1 in
         let end : ℕ = partEnd ws (e .end) in
         length
-        (cond a (turned (vanishing 32 0) fresh)
-        (cond b (turned (keeping 0 0 end end 32 0) fresh)
-        (cond c (turned (refused 8) fresh)
-        (turned (keeping (pastedEnd ws (e .end) end 1) 0 end end 32 0) (pasted ws (e .end) end (set fresh 0 4096) 1)))) .fresh)
+        (cond a (rewritten (vanishing unchanged) fresh)
+        (cond b (rewritten (keeping 0 0 end end unchanged) fresh)
+        (cond c (rewritten (refused 8) fresh)
+        (rewritten (keeping (pastedEnd ws (e .end) end 1) 0 end end unchanged) (pasted ws (e .end) end (set fresh 0 4096) 1)))) .fresh)
         ≡ length fresh)
     by true b c = refl
     by false true c = refl
@@ -123,7 +124,7 @@ words-part ws i ok k = subst (λ (w : ℕ). w < 65536) (sym (getD-drop i ws k 0)
 
 module _ (ws : List ℕ) (ok : Words ws) (n issued : ℕ) (few : n ≤ 8) (small : issued < 65536) (r : Run) (sound : Sound n issued r)
     (start : ℕ) (words-at : drop start ws ≡ runWords r ++ drop (start + size r) ws) (low : 64 ≤ start) (deep : runDepth r ≤ 64)
-    (short : length ws ≤ 8192) (target : ℕ) (l : Located) (s : Spot) (place : within r start target ≡ some l)
+    (short : length ws ≤ 8192) (target : ℕ) (l : Located) (s : Site) (place : within r start target ≡ some l)
     (spotted : Spotted (faultAt ws target) target r start 1 l s) where
   pub near : Near (length ws)
   near = near-below (length ws) 8192 (near-of 8192 (lit< tt)) short
@@ -170,15 +171,15 @@ module _ (ws : List ℕ) (ok : Words ws) (n issued : ℕ) (few : n ≤ 8) (small
       (notes : List ℕ) (right : Right ws notes) (fresh : List ℕ) (room : Roomy ws fresh)
       (wide : Spacious (ruleW ws notes start s (kind (asNode (l .process))) bound fresh) fresh) (big : Near (length fresh)) where
     -- what the rule makes, if it moves alone
-    abbrev Makes : Planned → Move → Type 0
+    abbrev Makes : Edited → Move → Type 0
     Makes u stuck = Unit {0}
     Makes u (alone vs' q) =
-        Ruled ws start (start + size r) (u .plan) (u .fresh) q × (u .plan .number ≡ 0 → vs' ≡ valued vs (u .plan .x) (u .plan .v))
+        Ruled ws start (start + size r) (u .edit) (u .fresh) q × (u .edit .number ≡ 0 → vs' ≡ valued vs (u .edit .store .variable) (u .edit .store .value))
     Makes u (sends m) = Unit {0}
 
     -- no value changes
-    still : (u : Planned) (q : Option Run) →
-        Ruled ws start (start + size r) (u .plan) (u .fresh) q × (u .plan .x ≡ 32) → Makes u (alone vs q)
+    still : (u : Edited) (q : Option Run) →
+        Ruled ws start (start + size r) (u .edit) (u .fresh) q × (u .edit .store .variable ≡ 32) → Makes u (alone vs q)
     still u q (a, b) = (a, λ z. rw b)
 
     made-scope : (name : ℕ) (mark : Mark) (zombie : Bool) (h : Entries) (a : Run) → l .process ≡ scope name mark zombie h a →
@@ -190,14 +191,14 @@ module _ (ws : List ℕ) (ok : Words ws) (n issued : ℕ) (few : n ≤ 8) (small
         still _ _ (ends (faultAt ws target) target r start l s ws notes right words-at spotted near (standing .frames) deep (omega arith)
         few small short fresh room big sound name mark zombie h (is ∙ ap (scope name mark zombie h) (done-nil a e)))
 
-    made-executor : (b : Bool) (u : Planned) (m : Message) → Makes u (cond b (sends m) stuck)
+    made-executor : (b : Bool) (u : Edited) (m : Message) → Makes u (cond b (sends m) stuck)
     made-executor true u m = tt
     made-executor false u m = tt
 
     -- assign, if and while
     plain-rule : (k : ℕ) → k ≤ 6 →
-        (let t = turnW (drop (s .at) ws) (valuesWords vs) (s .level) k bound fresh in
-        ruleW ws notes start s k bound fresh ≡ plainW s start (t .turn) (t .fresh))
+        (let t = rewrittenW (drop (s .at) ws) (valuesWords vs) (s .level) k bound fresh in
+        ruleW ws notes start s k bound fresh ≡ plainW s start (t .rewriting) (t .fresh))
     unfolding ruleW valuedW
     plain-rule k h =
         let fits = whole-inside (faultAt ws target) target r start l s ws words-at spotted near (standing .frames) deep in
@@ -211,7 +212,7 @@ module _ (ws : List ℕ) (ok : Words ws) (n issued : ℕ) (few : n ≤ 8) (small
         )
 
     -- the process becomes q, and no value changes
-    turns : (q : Run) (t : Turn) (made : List ℕ) → length made ≡ length fresh → Becomes (l .process) q t made → t .x ≡ 32 →
+    turns : (q : Run) (t : Rewriting) (made : List ℕ) → length made ≡ length fresh → Becomes (l .process) q t made → t .store .variable ≡ 32 →
         s .level + runDepth q ≤ 65 → Makes (plainW s start t made) (alone vs (some (plug (l .frames) q)))
     turns q t made same b x high =
         let u = becomes-ruled (faultAt ws target) target r start l s ws words-at spotted near (standing .frames) deep q t made
@@ -227,27 +228,27 @@ module _ (ws : List ℕ) (ok : Words ws) (n issued : ℕ) (few : n ≤ 8) (small
 
     made-assign : (h : ℕ) (e : Expr) → FitsExpr e → l .process ≡ act (node h [] (e ∷ []) absent noParts) →
         Makes (ruleW ws notes start s 1 bound fresh) (alone (set vs (variableOf h) (evaluate vs e)) (some (plug (l .frames) nil)))
-    unfolding turnW
+    unfolding rewrittenW
     made-assign h e g is =
         let m : Node = node h [] (e ∷ []) absent noParts in
         let x : ℕ = variableOf h in
         let v : ℕ = evaluate vs e in
-        let turn : assignW (drop (s .at) ws) (valuesWords vs) ≡ vanishing x v =
-        assign-turns n issued (drop (s .at) ws) (words-part ws (s .at) ok) few small vs below rest h e g
+        let turn : assignW (drop (s .at) ws) (valuesWords vs) ≡ vanishing (takes x v) =
+        assign-rewrites n issued (drop (s .at) ws) (words-part ws (s .at) ok) few small vs below rest h e g
         (omega (arith, node-deep m is)) (node-at m is) in
         let u = becomes-ruled (faultAt ws target) target r start l s ws words-at spotted near (standing .frames) deep nil
-        (vanishing x v) fresh (omega arith) big (becomes-nil (l .process) x v fresh) (omega (arith, depth-nil, level)) in
+        (vanishing (takes x v)) fresh (omega arith) big (becomes-nil (l .process) x v fresh) (omega (arith, depth-nil, level)) in
         rw (plain-rule 1 (omega arith), turn)
         (u .0, λ z. rw (u .1, u .2, lt-leb 32 x (omega arith)))
 
     made-branch : (h : ℕ) (e : Expr) (p q : Node) → FitsExpr e → Fits (code false) anywhere p → Fits (code false) anywhere q →
         l .process ≡ act (node h [] (e ∷ []) absent (p & q & noParts)) →
         Makes (ruleW ws notes start s 4 bound fresh) (alone vs (some (plug (l .frames) (enable (cond (isTrue (evaluate vs e)) p q)))))
-    unfolding turnW depth
+    unfolding rewrittenW depth
     made-branch h e p q g fp fq is =
         let m : Node = node h [] (e ∷ []) absent (p & q & noParts) in
         let high = node-deep m is in
-        let b = branch-turns n issued (drop (s .at) ws) (words-part ws (s .at) ok) few small vs below rest h e p q g fp fq
+        let b = branch-rewrites n issued (drop (s .at) ws) (words-part ws (s .at) ok) few small vs below rest h e p q g fp fq
         (omega (arith, node-deep m is)) (node-at m is) fresh in
         rw (plain-rule 4 (omega arith))
         (turns (enable (cond (isTrue (evaluate vs e)) p q)) (branchW (drop (s .at) ws) (valuesWords vs)) fresh refl
@@ -263,17 +264,17 @@ module _ (ws : List ℕ) (ok : Words ws) (n issued : ℕ) (few : n ≤ 8) (small
         Makes (ruleW ws notes start s 5 bound fresh)
         (alone vs
         (some (plug (l .frames) (cond (isTrue (evaluate vs e)) (seqOf (enable p) (node h [] (e ∷ []) absent (p & noParts))) nil))))
-    unfolding turnW
+    unfolding rewrittenW
     made-repeat h e p k g fp f is =
         let m : Node = node h [] (e ∷ []) absent (p & noParts) in
-        let o = repeat-turns n issued (drop (s .at) ws) (words-part ws (s .at) ok) few small vs below rest h k e p g fp
+        let o = repeat-rewrites n issued (drop (s .at) ws) (words-part ws (s .at) ok) few small vs below rest h k e p g fp
         (omega (arith, node-deep m is)) (node-at m is) f fresh (omega (arith, length-drop (s .at) ws)) big
         (s .level) (node-deep m is) level in
         rw (plain-rule 5 (omega arith))
         (by (cond (isTrue (evaluate vs e)) (seqOf (enable p) m) nil) _ _
         (repeat-keeps (s .level) bound (drop (s .at) ws) (valuesWords vs) fresh) (rw is o))
       where
-        by : (q : Run) (t : Turn) (made : List ℕ) → length made ≡ length fresh → Outcome (l .process) (s .level) q t made →
+        by : (q : Run) (t : Rewriting) (made : List ℕ) → length made ≡ length fresh → Outcome (l .process) (s .level) q t made →
             Makes (plainW s start t made) (alone vs (some (plug (l .frames) q)))
         by q t made same (becomes b x high) = turns q t made same b x high
         by q t made same (deepens a b c d) = (
@@ -340,7 +341,7 @@ module _ (ws : List ℕ) (ok : Words ws) (n issued : ℕ) (few : n ≤ 8) (small
     pub lone :
         (vs' : List ℕ) (q : Option Run) → moveOf vs (l .frames) (l .process) ≡ alone vs' q →
         (let u = ruleW ws notes start s (kind (asNode (l .process))) bound fresh in
-        Ruled ws start (start + size r) (u .plan) (u .fresh) q × (u .plan .number ≡ 0 → vs' ≡ valued vs (u .plan .x) (u .plan .v)))
+        Ruled ws start (start + size r) (u .edit) (u .fresh) q × (u .edit .number ≡ 0 → vs' ≡ valued vs (u .edit .store .variable) (u .edit .store .value)))
     lone vs' q e =
         rw (kind-asNode (standing .process))
         (subst (Makes (ruleW ws notes start s (runKind (l .process)) bound fresh)) e (made (l .process) refl (standing .process)))
@@ -368,7 +369,7 @@ module _ (ws : List ℕ) (ok : Words ws) (starts : Starts) (known : Known standa
   pub run-short : length ws ≤ 8192
   run-short = rw (known .same) at (known .readable .short)
 
-  module _ (target : ℕ) (l : Located) (s : Spot) (place : within run (startOf c e) target ≡ some l)
+  module _ (target : ℕ) (l : Located) (s : Site) (place : within run (startOf c e) target ≡ some l)
       (spotted : Spotted (faultAt ws target) target run (startOf c e) 1 l s) where
     pub known-standing : Stands (length (c .engines)) (c .issued) l
     known-standing =
@@ -381,8 +382,8 @@ module _ (ws : List ℕ) (ok : Words ws) (starts : Starts) (known : Known standa
         Near (length fresh) →
         (vs' : List ℕ) (q : Option Run) → moveOf (engineAt c e .values) (l .frames) (l .process) ≡ alone vs' q →
         (let u = ruleW ws notes (startOf c e) s (kind (asNode (l .process))) (length (c .engines) * 65536 + c .issued) fresh in
-        Ruled ws (startOf c e) (startOf c e + size run) (u .plan) (u .fresh) q
-        × (u .plan .number ≡ 0 → vs' ≡ valued (engineAt c e .values) (u .plan .x) (u .plan .v)))
+        Ruled ws (startOf c e) (startOf c e + size run) (u .edit) (u .fresh) q
+        × (u .edit .number ≡ 0 → vs' ≡ valued (engineAt c e .values) (u .edit .store .variable) (u .edit .store .value)))
     known-lone notes right fresh room wide big =
         lone ws ok (length (c .engines)) (c .issued) (known .readable .fitting .few) (known .readable .fitting .word) run (fit .sound)
         (startOf c e) run-stands (omega arith) run-deep run-short target l s place spotted (engineAt c e .values)

@@ -21,8 +21,8 @@ use Rattle.reading.proofs.Combining.{Words}
 use Rattle.reading.proofs.Known.{Known, known-length}
 use Rattle.reading.proofs.Standing.{start-next}
 use Rattle.skipping.proofs.Notes.{Right}
-use Rattle.finding.specs.declared.find.Spot.{Spot}
-use Rattle.rules.specs.Planning.{Planned}
+use Rattle.finding.specs.declared.find.Site.{Site}
+use Rattle.rules.specs.Editing.{Edited}
 use Rattle.writers.proofs.Laid.{Near, near-of}
 use Rattle.rules.proofs.Outcomes.{Ruled, unkillable, tooDeep, ruled}
 use Rattle.scopes.proofs.Scratch.{Roomy, Spacious}
@@ -41,7 +41,7 @@ large-length = length-replicate {A = ℕ} 16384 0
 small-length : length small ≡ 1024
 small-length = length-replicate {A = ℕ} 1024 0
 
-module _ (ws : List ℕ) (ok : Words ws) (s : Starts) (known : Known standard ws s) (e target : ℕ) (l : Located) (sp : Spot) (seen : Seen ws ok s known e target l sp) where
+module _ (ws : List ℕ) (ok : Words ws) (s : Starts) (known : Known standard ws s) (e target : ℕ) (l : Located) (sp : Site) (seen : Seen ws ok s known e target l sp) where
   abbrev c : Config
   c = known .config
 
@@ -64,17 +64,17 @@ module _ (ws : List ℕ) (ok : Words ws) (s : Starts) (known : Known standard ws
   short = known-length known .1
 
   by-rule :
-      (u : Planned) (vs' : List ℕ) (q : Option Run) → Ruled ws start end (u .plan) (u .fresh) q →
-      (u .plan .number ≡ 0 → vs' ≡ valued (engineAt c e .values) (u .plan .x) (u .plan .v)) → (out : List ℕ) →
-      oneW ws start end (u .plan) k (u .fresh) out ≡ given (loneOf c a vs' q (length out)) out
+      (u : Edited) (vs' : List ℕ) (q : Option Run) → Ruled ws start end (u .edit) (u .fresh) q →
+      (u .edit .number ≡ 0 → vs' ≡ valued (engineAt c e .values) (u .edit .store .variable) (u .edit .store .value)) → (out : List ℕ) →
+      oneW ws start end (u .edit) k (u .fresh) out ≡ given (loneOf c a vs' q (length out)) out
   unfolding loneOf
   by-rule u vs' none (unkillable z) v out =
-      one-refused c (known .readable .fitting) (known .readable .shallow) ws (known .same) short e (seen .inside) (u .plan) (u .fresh) k out (λ y. omega arith)
+      one-refused c (known .readable .fitting) (known .readable .shallow) ws (known .same) short e (seen .inside) (u .edit) (u .fresh) k out (λ y. omega arith)
       ∙ (ap (λ n. answered (refusing n) out) z ∙ sym (given-refused installing out))
   by-rule u vs' (some q) (tooDeep z d) v out =
-      one-deep c (known .readable .fitting) (known .readable .shallow) ws (known .same) short e (seen .inside) (u .plan) (u .fresh) k out vs' q z d
-  by-rule u vs' (some q) (ruled z plans d) v out =
-      one-given c (known .readable .fitting) (known .readable .shallow) ws (known .same) short e (seen .inside) (u .plan) (u .fresh) k out vs' q z plans d (v z)
+      one-deep c (known .readable .fitting) (known .readable .shallow) ws (known .same) short e (seen .inside) (u .edit) (u .fresh) k out vs' q z d
+  by-rule u vs' (some q) (ruled z edits d) v out =
+      one-given c (known .readable .fitting) (known .readable .shallow) ws (known .same) short e (seen .inside) (u .edit) (u .fresh) k out vs' q z edits d (v z)
 
   kind-low : k < 32 → k % 32 ≡ k
   kind-low h = omega arith
@@ -84,7 +84,7 @@ module _ (ws : List ℕ) (ok : Words ws) (s : Starts) (known : Known standard ws
       (notes : List ℕ) → Right ws notes → (vs' : List ℕ) (q : Option Run) → moveOf (engineAt c e .values) (l .frames) (l .process) ≡ alone vs' q → k < 32 → (out : List ℕ) →
       aloneW ws notes (getD (s .starts) e 0) (getD (s .starts) (e + 1) 0) sp k bound out ≡ given (loneOf c a vs' q (length out)) out
   unfolding aloneW shortW loneW
-  lone-law notes right vs' q m low out = by (ltb 512 (length ws)) (ltb surely (ruleW ws notes (getD (s .starts) e 0) sp k bound small .plan .g)) refl refl
+  lone-law notes right vs' q m low out = by (ltb 512 (length ws)) (ltb surely (ruleW ws notes (getD (s .starts) e 0) sp k bound small .edit .fresh)) refl refl
     where
       first : getD (s .starts) e 0 ≡ start
       first = known .starts e (omega (arith, seen .inside))
@@ -107,7 +107,7 @@ module _ (ws : List ℕ) (ok : Words ws) (s : Starts) (known : Known standard ws
           (λ h. omega (arith, large-length)) (rw large-length (near-of 16384 (lit< tt)))
 
       by :
-          (b d : Bool) → ltb 512 (length ws) ≡ b → ltb surely (ruleW ws notes (getD (s .starts) e 0) sp k bound small .plan .g) ≡ d →
+          (b d : Bool) → ltb 512 (length ws) ≡ b → ltb surely (ruleW ws notes (getD (s .starts) e 0) sp k bound small .edit .fresh) ≡ d →
           cond b (loneW ws notes (getD (s .starts) e 0) (getD (s .starts) (e + 1) 0) sp k bound large out)
           (cond d (loneW ws notes (getD (s .starts) e 0) (getD (s .starts) (e + 1) 0) sp k bound large out)
           (loneW ws notes (getD (s .starts) e 0) (getD (s .starts) (e + 1) 0) sp k bound small out))
@@ -116,7 +116,7 @@ module _ (ws : List ℕ) (ok : Words ws) (s : Starts) (known : Known standard ws
       by false true p r = in-large
       by false false p r =
           let few : length ws ≤ 512 = ltb-false 512 (length ws) p in
-          let spare : ruleW ws notes start sp k bound small .plan .g ≤ surely =
-          rw first at (ltb-false surely (ruleW ws notes (getD (s .starts) e 0) sp k bound small .plan .g) r) in
+          let spare : ruleW ws notes start sp k bound small .edit .fresh ≤ surely =
+          rw first at (ltb-false surely (ruleW ws notes (getD (s .starts) e 0) sp k bound small .edit .fresh) r) in
           scratched small (record { twice = omega (arith, small-length, few); few = omega (arith, small-length) })
           (λ h. omega (arith, spare, small-length)) (rw small-length (near-of 1024 (lit< tt)))

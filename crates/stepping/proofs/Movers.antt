@@ -30,13 +30,13 @@ use Rattle.skipping.proofs.Notes.{Right, pass-entries}
 use Rattle.reading.proofs.Known.{Known}
 use Rattle.layout.specs.Positions.{onward}
 use Rattle.writers.proofs.Laid.{onward-near}
-use Rattle.finding.specs.declared.find.Spot.{Spot}
+use Rattle.finding.specs.declared.find.Site.{Site}
 use Rattle.finding.specs.Find.{faultAt}
 use Rattle.finding.proofs.Within.{within}
 use Rattle.finding.proofs.Spots.{Spotted}
-use Rattle.rules.specs.Turning.{at}
-use Rattle.rules.proofs.Turns.{head-on}
-use Rattle.rules.proofs.Plans.{done-nil}
+use Rattle.rules.specs.Rewriting.{at}
+use Rattle.rules.proofs.Rewrites.{head-on}
+use Rattle.rules.proofs.Edits.{done-nil}
 use Rattle.rules.proofs.Shapes.{Shape, assigns, branches, repeats, chooses, hears, serves, notifies, solicits, installs, throws, compensates, shape}
 use Rattle.stepping.specs.Stepping.{bodyNil, byKind, movesW}
 use Rattle.stepping.proofs.Lone.{near, standing, rest, part-at, inside, process-deep, run-stands, run-deep, run-short}
@@ -80,7 +80,7 @@ head-done {a = a} g = by (isDone a) refl
 
 module _ (ws : List ℕ) (ok : Words ws) (n issued : ℕ) (few : n ≤ 8) (small : issued < 65536) (r : Run) (sound : Sound n issued r)
     (start : ℕ) (words-at : drop start ws ≡ runWords r ++ drop (start + size r) ws) (low : 64 ≤ start) (deep : runDepth r ≤ 64)
-    (short : length ws ≤ 8192) (target : ℕ) (l : Located) (s : Spot) (place : within r start target ≡ some l)
+    (short : length ws ≤ 8192) (target : ℕ) (l : Located) (s : Site) (place : within r start target ≡ some l)
     (spotted : Spotted (faultAt ws target) target r start 1 l s) (vs notes : List ℕ) (right : Right ws notes) where
   abbrev more : List ℕ
   more = rest ws ok n issued few small r sound start words-at low deep short target l s place spotted
@@ -180,7 +180,7 @@ module _ (ws : List ℕ) (ok : Words ws) (n issued : ℕ) (few : n ≤ 8) (small
 -- in a configuration that is known
 module _ (ws : List ℕ) (ok : Words ws) (starts : Starts) (known : Known standard ws starts) (e : ℕ)
     (h : e < length (known .config .engines))
-    (target : ℕ) (l : Located) (s : Spot) (place : within (engineAt (known .config) e .process) (startOf (known .config) e) target ≡ some l)
+    (target : ℕ) (l : Located) (s : Site) (place : within (engineAt (known .config) e .process) (startOf (known .config) e) target ≡ some l)
     (spotted : Spotted (faultAt ws target) target (engineAt (known .config) e .process) (startOf (known .config) e) 1 l s)
     (notes : List ℕ) (right : Right ws notes) where
   abbrev c : Config

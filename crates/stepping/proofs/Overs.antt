@@ -10,7 +10,7 @@ use lib.Seq.{take-at, drop-at, drop-drop, length-take-le, set-append-left}
 use Rattle.writers.specs.Writing.{pasted, pastedEnd}
 use Rattle.writers.proofs.Laid.{Near, onward-near}
 use Rattle.finding.proofs.Edits.{part}
-use Rattle.rules.proofs.Plans.{part-length}
+use Rattle.rules.proofs.Edits.{part-length}
 use Rattle.stepping.specs.Writing.{Written, written, copyW}
 
 pub record Over (out : List ℕ) (to : ℕ) (new last : List ℕ) : Type 0 where

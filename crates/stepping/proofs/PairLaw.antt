@@ -23,16 +23,16 @@ use Rattle.reading.specs.declared.survey.Starts.{Starts}
 use Rattle.reading.proofs.Combining.{Words}
 use Rattle.reading.proofs.Known.{Known, known-length, known-issued}
 use Rattle.reading.proofs.Standing.{start-next}
-use Rattle.finding.specs.declared.find.Spot.{Spot}
+use Rattle.finding.specs.declared.find.Site.{Site}
 use Rattle.finding.specs.Find.{faultAt}
 use Rattle.writers.proofs.Laid.{Near}
-use Rattle.rules.specs.declared.turn.Turn.{Turn}
-use Rattle.rules.specs.declared.plan.Plan.{Plan}
-use Rattle.rules.specs.Turning.{at}
+use Rattle.rules.specs.declared.rewriting.Rewriting.{Rewriting}
+use Rattle.rules.specs.declared.edit.Edit.{Edit}
+use Rattle.rules.specs.Rewriting.{at}
 use Rattle.rules.specs.Offering.{offerW}
-use Rattle.rules.specs.Planning.{Planned, plainW}
-use Rattle.rules.proofs.Turns.{Becomes, both-ways}
-use Rattle.rules.proofs.Plans.{Plans, plain-plans}
+use Rattle.rules.specs.Editing.{Edited, plainW}
+use Rattle.rules.proofs.Rewrites.{Becomes, both-ways}
+use Rattle.rules.proofs.Edits.{Edits, plain-edits}
 use Rattle.rules.proofs.Outcomes.{Ruled, tooDeep, ruled, becomes-ruled}
 use Rattle.stepping.specs.declared.answer.Answer.{Answer}
 use Rattle.stepping.specs.Answering.{answered, refusing, accepting, twoW}
@@ -58,39 +58,39 @@ module _ (ws : List ℕ) (ok : Words ws) (s : Starts) (known : Known standard ws
   short : length ws ≤ 8192
   short = known-length known .1
 
-  -- what a turn makes of a process that was found, as a plan
-  pub record Planned-by (e : ℕ) (l : Located) (u : Planned) (t : Turn) (q : Run) : Type 0 where
-    pub plans : Plans ws (startOf c e) (end e) (u .plan) (u .fresh) (plug (l .frames) q)
+  -- what a rewriting makes of a process that was found, as an edit
+  pub record Edited-by (e : ℕ) (l : Located) (u : Edited) (t : Rewriting) (q : Run) : Type 0 where
+    pub edits : Edits ws (startOf c e) (end e) (u .edit) (u .fresh) (plug (l .frames) q)
     pub deep : runDepth (plug (l .frames) q) ≤ 64
-    pub few : u .plan .g ≤ 8192
-    pub x : u .plan .x ≡ t .x
-    pub v : u .plan .v ≡ t .v
+    pub few : u .edit .fresh ≤ 8192
+    pub x : u .edit .store .variable ≡ t .store .variable
+    pub v : u .edit .store .value ≡ t .store .value
 
-  module _ (e target : ℕ) (l : Located) (sp : Spot) (seen : Seen ws ok s known e target l sp) where
+  module _ (e target : ℕ) (l : Located) (sp : Site) (seen : Seen ws ok s known e target l sp) where
     stands : drop (startOf c e) ws ≡ runWords (engineAt c e .process) ++ drop (end e) ws
     stands =
         one-stands c (known .readable .fitting) e (seen .inside) ws (known .same)
         ∙ ap (λ x. runWords (engineAt c e .process) ++ x) (sym (one-behind c (known .readable .fitting) e (seen .inside) ws (known .same)))
 
-    turned-plans :
-        (q : Run) (t : Turn) (fresh : List ℕ) → length fresh ≡ 64 → t .fresh ≤ 4 → Becomes (l .process) q t fresh → runDepth q ≤ runDepth (l .process) →
-        Planned-by e l (plainW sp (startOf c e) t fresh) t q
-    turned-plans q t fresh n few b low =
+    rewritten-edits :
+        (q : Run) (t : Rewriting) (fresh : List ℕ) → length fresh ≡ 64 → t .fresh ≤ 4 → Becomes (l .process) q t fresh → runDepth q ≤ runDepth (l .process) →
+        Edited-by e l (plainW sp (startOf c e) t fresh) t q
+    rewritten-edits q t fresh n few b low =
         let near : Near (length fresh) = rw (n ∙ sym blank-length) blank-near in
         let p =
-        plain-plans (faultAt ws target) target (engineAt c e .process) (startOf c e) 1 l sp ws stands (seen .spotted) (partners.near ws ok s known) q t fresh (omega arith) near b in
+        plain-edits (faultAt ws target) target (engineAt c e .process) (startOf c e) 1 l sp ws stands (seen .spotted) (partners.near ws ok s known) q t fresh (omega arith) near b in
         let g =
         becomes-ruled (faultAt ws target) target (engineAt c e .process) (startOf c e) l sp ws stands (seen .spotted) (partners.near ws ok s known)
         (partners.found-frames ws ok s known e (seen .inside) target l sp (seen .spotted)) (partners.engine-shallow ws ok s known e (seen .inside) target l sp (seen .spotted))
         q t fresh (omega arith) near b (omega (arith, seen .spotted .level, deep-in)) in
-        record { plans = p .0; deep = by (g .0) (p .1); few = plain-few fresh near (omega arith) sp (startOf c e) t few; x = p .2; v = p .3 }
+        record { edits = p .0; deep = by (g .0) (p .1); few = plain-few fresh near (omega arith) sp (startOf c e) t few; x = p .2; v = p .3 }
       where
         deep-in : length (l .frames) + runDepth (l .process) ≤ 64
         deep-in = partners.found-deep ws ok s known e (seen .inside) target l sp (seen .spotted)
 
-        by : {p : Plan} {f : List ℕ} → Ruled ws (startOf c e) (end e) p f (some (plug (l .frames) q)) → p .number ≡ 0 → runDepth (plug (l .frames) q) ≤ 64
+        by : {p : Edit} {f : List ℕ} → Ruled ws (startOf c e) (end e) p f (some (plug (l .frames) q)) → p .number ≡ 0 → runDepth (plug (l .frames) q) ≤ 64
         by (tooDeep z d) y = absurd (omega arith)
-        by (ruled z plans d) y = d
+        by (ruled z edits d) y = d
 
   -- ---- an exchange carried out
 
@@ -106,14 +106,14 @@ module _ (ws : List ℕ) (ok : Words ws) (s : Starts) (known : Known standard ws
       let z = start-next c (known .readable .fitting) e h in
       (known .starts e (omega arith), omega arith)
 
-  module _ (e : ℕ) (he : e < length (c .engines)) (i : ℕ) (hi : i < length (c .engines)) (other : e ≡ i → ⊥) (p : Plan) (f : List ℕ) (qa : Run)
-      (plansA : Plans ws (startOf c e) (end e) p f qa) (deepA : runDepth qa ≤ 64) (fewA : p .g ≤ 8192) (r : Plan) (g : List ℕ) (qb : Run)
-      (plansB : Plans ws (startOf c i) (end i) r g qb) (deepB : runDepth qb ≤ 64) (fewB : r .g ≤ 8192) (issued : ℕ) (fine : issued ≤ 65535) (told : Answer) (out : List ℕ) where
+  module _ (e : ℕ) (he : e < length (c .engines)) (i : ℕ) (hi : i < length (c .engines)) (other : e ≡ i → ⊥) (p : Edit) (f : List ℕ) (qa : Run)
+      (editsA : Edits ws (startOf c e) (end e) p f qa) (deepA : runDepth qa ≤ 64) (fewA : p .fresh ≤ 8192) (r : Edit) (g : List ℕ) (qb : Run)
+      (editsB : Edits ws (startOf c i) (end i) r g qb) (deepB : runDepth qb ≤ 64) (fewB : r .fresh ≤ 8192) (issued : ℕ) (fine : issued ≤ 65535) (told : Answer) (out : List ℕ) where
     abbrev va : List ℕ
-    va = valued (engineAt c e .values) (p .x) (p .v)
+    va = valued (engineAt c e .values) (p .store .variable) (p .store .value)
 
     abbrev vb : List ℕ
-    vb = valued (engineAt c i .values) (r .x) (r .v)
+    vb = valued (engineAt c i .values) (r .store .variable) (r .store .value)
 
     ordered-law :
         orderedW ws (s .starts) e i p f r g issued told out
@@ -143,11 +143,11 @@ module _ (ws : List ℕ) (ok : Words ws) (s : Starts) (known : Known standard ws
             }))
             out
         by true z =
-            two-given c (known .readable .fitting) (known .readable .shallow) ws (known .same) short e i (ltb-true e i z) hi p f qa plansA r g qb plansB issued told out fine deepA deepB
+            two-given c (known .readable .fitting) (known .readable .shallow) ws (known .same) short e i (ltb-true e i z) hi p f qa editsA r g qb editsB issued told out fine deepA deepB
             fewA fewB
         by false z =
             let low : i < e = (let y : i ≤ e = ltb-false e i z in lt-of-le-ne y (λ w. other (sym w))) in
-            two-given c (known .readable .fitting) (known .readable .shallow) ws (known .same) short i e low he r g qb plansB p f qa plansA issued told out fine deepB deepA
+            two-given c (known .readable .fitting) (known .readable .shallow) ws (known .same) short i e low he r g qb editsB p f qa editsA issued told out fine deepB deepA
             fewB fewA
             ∙ same-stepped refl (set-comm (c .engines) i e _ _ (λ w. other (sym w))) refl refl refl out
 
@@ -188,7 +188,7 @@ module _ (ws : List ℕ) (ok : Words ws) (s : Starts) (known : Known standard ws
 
   -- ---- two processes found
 
-  module _ (e ta : ℕ) (la : Located) (sa : Spot) (seenA : Seen ws ok s known e ta la sa) (i tb : ℕ) (lb : Located) (sb : Spot) (seenB : Seen ws ok s known i tb lb sb)
+  module _ (e ta : ℕ) (la : Located) (sa : Site) (seenA : Seen ws ok s known e ta la sa) (i tb : ℕ) (lb : Located) (sb : Site) (seenB : Seen ws ok s known i tb lb sb)
       (k : Numbers) (m : Message) (moves : moveOf (engineAt c e .values) (la .frames) (la .process) ≡ sends m) (low : kind (asNode (la .process)) < 32) (out : List ℕ) where
     abbrev a : Place
     a = placed ws ok s known e la
@@ -223,10 +223,10 @@ module _ (ws : List ℕ) (ok : Words ws) (s : Starts) (known : Known standard ws
     carry-law other x left t =
         let few1 = send-few blank blank-near (omega (arith, blank-length)) part kd i serial in
         let few2 = receive-few blank blank-near (omega (arith, blank-length)) part values rest (offerW rest (k .branch)) kd e serial in
-        let p1 = turned-plans e ta la sa seenA (x .sender) _ _ (few1 .1 ∙ blank-length) (few1 .0) (t .sender .becomes) (t .sender .shallow) in
-        let p2 = turned-plans i tb lb sb seenB (x .receiver) _ _ (few2 .1 ∙ blank-length) (few2 .0) (t .receiver) (t .shallow) in
+        let p1 = rewritten-edits e ta la sa seenA (x .sender) _ _ (few1 .1 ∙ blank-length) (few1 .0) (t .sender .becomes) (t .sender .shallow) in
+        let p2 = rewritten-edits i tb lb sb seenB (x .receiver) _ _ (few2 .1 ∙ blank-length) (few2 .0) (t .receiver) (t .shallow) in
         rw (next-serial part kd left, next-issued part kd left, starts-at e (seenA .inside) .0, starts-at i (seenB .inside) .0)
-        (ordered-law e (seenA .inside) i (seenB .inside) other _ _ (plug (la .frames) (x .sender)) (p1 .plans) (p1 .deep) (p1 .few) _ _ (plug (lb .frames) (x .receiver)) (p2 .plans)
+        (ordered-law e (seenA .inside) i (seenB .inside) other _ _ (plug (la .frames) (x .sender)) (p1 .edits) (p1 .deep) (p1 .few) _ _ (plug (lb .frames) (x .receiver)) (p2 .edits)
         (p2 .deep) (p2 .few) (issuedOf kd (c .issued) (suc (c .issued))) (issued-fine part kd left) (accepting (kd % 32) serial (faultOf kd) 0) out
         ∙ same-stepped (sym (t .issues))
         (ap₂ (λ (vs us : List ℕ). withEngine i vs (plug (lb .frames) (x .receiver)) (withEngine e us (plug (la .frames) (x .sender)) (c .engines)))

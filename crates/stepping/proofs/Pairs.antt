@@ -25,28 +25,29 @@ use Rattle.sock.proofs.Measures.{words-executor, words-notice, words-act, depth
 use Rattle.evaluating.specs.Evaluating.{valueIn}
 use Rattle.evaluating.proofs.Evaluates.{value-in}
 use Rattle.writers.proofs.Laid.{Near}
+use Rattle.rules.specs.Storing.{takes, unchanged}
 use Rattle.rules.specs.declared.pair.Offer.{Offer}
-use Rattle.rules.specs.Turning.{Turned, turned, vanishing, at}
+use Rattle.rules.specs.Rewriting.{Rewritten, rewritten, vanishing, at}
 use Rattle.rules.specs.Offering.{offerW, fitsW, hearW, serveW, awaitsW, answerW, failW}
-use Rattle.rules.proofs.Turns.{Becomes, becomes-nil}
+use Rattle.rules.proofs.Rewrites.{Becomes, becomes-nil}
 use Rattle.rules.proofs.Depths.{depth-some}
 use Rattle.rules.proofs.Shapes.{Shape, assigns, branches, repeats, chooses, hears, serves, notifies, solicits, installs, throws, compensates, shape}
 use Rattle.rules.proofs.Exchanges.{Takes}
-use Rattle.rules.proofs.Waiters.{ask-turns, awaited-branch}
+use Rattle.rules.proofs.Waiters.{ask-rewrites, awaited-branch}
 use Rattle.rules.proofs.Meetings.{Meets, meets, misses, Strikes, strikes, spares, notify-meets, solicit-meets, reply-meets, fault-strikes}
 use Rattle.stepping.specs.Meeting.{addressedW, repliesW, takerOf, fitW, serialW, sendW, receiveW}
 use Rattle.stepping.specs.Exchanging.{issuedOf, faultOf}
 use Rattle.stepping.proofs.Writes.{valued}
 
--- the sender a turns as t says, the receiver b as u says, and x is what the rule makes of them
-pub record Trades (a b : Run) (vb : List ℕ) (issued serial fault : ℕ) (t u : Turned) (x : Exchange) : Type 0 where
+-- the sender a rewritings as t says, the receiver b as u says, and x is what the rule makes of them
+pub record Trades (a b : Run) (vb : List ℕ) (issued serial fault : ℕ) (t u : Rewritten) (x : Exchange) : Type 0 where
   pub issues : x .issued ≡ issued
   pub numbers : x .serial ≡ serial
   pub fails : x .fault ≡ fault
-  pub sender : Takes a (x .sender) (t .turn) (t .fresh) 32 0
-  pub receiver : Becomes b (x .receiver) (u .turn) (u .fresh)
+  pub sender : Takes a (x .sender) (t .rewriting) (t .fresh) 32 0
+  pub receiver : Becomes b (x .receiver) (u .rewriting) (u .fresh)
   pub shallow : runDepth (x .receiver) ≤ runDepth b
-  pub values : x .values ≡ valued vb (u .turn .x) (u .turn .v)
+  pub values : x .values ≡ valued vb (u .rewriting .store .variable) (u .rewriting .store .value)
 
 -- whether they fit, and then how they trade
 pub data Pairs
@@ -64,7 +65,7 @@ pub data Pairs
 taken : (vb : List ℕ) (x v y w : ℕ) → y < 32 → x ≡ y → v ≡ w → set vb y w ≡ valued vb x v
 taken vb x v y w h p q = rw (p, q, lt-leb 32 y h)
 
-vanishes : (a : Run) (fresh : List ℕ) → Takes a nil (vanishing 32 0) fresh 32 0
+vanishes : (a : Run) (fresh : List ℕ) → Takes a nil (vanishing unchanged) fresh 32 0
 vanishes a fresh =
     record { becomes = becomes-nil a 32 0 fresh; takes = refl; value = refl; shallow = omega (arith, depth-nil, depth-some a) }
 
@@ -90,7 +91,7 @@ module _ (n issued : ℕ) (few : n ≤ 8) (small : issued < 65536) (e i branch :
     unfolding fitW addressedW takerOf
     notify-fits = rw (first, second, value (w / 2048))
 
-    notify-receives : receiveW part values other o 9 e 0 fresh ≡ turned (hearW other o (valueAt va (h % 32))) fresh
+    notify-receives : receiveW part values other o 9 e 0 fresh ≡ rewritten (hearW other o (valueAt va (h % 32))) fresh
     unfolding receiveW
     notify-receives = rw (first, value (h % 32))
 
@@ -161,7 +162,7 @@ module _ (n issued : ℕ) (few : n ≤ 8) (small : issued < 65536) (e i branch :
 
     solicit-found :
         {x : Option Exchange} → fitW part values other o 10 branch e i ≡ fitsW other o 8 h →
-        Meets (fitsW other o 8 h) b (serveW other o e (suc issued) (valueAt va (h % 32)) fresh .turn)
+        Meets (fitsW other o 8 h) b (serveW other o e (suc issued) (valueAt va (h % 32)) fresh .rewriting)
         (serveW other o e (suc issued) (valueAt va (h % 32)) fresh .fresh) (valueAt va (h % 32))
         solicited-as x →
         PairsOf asker 10 x
@@ -174,7 +175,7 @@ module _ (n issued : ℕ) (few : n ≤ 8) (small : issued < 65536) (e i branch :
           issues = refl;
           numbers = refl;
           fails = refl;
-          sender = ask-turns n issued part few small rest h w l f deep stands i (suc issued) low-i fresh big (omega arith);
+          sender = ask-rewrites n issued part few small rest h w l f deep stands i (suc issued) low-i fresh big (omega arith);
           receiver = k .becomes;
           shallow = k .shallow;
           values = taken vb _ _ x _ low (k .takes) (k .value);
@@ -215,7 +216,7 @@ module _ (n issued : ℕ) (few : n ≤ 8) (small : issued < 65536) (e i branch :
 
     reply-found :
         {x : Option Exchange} → fitW part values other o 16 branch e i ≡ awaitsW other h serial client e i →
-        Meets (awaitsW other h serial client e i) b (answerW other (valueAt va (h % 32)) fresh .turn)
+        Meets (awaitsW other h serial client e i) b (answerW other (valueAt va (h % 32)) fresh .rewriting)
         (answerW other (valueAt va (h % 32)) fresh .fresh) (valueAt va (h % 32))
         replied-as x →
         PairsOf a 16 x
@@ -271,7 +272,7 @@ module _ (n issued : ℕ) (few : n ≤ 8) (small : issued < 65536) (e i branch :
 
     notice-found :
         {x : Option Exchange} → fitW part values other o 18 branch e i ≡ awaitsW other h serial client e i →
-        Strikes (awaitsW other h serial client e i) b (failW other w fresh .turn) (failW other w fresh .fresh)
+        Strikes (awaitsW other h serial client e i) b (failW other w fresh .rewriting) (failW other w fresh .fresh)
         failed-as x →
         PairsOf a 18 x
     unfolding serialW sendW issuedOf faultOf

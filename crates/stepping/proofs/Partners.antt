@@ -19,7 +19,7 @@ use Rattle.sock.proofs.Located.{wrap, engine-fits, startOf, wordsAfter, size-po
 use Rattle.reading.specs.declared.survey.Starts.{Starts}
 use Rattle.reading.proofs.Combining.{Words}
 use Rattle.reading.proofs.Known.{Known, known-length}
-use Rattle.finding.specs.declared.find.Spot.{Spot}
+use Rattle.finding.specs.declared.find.Site.{Site}
 use Rattle.finding.specs.Find.{faultAt}
 use Rattle.finding.proofs.Spots.{Spotted}
 use Rattle.finding.proofs.Edits.{process-at}
@@ -81,7 +81,7 @@ module _ (ws : List ℕ) (ok : Words ws) (s : Starts) (known : Known standard ws
   lent-near k = near-below _ (length ws) near (omega (arith, ap length (lent-on k), length-drop k ws))
 
   -- one process found
-  module _ (e : ℕ) (h : e < length (c .engines)) (target : ℕ) (l : Located) (sp : Spot)
+  module _ (e : ℕ) (h : e < length (c .engines)) (target : ℕ) (l : Located) (sp : Site)
       (spotted : Spotted (faultAt ws target) target (engineAt c e .process) (startOf c e) 1 l sp) where
     abbrev r : Run
     r = engineAt c e .process
@@ -128,9 +128,9 @@ module _ (ws : List ℕ) (ok : Words ws) (s : Starts) (known : Known standard ws
         omega (arith, length-drop (sp .at) ws, length-append (runWords (l .process)) behind, size-positive (l .process))
 
   -- the two of them, with a message from the one in the engine e for the one in the engine i
-  module _ (e : ℕ) (he : e < length (c .engines)) (targetA : ℕ) (la : Located) (sa : Spot)
+  module _ (e : ℕ) (he : e < length (c .engines)) (targetA : ℕ) (la : Located) (sa : Site)
       (spottedA : Spotted (faultAt ws targetA) targetA (engineAt c e .process) (startOf c e) 1 la sa)
-      (i : ℕ) (hi : i < length (c .engines)) (targetB : ℕ) (lb : Located) (sb : Spot)
+      (i : ℕ) (hi : i < length (c .engines)) (targetB : ℕ) (lb : Located) (sb : Site)
       (spottedB : Spotted (faultAt ws targetB) targetB (engineAt c i .process) (startOf c i) 1 lb sb)
       (branch : ℕ) where
     pub partners-trade :

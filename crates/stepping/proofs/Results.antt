@@ -16,8 +16,8 @@ use Rattle.sock.proofs.Fits.{FitsConfig}
 use Rattle.sock.proofs.Located.{values-length, engines-split, engine-fits, startOf, wordsBefore, wordsAfter, encode-split, before-length}
 use Rattle.writers.proofs.Laid.{Near, near-of, near-below, onward-near}
 use Rattle.finding.proofs.Edits.{part}
-use Rattle.rules.specs.declared.plan.Plan.{Plan}
-use Rattle.rules.proofs.Plans.{Ordered, Plans, part-first, fresh-room}
+use Rattle.rules.specs.declared.edit.Edit.{Edit}
+use Rattle.rules.proofs.Edits.{Ordered, Edits, part-first, fresh-room}
 use Rattle.stepping.specs.Writing.{engineW}
 use Rattle.stepping.specs.Answering.{sizedW, writeOneW, lengthOf}
 use Rattle.stepping.proofs.Overs.{Wrote, wrote-copy}
@@ -36,8 +36,8 @@ sums len w g x y z q a c d =
     omega arith
 
 -- what goes is within
-gone : (start end : ℕ) (p : Plan) → Ordered start end p → (p .m - p .l) + ((p .b - p .a) + (p .d - p .c)) ≤ end - start
-gone start end p o = within start (p .l) (p .m) (p .a) (p .b) (p .c) (p .d) end _ _ _ refl refl refl (o .l-in) (o .m-in) (o .a-in) (o .b-in) (o .c-in) (o .d-in) (o .end-in)
+gone : (start end : ℕ) (p : Edit) → Ordered start end p → (p .past - p .list) + ((p .upto - p .from) + (p .end - p .gap)) ≤ end - start
+gone start end p o = within start (p .list) (p .past) (p .from) (p .upto) (p .gap) (p .end) end _ _ _ refl refl refl (o .l-in) (o .m-in) (o .a-in) (o .b-in) (o .c-in) (o .d-in) (o .end-in)
   where
     within : (s l m a b c d e x y z : ℕ) → x ≡ m - l → y ≡ b - a → z ≡ d - c → s ≤ l → l ≤ m → m ≤ a → a ≤ b → b ≤ c → c ≤ d → d ≤ e → x + (y + z) ≤ e - s
     within s l m a b c d e x y z p q r h1 h2 h3 h4 h5 h6 h7 =
@@ -49,23 +49,23 @@ gone start end p o = within start (p .l) (p .m) (p .a) (p .b) (p .c) (p .d) end 
         sum : (s l m a b c d e x y z : ℕ) → m ≡ l + x → b ≡ a + y → d ≡ c + z → s ≤ l → m ≤ a → b ≤ c → d ≤ e → x + (y + z) ≤ e - s
         sum s l m a b c d e x y z u v w h1 h3 h5 h7 = omega arith
 
--- the words that a plan leaves, if its fresh words are not too many
-pub plan-sized :
-    (ws : List ℕ) (start end : ℕ) (p : Plan) (fresh : List ℕ) (q : Run) → Plans ws start end p fresh q → (words : ℕ) →
-    end - start ≤ words → words ≤ 1000000 → p .g ≤ 8192 → sizedW words p + (end - start) ≡ words + size q
+-- the words that an edit leaves, if its fresh words are not too many
+pub edit-sized :
+    (ws : List ℕ) (start end : ℕ) (p : Edit) (fresh : List ℕ) (q : Run) → Edits ws start end p fresh q → (words : ℕ) →
+    end - start ≤ words → words ≤ 1000000 → p .fresh ≤ 8192 → sizedW words p + (end - start) ≡ words + size q
 unfolding sizedW
-plan-sized ws start end p fresh q plans words b a few =
-    let near : Near (words + p .g) = near-below (words + p .g) 1008192 (near-of 1008192 (lit< tt)) (omega arith) in
-    rw (le-ltb 8192 (p .g) few, onward-near words (p .g) (words + p .g) near (omega arith))
-    (sums words (end - start) (p .g) (p .m - p .l) (p .b - p .a) (p .d - p .c) (size q) b (plans .sized) (gone start end p (plans .order)))
+edit-sized ws start end p fresh q edits words b a few =
+    let near : Near (words + p .fresh) = near-below (words + p .fresh) 1008192 (near-of 1008192 (lit< tt)) (omega arith) in
+    rw (le-ltb 8192 (p .fresh) few, onward-near words (p .fresh) (words + p .fresh) near (omega arith))
+    (sums words (end - start) (p .fresh) (p .past - p .list) (p .upto - p .from) (p .end - p .gap) (size q) b (edits .sized) (gone start end p (edits .order)))
 
-pub plan-long : (words : ℕ) (p : Plan) → 8192 < p .g → sizedW words p ≡ 8193
+pub edit-long : (words : ℕ) (p : Edit) → 8192 < p .fresh → sizedW words p ≡ 8193
 unfolding sizedW
-plan-long words p h = rw (lt-ltb 8192 (p .g) h)
+edit-long words p h = rw (lt-ltb 8192 (p .fresh) h)
 
 -- there are at most as many fresh words as the process then has
-pub fresh-few : (ws : List ℕ) (start end : ℕ) (p : Plan) (fresh : List ℕ) (q : Run) → Plans ws start end p fresh q → p .g ≤ size q
-fresh-few ws start end p fresh q plans = few (size q) (p .g) ((p .m - p .l) + ((p .b - p .a) + (p .d - p .c))) (end - start) (plans .sized) (gone start end p (plans .order))
+pub fresh-few : (ws : List ℕ) (start end : ℕ) (p : Edit) (fresh : List ℕ) (q : Run) → Edits ws start end p fresh q → p .fresh ≤ size q
+fresh-few ws start end p fresh q edits = few (size q) (p .fresh) ((p .past - p .list) + ((p .upto - p .from) + (p .end - p .gap))) (end - start) (edits .sized) (gone start end p (edits .order))
   where
     few : (q g x w : ℕ) → q + x ≡ w + g → x ≤ w → g ≤ q
     few q g x w a b = omega arith
@@ -132,18 +132,18 @@ module _ (c : Config) (fits : FitsConfig c) (e : ℕ) (h : e < length (c .engine
       ap₂ (λ (i : ℕ) (l : List ℕ). take i l) m d ∙ take-at (valuesWords values) (runWords process ++ wordsAfter c e) 64 n
 
   -- the engine changed
-  module _ (p : Plan) (fresh : List ℕ) (q : Run) (plans : Plans ws start end p fresh q) where
+  module _ (p : Edit) (fresh : List ℕ) (q : Run) (edits : Edits ws start end p fresh q) where
     abbrev next : Config
-    next = record { issued = c .issued; engines = withEngine e (valued values (p .x) (p .v)) q (c .engines) }
+    next = record { issued = c .issued; engines = withEngine e (valued values (p .store .variable) (p .store .value)) q (c .engines) }
 
     abbrev pre : List ℕ
     pre = length (c .engines) ∷ c .issued ∷ enginesWords (take e (c .engines))
 
-    pub next-words : encode next ≡ ((pre ++ valuesWords (valued values (p .x) (p .v))) ++ runWords q) ++ wordsAfter c e
+    pub next-words : encode next ≡ ((pre ++ valuesWords (valued values (p .store .variable) (p .store .value))) ++ runWords q) ++ wordsAfter c e
     unfolding encode engineWords
     next-words =
         ap₂ (λ (n : ℕ) (l : List ℕ). n ∷ c .issued ∷ l) (length-set (c .engines) e _) (engines-set (c .engines) e _ h)
-        ∙ regrouped pre (valuesWords (valued values (p .x) (p .v))) (runWords q) (wordsAfter c e)
+        ∙ regrouped pre (valuesWords (valued values (p .store .variable) (p .store .value))) (runWords q) (wordsAfter c e)
       where
         regrouped : (a b x d : List ℕ) → a ++ ((b ++ x) ++ d) ≡ ((a ++ b) ++ x) ++ d
         regrouped a b x d = simp append-assoc
@@ -154,35 +154,35 @@ module _ (c : Config) (fits : FitsConfig c) (e : ℕ) (h : e < length (c .engine
     next-length : length (encode next) ≡ start + size q + length (wordsAfter c e)
     unfolding size
     next-length =
-        let v : List ℕ = valuesWords (valued values (p .x) (p .v)) in
+        let v : List ℕ = valuesWords (valued values (p .store .variable) (p .store .value)) in
         let a = length-append ((pre ++ v) ++ runWords q) (wordsAfter c e) in
         let b = length-append (pre ++ v) (runWords q) in
         let d = length-append pre v in
-        let n : length v ≡ 64 = omega (arith, values-length (valued values (p .x) (p .v)), valued-length (leb 32 (p .x))) in
+        let n : length v ≡ 64 = omega (arith, values-length (valued values (p .store .variable) (p .store .value)), valued-length (leb 32 (p .store .variable))) in
         ap length next-words ∙ (let z : length (((pre ++ v) ++ runWords q) ++ wordsAfter c e) ≡ start + length (runWords q) + length (wordsAfter c e) = omega arith in z)
       where
-        valued-length : (b : Bool) → length (cond b values (set values (p .x) (p .v))) ≡ 32
+        valued-length : (b : Bool) → length (cond b values (set values (p .store .variable) (p .store .value))) ≡ 32
         valued-length true = many
-        valued-length false = length-set values (p .x) (p .v) ∙ many
+        valued-length false = length-set values (p .store .variable) (p .store .value) ∙ many
 
     -- how long the result is
-    pub next-sized : length ws ≤ 8192 → p .g ≤ 8192 → sizedW (length ws) p ≡ length (encode next)
+    pub next-sized : length ws ≤ 8192 → p .fresh ≤ 8192 → sizedW (length ws) p ≡ length (encode next)
     next-sized short few =
-        let a = plan-sized ws start end p fresh q plans (length ws) (omega (arith, one-length)) (omega arith) few in
+        let a = edit-sized ws start end p fresh q edits (length ws) (omega (arith, one-length)) (omega arith) few in
         omega (arith, a, next-length, one-length)
 
-    pub next-few : p .g ≤ length (encode next)
-    next-few = omega (arith, fresh-few ws start end p fresh q plans, next-length)
+    pub next-few : p .fresh ≤ length (encode next)
+    next-few = omega (arith, fresh-few ws start end p fresh q edits, next-length)
 
     pub next-fits : length ws ≤ 8192 → (room : ℕ) → lengthOf (sizedW (length ws) p) room ≡ lengthOf (length (encode next)) room
     unfolding lengthOf
-    next-fits short room = by (leb (p .g) 8192) refl
+    next-fits short room = by (leb (p .fresh) 8192) refl
       where
-        by : (b : Bool) → leb (p .g) 8192 ≡ b → lengthOf (sizedW (length ws) p) room ≡ lengthOf (length (encode next)) room
-        by true e = ap (λ k. lengthOf k room) (next-sized short (leb-true (p .g) 8192 e))
+        by : (b : Bool) → leb (p .fresh) 8192 ≡ b → lengthOf (sizedW (length ws) p) room ≡ lengthOf (length (encode next)) room
+        by true e = ap (λ k. lengthOf k room) (next-sized short (leb-true (p .fresh) 8192 e))
         by false e =
-            let h : 8192 < p .g = leb-false (p .g) 8192 e in
-            rw (plan-long (length ws) p h, lt-ltb 8192 (length (encode next)) (omega (arith, next-few)))
+            let h : 8192 < p .fresh = leb-false (p .fresh) 8192 e in
+            rw (edit-long (length ws) p h, lt-ltb 8192 (length (encode next)) (omega (arith, next-few)))
 
     -- and what is written
     pub next-written :
@@ -191,17 +191,17 @@ module _ (c : Config) (fits : FitsConfig c) (e : ℕ) (h : e < length (c .engine
     unfolding writeOneW size
     next-written out few room =
         let near : Near 8192 = near-of 8192 (lit< tt) in
-        let g : p .g ≤ 8192 = omega (arith, fresh-few ws start end p fresh q plans, next-length) in
-        let wide : p .g ≤ length fresh = fresh-room ws start end p fresh q plans (omega (arith, one-length)) g in
+        let g : p .fresh ≤ 8192 = omega (arith, fresh-few ws start end p fresh q edits, next-length) in
+        let wide : p .fresh ≤ length fresh = fresh-room ws start end p fresh q edits (omega (arith, one-length)) g in
         let first : part 0 start ws ≡ pre ++ valuesWords values = part-first start ws ∙ one-front in
         let l = length-append pre (valuesWords values) in
         let m : length (valuesWords values) ≡ 64 = omega (arith, values-length values, many) in
-        let w : Wrote out 0 ((pre ++ valuesWords (valued values (p .x) (p .v))) ++ runWords q) (engineW ws 0 start end p fresh out 0) =
-        engine-wrote ws 0 start end p fresh q plans (omega (arith, one-length)) (omega arith) g wide pre values many first out 0 (omega (arith, next-length)) 8192 near (omega (arith, next-length)) in
+        let w : Wrote out 0 ((pre ++ valuesWords (valued values (p .store .variable) (p .store .value))) ++ runWords q) (engineW ws 0 start end p fresh out 0) =
+        engine-wrote ws 0 start end p fresh q edits (omega (arith, one-length)) (omega arith) g wide pre values many first out 0 (omega (arith, next-length)) 8192 near (omega (arith, next-length)) in
         let tail : part end (length ws) ws ≡ wordsAfter c e = take-all (length ws - end) (drop end ws) (omega (arith, length-drop end ws)) ∙ one-behind in
-        let whole : ((pre ++ valuesWords (valued values (p .x) (p .v))) ++ runWords q) ++ part end (length ws) ws ≡ encode next =
-        ap (λ l. ((pre ++ valuesWords (valued values (p .x) (p .v))) ++ runWords q) ++ l) tail ∙ sym next-words in
-        let fit : 0 + length (((pre ++ valuesWords (valued values (p .x) (p .v))) ++ runWords q) ++ part end (length ws) ws) ≤ length out = omega (arith, ap length whole) in
+        let whole : ((pre ++ valuesWords (valued values (p .store .variable) (p .store .value))) ++ runWords q) ++ part end (length ws) ws ≡ encode next =
+        ap (λ l. ((pre ++ valuesWords (valued values (p .store .variable) (p .store .value))) ++ runWords q) ++ l) tail ∙ sym next-words in
+        let fit : 0 + length (((pre ++ valuesWords (valued values (p .store .variable) (p .store .value))) ++ runWords q) ++ part end (length ws) ws) ≤ length out = omega (arith, ap length whole) in
         let all = wrote-copy ws end (length ws) (omega (arith, one-length)) (omega arith) fit 8192 near (omega (arith, ap length whole)) w in
         all .over .all
         ∙ ap₂ (λ (x : List ℕ) (n : ℕ). x ++ drop n out) whole (ap (λ l. 0 + length l) whole ∙ (let z : 0 + length (encode next) ≡ length (encode next) = omega arith in z))

@@ -21,7 +21,7 @@ use Rattle.reading.proofs.Known.{Known, known-length}
 use Rattle.skipping.proofs.Notes.{Right}
 use Rattle.layout.specs.Positions.{onward}
 use Rattle.writers.proofs.Laid.{near-of, onward-near}
-use Rattle.finding.specs.declared.find.Spot.{Spot}
+use Rattle.finding.specs.declared.find.Site.{Site}
 use Rattle.finding.specs.declared.find.Found.{Found}
 use Rattle.finding.specs.declared.find.Found.the-variants.{Hit, Past}
 use Rattle.finding.specs.Find.{findW, faultAt}
@@ -39,7 +39,7 @@ module _ (ws : List ℕ) (ok : Words ws) (s : Starts) (known : Known standard ws
   n = length (c .engines)
 
   -- a process of the engine e, found at a target
-  pub record Seen (e target : ℕ) (l : Located) (sp : Spot) : Type 0 where
+  pub record Seen (e target : ℕ) (l : Located) (sp : Site) : Type 0 where
     pub inside : e < n
     pub place : within (engineAt c e .process) (startOf c e) target ≡ some l
     pub spotted : Spotted (faultAt ws target) target (engineAt c e .process) (startOf c e) 1 l sp
@@ -50,7 +50,7 @@ module _ (ws : List ℕ) (ok : Words ws) (s : Starts) (known : Known standard ws
 
   pub data Seeks (e p target : ℕ) : Found → Option Place → Type 0 where
     unseen : {k : ℕ} → Seeks e p target (Past k) none
-    seen : {l : Located} {sp : Spot} → Seen e target l sp → Seeks e p target (Hit sp) (some (placed e l))
+    seen : {l : Located} {sp : Site} → Seen e target l sp → Seeks e p target (Hit sp) (some (placed e l))
 
   module _ (e : ℕ) (h : e < n) (p : ℕ) (low : p < 65536) where
     abbrev r : Run

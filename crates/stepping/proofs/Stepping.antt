@@ -9,17 +9,17 @@ use Rattle.reading.specs.declared.survey.Starts.{Starts}
 use Rattle.reading.specs.Survey.{surveyed}
 use Rattle.noting.specs.Noting.{surveyNotes}
 use Rattle.layout.specs.Positions.{onward}
-use Rattle.finding.specs.declared.find.Spot.{Spot}
+use Rattle.finding.specs.declared.find.Site.{Site}
 use Rattle.finding.specs.declared.find.Found.{Found}
 use Rattle.finding.specs.declared.find.Found.the-variants.{Hit, Past}
 use Rattle.finding.specs.Find.{findW}
-use Rattle.rules.specs.Turning.{at}
+use Rattle.rules.specs.Rewriting.{at}
 use Rattle.stepping.specs.Answering.{answered, refusing}
 use Rattle.stepping.specs.Exchanging.{betweenW}
 use Rattle.stepping.specs.Stepping.{partnerW, receivingW, movingW, foundW, stepW}
 
 module _
-    (ws notes starts : List ℕ) (n e : ℕ) (a : Spot) (kind i place branch : ℕ) (out : List ℕ) (i' place' branch' t : ℕ) (f : Found) (e1 : i' ≡ i) (e2 : place' ≡ place)
+    (ws notes starts : List ℕ) (n e : ℕ) (a : Site) (kind i place branch : ℕ) (out : List ℕ) (i' place' branch' t : ℕ) (f : Found) (e1 : i' ≡ i) (e2 : place' ≡ place)
     (e3 : branch' ≡ branch) (e4 : i' < n) (e5 : t ≡ onward (getD starts i' 0) place') (e6 : f ≡ findW 64 ws notes t 1 (getD starts i' 0)) where
   sought : partnerW ws starts e i a kind branch out f ≡ receivingW ws notes starts n e a kind i place branch out
   unfolding receivingW
@@ -29,7 +29,7 @@ module _
   unfolding partnerW
   receiving-past p g = ap (partnerW ws starts e i a kind branch out) (sym g) ∙ sought
 
-  pub receiving-hit : (b : Spot) → f ≡ Hit b → betweenW ws starts e i a b kind branch' out ≡ receivingW ws notes starts n e a kind i place branch out
+  pub receiving-hit : (b : Site) → f ≡ Hit b → betweenW ws starts e i a b kind branch' out ≡ receivingW ws notes starts n e a kind i place branch out
   unfolding partnerW
   receiving-hit b g = rw e3 (ap (partnerW ws starts e i a kind branch out) (sym g) ∙ sought)
 
@@ -52,6 +52,6 @@ module _ (ws blank : List ℕ) (e position i place branch : ℕ) (out : List ℕ
     step-past p g = ap (foundW ws notes (s .starts) (s .engines) e i place branch (s .engines * 65536 + w') out) (sym g) ∙ looked
 
     pub step-hit :
-        (a : Spot) → f ≡ Hit a → movingW ws notes (s .starts) (s .engines) e a i place branch (s .engines * 65536 + w') out ≡ stepW ws blank e position i place branch out
+        (a : Site) → f ≡ Hit a → movingW ws notes (s .starts) (s .engines) e a i place branch (s .engines * 65536 + w') out ≡ stepW ws blank e position i place branch out
     unfolding foundW
     step-hit a g = ap (foundW ws notes (s .starts) (s .engines) e i place branch (s .engines * 65536 + w') out) (sym g) ∙ looked

@@ -15,13 +15,13 @@ use Rattle.sock.proofs.Fits.{FitsConfig}
 use Rattle.sock.proofs.Located.{values-length, engines-split, engine-fits, startOf, wordsBefore, wordsAfter, before-length}
 use Rattle.writers.proofs.Laid.{Near, near-of}
 use Rattle.finding.proofs.Edits.{part}
-use Rattle.rules.specs.declared.plan.Plan.{Plan}
-use Rattle.rules.proofs.Plans.{Plans, part-first, fresh-room}
+use Rattle.rules.specs.declared.edit.Edit.{Edit}
+use Rattle.rules.proofs.Edits.{Edits, part-first, fresh-room}
 use Rattle.stepping.specs.Writing.{Written, engineW}
 use Rattle.stepping.specs.Answering.{sizedW, writeTwoW}
 use Rattle.stepping.proofs.Overs.{over-length, over-then, Wrote, wrote-copy}
 use Rattle.stepping.proofs.Writes.{valued, engine-wrote}
-use Rattle.stepping.proofs.Results.{plan-sized, fresh-few, engines-set, one-split, one-length, one-front, one-behind}
+use Rattle.stepping.proofs.Results.{edit-sized, fresh-few, engines-set, one-split, one-length, one-front, one-behind}
 
 -- one writing behind another
 pub wrote-then :
@@ -140,12 +140,12 @@ module _ (c : Config) (fits : FitsConfig c) (e i : ℕ) (low : e < i) (high : i 
       ∙ (ap (take (length (mid ++ valuesWords v2))) (drop-at (wordsBefore c e ++ runWords r1) ((mid ++ valuesWords v2) ++ (runWords r2 ++ wordsAfter c i)) e1 first-length)
       ∙ take-at (mid ++ valuesWords v2) (runWords r2 ++ wordsAfter c i) (length (mid ++ valuesWords v2)) refl)
 
-  module _ (p1 : Plan) (f1 : List ℕ) (q1 : Run) (plans1 : Plans ws s1 e1 p1 f1 q1) (p2 : Plan) (f2 : List ℕ) (q2 : Run) (plans2 : Plans ws s2 e2 p2 f2 q2) (issued : ℕ) where
+  module _ (p1 : Edit) (f1 : List ℕ) (q1 : Run) (edits1 : Edits ws s1 e1 p1 f1 q1) (p2 : Edit) (f2 : List ℕ) (q2 : Run) (edits2 : Edits ws s2 e2 p2 f2 q2) (issued : ℕ) where
     abbrev w1 : List ℕ
-    w1 = valued v1 (p1 .x) (p1 .v)
+    w1 = valued v1 (p1 .store .variable) (p1 .store .value)
 
     abbrev w2 : List ℕ
-    w2 = valued v2 (p2 .x) (p2 .v)
+    w2 = valued v2 (p2 .store .variable) (p2 .store .value)
 
     abbrev pub next : Config
     next = record { issued = issued; engines = withEngine i w2 q2 (withEngine e w1 q1 es) }
@@ -180,21 +180,21 @@ module _ (c : Config) (fits : FitsConfig c) (e i : ℕ) (low : e < i) (high : i 
         let j = length-append (mid ++ valuesWords w2) (runWords q2) in
         let k = length-append mid (valuesWords w2) in
         let l = length-append mid (valuesWords v2) in
-        let m1 = value-words v1 (p1 .x) (p1 .v) many1 in
-        let m2 = value-words v2 (p2 .x) (p2 .v) many2 in
+        let m1 = value-words v1 (p1 .store .variable) (p1 .store .value) many1 in
+        let m2 = value-words v2 (p2 .store .variable) (p2 .store .value) many2 in
         let m3 = same-words v2 many2 in
         omega (arith, second-start, one-length c fits i high ws same)
 
-    pub two-sized : length ws ≤ 8192 → p1 .g ≤ 8192 → p2 .g ≤ 8192 → sizedW (sizedW (length ws) p1) p2 ≡ length (encode next)
+    pub two-sized : length ws ≤ 8192 → p1 .fresh ≤ 8192 → p2 .fresh ≤ 8192 → sizedW (sizedW (length ws) p1) p2 ≡ length (encode next)
     two-sized short few1 few2 =
         let fit1 : size r1 ≤ length ws = omega (arith, one-length c fits e inside ws same) in
         let d1 : e1 - s1 ≡ size r1 = omega arith in
         let d2 : e2 - s2 ≡ size r2 = omega arith in
-        let q1-small : size q1 ≤ size r1 + p1 .g = omega (arith, plans1 .sized) in
-        let one : sizedW (length ws) p1 + (e1 - s1) ≡ length ws + size q1 = plan-sized ws s1 e1 p1 f1 q1 plans1 (length ws) (omega arith) (omega arith) few1 in
+        let q1-small : size q1 ≤ size r1 + p1 .fresh = omega (arith, edits1 .sized) in
+        let one : sizedW (length ws) p1 + (e1 - s1) ≡ length ws + size q1 = edit-sized ws s1 e1 p1 f1 q1 edits1 (length ws) (omega arith) (omega arith) few1 in
         let both : size r1 + size r2 ≤ length ws = omega (arith, second-start, one-length c fits i high ws same) in
         let two : sizedW (sizedW (length ws) p1) p2 + (e2 - s2) ≡ sizedW (length ws) p1 + size q2 =
-        plan-sized ws s2 e2 p2 f2 q2 plans2 (sizedW (length ws) p1) (omega arith) (omega arith) few2 in
+        edit-sized ws s2 e2 p2 f2 q2 edits2 (sizedW (length ws) p1) (omega arith) (omega arith) few2 in
         omega (arith, next-length)
 
     abbrev front : List ℕ
@@ -210,8 +210,8 @@ module _ (c : Config) (fits : FitsConfig c) (e i : ℕ) (low : e < i) (high : i 
     unfolding writeTwoW size
     two-written out few room =
         let near : Near 8192 = near-of 8192 (lit< tt) in
-        let g1 : p1 .g ≤ 8192 = omega (arith, fresh-few ws s1 e1 p1 f1 q1 plans1, next-length, one-length c fits i high ws same, second-start) in
-        let g2 : p2 .g ≤ 8192 = omega (arith, fresh-few ws s2 e2 p2 f2 q2 plans2, next-length, one-length c fits i high ws same, second-start) in
+        let g1 : p1 .fresh ≤ 8192 = omega (arith, fresh-few ws s1 e1 p1 f1 q1 edits1, next-length, one-length c fits i high ws same, second-start) in
+        let g2 : p2 .fresh ≤ 8192 = omega (arith, fresh-few ws s2 e2 p2 f2 q2 edits2, next-length, one-length c fits i high ws same, second-start) in
         let all : ((front ++ behind) ++ wordsAfter c i) ≡ length es ∷ c .issued ∷ body = refl in
         let long : length ((front ++ behind) ++ wordsAfter c i) ≡ length (encode next) = sym (ap length next-words) in
         let a1 = length-append (front ++ behind) (wordsAfter c i) in
@@ -222,21 +222,21 @@ module _ (c : Config) (fits : FitsConfig c) (e i : ℕ) (low : e < i) (high : i 
         let a6 = length-append ((length es ∷ c .issued ∷ enginesWords (take e es)) ++ valuesWords w1) (runWords q1) in
         let a7 = length-append (length es ∷ c .issued ∷ enginesWords (take e es)) (valuesWords w1) in
         let a8 = length-append (length es ∷ c .issued ∷ enginesWords (take e es)) (valuesWords v1) in
-        let m1 = value-words v1 (p1 .x) (p1 .v) many1 in
-        let m2 = value-words v2 (p2 .x) (p2 .v) many2 in
+        let m1 = value-words v1 (p1 .store .variable) (p1 .store .value) many1 in
+        let m2 = value-words v2 (p2 .store .variable) (p2 .store .value) many2 in
         let m3 = same-words v2 many2 in
         let m4 = same-words v1 many1 in
         let within1 : e1 ≤ length ws = omega (arith, one-length c fits e inside ws same) in
         let within2 : e2 ≤ length ws = omega (arith, one-length c fits i high ws same) in
-        let wide1 = fresh-room ws s1 e1 p1 f1 q1 plans1 within1 g1 in
-        let wide2 = fresh-room ws s2 e2 p2 f2 q2 plans2 within2 g2 in
+        let wide1 = fresh-room ws s1 e1 p1 f1 q1 edits1 within1 g1 in
+        let wide2 = fresh-room ws s2 e2 p2 f2 q2 edits2 within2 g2 in
         let first : Wrote out 0 front (engineW ws 0 s1 e1 p1 f1 out 0) =
-        engine-wrote ws 0 s1 e1 p1 f1 q1 plans1 within1 (omega arith) g1 wide1 (length es ∷ c .issued ∷ enginesWords (take e es)) v1 many1
+        engine-wrote ws 0 s1 e1 p1 f1 q1 edits1 within1 (omega arith) g1 wide1 (length es ∷ c .issued ∷ enginesWords (take e es)) v1 many1
         (part-first s1 ws ∙ one-front c fits e inside ws same) out 0 (omega arith) 8192 near (omega arith) in
         let kept : length (engineW ws 0 s1 e1 p1 f1 out 0 .out) ≡ length out = over-length (first .over) (omega arith) in
         let second : Wrote (engineW ws 0 s1 e1 p1 f1 out 0 .out) (engineW ws 0 s1 e1 p1 f1 out 0 .to) behind
         (engineW ws e1 s2 e2 p2 f2 (engineW ws 0 s1 e1 p1 f1 out 0 .out) (engineW ws 0 s1 e1 p1 f1 out 0 .to)) =
-        engine-wrote ws e1 s2 e2 p2 f2 q2 plans2 within2 (omega (arith, second-start)) g2 wide2 mid v2 many2 between-stands
+        engine-wrote ws e1 s2 e2 p2 f2 q2 edits2 within2 (omega (arith, second-start)) g2 wide2 mid v2 many2 between-stands
         (engineW ws 0 s1 e1 p1 f1 out 0 .out) (engineW ws 0 s1 e1 p1 f1 out 0 .to) (omega (arith, kept, first .reaches)) 8192 near (omega (arith, first .reaches)) in
         let both = wrote-then (omega arith) first second in
         let tail : part e2 (length ws) ws ≡ wordsAfter c i = take-all (length ws - e2) (drop e2 ws) (omega (arith, length-drop e2 ws)) ∙ one-behind c fits i high ws same in

@@ -1,4 +1,4 @@
--- The result as it is written: an engine's process under a plan, its values, and the words in front of them.
+-- The result as it is written: an engine's process under an edit, its values, and the words in front of them.
 -- Assumes nothing.
 use Prim.Native.Nat.{ℕ, zero, suc, _+_, _-_, _*_, _/_, _%_, _≤_, _<_}
 use native.Mathlib.Omega.{arith}
@@ -16,8 +16,8 @@ use Rattle.sock.proofs.Located.{values-length}
 use Rattle.layout.specs.Positions.{onward}
 use Rattle.writers.proofs.Laid.{Near, onward-near}
 use Rattle.finding.proofs.Edits.{part}
-use Rattle.rules.specs.declared.plan.Plan.{Plan}
-use Rattle.rules.proofs.Plans.{Ordered, Plans, part-first}
+use Rattle.rules.specs.declared.edit.Edit.{Edit}
+use Rattle.rules.proofs.Edits.{Ordered, Edits, part-first}
 use Rattle.stepping.specs.Writing.{written, copyW, frontW, backW, processW, valueW, lentW, engineW}
 use Rattle.stepping.proofs.Overs.{Over, over-length, over-then, over-set, Wrote, wrote-none, wrote-copy}
 
@@ -28,32 +28,32 @@ front-room a b whole n e h = omega (arith, ap length e, length-append a b)
 zero-room : (a b whole : List ℕ) (n : ℕ) → a ++ b ≡ whole → length whole ≤ n → 0 + length a ≤ n
 zero-room a b whole n e h = let k = front-room a b whole n e h in omega arith
 
--- ---- a process under a plan
+-- ---- a process under an edit
 
-module _ (ws : List ℕ) (start end : ℕ) (p : Plan) (fresh : List ℕ) (q : Run) (plans : Plans ws start end p fresh q) (inside : end ≤ length ws)
-    (few : p .g ≤ 8192) (wide : p .g ≤ length fresh) (out : List ℕ) (room : size q ≤ length out) (most : ℕ) (near : Near most) (under : size q ≤ most) where
+module _ (ws : List ℕ) (start end : ℕ) (p : Edit) (fresh : List ℕ) (q : Run) (edits : Edits ws start end p fresh q) (inside : end ≤ length ws)
+    (few : p .fresh ≤ 8192) (wide : p .fresh ≤ length fresh) (out : List ℕ) (room : size q ≤ length out) (most : ℕ) (near : Near most) (under : size q ≤ most) where
   abbrev x1 : List ℕ
-  x1 = part start (p .l) ws
+  x1 = part start (p .list) ws
 
   abbrev x2 : List ℕ
-  x2 = part 0 (p .f) fresh
+  x2 = part 0 (p .listed) fresh
 
   abbrev x3 : List ℕ
-  x3 = part (p .m) (p .a) ws
+  x3 = part (p .past) (p .from) ws
 
   abbrev x4 : List ℕ
-  x4 = part (p .f) (p .g) fresh
+  x4 = part (p .listed) (p .fresh) fresh
 
   abbrev x5 : List ℕ
-  x5 = part (p .b) (p .c) ws
+  x5 = part (p .upto) (p .gap) ws
 
   abbrev x6 : List ℕ
-  x6 = part (p .d) end ws
+  x6 = part (p .end) end ws
 
   all-words : (((((x1 ++ x2) ++ x3) ++ x4) ++ x5) ++ x6) ≡ runWords q
   all-words =
       regrouped x1 x2 x3 x4 x5 x6
-      ∙ (ap (λ l. x1 ++ (l ++ (x3 ++ (x4 ++ (x5 ++ x6))))) (part-first (p .f) fresh) ∙ plans .words few)
+      ∙ (ap (λ l. x1 ++ (l ++ (x3 ++ (x4 ++ (x5 ++ x6))))) (part-first (p .listed) fresh) ∙ edits .words few)
     where
       regrouped : (a b c d e f : List ℕ) → (((((a ++ b) ++ c) ++ d) ++ e) ++ f) ≡ a ++ (b ++ (c ++ (d ++ (e ++ f))))
       regrouped a b c d e f = simp append-assoc
@@ -67,7 +67,7 @@ module _ (ws : List ℕ) (start end : ℕ) (p : Plan) (fresh : List ℕ) (q : Ru
   low = under
 
   o : Ordered start end p
-  o = plans .order
+  o = edits .order
 
   pub process-wrote : Wrote out 0 (runWords q) (processW ws start end p fresh out)
   unfolding processW frontW backW
@@ -84,21 +84,21 @@ module _ (ws : List ℕ) (start end : ℕ) (p : Plan) (fresh : List ℕ) (q : Ru
       let u3 = front-room ((x1 ++ x2) ++ x3) x4 _ most refl u4 in
       let u2 = front-room (x1 ++ x2) x3 _ most refl u3 in
       let u1 = front-room x1 x2 _ most refl u2 in
-      let l1 : p .l ≤ length ws = omega (arith, o .m-in, o .a-in, o .b-in, o .c-in, o .d-in, o .end-in) in
-      let l3 : p .a ≤ length ws = omega (arith, o .b-in, o .c-in, o .d-in, o .end-in) in
-      let l5 : p .c ≤ length ws = omega (arith, o .d-in, o .end-in) in
-      let w1 = wrote-copy ws start (p .l) (o .l-in) l1 (omega arith) most near (omega arith) (wrote-none out 0) in
-      let w2 = wrote-copy fresh 0 (p .f) (omega arith) (omega (arith, o .fresh-in)) (omega arith) most near (omega arith) w1 in
-      let w3 = wrote-copy ws (p .m) (p .a) (o .a-in) l3 (omega arith) most near (omega arith) w2 in
-      let w4 = wrote-copy fresh (p .f) (p .g) (o .fresh-in) (omega arith) (omega arith) most near (omega arith) w3 in
-      let w5 = wrote-copy ws (p .b) (p .c) (o .c-in) l5 (omega arith) most near (omega arith) w4 in
-      let w6 = wrote-copy ws (p .d) end (o .end-in) inside (omega arith) most near (omega arith) w5 in
+      let l1 : p .list ≤ length ws = omega (arith, o .m-in, o .a-in, o .b-in, o .c-in, o .d-in, o .end-in) in
+      let l3 : p .from ≤ length ws = omega (arith, o .b-in, o .c-in, o .d-in, o .end-in) in
+      let l5 : p .gap ≤ length ws = omega (arith, o .d-in, o .end-in) in
+      let w1 = wrote-copy ws start (p .list) (o .l-in) l1 (omega arith) most near (omega arith) (wrote-none out 0) in
+      let w2 = wrote-copy fresh 0 (p .listed) (omega arith) (omega (arith, o .fresh-in)) (omega arith) most near (omega arith) w1 in
+      let w3 = wrote-copy ws (p .past) (p .from) (o .a-in) l3 (omega arith) most near (omega arith) w2 in
+      let w4 = wrote-copy fresh (p .listed) (p .fresh) (o .fresh-in) (omega arith) (omega arith) most near (omega arith) w3 in
+      let w5 = wrote-copy ws (p .upto) (p .gap) (o .c-in) l5 (omega arith) most near (omega arith) w4 in
+      let w6 = wrote-copy ws (p .end) end (o .end-in) inside (omega arith) most near (omega arith) w5 in
       rw all-words at w6
 
 -- ---- lent a part of the output
 
-module _ (ws : List ℕ) (start end : ℕ) (p : Plan) (fresh : List ℕ) (q : Run) (plans : Plans ws start end p fresh q) (inside : end ≤ length ws)
-    (few : p .g ≤ 8192) (wide : p .g ≤ length fresh) (out : List ℕ) (t : ℕ) (room : t + size q ≤ length out) (most : ℕ) (near : Near most) (under : t + size q ≤ most) where
+module _ (ws : List ℕ) (start end : ℕ) (p : Edit) (fresh : List ℕ) (q : Run) (edits : Edits ws start end p fresh q) (inside : end ≤ length ws)
+    (few : p .fresh ≤ 8192) (wide : p .fresh ≤ length fresh) (out : List ℕ) (t : ℕ) (room : t + size q ≤ length out) (most : ℕ) (near : Near most) (under : t + size q ≤ most) where
   rest-length : length (drop t out) ≡ length out - t
   rest-length = length-drop t out
 
@@ -112,7 +112,7 @@ module _ (ws : List ℕ) (start end : ℕ) (p : Plan) (fresh : List ℕ) (q : Ru
   unfolding lentW size
   lent-wrote =
       let w : Wrote (drop t out) 0 (runWords q) (processW ws start end p fresh (drop t out)) =
-      process-wrote ws start end p fresh q plans inside few wide (drop t out) (omega (arith, rest-length)) most near (omega arith) in
+      process-wrote ws start end p fresh q edits inside few wide (drop t out) (omega (arith, rest-length)) most near (omega arith) in
       let n : length (runWords q) ≡ size q = refl in
       let to : onward t (processW ws start end p fresh (drop t out) .to) ≡ t + length (runWords q) =
       ap (onward t) (w .reaches ∙ (let z : 0 + length (runWords q) ≡ length (runWords q) = omega arith in z)) ∙ onward-near t (length (runWords q)) most near (omega arith) in
@@ -183,36 +183,36 @@ module _ {out : List ℕ} {to : ℕ} (pre vs : List ℕ) {last : List ℕ} (o : 
 
 -- ---- the words in front, the values and the process
 
-module _ (ws : List ℕ) (from start end : ℕ) (p : Plan) (fresh : List ℕ) (q : Run) (plans : Plans ws start end p fresh q) (inside : end ≤ length ws) (before : from ≤ start)
-    (few : p .g ≤ 8192) (wide : p .g ≤ length fresh) (pre vs : List ℕ) (many : length vs ≡ 32) (stands : part from start ws ≡ pre ++ valuesWords vs)
+module _ (ws : List ℕ) (from start end : ℕ) (p : Edit) (fresh : List ℕ) (q : Run) (edits : Edits ws start end p fresh q) (inside : end ≤ length ws) (before : from ≤ start)
+    (few : p .fresh ≤ 8192) (wide : p .fresh ≤ length fresh) (pre vs : List ℕ) (many : length vs ≡ 32) (stands : part from start ws ≡ pre ++ valuesWords vs)
     (out : List ℕ) (to : ℕ) (room : to + (length (pre ++ valuesWords vs) + size q) ≤ length out) (most : ℕ) (near : Near most)
     (under : to + (length (pre ++ valuesWords vs) + size q) ≤ most) where
-  same-length : length (pre ++ valuesWords (valued vs (p .x) (p .v))) ≡ length (pre ++ valuesWords vs)
+  same-length : length (pre ++ valuesWords (valued vs (p .store .variable) (p .store .value))) ≡ length (pre ++ valuesWords vs)
   same-length =
-      length-append pre (valuesWords (valued vs (p .x) (p .v)))
-      ∙ (ap (λ k. length pre + k) (values-length (valued vs (p .x) (p .v)) ∙ (ap (λ k. k + k) (by (leb 32 (p .x))) ∙ sym (values-length vs)))
+      length-append pre (valuesWords (valued vs (p .store .variable) (p .store .value)))
+      ∙ (ap (λ k. length pre + k) (values-length (valued vs (p .store .variable) (p .store .value)) ∙ (ap (λ k. k + k) (by (leb 32 (p .store .variable))) ∙ sym (values-length vs)))
       ∙ sym (length-append pre (valuesWords vs)))
     where
-      by : (b : Bool) → length (cond b vs (set vs (p .x) (p .v))) ≡ length vs
+      by : (b : Bool) → length (cond b vs (set vs (p .store .variable) (p .store .value))) ≡ length vs
       by true = refl
-      by false = length-set vs (p .x) (p .v)
+      by false = length-set vs (p .store .variable) (p .store .value)
 
-  pub engine-wrote : Wrote out to ((pre ++ valuesWords (valued vs (p .x) (p .v))) ++ runWords q) (engineW ws from start end p fresh out to)
+  pub engine-wrote : Wrote out to ((pre ++ valuesWords (valued vs (p .store .variable) (p .store .value))) ++ runWords q) (engineW ws from start end p fresh out to)
   unfolding engineW size
   engine-wrote =
-      let in-ws : start ≤ length ws = omega (arith, plans .order .l-in, plans .order .m-in, plans .order .a-in, plans .order .b-in, plans .order .c-in, plans .order .d-in, plans .order .end-in) in
+      let in-ws : start ≤ length ws = omega (arith, edits .order .l-in, edits .order .m-in, edits .order .a-in, edits .order .b-in, edits .order .c-in, edits .order .d-in, edits .order .end-in) in
       let chunk : length (part from start ws) ≡ length (pre ++ valuesWords vs) = ap length stands in
       let w : Wrote out to (pre ++ valuesWords vs) (copyW ws from start (written to out)) =
       rw stands at (wrote-copy ws from start before in-ws (omega arith) most near (omega arith) (wrote-none out to)) in
       let t : copyW ws from start (written to out) .to ≡ to + length (pre ++ valuesWords vs) = w .reaches in
-      let o = value-over pre vs (w .over) (omega arith) many (p .x) (p .v) in
-      let room1 : to + length (pre ++ valuesWords (valued vs (p .x) (p .v))) ≤ length out = omega (arith, same-length) in
-      let len : length (valueW (copyW ws from start (written to out) .out) (to + length (pre ++ valuesWords vs)) (p .x) (p .v)) ≡ length out = over-length o room1 in
-      let l = lent-wrote ws start end p fresh q plans inside few wide
-      (valueW (copyW ws from start (written to out) .out) (to + length (pre ++ valuesWords vs)) (p .x) (p .v)) (to + length (pre ++ valuesWords vs))
+      let o = value-over pre vs (w .over) (omega arith) many (p .store .variable) (p .store .value) in
+      let room1 : to + length (pre ++ valuesWords (valued vs (p .store .variable) (p .store .value))) ≤ length out = omega (arith, same-length) in
+      let len : length (valueW (copyW ws from start (written to out) .out) (to + length (pre ++ valuesWords vs)) (p .store .variable) (p .store .value)) ≡ length out = over-length o room1 in
+      let l = lent-wrote ws start end p fresh q edits inside few wide
+      (valueW (copyW ws from start (written to out) .out) (to + length (pre ++ valuesWords vs)) (p .store .variable) (p .store .value)) (to + length (pre ++ valuesWords vs))
       (omega (arith, len)) most near (omega arith) in
       rw t
       (record {
-        reaches = l .reaches ∙ (let a = length-append (pre ++ valuesWords (valued vs (p .x) (p .v))) (runWords q) in let b = same-length in let z : to + length (pre ++ valuesWords vs) + length (runWords q) ≡ to + length ((pre ++ valuesWords (valued vs (p .x) (p .v))) ++ runWords q) = omega arith in z);
+        reaches = l .reaches ∙ (let a = length-append (pre ++ valuesWords (valued vs (p .store .variable) (p .store .value))) (runWords q) in let b = same-length in let z : to + length (pre ++ valuesWords vs) + length (runWords q) ≡ to + length ((pre ++ valuesWords (valued vs (p .store .variable) (p .store .value))) ++ runWords q) = omega arith in z);
         over = over-then o room1 (omega (arith, same-length)) (rw same-length (l .over));
       })

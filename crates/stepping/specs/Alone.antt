@@ -5,9 +5,9 @@ use mathlib.Core.List.{List}
 use lib.Dec.{ltb, eqb}
 use lib.ListN.{length, replicate}
 use Rattle.sock.specs.Kind
-use Rattle.finding.specs.declared.find.Spot.{Spot}
-use Rattle.rules.specs.Turning.{Turned, turned, refused, assignW, branchW, repeatW}
-use Rattle.rules.specs.Planning.{Planned, plainW}
+use Rattle.finding.specs.declared.find.Site.{Site}
+use Rattle.rules.specs.Rewriting.{Rewritten, rewritten, refused, assignW, branchW, repeatW}
+use Rattle.rules.specs.Editing.{Edited, plainW}
 use Rattle.scopes.specs.Compensating.{compensatedW}
 use Rattle.scopes.specs.Ending.{endedW}
 use Rattle.scopes.specs.Installing.{installedW}
@@ -15,33 +15,33 @@ use Rattle.scopes.specs.Throwing.{thrownW}
 use Rattle.stepping.specs.Answering.{Answered, oneW}
 use Rattle.stepping.specs.Exchanging.{lent}
 
-unfoldable pub turnW : List ℕ → List ℕ → ℕ → ℕ → ℕ → List ℕ → Turned
-turnW part vs level kind bound fresh =
-    cond (eqb kind Kind.assign) (turned (assignW part vs) fresh)
-    (cond (eqb kind Kind.if) (turned (branchW part vs) fresh) (repeatW level bound part vs fresh))
+unfoldable pub rewrittenW : List ℕ → List ℕ → ℕ → ℕ → ℕ → List ℕ → Rewritten
+rewrittenW part vs level kind bound fresh =
+    cond (eqb kind Kind.assign) (rewritten (assignW part vs) fresh)
+    (cond (eqb kind Kind.if) (rewritten (branchW part vs) fresh) (repeatW level bound part vs fresh))
 
-unfoldable pub valuedW : List ℕ → ℕ → Spot → ℕ → ℕ → List ℕ → Turned
+unfoldable pub valuedW : List ℕ → ℕ → Site → ℕ → ℕ → List ℕ → Rewritten
 valuedW ws start s kind bound fresh =
-    cond (ltb start 64) (turned (refused 1) fresh)
-    (cond (ltb (length ws) start) (turned (refused 1) fresh)
-    (cond (ltb (length ws) (s .at)) (turned (refused 1) fresh)
-    (turnW (lent (s .at) (length ws) ws) (lent (start - 64) start ws) (s .level) kind bound fresh)))
+    cond (ltb start 64) (rewritten (refused 1) fresh)
+    (cond (ltb (length ws) start) (rewritten (refused 1) fresh)
+    (cond (ltb (length ws) (s .at)) (rewritten (refused 1) fresh)
+    (rewrittenW (lent (s .at) (length ws) ws) (lent (start - 64) start ws) (s .level) kind bound fresh)))
 
-unfoldable pub scopedW : List ℕ → List ℕ → ℕ → Spot → ℕ → ℕ → List ℕ → Planned
+unfoldable pub scopedW : List ℕ → List ℕ → ℕ → Site → ℕ → ℕ → List ℕ → Edited
 scopedW ws notes start s kind bound fresh =
     cond (eqb kind Kind.scope) (endedW ws notes start s fresh)
     (cond (eqb kind Kind.inst) (installedW ws notes start s fresh)
     (cond (eqb kind Kind.throw) (thrownW ws notes start s fresh) (compensatedW bound ws notes start s fresh)))
 
-unfoldable pub ruleW : List ℕ → List ℕ → ℕ → Spot → ℕ → ℕ → List ℕ → Planned
+unfoldable pub ruleW : List ℕ → List ℕ → ℕ → Site → ℕ → ℕ → List ℕ → Edited
 ruleW ws notes start s kind bound fresh =
     let t = valuedW ws start s kind bound fresh in
-    cond (ltb 6 kind) (scopedW ws notes start s kind bound fresh) (plainW s start (t .turn) (t .fresh))
+    cond (ltb Kind.choice kind) (scopedW ws notes start s kind bound fresh) (plainW s start (t .rewriting) (t .fresh))
 
-unfoldable pub loneW : List ℕ → List ℕ → ℕ → ℕ → Spot → ℕ → ℕ → List ℕ → List ℕ → Answered
+unfoldable pub loneW : List ℕ → List ℕ → ℕ → ℕ → Site → ℕ → ℕ → List ℕ → List ℕ → Answered
 loneW ws notes start next s kind bound fresh out =
     let p = ruleW ws notes start s kind bound fresh in
-    oneW ws start (next - 64) (p .plan) (kind % 32) (p .fresh) out
+    oneW ws start (next - 64) (p .edit) (kind % 32) (p .fresh) out
 
 -- scratch for all, and for short configurations
 abbrev pub large : List ℕ
@@ -50,16 +50,20 @@ large = replicate 16384 0
 abbrev pub small : List ℕ
 small = replicate 1024 0
 
+-- a configuration is short
+abbrev pub short : ℕ
+short = 512
+
 -- so many fresh words find room in the short scratch, with 130 to spare
 abbrev pub surely : ℕ
 surely = 800
 
 -- again with the long scratch, if there may have been too little room
-unfoldable pub shortW : List ℕ → List ℕ → ℕ → ℕ → Spot → ℕ → ℕ → List ℕ → List ℕ → Answered
+unfoldable pub shortW : List ℕ → List ℕ → ℕ → ℕ → Site → ℕ → ℕ → List ℕ → List ℕ → Answered
 shortW ws notes start next s kind bound fresh out =
-    cond (ltb surely (ruleW ws notes start s kind bound fresh .plan .g)) (loneW ws notes start next s kind bound large out)
+    cond (ltb surely (ruleW ws notes start s kind bound fresh .edit .fresh)) (loneW ws notes start next s kind bound large out)
     (loneW ws notes start next s kind bound fresh out)
 
-unfoldable pub aloneW : List ℕ → List ℕ → ℕ → ℕ → Spot → ℕ → ℕ → List ℕ → Answered
+unfoldable pub aloneW : List ℕ → List ℕ → ℕ → ℕ → Site → ℕ → ℕ → List ℕ → Answered
 aloneW ws notes start next s kind bound out =
-    cond (ltb 512 (length ws)) (loneW ws notes start next s kind bound large out) (shortW ws notes start next s kind bound small out)
+    cond (ltb short (length ws)) (loneW ws notes start next s kind bound large out) (shortW ws notes start next s kind bound small out)

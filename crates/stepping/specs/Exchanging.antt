@@ -5,30 +5,30 @@ use mathlib.Core.List.{List}
 use lib.Dec.{ltb, eqb}
 use lib.ListN.{length, getD, replicate, take, drop}
 use Rattle.sock.specs.Kind
-use Rattle.finding.specs.declared.find.Spot.{Spot}
+use Rattle.finding.specs.declared.find.Site.{Site}
 use Rattle.rules.specs.declared.pair.Offer.{Offer}
-use Rattle.rules.specs.declared.plan.Plan.{Plan}
-use Rattle.rules.specs.Turning.{at}
+use Rattle.rules.specs.declared.edit.Edit.{Edit}
+use Rattle.rules.specs.Rewriting.{at}
 use Rattle.rules.specs.Offering.{offerW}
-use Rattle.rules.specs.Planning.{Planned, plainW}
+use Rattle.rules.specs.Editing.{Edited, plainW}
 use Rattle.stepping.specs.declared.answer.Answer.{Answer}
 use Rattle.stepping.specs.Answering.{Answered, answered, refusing, accepting, twoW}
 use Rattle.stepping.specs.Meeting.{fitW, serialW, sendW, receiveW}
 
-unfoldable pub senderW : List ℕ → Spot → ℕ → ℕ → ℕ → ℕ → List ℕ → Planned
+unfoldable pub senderW : List ℕ → Site → ℕ → ℕ → ℕ → ℕ → List ℕ → Edited
 senderW ws s start kind server serial fresh =
     let t = sendW ws kind server serial fresh in
-    plainW s start (t .turn) (t .fresh)
+    plainW s start (t .rewriting) (t .fresh)
 
-unfoldable pub receiverW : List ℕ → List ℕ → List ℕ → Offer → Spot → ℕ → ℕ → ℕ → ℕ → List ℕ → Planned
+unfoldable pub receiverW : List ℕ → List ℕ → List ℕ → Offer → Site → ℕ → ℕ → ℕ → ℕ → List ℕ → Edited
 receiverW ws vs other o s start kind client serial fresh =
     let t = receiveW ws vs other o kind client serial fresh in
-    plainW s start (t .turn) (t .fresh)
+    plainW s start (t .rewriting) (t .fresh)
 
 abbrev startAt : List ℕ → ℕ → ℕ
 startAt starts e = getD starts e 0
 
-unfoldable pub orderedW : List ℕ → List ℕ → ℕ → ℕ → Plan → List ℕ → Plan → List ℕ → ℕ → Answer → List ℕ → Answered
+unfoldable pub orderedW : List ℕ → List ℕ → ℕ → ℕ → Edit → List ℕ → Edit → List ℕ → ℕ → Answer → List ℕ → Answered
 orderedW ws starts e i p fresh q fresh2 issued accepted out =
     cond (ltb e i)
     (twoW ws (startAt starts e) (startAt starts (e + 1) - 64) p fresh (startAt starts i) (startAt starts (i + 1) - 64) q fresh2 issued accepted out)
@@ -47,18 +47,18 @@ faultOf kind = cond (eqb kind Kind.notice) 1 0
 abbrev pub blank : List ℕ
 blank = replicate 64 0
 
-unfoldable pub carryW : List ℕ → List ℕ → List ℕ → List ℕ → Offer → List ℕ → ℕ → ℕ → Spot → Spot → ℕ → List ℕ → Answered
+unfoldable pub carryW : List ℕ → List ℕ → List ℕ → List ℕ → Offer → List ℕ → ℕ → ℕ → Site → Site → ℕ → List ℕ → Answered
 carryW ws part vs other o starts e i a b kind out =
     let next = nextOf (at ws 1) in
     let serial = serialW part kind next in
     let p = senderW part a (startAt starts e) kind i serial blank in
     let q = receiverW part vs other o b (startAt starts i) kind e serial blank in
-    orderedW ws starts e i (p .plan) (p .fresh) (q .plan) (q .fresh) (issuedOf kind (at ws 1) next) (accepting (kind % 32) serial (faultOf kind) 0) out
+    orderedW ws starts e i (p .edit) (p .fresh) (q .edit) (q .fresh) (issuedOf kind (at ws 1) next) (accepting (kind % 32) serial (faultOf kind) 0) out
 
 unfoldable pub spentW : List ℕ → ℕ → Bool
 spentW ws kind = cond (eqb kind Kind.solicit) (eqb (at ws 1) 65535) false
 
-unfoldable pub meetW : List ℕ → List ℕ → List ℕ → List ℕ → List ℕ → ℕ → ℕ → Spot → Spot → ℕ → ℕ → List ℕ → Answered
+unfoldable pub meetW : List ℕ → List ℕ → List ℕ → List ℕ → List ℕ → ℕ → ℕ → Site → Site → ℕ → ℕ → List ℕ → Answered
 meetW ws part vs other starts e i a b kind branch out =
     let o = offerW other branch in
     cond (fitW part vs other o kind branch e i)
@@ -69,7 +69,7 @@ meetW ws part vs other starts e i a b kind branch out =
 abbrev pub lent : ℕ → ℕ → List ℕ → List ℕ
 lent from upto ws = take (upto - from) (drop from ws)
 
-unfoldable pub betweenW : List ℕ → List ℕ → ℕ → ℕ → Spot → Spot → ℕ → ℕ → List ℕ → Answered
+unfoldable pub betweenW : List ℕ → List ℕ → ℕ → ℕ → Site → Site → ℕ → ℕ → List ℕ → Answered
 betweenW ws starts e i a b kind branch out =
     let start = startAt starts e in
     cond (eqb e i) (answered (refusing 5) out)

@@ -1,13 +1,14 @@
 -- Between two engines, as the code goes.
-use Prim.Native.Nat.{ℕ, _/_, _%_}
+use Prim.Native.Nat.{ℕ}
 use mathlib.Core.Bool.{Bool, false, cond}
 use mathlib.Core.List.{List}
 use lib.Dec.{eqb}
 use Rattle.sock.specs.Kind
-use Rattle.sock.specs.Words.{firstVariable, executorsClient, noticesClient}
+use Rattle.sock.specs.Words.{secondOf, firstVariable, executorsClient, noticesClient}
 use Rattle.evaluating.specs.Evaluating.{valueIn}
+use Rattle.rules.specs.Storing.{unchanged}
 use Rattle.rules.specs.declared.pair.Offer.{Offer}
-use Rattle.rules.specs.Turning.{Turned, turned, vanishing, at}
+use Rattle.rules.specs.Rewriting.{Rewritten, rewritten, vanishing, at}
 use Rattle.rules.specs.Offering.{fitsW, hearW, serveW, askW, awaitsW, answerW, failW}
 
 unfoldable pub addressedW : List ℕ → List ℕ → ℕ → Bool
@@ -28,12 +29,12 @@ fitW ws vs other o kind branch sender receiver =
 unfoldable pub serialW : List ℕ → ℕ → ℕ → ℕ
 serialW ws kind next = cond (eqb kind Kind.notify) 0 (cond (eqb kind Kind.solicit) next (at ws 2))
 
-unfoldable pub sendW : List ℕ → ℕ → ℕ → ℕ → List ℕ → Turned
-sendW ws kind server serial fresh = cond (eqb kind Kind.solicit) (askW ws server serial fresh) (turned (vanishing 32 0) fresh)
+unfoldable pub sendW : List ℕ → ℕ → ℕ → ℕ → List ℕ → Rewritten
+sendW ws kind server serial fresh = cond (eqb kind Kind.solicit) (askW ws server serial fresh) (rewritten (vanishing unchanged) fresh)
 
-unfoldable pub receiveW : List ℕ → List ℕ → List ℕ → Offer → ℕ → ℕ → ℕ → List ℕ → Turned
+unfoldable pub receiveW : List ℕ → List ℕ → List ℕ → Offer → ℕ → ℕ → ℕ → List ℕ → Rewritten
 receiveW ws vs other o kind client serial fresh =
-    let v = valueIn vs (at ws 0 % 32) in
-    cond (eqb kind Kind.notify) (turned (hearW other o v) fresh)
+    let v = valueIn vs (secondOf (at ws 0)) in
+    cond (eqb kind Kind.notify) (rewritten (hearW other o v) fresh)
     (cond (eqb kind Kind.solicit) (serveW other o client serial v fresh)
     (cond (eqb kind Kind.executor) (answerW other v fresh) (failW other (at ws 1) fresh)))

@@ -1,19 +1,20 @@
 -- The whole step on words, as the code goes.
-use Prim.Native.Nat.{ℕ, _+_, _*_, _/_}
+use Prim.Native.Nat.{ℕ, _+_, _*_}
 use mathlib.Core.Bool.{Bool, false, cond}
 use mathlib.Core.List.{List}
 use lib.Dec.{leb, ltb, eqb}
 use lib.ListN.{getD, replicate}
 use Rattle.sock.specs.Kind
+use Rattle.sock.specs.Words.{kindOf}
 use Rattle.skipping.specs.Pass.{passList}
 use Rattle.reading.specs.Survey.{surveyed}
 use Rattle.noting.specs.Noting.{surveyNotes}
 use Rattle.layout.specs.Positions.{onward}
-use Rattle.finding.specs.declared.find.Spot.{Spot}
+use Rattle.finding.specs.declared.find.Site.{Site}
 use Rattle.finding.specs.declared.find.Found.{Found}
 use Rattle.finding.specs.declared.find.Found.the-variants.{Hit, Past}
 use Rattle.finding.specs.Find.{findW}
-use Rattle.rules.specs.Turning.{at}
+use Rattle.rules.specs.Rewriting.{at}
 use Rattle.stepping.specs.Answering.{Answered, answered, refusing}
 use Rattle.stepping.specs.Exchanging.{betweenW}
 use Rattle.stepping.specs.Alone.{aloneW}
@@ -29,7 +30,7 @@ byKind kind =
     (cond (eqb kind Kind.notify) 2
     (cond (eqb kind Kind.solicit) 2
     (cond (eqb kind Kind.notice) 2
-    (cond (ltb kind 12) 0 (cond (ltb kind 15) 1 0)))))))
+    (cond (ltb kind Kind.inst) 0 (cond (ltb kind Kind.cH) 1 0)))))))
 
 unfoldable pub movesW : List ℕ → List ℕ → ℕ → ℕ → ℕ
 movesW ws notes i kind =
@@ -39,11 +40,11 @@ movesW ws notes i kind =
 abbrev startAt : List ℕ → ℕ → ℕ
 startAt starts e = getD starts e 0
 
-unfoldable pub partnerW : List ℕ → List ℕ → ℕ → ℕ → Spot → ℕ → ℕ → List ℕ → Found → Answered
+unfoldable pub partnerW : List ℕ → List ℕ → ℕ → ℕ → Site → ℕ → ℕ → List ℕ → Found → Answered
 partnerW ws starts e i a kind branch out (Past p) = answered (refusing 4) out
 partnerW ws starts e i a kind branch out (Hit b) = betweenW ws starts e i a b kind branch out
 
-unfoldable pub receivingW : List ℕ → List ℕ → List ℕ → ℕ → ℕ → Spot → ℕ → ℕ → ℕ → ℕ → List ℕ → Answered
+unfoldable pub receivingW : List ℕ → List ℕ → List ℕ → ℕ → ℕ → Site → ℕ → ℕ → ℕ → ℕ → List ℕ → Answered
 receivingW ws notes starts n e a kind i place branch out =
     cond (leb n i) (answered (refusing 4) out)
     (partnerW ws starts e i a kind branch out (findW 64 ws notes (onward (startAt starts i) place) 1 (startAt starts i)))
@@ -51,9 +52,9 @@ receivingW ws notes starts n e a kind i place branch out =
 unfoldable pub noneElse : ℕ → ℕ → ℕ → Bool
 noneElse i place branch = cond (eqb i 0) (cond (eqb place 0) (eqb branch 0) false) false
 
-unfoldable pub movingW : List ℕ → List ℕ → List ℕ → ℕ → ℕ → Spot → ℕ → ℕ → ℕ → ℕ → List ℕ → Answered
+unfoldable pub movingW : List ℕ → List ℕ → List ℕ → ℕ → ℕ → Site → ℕ → ℕ → ℕ → ℕ → List ℕ → Answered
 movingW ws notes starts n e a i place branch bound out =
-    let kind = at ws (a .at) / 2048 in
+    let kind = kindOf (at ws (a .at)) in
     let m = movesW ws notes (a .at) kind in
     cond (eqb m 0) (answered (refusing 3) out)
     (cond (eqb m 2) (receivingW ws notes starts n e a kind i place branch out)

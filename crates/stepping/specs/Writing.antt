@@ -1,12 +1,13 @@
 -- Writing the result, as the code goes.
-use Prim.Native.Nat.{ℕ, _+_, _-_, _*_, _/_, _%_}
+use Prim.Native.Nat.{ℕ, _+_, _-_, _*_}
 use mathlib.Core.Bool.{cond}
 use mathlib.Core.List.{List, _++_}
 use lib.Dec.{leb, ltb}
 use lib.ListN.{length, take, drop, set}
+use Rattle.sock.specs.Words.{highWord, lowWord}
 use Rattle.layout.specs.Positions.{onward}
 use Rattle.writers.specs.Writing.{pasted, pastedEnd}
-use Rattle.rules.specs.declared.plan.Plan.{Plan}
+use Rattle.rules.specs.declared.edit.Edit.{Edit}
 
 -- a place in the output, and the output
 pub record Written : Type 0 where
@@ -20,13 +21,13 @@ written to out = record { to = to; out = out }
 unfoldable pub copyW : List ℕ → ℕ → ℕ → Written → Written
 copyW ws from upto w = written (pastedEnd ws from upto (w .to)) (pasted ws from upto (w .out) (w .to))
 
-unfoldable pub frontW : List ℕ → ℕ → Plan → List ℕ → List ℕ → Written
-frontW ws start p fresh out = copyW ws (p .m) (p .a) (copyW fresh 0 (p .f) (copyW ws start (p .l) (written 0 out)))
+unfoldable pub frontW : List ℕ → ℕ → Edit → List ℕ → List ℕ → Written
+frontW ws start p fresh out = copyW ws (p .past) (p .from) (copyW fresh 0 (p .listed) (copyW ws start (p .list) (written 0 out)))
 
-unfoldable pub backW : List ℕ → ℕ → Plan → List ℕ → List ℕ → ℕ → Written
-backW ws end p fresh out to = copyW ws (p .d) end (copyW ws (p .b) (p .c) (copyW fresh (p .f) (p .g) (written to out)))
+unfoldable pub backW : List ℕ → ℕ → Edit → List ℕ → List ℕ → ℕ → Written
+backW ws end p fresh out to = copyW ws (p .end) end (copyW ws (p .upto) (p .gap) (copyW fresh (p .listed) (p .fresh) (written to out)))
 
-unfoldable pub processW : List ℕ → ℕ → ℕ → Plan → List ℕ → List ℕ → Written
+unfoldable pub processW : List ℕ → ℕ → ℕ → Edit → List ℕ → List ℕ → Written
 processW ws start end p fresh out =
     let w = frontW ws start p fresh out in
     backW ws end p fresh (w .out) (w .to)
@@ -35,15 +36,15 @@ unfoldable pub valueW : List ℕ → ℕ → ℕ → ℕ → List ℕ
 valueW out to x v =
     cond (leb 32 x) out
     (cond (ltb to 64) out
-    (cond (ltb (length out) to) out (set (set out (to - 64 + x * 2) (v / 65536)) (to - 64 + x * 2 + 1) (v % 65536))))
+    (cond (ltb (length out) to) out (set (set out (to - 64 + x * 2) (highWord v)) (to - 64 + x * 2 + 1) (lowWord v))))
 
 -- the process into the part of the output behind a place
-unfoldable pub lentW : List ℕ → ℕ → ℕ → Plan → List ℕ → List ℕ → ℕ → Written
+unfoldable pub lentW : List ℕ → ℕ → ℕ → Edit → List ℕ → List ℕ → ℕ → Written
 lentW ws start end p fresh out t =
     let w = processW ws start end p fresh (take (length out - t) (drop t out)) in
     cond (ltb (length out) t) (written t out) (written (onward t (w .to)) (take t out ++ (w .out ++ drop (length out - t) (drop t out))))
 
-unfoldable pub engineW : List ℕ → ℕ → ℕ → ℕ → Plan → List ℕ → List ℕ → ℕ → Written
+unfoldable pub engineW : List ℕ → ℕ → ℕ → ℕ → Edit → List ℕ → List ℕ → ℕ → Written
 engineW ws from start end p fresh out to =
     let w = copyW ws from start (written to out) in
-    lentW ws start end p fresh (valueW (w .out) (w .to) (p .x) (p .v)) (w .to)
+    lentW ws start end p fresh (valueW (w .out) (w .to) (p .store .variable) (p .store .value)) (w .to)

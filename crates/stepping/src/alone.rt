@@ -2,33 +2,43 @@
 use crate::answer::Answer;
 use crate::answer::one;
 use crate::exchange::end_before;
-use finding::find::Spot;
+use finding::find::Site;
 use layout::kind;
 use layout::limit::VALUES;
 use rules::alone::assign;
 use rules::alone::branch;
 use rules::alone::repeat;
-use rules::plan::Plan;
-use rules::plan::plain;
-use rules::turn::Turn;
-use rules::turn::refusal;
+use rules::edit::Edit;
+use rules::edit::plain;
+use rules::rewriting::Rewriting;
+use rules::rewriting::refusal;
 use scopes::compensating::compensated;
 use scopes::ending::ended;
 use scopes::installing::installed;
 use scopes::throwing::thrown;
 ghost use mathlib.Core.Path.{_≡_};
-ghost use Rattle.stepping.specs.Alone.{turnW, valuedW, scopedW, ruleW, loneW, large, shortW, aloneW};
+ghost use Rattle.stepping.specs.Alone.{rewrittenW, valuedW, scopedW, ruleW, loneW, large, shortW, aloneW};
+
+// Scratch for every result; scratch for a short configuration, and how short that is.
+const LARGE: usize = 16384;
+
+const SMALL: usize = 1024;
+
+const SHORT: usize = 512;
+
+// So many fresh words find room in the short scratch, with 130 to spare.
+const SURELY: usize = 800;
 
 // Assign, if or while, handed the words from its position on and the engine's values.
-fn turn(
+fn rewritten(
     part: &[u16],
     values: &[u16],
     level: usize,
     kind: usize,
     bound: usize,
     fresh: &mut [u16],
-) -> Turn
-    ensures { λ r. ⌜ (r ≡ turnW (now (part .entry)) (now (values .entry)) level kind bound (now (fresh .entry)) .turn) × (now (fresh .exit) ≡ turnW (now (part .entry)) (now (values .entry)) level kind bound (now (fresh .entry)) .fresh) ⌝ }
+) -> Rewriting
+    ensures { λ r. ⌜ (r ≡ rewrittenW (now (part .entry)) (now (values .entry)) level kind bound (now (fresh .entry)) .rewriting) × (now (fresh .exit) ≡ rewrittenW (now (part .entry)) (now (values .entry)) level kind bound (now (fresh .entry)) .fresh) ⌝ }
 {
     if kind == kind::ASSIGN {
         return assign(part, values);
@@ -40,8 +50,15 @@ fn turn(
 }
 
 // That the places are inside is known of all that was found.
-fn valued(ws: &[u16], start: usize, s: Spot, kind: usize, bound: usize, fresh: &mut [u16]) -> Turn
-    ensures { λ r. ⌜ (r ≡ valuedW (now (ws .entry)) start s kind bound (now (fresh .entry)) .turn) × (now (fresh .exit) ≡ valuedW (now (ws .entry)) start s kind bound (now (fresh .entry)) .fresh) ⌝ }
+fn valued(
+    ws: &[u16],
+    start: usize,
+    s: Site,
+    kind: usize,
+    bound: usize,
+    fresh: &mut [u16],
+) -> Rewriting
+    ensures { λ r. ⌜ (r ≡ valuedW (now (ws .entry)) start s kind bound (now (fresh .entry)) .rewriting) × (now (fresh .exit) ≡ valuedW (now (ws .entry)) start s kind bound (now (fresh .entry)) .fresh) ⌝ }
 {
     let at = s.at;
     if start < VALUES {
@@ -54,7 +71,7 @@ fn valued(ws: &[u16], start: usize, s: Spot, kind: usize, bound: usize, fresh: &
         return refusal(1);
     }
     let from = start - VALUES;
-    turn(&ws[at..], &ws[from..start], s.level, kind, bound, fresh)
+    rewritten(&ws[at..], &ws[from..start], s.level, kind, bound, fresh)
 }
 
 // The rules that look at scopes.
@@ -62,12 +79,12 @@ fn scoped(
     ws: &[u16],
     notes: &[u16],
     start: usize,
-    s: Spot,
+    s: Site,
     kind: usize,
     bound: usize,
     fresh: &mut [u16],
-) -> Plan
-    ensures { λ r. ⌜ (r ≡ scopedW (now (ws .entry)) (now (notes .entry)) start s kind bound (now (fresh .entry)) .plan) × (now (fresh .exit) ≡ scopedW (now (ws .entry)) (now (notes .entry)) start s kind bound (now (fresh .entry)) .fresh) ⌝ }
+) -> Edit
+    ensures { λ r. ⌜ (r ≡ scopedW (now (ws .entry)) (now (notes .entry)) start s kind bound (now (fresh .entry)) .edit) × (now (fresh .exit) ≡ scopedW (now (ws .entry)) (now (notes .entry)) start s kind bound (now (fresh .entry)) .fresh) ⌝ }
 {
     if kind == kind::SCOPE {
         return ended(ws, notes, start, s, fresh);
@@ -86,14 +103,14 @@ fn rule(
     ws: &[u16],
     notes: &[u16],
     start: usize,
-    s: Spot,
+    s: Site,
     kind: usize,
     bound: usize,
     fresh: &mut [u16],
-) -> Plan
-    ensures { λ r. ⌜ (r ≡ ruleW (now (ws .entry)) (now (notes .entry)) start s kind bound (now (fresh .entry)) .plan) × (now (fresh .exit) ≡ ruleW (now (ws .entry)) (now (notes .entry)) start s kind bound (now (fresh .entry)) .fresh) ⌝ }
+) -> Edit
+    ensures { λ r. ⌜ (r ≡ ruleW (now (ws .entry)) (now (notes .entry)) start s kind bound (now (fresh .entry)) .edit) × (now (fresh .exit) ≡ ruleW (now (ws .entry)) (now (notes .entry)) start s kind bound (now (fresh .entry)) .fresh) ⌝ }
 {
-    if 6 < kind {
+    if kind::CHOICE < kind {
         return scoped(ws, notes, start, s, kind, bound, fresh);
     }
     let t = valued(ws, start, s, kind, bound, fresh);
@@ -106,7 +123,7 @@ fn lone(
     notes: &[u16],
     start: usize,
     next: usize,
-    s: Spot,
+    s: Site,
     kind: usize,
     bound: usize,
     fresh: &mut [u16],
@@ -132,25 +149,25 @@ fn roomy(
     notes: &[u16],
     start: usize,
     next: usize,
-    s: Spot,
+    s: Site,
     kind: usize,
     bound: usize,
     out: &mut [u16],
 ) -> Answer
     ensures { λ r. ⌜ (r ≡ loneW (now (ws .entry)) (now (notes .entry)) start next s kind bound large (now (out .entry)) .answer) × (now (out .exit) ≡ loneW (now (ws .entry)) (now (notes .entry)) start next s kind bound large (now (out .entry)) .out) ⌝ }
 {
-    let mut fresh = [0u16; 16384];
+    let mut fresh = [0u16; LARGE];
     lone(ws, notes, start, next, s, kind, bound, &mut fresh, out)
 }
 
 // With the short scratch. Inst can make more words than that holds, counts also those that find no room, and wants 130 places to spare:
-// where it may have had too few, the plan is made again.
+// where it may have had too few, the edit is made again.
 fn short(
     ws: &[u16],
     notes: &[u16],
     start: usize,
     next: usize,
-    s: Spot,
+    s: Site,
     kind: usize,
     bound: usize,
     fresh: &mut [u16],
@@ -159,7 +176,7 @@ fn short(
     ensures { λ r. ⌜ (r ≡ shortW (now (ws .entry)) (now (notes .entry)) start next s kind bound (now (fresh .entry)) (now (out .entry)) .answer) × (now (out .exit) ≡ shortW (now (ws .entry)) (now (notes .entry)) start next s kind bound (now (fresh .entry)) (now (out .entry)) .out) × (now (fresh .exit) ≡ ruleW (now (ws .entry)) (now (notes .entry)) start s kind bound (now (fresh .entry)) .fresh) ⌝ }
 {
     let p = rule(ws, notes, start, s, kind, bound, fresh);
-    if 800 < p.g {
+    if SURELY < p.fresh {
         return roomy(ws, notes, start, next, s, kind, bound, out);
     }
     one(
@@ -179,16 +196,16 @@ pub fn alone(
     notes: &[u16],
     start: usize,
     next: usize,
-    s: Spot,
+    s: Site,
     kind: usize,
     bound: usize,
     out: &mut [u16],
 ) -> Answer
     ensures { λ r. ⌜ (r ≡ aloneW (now (ws .entry)) (now (notes .entry)) start next s kind bound (now (out .entry)) .answer) × (now (out .exit) ≡ aloneW (now (ws .entry)) (now (notes .entry)) start next s kind bound (now (out .entry)) .out) ⌝ }
 {
-    if 512 < ws.len() {
+    if SHORT < ws.len() {
         return roomy(ws, notes, start, next, s, kind, bound, out);
     }
-    let mut fresh = [0u16; 1024];
+    let mut fresh = [0u16; SMALL];
     short(ws, notes, start, next, s, kind, bound, &mut fresh, out)
 }

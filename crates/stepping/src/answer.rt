@@ -1,8 +1,9 @@
 // The answer of a step, and the result written if it fits.
 use crate::writing::engine;
+use layout::limit::LONGEST;
 use layout::number::further;
 use layout::number::less;
-use rules::plan::Plan;
+use rules::edit::Edit;
 use writers::write::copy;
 use writers::write::put;
 ghost use mathlib.Core.Path.{_≡_};
@@ -42,20 +43,20 @@ pub fn accept(kind: u8, serial: u16, fault: u8, length: u16) -> Answer
     }
 }
 
-// How many words there are once a plan is carried out on so many; 8,193 where its fresh words alone are too many.
-fn sized(words: usize, p: Plan) -> usize
+// How many words there are once an edit is carried out on so many; too many where its fresh words alone are.
+fn sized(words: usize, p: Edit) -> usize
     ensures { λ r. ⌜ r ≡ sizedW words p ⌝ }
 {
-    if 8192 < p.g {
-        return 8193;
+    if LONGEST < p.fresh {
+        return LONGEST + 1;
     }
-    let a = further(words, p.g);
-    let b = less(a, less(p.m, p.l));
-    let c = less(b, less(p.b, p.a));
-    less(c, less(p.d, p.c))
+    let a = further(words, p.fresh);
+    let b = less(a, less(p.past, p.list));
+    let c = less(b, less(p.upto, p.from));
+    less(c, less(p.end, p.gap))
 }
 
-fn write_one(ws: &[u16], start: usize, end: usize, p: Plan, fresh: &[u16], out: &mut [u16]) -> usize
+fn write_one(ws: &[u16], start: usize, end: usize, p: Edit, fresh: &[u16], out: &mut [u16]) -> usize
     ensures { λ r. ⌜ (r ≡ writeOneW (now (ws .entry)) start end p (now (fresh .entry)) (now (out .entry)) .to) × (now (out .exit) ≡ writeOneW (now (ws .entry)) start end p (now (fresh .entry)) (now (out .entry)) .out) ⌝ }
 {
     let t = engine(ws, 0, start, end, p, fresh, out, 0);
@@ -66,7 +67,7 @@ fn write_one(ws: &[u16], start: usize, end: usize, p: Plan, fresh: &[u16], out: 
 fn fitting(length: usize, room: usize) -> u8
     ensures { λ r. ⌜ r ≡ lengthOf length room ⌝ }
 {
-    if 8192 < length {
+    if LONGEST < length {
         return 9;
     }
     if room < length {
@@ -75,12 +76,12 @@ fn fitting(length: usize, room: usize) -> u8
     0
 }
 
-// One engine's process start..end under a plan.
+// One engine's process start..end under an edit.
 pub fn one(
     ws: &[u16],
     start: usize,
     end: usize,
-    p: Plan,
+    p: Edit,
     kind: u8,
     fresh: &[u16],
     out: &mut [u16],
@@ -103,11 +104,11 @@ fn write_two(
     ws: &[u16],
     start: usize,
     end: usize,
-    p: Plan,
+    p: Edit,
     fresh: &[u16],
     start2: usize,
     end2: usize,
-    p2: Plan,
+    p2: Edit,
     fresh2: &[u16],
     issued: u16,
     out: &mut [u16],
@@ -121,16 +122,16 @@ fn write_two(
     0
 }
 
-// Two engines' processes under a plan each, in the order of the words, and the serials issued.
+// Two engines' processes under an edit each, in the order of the words, and the serials issued.
 pub fn two(
     ws: &[u16],
     start: usize,
     end: usize,
-    p: Plan,
+    p: Edit,
     fresh: &[u16],
     start2: usize,
     end2: usize,
-    p2: Plan,
+    p2: Edit,
     fresh2: &[u16],
     issued: u16,
     accepted: Answer,

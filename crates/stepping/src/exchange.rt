@@ -7,15 +7,15 @@ use crate::meeting::fit;
 use crate::meeting::receive;
 use crate::meeting::send;
 use crate::meeting::serial_of;
-use finding::find::Spot;
+use finding::find::Site;
 use layout::kind;
 use layout::limit::VALUES;
 use layout::number::wide;
 use layout::number::word;
+use rules::edit::Edit;
+use rules::edit::plain;
 use rules::pair::Offer;
 use rules::pair::offered;
-use rules::plan::Plan;
-use rules::plan::plain;
 ghost use mathlib.Core.Path.{_≡_};
 ghost use Prim.Native.Nat.{_+_, _-_, _≤_, _<_};
 ghost use lib.ListN.{length, getD};
@@ -23,14 +23,14 @@ ghost use Rattle.stepping.specs.Exchanging.{senderW, receiverW, orderedW
 
 fn sender(
     part: &[u16],
-    s: Spot,
+    s: Site,
     start: usize,
     kind: usize,
     server: u16,
     serial: u16,
     fresh: &mut [u16],
-) -> Plan
-    ensures { λ r. ⌜ (r ≡ senderW (now (part .entry)) s start kind server serial (now (fresh .entry)) .plan) × (now (fresh .exit) ≡ senderW (now (part .entry)) s start kind server serial (now (fresh .entry)) .fresh) ⌝ }
+) -> Edit
+    ensures { λ r. ⌜ (r ≡ senderW (now (part .entry)) s start kind server serial (now (fresh .entry)) .edit) × (now (fresh .exit) ≡ senderW (now (part .entry)) s start kind server serial (now (fresh .entry)) .fresh) ⌝ }
 {
     let t = send(part, kind, server, serial, fresh);
     plain(s, start, t, fresh)
@@ -41,28 +41,28 @@ fn receiver(
     values: &[u16],
     other: &[u16],
     o: Offer,
-    s: Spot,
+    s: Site,
     start: usize,
     kind: usize,
     client: u16,
     serial: u16,
     fresh: &mut [u16],
-) -> Plan
-    ensures { λ r. ⌜ (r ≡ receiverW (now (part .entry)) (now (values .entry)) (now (other .entry)) o s start kind client serial (now (fresh .entry)) .plan) × (now (fresh .exit) ≡ receiverW (now (part .entry)) (now (values .entry)) (now (other .entry)) o s start kind client serial (now (fresh .entry)) .fresh) ⌝ }
+) -> Edit
+    ensures { λ r. ⌜ (r ≡ receiverW (now (part .entry)) (now (values .entry)) (now (other .entry)) o s start kind client serial (now (fresh .entry)) .edit) × (now (fresh .exit) ≡ receiverW (now (part .entry)) (now (values .entry)) (now (other .entry)) o s start kind client serial (now (fresh .entry)) .fresh) ⌝ }
 {
     let t = receive(part, values, other, o, kind, client, serial, fresh);
     plain(s, start, t, fresh)
 }
 
-// The two plans in the order of the engines.
+// The two edits in the order of the engines.
 fn ordered(
     ws: &[u16],
     starts: [usize; 9],
     e: usize,
     i: usize,
-    p: Plan,
+    p: Edit,
     fresh: &[u16],
-    q: Plan,
+    q: Edit,
     fresh2: &[u16],
     issued: u16,
     accepted: Answer,
@@ -117,8 +117,8 @@ fn carry(
     starts: [usize; 9],
     engine: u16,
     second: u16,
-    a: Spot,
-    b: Spot,
+    a: Site,
+    b: Site,
     kind: usize,
     out: &mut [u16],
 ) -> Answer
@@ -180,8 +180,8 @@ fn meet(
     starts: [usize; 9],
     engine: u16,
     second: u16,
-    a: Spot,
-    b: Spot,
+    a: Site,
+    b: Site,
     kind: usize,
     branch: usize,
     out: &mut [u16],
@@ -227,8 +227,8 @@ pub(crate) fn between(
     starts: [usize; 9],
     engine: u16,
     second: u16,
-    a: Spot,
-    b: Spot,
+    a: Site,
+    b: Site,
     kind: usize,
     branch: usize,
     out: &mut [u16],

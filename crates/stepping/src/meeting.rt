@@ -1,7 +1,10 @@
 // Between two engines: whether sender and receiver fit, and what each turns into.
 use evaluating::evaluate::variable;
+use layout::field::executors_client;
+use layout::field::first_variable;
+use layout::field::notices_client;
+use layout::field::second_of;
 use layout::kind;
-use layout::number::wide;
 use layout::number::word;
 use rules::pair::Offer;
 use rules::pair::answer;
@@ -11,8 +14,9 @@ use rules::pair::fail;
 use rules::pair::fits;
 use rules::pair::hear;
 use rules::pair::serve;
-use rules::turn::Turn;
-use rules::turn::to_nil;
+use rules::rewriting::Rewriting;
+use rules::rewriting::to_nil;
+use rules::store::nothing;
 ghost use mathlib.Core.Path.{_≡_};
 ghost use Rattle.stepping.specs.Meeting.{addressedW, repliesW, takerOf, fitW, sendW, receiveW, serialW};
 
@@ -20,7 +24,7 @@ ghost use Rattle.stepping.specs.Meeting.{addressedW, repliesW, takerOf, 
 fn addressed(part: &[u16], values: &[u16], receiver: usize) -> bool
     ensures { λ r. ⌜ r ≡ addressedW (now (part .entry)) (now (values .entry)) receiver ⌝ }
 {
-    let z = variable(values, wide(word(part, 1)) / 2048);
+    let z = variable(values, first_variable(word(part, 1)));
     (z as usize) == receiver
 }
 
@@ -40,7 +44,7 @@ fn replies(
     }
     awaits(
         other,
-        wide(word(part, 0)),
+        word(part, 0),
         word(part, 2),
         client,
         sender,
@@ -72,15 +76,15 @@ pub(crate) fn fit(
 ) -> bool
     ensures { λ r. ⌜ r ≡ fitW (now (part .entry)) (now (values .entry)) (now (other .entry)) o kind branch sender receiver ⌝ }
 {
-    let w = wide(word(part, 1));
+    let w = word(part, 1);
     if kind == kind::EXECUTOR {
-        return replies(part, other, w / 8192, branch, sender, receiver);
+        return replies(part, other, executors_client(w), branch, sender, receiver);
     }
     if kind == kind::NOTICE {
-        return replies(part, other, w / 128 % 8, branch, sender, receiver);
+        return replies(part, other, notices_client(w), branch, sender, receiver);
     }
     if addressed(part, values, receiver) {
-        return fits(other, o, taker(kind), wide(word(part, 0)));
+        return fits(other, o, taker(kind), word(part, 0));
     }
     false
 }
@@ -99,13 +103,19 @@ pub fn serial_of(part: &[u16], kind: usize, next: u16) -> u16
 }
 
 // What the sender turns into.
-pub(crate) fn send(part: &[u16], kind: usize, server: u16, serial: u16, fresh: &mut [u16]) -> Turn
-    ensures { λ r. ⌜ (r ≡ sendW (now (part .entry)) kind server serial (now (fresh .entry)) .turn) × (now (fresh .exit) ≡ sendW (now (part .entry)) kind server serial (now (fresh .entry)) .fresh) ⌝ }
+pub(crate) fn send(
+    part: &[u16],
+    kind: usize,
+    server: u16,
+    serial: u16,
+    fresh: &mut [u16],
+) -> Rewriting
+    ensures { λ r. ⌜ (r ≡ sendW (now (part .entry)) kind server serial (now (fresh .entry)) .rewriting) × (now (fresh .exit) ≡ sendW (now (part .entry)) kind server serial (now (fresh .entry)) .fresh) ⌝ }
 {
     if kind == kind::SOLICIT {
         return ask(part, server, serial, fresh);
     }
-    to_nil(32, 0)
+    to_nil(nothing())
 }
 
 // What the receiver turns into, given the sender's words and values.
@@ -118,10 +128,10 @@ pub(crate) fn receive(
     client: u16,
     serial: u16,
     fresh: &mut [u16],
-) -> Turn
-    ensures { λ r. ⌜ (r ≡ receiveW (now (part .entry)) (now (values .entry)) (now (other .entry)) o kind client serial (now (fresh .entry)) .turn) × (now (fresh .exit) ≡ receiveW (now (part .entry)) (now (values .entry)) (now (other .entry)) o kind client serial (now (fresh .entry)) .fresh) ⌝ }
+) -> Rewriting
+    ensures { λ r. ⌜ (r ≡ receiveW (now (part .entry)) (now (values .entry)) (now (other .entry)) o kind client serial (now (fresh .entry)) .rewriting) × (now (fresh .exit) ≡ receiveW (now (part .entry)) (now (values .entry)) (now (other .entry)) o kind client serial (now (fresh .entry)) .fresh) ⌝ }
 {
-    let v = variable(values, wide(word(part, 0)) % 32);
+    let v = variable(values, second_of(word(part, 0)));
     if kind == kind::NOTIFY {
         return hear(other, o, v);
     }

@@ -4,10 +4,12 @@ use crate::answer::Answer;
 use crate::answer::refuse;
 use crate::exchange::between;
 use finding::find::Found;
-use finding::find::Spot;
+use finding::find::Site;
 use finding::find::locate;
+use layout::field::kind_of;
 use layout::kind;
 use layout::limit::DEEPEST;
+use layout::limit::ENGINES;
 use layout::limit::FUEL;
 use layout::limit::LONGEST;
 use layout::number::further;
@@ -22,6 +24,13 @@ ghost use Rattle.sock.specs.Calls.{stepAnswer, stepOutput};
 ghost use Rattle.noting.specs.Noting.{surveyNotes};
 ghost use Rattle.stepping.specs.Answers.{answerAs, numbers};
 ghost use Rattle.stepping.specs.Stepping.{bodyNil, byKind, movesW, receivingW, noneElse, movingW, manyNotes, stepW};
+
+// Notes for every configuration, two words for each of its words; notes for a short one, and how short that is.
+const MANY: usize = 16384;
+
+const FEW: usize = 1024;
+
+const SHORT: usize = 512;
 
 // Whether the body of the scope at a position is nil.
 fn body_nil(ws: &[u16], notes: &[u16], at: usize) -> bool
@@ -85,7 +94,7 @@ fn receiving(
     starts: [usize; 9],
     n: usize,
     engine: u16,
-    a: Spot,
+    a: Site,
     kind: usize,
     second: u16,
     place: u16,
@@ -126,7 +135,7 @@ fn moving(
     starts: [usize; 9],
     n: usize,
     engine: u16,
-    a: Spot,
+    a: Site,
     second: u16,
     place: u16,
     branch: u16,
@@ -136,7 +145,7 @@ fn moving(
     requires { ⌜ (n ≤ 8) × (engine < 8) ⌝ }
     ensures { λ r. ⌜ (r ≡ movingW (now (ws .entry)) (now (notes .entry)) starts n engine a second place branch bound (now (out .entry)) .answer) × (now (out .exit) ≡ movingW (now (ws .entry)) (now (notes .entry)) starts n engine a second place branch bound (now (out .entry)) .out) ⌝ }
 {
-    let kind = wide(word(ws, a.at)) / 2048;
+    let kind = kind_of(word(ws, a.at));
     let m = moves(ws, notes, a.at, kind);
     if m == 0 {
         return refuse(3);
@@ -182,7 +191,7 @@ fn stepped(
     if n == 0 {
         return refuse(1);
     }
-    if 8 < n {
+    if ENGINES < n {
         return refuse(1);
     }
     if n <= e {
@@ -221,7 +230,7 @@ fn with_notes(
 ) -> Answer
     ensures { λ r. ⌜ (r ≡ stepW (now (ws .entry)) manyNotes engine position second place branch (now (out .entry)) .answer) × (now (out .exit) ≡ stepW (now (ws .entry)) manyNotes engine position second place branch (now (out .entry)) .out) ⌝ }
 {
-    let mut notes = [0u16; 16384];
+    let mut notes = [0u16; MANY];
     stepped(ws, &mut notes, engine, position, second, place, branch, out)
 }
 
@@ -239,9 +248,9 @@ pub fn step(
 ) -> Answer
     ensures { λ r. ⌜ (r ≡ answerAs (stepAnswer standard (now (ws .entry)) (numbers engine position second place branch) (now (out .entry)))) × (now (out .exit) ≡ stepOutput standard (now (ws .entry)) (numbers engine position second place branch) (now (out .entry))) ⌝ }
 {
-    if 512 < ws.len() {
+    if SHORT < ws.len() {
         return with_notes(ws, engine, position, second, place, branch, out);
     }
-    let mut notes = [0u16; 1024];
+    let mut notes = [0u16; FEW];
     stepped(ws, &mut notes, engine, position, second, place, branch, out)
 }

@@ -1,35 +1,39 @@
-// Writing the result, once it is known to fit: the words of the configuration, with a plan's in the place of an engine's process.
+// Writing the result, once it is known to fit: the words of the configuration, with an edit's in the place of an engine's process.
+use layout::field::high_word;
+use layout::field::low_word;
+use layout::limit::VALUES;
+use layout::limit::VARIABLES;
 use layout::number::further;
-use rules::plan::Plan;
+use rules::edit::Edit;
 use writers::write::copy;
 use writers::write::put;
 ghost use mathlib.Core.Path.{_≡_};
 ghost use Rattle.stepping.specs.Writing.{frontW, backW, processW, valueW, lentW, engineW};
 
-// What a plan puts in front: up to its second fresh words.
-fn front(ws: &[u16], start: usize, p: Plan, fresh: &[u16], out: &mut [u16]) -> usize
+// What an edit puts in front: up to its second fresh words.
+fn front(ws: &[u16], start: usize, p: Edit, fresh: &[u16], out: &mut [u16]) -> usize
     ensures { λ r. ⌜ (r ≡ frontW (now (ws .entry)) start p (now (fresh .entry)) (now (out .entry)) .to) × (now (out .exit) ≡ frontW (now (ws .entry)) start p (now (fresh .entry)) (now (out .entry)) .out) ⌝ }
 {
-    let t = copy(ws, start, p.l, out, 0);
-    let u = copy(fresh, 0, p.f, out, t);
-    copy(ws, p.m, p.a, out, u)
+    let t = copy(ws, start, p.list, out, 0);
+    let u = copy(fresh, 0, p.listed, out, t);
+    copy(ws, p.past, p.from, out, u)
 }
 
 // And behind, from a place on.
-fn back(ws: &[u16], end: usize, p: Plan, fresh: &[u16], out: &mut [u16], to: usize) -> usize
+fn back(ws: &[u16], end: usize, p: Edit, fresh: &[u16], out: &mut [u16], to: usize) -> usize
     ensures { λ r. ⌜ (r ≡ backW (now (ws .entry)) end p (now (fresh .entry)) (now (out .entry)) to .to) × (now (out .exit) ≡ backW (now (ws .entry)) end p (now (fresh .entry)) (now (out .entry)) to .out) ⌝ }
 {
-    let t = copy(fresh, p.f, p.g, out, to);
-    let u = copy(ws, p.b, p.c, out, t);
-    copy(ws, p.d, end, out, u)
+    let t = copy(fresh, p.listed, p.fresh, out, to);
+    let u = copy(ws, p.upto, p.gap, out, t);
+    copy(ws, p.end, end, out, u)
 }
 
-// The process start..end under a plan, into the output's part from where it begins.
+// The process start..end under an edit, into the output's part from where it begins.
 pub fn process_words(
     ws: &[u16],
     start: usize,
     end: usize,
-    p: Plan,
+    p: Edit,
     fresh: &[u16],
     out: &mut [u16],
 ) -> usize
@@ -39,22 +43,22 @@ pub fn process_words(
     back(ws, end, p, fresh, out, t)
 }
 
-// Variable x of the values that end at `to` takes v; 32 is none.
+// Variable x of the values that end at `to` takes v, if there is one.
 fn value(out: &mut [u16], to: usize, x: usize, v: u32) -> usize
     ensures { λ r. ⌜ (r ≡ 0) × (now (out .exit) ≡ valueW (now (out .entry)) to x v) ⌝ }
 {
-    if 32 <= x {
+    if VARIABLES <= x {
         return 0;
     }
-    if to < 64 {
+    if to < VALUES {
         return 0;
     }
     if out.len() < to {
         return 0;
     }
-    let at = to - 64 + x * 2;
-    put(out, at, (v / 65536) as u16);
-    put(out, at + 1, (v % 65536) as u16);
+    let at = to - VALUES + x * 2;
+    put(out, at, high_word(v));
+    put(out, at + 1, low_word(v));
     0
 }
 
@@ -63,7 +67,7 @@ fn lend(
     ws: &[u16],
     start: usize,
     end: usize,
-    p: Plan,
+    p: Edit,
     fresh: &[u16],
     out: &mut [u16],
     to: usize,
@@ -83,7 +87,7 @@ pub fn engine(
     from: usize,
     start: usize,
     end: usize,
-    p: Plan,
+    p: Edit,
     fresh: &[u16],
     out: &mut [u16],
     to: usize,
@@ -91,6 +95,6 @@ pub fn engine(
     ensures { λ r. ⌜ (r ≡ engineW (now (ws .entry)) from start end p (now (fresh .entry)) (now (out .entry)) to .to) × (now (out .exit) ≡ engineW (now (ws .entry)) from start end p (now (fresh .entry)) (now (out .entry)) to .out) ⌝ }
 {
     let t = copy(ws, from, start, out, to);
-    value(out, t, p.x, p.v);
+    value(out, t, p.store.variable, p.store.value);
     lend(ws, start, end, p, fresh, out, t)
 }

@@ -1,6 +1,6 @@
 -- `plain_par` of `noting::enabled` meets its contract: the code is its mirror in specs/.
 -- Assumes nothing.
-use Rattle.reading.proofs.Tests.{tests}
+use Rattle.sock.proofs.Tests.{tests}
 use Rattle.noting.specs.Noting.{plainPar}
 use Rattle.noting.proofs.enabled.plain_par.Statement.{statement}
 use Rattle.noting.proofs.enabled.plain_par.Tie as tie

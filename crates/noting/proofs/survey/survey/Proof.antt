@@ -2,7 +2,7 @@
 -- Assumes nothing.
 use mathlib.Core.Path.{_∙_}
 use Rattle.reading.specs.Survey.{surveyed}
-use Rattle.reading.proofs.Tests.{tests}
+use Rattle.sock.proofs.Tests.{tests}
 use Rattle.reading.proofs.Surveys.{surveyed-all}
 use Rattle.noting.specs.Noting.{surveyNotes}
 use Rattle.noting.proofs.Notes.{survey-notes}

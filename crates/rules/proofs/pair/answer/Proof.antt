@@ -15,8 +15,11 @@ skip-requires c κs = search needs
 word-requires : tie.Need-word-requires
 word-requires c κs = search needs
 
-wide-requires : tie.Need-wide-requires
-wide-requires c κs = search needs
+second-of-requires : tie.Need-second-of-requires
+second-of-requires c κs = search needs
+
+one-requires : tie.Need-one-requires
+one-requires c κs = search needs
 
 keep-requires : tie.Need-keep-requires
 keep-requires c κs = search needs
@@ -27,7 +30,7 @@ same-length c = search needs
 returns : tie.Need-returns
 unfolding answerW
 returns c =
-    (simp (tests, ← (c .keep .ensures), ← (c .before .wide .ensures .0), ← (c .before .before .word .ensures), ← (c .before .before .before .skip .ensures), ← (c .before .before .before .before .before .before .put .ensures .0), ← (c .before .before .before .before .before .before .put .ensures .1)), simp (tests, ← (c .keep .ensures), ← (c .before .wide .ensures .0), ← (c .before .before .word .ensures), ← (c .before .before .before .skip .ensures), ← (c .before .before .before .before .before .before .put .ensures .0), ← (c .before .before .before .before .before .before .put .ensures .1)))
+    (simp (tests, ← (c .keep .ensures), ← (c .before .one .ensures), ← (c .before .before .second-of .ensures .0), ← (c .before .before .before .word .ensures), ← (c .before .before .before .before .skip .ensures), ← (c .before .before .before .before .before .before .before .put .ensures .0), ← (c .before .before .before .before .before .before .before .put .ensures .1)), simp (tests, ← (c .keep .ensures), ← (c .before .one .ensures), ← (c .before .before .second-of .ensures .0), ← (c .before .before .before .word .ensures), ← (c .before .before .before .before .skip .ensures), ← (c .before .before .before .before .before .before .before .put .ensures .0), ← (c .before .before .before .before .before .before .before .put .ensures .1)))
 
 pub answer-spec : {M : Type 1} → statement M
 answer-spec =
@@ -36,7 +39,8 @@ answer-spec =
     put-requires
     skip-requires
     word-requires
-    wide-requires
+    second-of-requires
+    one-requires
     keep-requires
     same-length
     returns)

@@ -12,17 +12,20 @@ word-requires c κs = search needs
 word-requires-2 : tie.Need-word-requires-2
 word-requires-2 c κs = search needs
 
-waiter-head-requires : tie.Need-waiter-head-requires
-waiter-head-requires c κs = search needs
+waiter-requires : tie.Need-waiter-requires
+waiter-requires c κs = search needs
 
-mul-three : tie.Need-mul-three
-mul-three c = search needs
+server-word-requires : tie.Need-server-word-requires
+server-word-requires c κs = search needs
 
 three-requires : tie.Need-three-requires
 three-requires c κs = search needs
 
 skip-requires : tie.Need-skip-requires
 skip-requires c κs = search needs
+
+nothing-requires : tie.Need-nothing-requires
+nothing-requires c κs = search needs
 
 keep-requires : tie.Need-keep-requires
 keep-requires c κs = search needs
@@ -33,7 +36,7 @@ same-length c = search needs
 returns : tie.Need-returns
 unfolding askW
 returns c =
-    (simp (tests, ← (c .keep .ensures), ← (c .before .skip .ensures), ← (c .before .before .before .before .three .ensures .0), ← (c .before .before .before .before .three .ensures .1), ← (c .before .before .before .before .before .waiter-head .ensures), ← (c .before .before .before .before .before .before .word2 .ensures), ← (c .before .before .before .before .before .before .before .word .ensures)), simp (tests, ← (c .keep .ensures), ← (c .before .skip .ensures), ← (c .before .before .before .before .three .ensures .0), ← (c .before .before .before .before .three .ensures .1), ← (c .before .before .before .before .before .waiter-head .ensures), ← (c .before .before .before .before .before .before .word2 .ensures), ← (c .before .before .before .before .before .before .before .word .ensures)))
+    (simp (tests, ← (c .keep .ensures), ← (c .before .nothing .ensures), ← (c .before .before .skip .ensures), ← (c .before .before .before .before .before .three .ensures .0), ← (c .before .before .before .before .before .three .ensures .1), ← (c .before .before .before .before .before .before .server-word .ensures), ← (c .before .before .before .before .before .before .before .waiter .ensures), ← (c .before .before .before .before .before .before .before .before .word2 .ensures), ← (c .before .before .before .before .before .before .before .before .before .word .ensures)), simp (tests, ← (c .keep .ensures), ← (c .before .nothing .ensures), ← (c .before .before .skip .ensures), ← (c .before .before .before .before .before .three .ensures .0), ← (c .before .before .before .before .before .three .ensures .1), ← (c .before .before .before .before .before .before .server-word .ensures), ← (c .before .before .before .before .before .before .before .waiter .ensures), ← (c .before .before .before .before .before .before .before .before .word2 .ensures), ← (c .before .before .before .before .before .before .before .before .before .word .ensures)))
 
 pub ask-spec : {M : Type 1} → statement M
 ask-spec =
@@ -41,10 +44,11 @@ ask-spec =
     (tie.spec
     word-requires
     word-requires-2
-    waiter-head-requires
-    mul-three
+    waiter-requires
+    server-word-requires
     three-requires
     skip-requires
+    nothing-requires
     keep-requires
     same-length
     returns)

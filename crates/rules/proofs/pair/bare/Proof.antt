@@ -6,14 +6,14 @@ use borrow.Author.Needs.{needs}
 use Rattle.rules.proofs.pair.bare.Statement.{statement}
 use Rattle.rules.proofs.pair.bare.Tie as tie
 
-nothing-requires : tie.Need-nothing-requires
-nothing-requires c κs = search needs
+no-offer-requires : tie.Need-no-offer-requires
+no-offer-requires c κs = search needs
 
 returns : tie.Need-returns
 unfolding bareW
 returns c =
     let f0 = c .before .if1 .taken in
-    simp (tests, ← (c .nothing .ensures), f0)
+    simp (tests, ← (c .no-offer .ensures), f0)
 
 skip-requires : tie.Need-skip-requires
 skip-requires c κs = search needs
@@ -25,4 +25,10 @@ returns-2 c =
     simp (tests, ← (c .skip .ensures), f0)
 
 pub bare-spec : {M : Type 1} → statement M
-bare-spec = tie.close (tie.spec nothing-requires returns skip-requires returns-2)
+bare-spec =
+    tie.close
+    (tie.spec
+    no-offer-requires
+    returns
+    skip-requires
+    returns-2)

@@ -4,7 +4,7 @@ use Prim.Native.Nat.{_-_, _<_}
 use native.Mathlib.Omega.{arith}
 use mathlib.Core.Path.{_≡_, refl, sym, ap, _∙_}
 use borrow.Author.Needs.{needs}
-use Rattle.rules.specs.Turning.{partEnd}
+use Rattle.rules.specs.Rewriting.{partEnd}
 use Rattle.rules.specs.Offering.{branchAt}
 use Rattle.rules.proofs.Branches.{branch-step}
 use Rattle.rules.proofs.pair.branch_at.Statement.{statement}

@@ -6,24 +6,24 @@ use borrow.Author.Needs.{needs}
 use Rattle.rules.proofs.pair.chosen.Statement.{statement}
 use Rattle.rules.proofs.pair.chosen.Tie as tie
 
-nothing-requires : tie.Need-nothing-requires
-nothing-requires c κs = search needs
+no-offer-requires : tie.Need-no-offer-requires
+no-offer-requires c κs = search needs
 
 returns : tie.Need-returns
 unfolding choiceW chosenW
 returns c =
     let f0 = c .before .if1 .taken in
-    simp (tests, ← (c .nothing .ensures), f0)
+    simp (tests, ← (c .no-offer .ensures), f0)
 
-nothing-requires-2 : tie.Need-nothing-requires-2
-nothing-requires-2 c κs = search needs
+no-offer-requires-2 : tie.Need-no-offer-requires-2
+no-offer-requires-2 c κs = search needs
 
 returns-2 : tie.Need-returns-2
 unfolding choiceW chosenW
 returns-2 c =
     let f0 = c .before .if2 .taken in
     let f1 = c .before .before .if1 .left in
-    simp (tests, ← (c .nothing2 .ensures), f0, f1)
+    simp (tests, ← (c .no-offer2 .ensures), f0, f1)
 
 sub-branch-at : tie.Need-sub-branch-at
 sub-branch-at c = search needs
@@ -51,9 +51,9 @@ pub chosen-spec : {M : Type 1} → statement M
 chosen-spec =
     tie.close
     (tie.spec
-    nothing-requires
+    no-offer-requires
     returns
-    nothing-requires-2
+    no-offer-requires-2
     returns-2
     sub-branch-at
     branch-at-requires

@@ -9,17 +9,14 @@ use Rattle.rules.proofs.pair.fits.Tie as tie
 word-requires : tie.Need-word-requires
 word-requires c κs = search needs
 
-wide-requires : tie.Need-wide-requires
-wide-requires c κs = search needs
-
 receives-requires : tie.Need-receives-requires
 receives-requires c κs = search needs
 
 returns : tie.Need-returns
 unfolding fitsW
 returns c =
-    let f0 = c .before .before .before .if1 .taken in
-    simp (tests, ← (c .receives .ensures), ← (c .before .wide .ensures .0), ← (c .before .before .word .ensures), f0)
+    let f0 = c .before .before .if1 .taken in
+    simp (tests, ← (c .receives .ensures), ← (c .before .word .ensures), f0)
 
 returns-2 : tie.Need-returns-2
 unfolding fitsW
@@ -28,4 +25,10 @@ returns-2 c =
     simp (tests, f0)
 
 pub fits-spec : {M : Type 1} → statement M
-fits-spec = tie.close (tie.spec word-requires wide-requires receives-requires returns returns-2)
+fits-spec =
+    tie.close
+    (tie.spec
+    word-requires
+    receives-requires
+    returns
+    returns-2)

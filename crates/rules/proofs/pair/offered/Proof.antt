@@ -9,8 +9,11 @@ use Rattle.rules.proofs.pair.offered.Tie as tie
 word-requires : tie.Need-word-requires
 word-requires c κs = search needs
 
-wide-requires : tie.Need-wide-requires
-wide-requires c κs = search needs
+kind-of-requires : tie.Need-kind-of-requires
+kind-of-requires c κs = search needs
+
+count-of-requires : tie.Need-count-of-requires
+count-of-requires c κs = search needs
 
 chosen-requires : tie.Need-chosen-requires
 chosen-requires c κs = search needs
@@ -18,8 +21,8 @@ chosen-requires c κs = search needs
 returns : tie.Need-returns
 unfolding offerW
 returns c =
-    let f0 = c .before .if1 .taken in
-    simp (tests, ← (c .chosen .ensures), f0, ← (c .before .before .wide .ensures .0), ← (c .before .before .before .word .ensures))
+    let f0 = c .before .before .if1 .taken in
+    simp (tests, ← (c .chosen .ensures), ← (c .before .count-of .ensures .0), f0, ← (c .before .before .before .kind-of .ensures .0), ← (c .before .before .before .before .word .ensures))
 
 bare-requires : tie.Need-bare-requires
 bare-requires c κs = search needs
@@ -28,9 +31,16 @@ returns-2 : tie.Need-returns-2
 unfolding offerW
 returns-2 c =
     let f0 = c .before .if1 .left in
-    simp (tests, ← (c .bare .ensures), f0, ← (c .before .before .wide .ensures .0), ← (c .before .before .before .word .ensures))
+    simp (tests, ← (c .bare .ensures), f0, ← (c .before .before .kind-of .ensures .0), ← (c .before .before .before .word .ensures))
 
 pub offered-spec : {M : Type 1} → statement M
 offered-spec =
     tie.close
-    (tie.spec word-requires wide-requires chosen-requires returns bare-requires returns-2)
+    (tie.spec
+    word-requires
+    kind-of-requires
+    count-of-requires
+    chosen-requires
+    returns
+    bare-requires
+    returns-2)

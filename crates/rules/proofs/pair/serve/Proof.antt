@@ -18,11 +18,11 @@ word-requires-2 c κs = search needs
 seq-first-requires : tie.Need-seq-first-requires
 seq-first-requires c κs = search needs
 
-executor-head-requires : tie.Need-executor-head-requires
-executor-head-requires c κs = search needs
+executor-requires : tie.Need-executor-requires
+executor-requires c κs = search needs
 
-mul-three : tie.Need-mul-three
-mul-three c = search needs
+client-word-requires : tie.Need-client-word-requires
+client-word-requires c κs = search needs
 
 three-requires : tie.Need-three-requires
 three-requires c κs = search needs
@@ -30,8 +30,11 @@ three-requires c κs = search needs
 further-requires-2 : tie.Need-further-requires-2
 further-requires-2 c κs = search needs
 
-wide-requires : tie.Need-wide-requires
-wide-requires c κs = search needs
+second-of-requires : tie.Need-second-of-requires
+second-of-requires c κs = search needs
+
+one-requires : tie.Need-one-requires
+one-requires c κs = search needs
 
 keep-requires : tie.Need-keep-requires
 keep-requires c κs = search needs
@@ -42,7 +45,7 @@ same-length c = search needs
 returns : tie.Need-returns
 unfolding serveW
 returns c =
-    (simp (tests, ← (c .keep .ensures), ← (c .before .wide .ensures .0), ← (c .before .before .further2 .ensures), ← (c .before .before .before .before .before .three .ensures .0), ← (c .before .before .before .before .before .three .ensures .1), ← (c .before .before .before .before .before .before .executor-head .ensures), ← (c .before .before .before .before .before .before .before .before .before .before .seq-first .ensures .0), ← (c .before .before .before .before .before .before .before .before .before .before .seq-first .ensures .1), ← (c .before .before .before .before .before .before .before .before .before .before .before .before .word2 .ensures), ← (c .before .before .before .before .before .before .before .before .before .before .before .before .before .further .ensures), ← (c .before .before .before .before .before .before .before .before .before .before .before .before .before .before .word .ensures)), simp (tests, ← (c .keep .ensures), ← (c .before .before .further2 .ensures), ← (c .before .before .before .before .before .three .ensures .0), ← (c .before .before .before .before .before .three .ensures .1), ← (c .before .before .before .before .before .before .executor-head .ensures), ← (c .before .before .before .before .before .before .before .before .before .before .seq-first .ensures .0), ← (c .before .before .before .before .before .before .before .before .before .before .seq-first .ensures .1), ← (c .before .before .before .before .before .before .before .before .before .before .before .before .word2 .ensures), ← (c .before .before .before .before .before .before .before .before .before .before .before .before .before .further .ensures), ← (c .before .before .before .before .before .before .before .before .before .before .before .before .before .before .word .ensures)))
+    (simp (tests, ← (c .keep .ensures), ← (c .before .one .ensures), ← (c .before .before .second-of .ensures .0), ← (c .before .before .before .further2 .ensures), ← (c .before .before .before .before .before .before .three .ensures .0), ← (c .before .before .before .before .before .before .three .ensures .1), ← (c .before .before .before .before .before .before .before .client-word .ensures), ← (c .before .before .before .before .before .before .before .before .executor .ensures), ← (c .before .before .before .before .before .before .before .before .before .before .before .before .seq-first .ensures .0), ← (c .before .before .before .before .before .before .before .before .before .before .before .before .seq-first .ensures .1), ← (c .before .before .before .before .before .before .before .before .before .before .before .before .before .before .word2 .ensures), ← (c .before .before .before .before .before .before .before .before .before .before .before .before .before .before .before .further .ensures), ← (c .before .before .before .before .before .before .before .before .before .before .before .before .before .before .before .before .word .ensures)), simp (tests, ← (c .keep .ensures), ← (c .before .one .ensures), ← (c .before .before .second-of .ensures .0), ← (c .before .before .before .further2 .ensures), ← (c .before .before .before .before .before .before .three .ensures .0), ← (c .before .before .before .before .before .before .three .ensures .1), ← (c .before .before .before .before .before .before .before .client-word .ensures), ← (c .before .before .before .before .before .before .before .before .executor .ensures), ← (c .before .before .before .before .before .before .before .before .before .before .before .before .seq-first .ensures .0), ← (c .before .before .before .before .before .before .before .before .before .before .before .before .seq-first .ensures .1), ← (c .before .before .before .before .before .before .before .before .before .before .before .before .before .before .word2 .ensures), ← (c .before .before .before .before .before .before .before .before .before .before .before .before .before .before .before .further .ensures), ← (c .before .before .before .before .before .before .before .before .before .before .before .before .before .before .before .before .word .ensures)))
 
 pub serve-spec : {M : Type 1} → statement M
 serve-spec =
@@ -52,11 +55,12 @@ serve-spec =
     further-requires
     word-requires-2
     seq-first-requires
-    executor-head-requires
-    mul-three
+    executor-requires
+    client-word-requires
     three-requires
     further-requires-2
-    wide-requires
+    second-of-requires
+    one-requires
     keep-requires
     same-length
     returns)

@@ -9,9 +9,6 @@ use Rattle.rules.proofs.pair.waits.Tie as tie
 word-requires : tie.Need-word-requires
 word-requires c κs = search needs
 
-wide-requires : tie.Need-wide-requires
-wide-requires c κs = search needs
-
 receives-requires : tie.Need-receives-requires
 receives-requires c κs = search needs
 
@@ -22,15 +19,20 @@ returns : tie.Need-returns
 unfolding waitsW
 returns c =
     let f0 = c .before .if1 .taken in
-    simp (tests, ← (c .word2 .ensures), f0, ← (c .before .before .receives .ensures), ← (c .before .before .before .wide .ensures .0), ← (c .before .before .before .before .word .ensures))
+    simp (tests, ← (c .word2 .ensures), f0, ← (c .before .before .receives .ensures), ← (c .before .before .before .word .ensures))
 
 returns-2 : tie.Need-returns-2
 unfolding waitsW
 returns-2 c =
     let f0 = c .if1 .left in
-    simp (tests, f0, ← (c .before .receives .ensures), ← (c .before .before .wide .ensures .0), ← (c .before .before .before .word .ensures))
+    simp (tests, f0, ← (c .before .receives .ensures), ← (c .before .before .word .ensures))
 
 pub waits-spec : {M : Type 1} → statement M
 waits-spec =
     tie.close
-    (tie.spec word-requires wide-requires receives-requires word-requires-2 returns returns-2)
+    (tie.spec
+    word-requires
+    receives-requires
+    word-requires-2
+    returns
+    returns-2)

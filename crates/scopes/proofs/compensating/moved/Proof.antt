@@ -18,15 +18,25 @@ copy-requires c κs = search needs
 further-requires-2 : tie.Need-further-requires-2
 further-requires-2 c κs = search needs
 
+nothing-requires : tie.Need-nothing-requires
+nothing-requires c κs = search needs
+
 same-length : tie.Need-same-length
 same-length c = search needs
 
 returns : tie.Need-returns
 unfolding movedW
 returns c =
-    (simp (tests, ← (c .further2 .ensures), ← (c .before .before .before .copy .ensures .0), ← (c .before .before .before .copy .ensures .1), ← (c .before .before .before .before .before .pass-list .ensures), ← (c .before .before .before .before .before .before .further .ensures)), simp (tests, ← (c .further2 .ensures), ← (c .before .before .before .copy .ensures .0), ← (c .before .before .before .copy .ensures .1), ← (c .before .before .before .before .before .pass-list .ensures), ← (c .before .before .before .before .before .before .further .ensures)))
+    (simp (tests, ← (c .nothing .ensures), ← (c .before .further2 .ensures), ← (c .before .before .before .before .copy .ensures .0), ← (c .before .before .before .before .copy .ensures .1), ← (c .before .before .before .before .before .before .pass-list .ensures), ← (c .before .before .before .before .before .before .before .further .ensures)), simp (tests, ← (c .nothing .ensures), ← (c .before .further2 .ensures), ← (c .before .before .before .before .copy .ensures .0), ← (c .before .before .before .before .copy .ensures .1), ← (c .before .before .before .before .before .before .pass-list .ensures), ← (c .before .before .before .before .before .before .before .further .ensures)))
 
 pub moved-spec : {M : Type 1} → statement M
 moved-spec =
     tie.close
-    (tie.spec further-requires pass-list-requires copy-requires further-requires-2 same-length returns)
+    (tie.spec
+    further-requires
+    pass-list-requires
+    copy-requires
+    further-requires-2
+    nothing-requires
+    same-length
+    returns)

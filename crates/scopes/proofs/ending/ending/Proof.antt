@@ -1,7 +1,8 @@
 -- `ending` of `scopes::ending` meets its contract: the code is its mirror in specs/.
 -- Assumes nothing.
+use Rattle.sock.proofs.Tests.{tests}
 use mathlib.Core.Path.{ap, _∙_}
-use Rattle.rules.specs.Planning.{Planned}
+use Rattle.rules.specs.Editing.{Edited}
 use Rattle.scopes.proofs.Endings.{ending-made}
 use borrow.Author.Needs.{needs}
 use Rattle.scopes.proofs.ending.ending.Statement.{statement}
@@ -29,7 +30,7 @@ returns : tie.Need-returns
 returns c =
     let e = ending-made _ _ _ _ _ _ _ _ _ _ _ (c .before .before .before .before .before .before .before .before .before .before .before .before .before .further .ensures) (c .before .before .before .before .before .before .before .before .before .before .before .take .ensures .0) (c .before .before .before .before .before .before .before .before .before .before .before .take .ensures .1) (c .before .before .before .before .before .before .before .before .further2 .ensures)
     (c .before .before .before .before .before .before .promoted .ensures .0) (c .before .before .before .before .before .before .promoted .ensures .1) in
-    (c .before .before .updated .ensures .0 ∙ ap (λ (u : Planned). u .plan) e, c .before .before .updated .ensures .1 ∙ ap (λ (u : Planned). u .fresh) e)
+    (c .before .before .updated .ensures .0 ∙ ap (λ (u : Edited). u .edit) e, c .before .before .updated .ensures .1 ∙ ap (λ (u : Edited). u .fresh) e)
 
 pub ending-spec : {M : Type 1} → statement M
 ending-spec =

@@ -1,7 +1,8 @@
 -- `resumed` of `scopes::ending` meets its contract: the code is its mirror in specs/.
 -- Assumes nothing.
+use Rattle.sock.proofs.Tests.{tests}
 use mathlib.Core.Path.{ap, sym}
-use Rattle.rules.specs.Planning.{Planned}
+use Rattle.rules.specs.Editing.{Edited}
 use Rattle.scopes.proofs.Endings.{resumed-made}
 use borrow.Author.Needs.{needs}
 use Rattle.scopes.proofs.ending.resumed.Statement.{statement}
@@ -37,15 +38,18 @@ pass-list-requires c κs = search needs
 further-requires-3 : tie.Need-further-requires-3
 further-requires-3 c κs = search needs
 
+nothing-requires : tie.Need-nothing-requires
+nothing-requires c κs = search needs
+
 same-length : tie.Need-same-length
 same-length c = search needs
 
 returns : tie.Need-returns
 returns c =
-    let e = resumed-made _ _ _ _ _ _ _ _ _ _ _ _ _ _ _ _ _ _ (c .before .before .before .before .before .before .before .before .before .before .before .before .before .before .before .before .before .before .before .before .before .word .ensures) (c .before .before .before .before .before .before .before .before .before .before .before .before .before .before .before .before .before .before .before .before .cleared .ensures) (c .before .before .before .before .before .before .before .before .before .before .before .before .before .before .before .before .before .before .put .ensures .1) (c .before .before .before .before .before .before .before .before .before .before .before .before .before .before .put2 .ensures .1)
-    (c .before .before .before .before .before .before .before .before .before .before .before .further .ensures) (c .before .before .before .before .before .before .before .before .before .take-behind .ensures .0) (c .before .before .before .before .before .before .before .before .before .take-behind .ensures .1) (c .before .before .before .before .before .before .further2 .ensures)
-    (c .before .before .before .before .put-taken .ensures .0) (c .before .before .before .before .put-taken .ensures .1) (c .before .pass-list .ensures) (c .further3 .ensures) in
-    (sym (ap (λ (u : Planned). u .plan) e), sym (ap (λ (u : Planned). u .fresh) e))
+    let e = resumed-made _ _ _ _ _ _ _ _ _ _ _ _ _ _ _ _ _ _ _ (c .before .before .before .before .before .before .before .before .before .before .before .before .before .before .before .before .before .before .before .before .before .before .word .ensures) (c .before .before .before .before .before .before .before .before .before .before .before .before .before .before .before .before .before .before .before .before .before .cleared .ensures) (c .before .before .before .before .before .before .before .before .before .before .before .before .before .before .before .before .before .before .before .put .ensures .1) (c .before .before .before .before .before .before .before .before .before .before .before .before .before .before .before .put2 .ensures .1)
+    (c .before .before .before .before .before .before .before .before .before .before .before .before .further .ensures) (c .before .before .before .before .before .before .before .before .before .before .take-behind .ensures .0) (c .before .before .before .before .before .before .before .before .before .before .take-behind .ensures .1) (c .before .before .before .before .before .before .before .further2 .ensures)
+    (c .before .before .before .before .before .put-taken .ensures .0) (c .before .before .before .before .before .put-taken .ensures .1) (c .before .before .pass-list .ensures) (c .before .further3 .ensures) (c .nothing .ensures) in
+    (sym (ap (λ (u : Edited). u .edit) e), sym (ap (λ (u : Edited). u .fresh) e))
 
 pub resumed-spec : {M : Type 1} → statement M
 resumed-spec =
@@ -61,5 +65,6 @@ resumed-spec =
     put-taken-requires
     pass-list-requires
     further-requires-3
+    nothing-requires
     same-length
     returns)

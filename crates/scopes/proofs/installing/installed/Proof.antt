@@ -6,6 +6,9 @@ use borrow.Author.Needs.{needs}
 use Rattle.scopes.proofs.installing.installed.Statement.{statement}
 use Rattle.scopes.proofs.installing.installed.Tie as tie
 
+nothing-requires : tie.Need-nothing-requires
+nothing-requires c κs = search needs
+
 become-nil-requires : tie.Need-become-nil-requires
 become-nil-requires c κs = search needs
 
@@ -15,8 +18,8 @@ same-length c = search needs
 returns : tie.Need-returns
 unfolding installedW
 returns c =
-    let f0 = c .before .before .before .before .if1 .taken in
-    (simp (tests, ← (c .before .before .become-nil .ensures .0), ← (c .before .before .become-nil .ensures .1), f0), simp (tests, ← (c .before .before .become-nil .ensures .0), ← (c .before .before .become-nil .ensures .1), f0))
+    let f0 = c .before .before .before .before .before .if1 .taken in
+    (simp (tests, ← (c .before .before .become-nil .ensures .0), ← (c .before .before .become-nil .ensures .1), ← (c .before .before .before .before .nothing .ensures), f0), simp (tests, ← (c .before .before .become-nil .ensures .0), ← (c .before .before .become-nil .ensures .1), ← (c .before .before .before .before .nothing .ensures), f0))
 
 further-requires : tie.Need-further-requires
 further-requires c κs = search needs
@@ -60,6 +63,7 @@ pub installed-spec : {M : Type 1} → statement M
 installed-spec =
     tie.close
     (tie.spec
+    nothing-requires
     become-nil-requires
     same-length
     returns

@@ -15,11 +15,20 @@ returns c =
     let f0 = c .before .if1 .taken in
     simp (tests, ← (c .refuse .ensures), f0)
 
+nothing-requires : tie.Need-nothing-requires
+nothing-requires c κs = search needs
+
 returns-2 : tie.Need-returns-2
 unfolding clearedW
 returns-2 c =
-    let f0 = c .if1 .left in
-    simp (tests, f0)
+    let f0 = c .before .if1 .left in
+    simp (tests, ← (c .nothing .ensures), f0)
 
 pub cleared-spec : {M : Type 1} → statement M
-cleared-spec = tie.close (tie.spec refuse-requires returns returns-2)
+cleared-spec =
+    tie.close
+    (tie.spec
+    refuse-requires
+    returns
+    nothing-requires
+    returns-2)

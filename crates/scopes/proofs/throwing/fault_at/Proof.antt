@@ -9,10 +9,18 @@ use Rattle.scopes.proofs.throwing.fault_at.Tie as tie
 word-requires : tie.Need-word-requires
 word-requires c κs = search needs
 
+fault-of-requires : tie.Need-fault-of-requires
+fault-of-requires c κs = search needs
+
 returns : tie.Need-returns
 unfolding faultW
 returns c =
-    simp (tests, ← (c .word .ensures))
+    simp (tests, ← (c .fault-of .ensures .0), ← (c .before .word .ensures))
 
 pub fault-at-spec : {M : Type 1} → statement M
-fault-at-spec = tie.close (tie.spec word-requires returns)
+fault-at-spec =
+    tie.close
+    (tie.spec
+    word-requires
+    fault-of-requires
+    returns)

@@ -14,14 +14,14 @@ listed-requires c κs = search needs
 word-requires : tie.Need-word-requires
 word-requires c κs = search needs
 
-faulted-head-requires : tie.Need-faulted-head-requires
-faulted-head-requires c κs = search needs
+faulted-requires : tie.Need-faulted-requires
+faulted-requires c κs = search needs
 
 put-requires : tie.Need-put-requires
 put-requires c κs = search needs
 
-faulted-word-requires : tie.Need-faulted-word-requires
-faulted-word-requires c κs = search needs
+fault-word-requires : tie.Need-fault-word-requires
+fault-word-requires c κs = search needs
 
 put-requires-2 : tie.Need-put-requires-2
 put-requires-2 c κs = search needs
@@ -33,7 +33,7 @@ returns : tie.Need-returns
 unfolding markedW
 returns c =
     let f0 = c .before .before .before .before .before .before .before .before .before .before .before .if1 .taken in
-    (refl, simp (tests, ← (c .before .before .put2 .ensures .0), ← (c .before .before .put2 .ensures .1), ← (c .before .before .before .faulted-word .ensures), ← (c .before .before .before .before .before .before .before .put .ensures .0), ← (c .before .before .before .before .before .before .before .put .ensures .1), ← (c .before .before .before .before .before .before .before .before .faulted-head .ensures), ← (c .before .before .before .before .before .before .before .before .before .word .ensures), f0, ← (c .before .before .before .before .before .before .before .before .before .before .before .before .listed .ensures)))
+    (refl, simp (tests, ← (c .before .before .put2 .ensures .0), ← (c .before .before .put2 .ensures .1), ← (c .before .before .before .fault-word .ensures), ← (c .before .before .before .before .before .before .before .put .ensures .0), ← (c .before .before .before .before .before .before .before .put .ensures .1), ← (c .before .before .before .before .before .before .before .before .faulted .ensures), ← (c .before .before .before .before .before .before .before .before .before .word .ensures), f0, ← (c .before .before .before .before .before .before .before .before .before .before .before .before .listed .ensures)))
 
 word-requires-2 : tie.Need-word-requires-2
 word-requires-2 c κs = search needs
@@ -66,9 +66,9 @@ marked-spec =
     (tie.spec
     listed-requires
     word-requires
-    faulted-head-requires
+    faulted-requires
     put-requires
-    faulted-word-requires
+    fault-word-requires
     put-requires-2
     same-length
     returns

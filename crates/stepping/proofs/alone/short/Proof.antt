@@ -6,8 +6,8 @@ use mathlib.Core.Bool.{false}
 use mathlib.Core.List.{List}
 use borrow.Author.Tests.{le-ltb}
 use lib.Dec.{ltb}
-use Rattle.finding.specs.declared.find.Spot.{Spot}
-use Rattle.rules.specs.declared.plan.Plan.{Plan}
+use Rattle.finding.specs.declared.find.Site.{Site}
+use Rattle.rules.specs.declared.edit.Edit.{Edit}
 use Rattle.stepping.specs.Answering.{oneW}
 use Rattle.stepping.specs.Alone.{ruleW, loneW, shortW, surely}
 use Rattle.sock.proofs.Tests.{tests}
@@ -17,15 +17,15 @@ use Rattle.stepping.proofs.alone.short.Tie as tie
 
 -- the short scratch had room
 kept :
-    (ws notes : List ℕ) (start next : ℕ) (s : Spot) (kind bound : ℕ) (fresh out : List ℕ) (p : Plan) (made : List ℕ) (end : ℕ) →
-    p ≡ ruleW ws notes start s kind bound fresh .plan →
+    (ws notes : List ℕ) (start next : ℕ) (s : Site) (kind bound : ℕ) (fresh out : List ℕ) (p : Edit) (made : List ℕ) (end : ℕ) →
+    p ≡ ruleW ws notes start s kind bound fresh .edit →
     made ≡ ruleW ws notes start s kind bound fresh .fresh →
     end ≡ next - 64 →
-    p .g ≤ surely →
+    p .fresh ≤ surely →
     oneW ws start end p (kind % 32) made out ≡ shortW ws notes start next s kind bound fresh out
 unfolding shortW loneW
 kept ws notes start next s kind bound fresh out p made end e f h low =
-    let z : ltb surely (ruleW ws notes start s kind bound fresh .plan .g) ≡ false = le-ltb _ _ (rw e at low) in
+    let z : ltb surely (ruleW ws notes start s kind bound fresh .edit .fresh) ≡ false = le-ltb _ _ (rw e at low) in
     rw (z, e, f, h)
 
 rule-requires : tie.Need-rule-requires

@@ -36,32 +36,32 @@ returns-3 c =
     let f2 = c .before .before .before .if1 .left in
     (simp (tests, ← (c .refusal3 .ensures), f0, f1, f2), simp (tests, ← (c .refusal3 .ensures), f0, f1, f2))
 
-mul-turn : tie.Need-mul-turn
-mul-turn c = search needs
+mul-rewritten : tie.Need-mul-rewritten
+mul-rewritten c = search needs
 
-sub-turn : tie.Need-sub-turn
-sub-turn c = search needs
+sub-rewritten : tie.Need-sub-rewritten
+sub-rewritten c = search needs
 
-part-turn-start : tie.Need-part-turn-start
-part-turn-start c = search needs
+part-rewritten-start : tie.Need-part-rewritten-start
+part-rewritten-start c = search needs
 
-part-turn-end : tie.Need-part-turn-end
-part-turn-end c = search needs
+part-rewritten-end : tie.Need-part-rewritten-end
+part-rewritten-end c = search needs
 
-mul-turn-2 : tie.Need-mul-turn-2
-mul-turn-2 c = search needs
+mul-rewritten-2 : tie.Need-mul-rewritten-2
+mul-rewritten-2 c = search needs
 
-sub-turn-2 : tie.Need-sub-turn-2
-sub-turn-2 c = search needs
+sub-rewritten-2 : tie.Need-sub-rewritten-2
+sub-rewritten-2 c = search needs
 
-part-turn-start-2 : tie.Need-part-turn-start-2
-part-turn-start-2 c = search needs
+part-rewritten-start-2 : tie.Need-part-rewritten-start-2
+part-rewritten-start-2 c = search needs
 
-part-turn-end-2 : tie.Need-part-turn-end-2
-part-turn-end-2 c = search needs
+part-rewritten-end-2 : tie.Need-part-rewritten-end-2
+part-rewritten-end-2 c = search needs
 
-turn-requires : tie.Need-turn-requires
-turn-requires c κs = search needs
+rewritten-requires : tie.Need-rewritten-requires
+rewritten-requires c κs = search needs
 
 same-length : tie.Need-same-length
 same-length c = search needs
@@ -72,7 +72,7 @@ returns-4 c =
     let f0 = c .before .before .before .before .before .before .if3 .left in
     let f1 = c .before .before .before .before .before .before .before .if2 .left in
     let f2 = c .before .before .before .before .before .before .before .before .if1 .left in
-    (simp (tests, ← (c .before .before .turn .ensures .0), ← (c .before .before .turn .ensures .1), f0, f1, f2), simp (tests, ← (c .before .before .turn .ensures .0), ← (c .before .before .turn .ensures .1), f0, f1, f2))
+    (simp (tests, ← (c .before .before .rewritten .ensures .0), ← (c .before .before .rewritten .ensures .1), f0, f1, f2), simp (tests, ← (c .before .before .rewritten .ensures .0), ← (c .before .before .rewritten .ensures .1), f0, f1, f2))
 
 pub valued-spec : {M : Type 1} → statement M
 valued-spec =
@@ -84,14 +84,14 @@ valued-spec =
     returns-2
     refusal-requires-3
     returns-3
-    mul-turn
-    sub-turn
-    part-turn-start
-    part-turn-end
-    mul-turn-2
-    sub-turn-2
-    part-turn-start-2
-    part-turn-end-2
-    turn-requires
+    mul-rewritten
+    sub-rewritten
+    part-rewritten-start
+    part-rewritten-end
+    mul-rewritten-2
+    sub-rewritten-2
+    part-rewritten-start-2
+    part-rewritten-end-2
+    rewritten-requires
     same-length
     returns-4)

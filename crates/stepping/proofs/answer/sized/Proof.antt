@@ -6,6 +6,9 @@ use borrow.Author.Needs.{needs}
 use Rattle.stepping.proofs.answer.sized.Statement.{statement}
 use Rattle.stepping.proofs.answer.sized.Tie as tie
 
+add-result : tie.Need-add-result
+add-result c = search needs
+
 returns : tie.Need-returns
 unfolding sizedW
 returns c =
@@ -43,6 +46,7 @@ pub sized-spec : {M : Type 1} → statement M
 sized-spec =
     tie.close
     (tie.spec
+    add-result
     returns
     further-requires
     less-requires

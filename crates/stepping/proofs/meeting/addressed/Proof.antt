@@ -9,8 +9,8 @@ use Rattle.stepping.proofs.meeting.addressed.Tie as tie
 word-requires : tie.Need-word-requires
 word-requires c κs = search needs
 
-wide-requires : tie.Need-wide-requires
-wide-requires c κs = search needs
+first-variable-requires : tie.Need-first-variable-requires
+first-variable-requires c κs = search needs
 
 variable-requires : tie.Need-variable-requires
 variable-requires c κs = search needs
@@ -21,8 +21,14 @@ cast-result c = search needs
 returns : tie.Need-returns
 unfolding addressedW
 returns c =
-    simp (tests, ← (c .variable .ensures), ← (c .before .wide .ensures .0), ← (c .before .before .word .ensures))
+    simp (tests, ← (c .variable .ensures), ← (c .before .first-variable .ensures .0), ← (c .before .before .word .ensures))
 
 pub addressed-spec : {M : Type 1} → statement M
 addressed-spec =
-    tie.close (tie.spec word-requires wide-requires variable-requires cast-result returns)
+    tie.close
+    (tie.spec
+    word-requires
+    first-variable-requires
+    variable-requires
+    cast-result
+    returns)

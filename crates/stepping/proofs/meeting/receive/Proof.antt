@@ -9,8 +9,8 @@ use Rattle.stepping.proofs.meeting.receive.Tie as tie
 word-requires : tie.Need-word-requires
 word-requires c κs = search needs
 
-wide-requires : tie.Need-wide-requires
-wide-requires c κs = search needs
+second-of-requires : tie.Need-second-of-requires
+second-of-requires c κs = search needs
 
 variable-requires : tie.Need-variable-requires
 variable-requires c κs = search needs
@@ -22,7 +22,7 @@ returns : tie.Need-returns
 unfolding receiveW
 returns c =
     let f0 = c .before .if1 .taken in
-    (simp (tests, ← (c .hear .ensures), f0, ← (c .before .before .variable .ensures), ← (c .before .before .before .wide .ensures .0), ← (c .before .before .before .before .word .ensures)), simp (tests, ← (c .hear .ensures), f0, ← (c .before .before .variable .ensures), ← (c .before .before .before .wide .ensures .0), ← (c .before .before .before .before .word .ensures)))
+    (simp (tests, ← (c .hear .ensures), f0, ← (c .before .before .variable .ensures), ← (c .before .before .before .second-of .ensures .0), ← (c .before .before .before .before .word .ensures)), simp (tests, ← (c .hear .ensures), f0, ← (c .before .before .variable .ensures), ← (c .before .before .before .second-of .ensures .0), ← (c .before .before .before .before .word .ensures)))
 
 serve-requires : tie.Need-serve-requires
 serve-requires c κs = search needs
@@ -35,7 +35,7 @@ unfolding receiveW
 returns-2 c =
     let f0 = c .before .before .before .before .if2 .taken in
     let f1 = c .before .before .before .before .before .if1 .left in
-    (simp (tests, ← (c .before .before .serve .ensures .0), ← (c .before .before .serve .ensures .1), f0, f1, ← (c .before .before .before .before .before .before .variable .ensures), ← (c .before .before .before .before .before .before .before .wide .ensures .0), ← (c .before .before .before .before .before .before .before .before .word .ensures)), simp (tests, ← (c .before .before .serve .ensures .0), ← (c .before .before .serve .ensures .1), f0, f1, ← (c .before .before .before .before .before .before .variable .ensures), ← (c .before .before .before .before .before .before .before .wide .ensures .0), ← (c .before .before .before .before .before .before .before .before .word .ensures)))
+    (simp (tests, ← (c .before .before .serve .ensures .0), ← (c .before .before .serve .ensures .1), f0, f1, ← (c .before .before .before .before .before .before .variable .ensures), ← (c .before .before .before .before .before .before .before .second-of .ensures .0), ← (c .before .before .before .before .before .before .before .before .word .ensures)), simp (tests, ← (c .before .before .serve .ensures .0), ← (c .before .before .serve .ensures .1), f0, f1, ← (c .before .before .before .before .before .before .variable .ensures), ← (c .before .before .before .before .before .before .before .second-of .ensures .0), ← (c .before .before .before .before .before .before .before .before .word .ensures)))
 
 answer-requires : tie.Need-answer-requires
 answer-requires c κs = search needs
@@ -49,7 +49,7 @@ returns-3 c =
     let f0 = c .before .before .before .before .if3 .taken in
     let f1 = c .before .before .before .before .before .if2 .left in
     let f2 = c .before .before .before .before .before .before .if1 .left in
-    (simp (tests, ← (c .before .before .answer .ensures .0), ← (c .before .before .answer .ensures .1), f0, f1, f2, ← (c .before .before .before .before .before .before .before .variable .ensures), ← (c .before .before .before .before .before .before .before .before .wide .ensures .0), ← (c .before .before .before .before .before .before .before .before .before .word .ensures)), simp (tests, ← (c .before .before .answer .ensures .0), ← (c .before .before .answer .ensures .1), f0, f1, f2, ← (c .before .before .before .before .before .before .before .variable .ensures), ← (c .before .before .before .before .before .before .before .before .wide .ensures .0), ← (c .before .before .before .before .before .before .before .before .before .word .ensures)))
+    (simp (tests, ← (c .before .before .answer .ensures .0), ← (c .before .before .answer .ensures .1), f0, f1, f2, ← (c .before .before .before .before .before .before .before .variable .ensures), ← (c .before .before .before .before .before .before .before .before .second-of .ensures .0), ← (c .before .before .before .before .before .before .before .before .before .word .ensures)), simp (tests, ← (c .before .before .answer .ensures .0), ← (c .before .before .answer .ensures .1), f0, f1, f2, ← (c .before .before .before .before .before .before .before .variable .ensures), ← (c .before .before .before .before .before .before .before .before .second-of .ensures .0), ← (c .before .before .before .before .before .before .before .before .before .word .ensures)))
 
 word-requires-2 : tie.Need-word-requires-2
 word-requires-2 c κs = search needs
@@ -66,14 +66,14 @@ returns-4 c =
     let f0 = c .before .before .before .before .before .if3 .left in
     let f1 = c .before .before .before .before .before .before .if2 .left in
     let f2 = c .before .before .before .before .before .before .before .if1 .left in
-    (simp (tests, ← (c .before .before .fail .ensures .0), ← (c .before .before .fail .ensures .1), ← (c .before .before .before .before .word2 .ensures), f0, f1, f2, ← (c .before .before .before .before .before .before .before .before .variable .ensures), ← (c .before .before .before .before .before .before .before .before .before .wide .ensures .0), ← (c .before .before .before .before .before .before .before .before .before .before .word .ensures)), simp (tests, ← (c .before .before .fail .ensures .0), ← (c .before .before .fail .ensures .1), ← (c .before .before .before .before .word2 .ensures), f0, f1, f2, ← (c .before .before .before .before .before .before .before .before .variable .ensures), ← (c .before .before .before .before .before .before .before .before .before .wide .ensures .0), ← (c .before .before .before .before .before .before .before .before .before .before .word .ensures)))
+    (simp (tests, ← (c .before .before .fail .ensures .0), ← (c .before .before .fail .ensures .1), ← (c .before .before .before .before .word2 .ensures), f0, f1, f2, ← (c .before .before .before .before .before .before .before .before .variable .ensures), ← (c .before .before .before .before .before .before .before .before .before .second-of .ensures .0), ← (c .before .before .before .before .before .before .before .before .before .before .word .ensures)), simp (tests, ← (c .before .before .fail .ensures .0), ← (c .before .before .fail .ensures .1), ← (c .before .before .before .before .word2 .ensures), f0, f1, f2, ← (c .before .before .before .before .before .before .before .before .variable .ensures), ← (c .before .before .before .before .before .before .before .before .before .second-of .ensures .0), ← (c .before .before .before .before .before .before .before .before .before .before .word .ensures)))
 
 pub receive-spec : {M : Type 1} → statement M
 receive-spec =
     tie.close
     (tie.spec
     word-requires
-    wide-requires
+    second-of-requires
     variable-requires
     hear-requires
     returns

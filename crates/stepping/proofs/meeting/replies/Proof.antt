@@ -15,9 +15,6 @@ returns c =
 word-requires : tie.Need-word-requires
 word-requires c κs = search needs
 
-wide-requires : tie.Need-wide-requires
-wide-requires c κs = search needs
-
 word-requires-2 : tie.Need-word-requires-2
 word-requires-2 c κs = search needs
 
@@ -27,10 +24,15 @@ awaits-requires c κs = search needs
 returns-2 : tie.Need-returns-2
 unfolding repliesW
 returns-2 c =
-    let f0 = c .before .before .before .before .if1 .left in
-    simp (tests, ← (c .awaits .ensures), ← (c .before .word2 .ensures), ← (c .before .before .wide .ensures .0), ← (c .before .before .before .word .ensures), f0)
+    let f0 = c .before .before .before .if1 .left in
+    simp (tests, ← (c .awaits .ensures), ← (c .before .word2 .ensures), ← (c .before .before .word .ensures), f0)
 
 pub replies-spec : {M : Type 1} → statement M
 replies-spec =
     tie.close
-    (tie.spec returns word-requires wide-requires word-requires-2 awaits-requires returns-2)
+    (tie.spec
+    returns
+    word-requires
+    word-requires-2
+    awaits-requires
+    returns-2)

@@ -9,8 +9,8 @@ use Rattle.stepping.proofs.steps.moving.Tie as tie
 word-requires : tie.Need-word-requires
 word-requires c κs = search needs
 
-wide-requires : tie.Need-wide-requires
-wide-requires c κs = search needs
+kind-of-requires : tie.Need-kind-of-requires
+kind-of-requires c κs = search needs
 
 moves-requires : tie.Need-moves-requires
 moves-requires c κs = search needs
@@ -22,7 +22,7 @@ returns : tie.Need-returns
 unfolding movingW
 returns c =
     let f0 = c .before .if1 .taken in
-    (simp (tests, ← (c .refuse .ensures), f0, ← (c .before .before .moves .ensures), ← (c .before .before .before .wide .ensures .0), ← (c .before .before .before .before .word .ensures)), simp (tests, ← (c .refuse .ensures), f0, ← (c .before .before .moves .ensures), ← (c .before .before .before .wide .ensures .0), ← (c .before .before .before .before .word .ensures)))
+    (simp (tests, ← (c .refuse .ensures), f0, ← (c .before .before .moves .ensures), ← (c .before .before .before .kind-of .ensures .0), ← (c .before .before .before .before .word .ensures)), simp (tests, ← (c .refuse .ensures), f0, ← (c .before .before .moves .ensures), ← (c .before .before .before .kind-of .ensures .0), ← (c .before .before .before .before .word .ensures)))
 
 receiving-requires : tie.Need-receiving-requires
 receiving-requires c κs = search needs
@@ -35,13 +35,13 @@ unfolding movingW
 returns-2 c =
     let f0 = c .before .before .before .before .if2 .taken in
     let f1 = c .before .before .before .before .before .if1 .left in
-    (simp (tests, ← (c .before .before .receiving .ensures .0), ← (c .before .before .receiving .ensures .1), f0, f1, ← (c .before .before .before .before .before .before .moves .ensures), ← (c .before .before .before .before .before .before .before .wide .ensures .0), ← (c .before .before .before .before .before .before .before .before .word .ensures)), simp (tests, ← (c .before .before .receiving .ensures .0), ← (c .before .before .receiving .ensures .1), f0, f1, ← (c .before .before .before .before .before .before .moves .ensures), ← (c .before .before .before .before .before .before .before .wide .ensures .0), ← (c .before .before .before .before .before .before .before .before .word .ensures)))
+    (simp (tests, ← (c .before .before .receiving .ensures .0), ← (c .before .before .receiving .ensures .1), f0, f1, ← (c .before .before .before .before .before .before .moves .ensures), ← (c .before .before .before .before .before .before .before .kind-of .ensures .0), ← (c .before .before .before .before .before .before .before .before .word .ensures)), simp (tests, ← (c .before .before .receiving .ensures .0), ← (c .before .before .receiving .ensures .1), f0, f1, ← (c .before .before .before .before .before .before .moves .ensures), ← (c .before .before .before .before .before .before .before .kind-of .ensures .0), ← (c .before .before .before .before .before .before .before .before .word .ensures)))
 
 none-else-requires : tie.Need-none-else-requires
 none-else-requires c κs = search needs
 
-wide-requires-2 : tie.Need-wide-requires-2
-wide-requires-2 c κs = search needs
+wide-requires : tie.Need-wide-requires
+wide-requires c κs = search needs
 
 mul-alone : tie.Need-mul-alone
 mul-alone c = search needs
@@ -70,7 +70,7 @@ returns-3 c =
     let f0 = c .before .before .before .before .before .if3 .taken in
     let f1 = c .before .before .before .before .before .before .before .if2 .left in
     let f2 = c .before .before .before .before .before .before .before .before .if1 .left in
-    (simp (tests, ← (c .before .before .alone .ensures .0), ← (c .before .before .alone .ensures .1), ← (c .before .before .before .before .wide2 .ensures .0), f0, ← (c .before .before .before .before .before .before .none-else .ensures), f1, f2, ← (c .before .before .before .before .before .before .before .before .before .moves .ensures), ← (c .before .before .before .before .before .before .before .before .before .before .wide .ensures .0), ← (c .before .before .before .before .before .before .before .before .before .before .before .word .ensures)), simp (tests, ← (c .before .before .alone .ensures .0), ← (c .before .before .alone .ensures .1), ← (c .before .before .before .before .wide2 .ensures .0), f0, ← (c .before .before .before .before .before .before .none-else .ensures), f1, f2, ← (c .before .before .before .before .before .before .before .before .before .moves .ensures), ← (c .before .before .before .before .before .before .before .before .before .before .wide .ensures .0), ← (c .before .before .before .before .before .before .before .before .before .before .before .word .ensures)))
+    (simp (tests, ← (c .before .before .alone .ensures .0), ← (c .before .before .alone .ensures .1), ← (c .before .before .before .before .wide .ensures .0), f0, ← (c .before .before .before .before .before .before .none-else .ensures), f1, f2, ← (c .before .before .before .before .before .before .before .before .before .moves .ensures), ← (c .before .before .before .before .before .before .before .before .before .before .kind-of .ensures .0), ← (c .before .before .before .before .before .before .before .before .before .before .before .word .ensures)), simp (tests, ← (c .before .before .alone .ensures .0), ← (c .before .before .alone .ensures .1), ← (c .before .before .before .before .wide .ensures .0), f0, ← (c .before .before .before .before .before .before .none-else .ensures), f1, f2, ← (c .before .before .before .before .before .before .before .before .before .moves .ensures), ← (c .before .before .before .before .before .before .before .before .before .before .kind-of .ensures .0), ← (c .before .before .before .before .before .before .before .before .before .before .before .word .ensures)))
 
 refuse-requires-2 : tie.Need-refuse-requires-2
 refuse-requires-2 c κs = search needs
@@ -81,14 +81,14 @@ returns-4 c =
     let f0 = c .before .if3 .left in
     let f1 = c .before .before .before .if2 .left in
     let f2 = c .before .before .before .before .if1 .left in
-    (simp (tests, ← (c .refuse2 .ensures), f0, ← (c .before .before .none-else .ensures), f1, f2, ← (c .before .before .before .before .before .moves .ensures), ← (c .before .before .before .before .before .before .wide .ensures .0), ← (c .before .before .before .before .before .before .before .word .ensures)), simp (tests, ← (c .refuse2 .ensures), f0, ← (c .before .before .none-else .ensures), f1, f2, ← (c .before .before .before .before .before .moves .ensures), ← (c .before .before .before .before .before .before .wide .ensures .0), ← (c .before .before .before .before .before .before .before .word .ensures)))
+    (simp (tests, ← (c .refuse2 .ensures), f0, ← (c .before .before .none-else .ensures), f1, f2, ← (c .before .before .before .before .before .moves .ensures), ← (c .before .before .before .before .before .before .kind-of .ensures .0), ← (c .before .before .before .before .before .before .before .word .ensures)), simp (tests, ← (c .refuse2 .ensures), f0, ← (c .before .before .none-else .ensures), f1, f2, ← (c .before .before .before .before .before .moves .ensures), ← (c .before .before .before .before .before .before .kind-of .ensures .0), ← (c .before .before .before .before .before .before .before .word .ensures)))
 
 pub moving-spec : {M : Type 1} → statement M
 moving-spec =
     tie.close
     (tie.spec
     word-requires
-    wide-requires
+    kind-of-requires
     moves-requires
     refuse-requires
     returns
@@ -96,7 +96,7 @@ moving-spec =
     same-length
     returns-2
     none-else-requires
-    wide-requires-2
+    wide-requires
     mul-alone
     array-read-alone
     add-alone

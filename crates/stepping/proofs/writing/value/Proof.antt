@@ -34,8 +34,8 @@ mul-at c = search needs
 add-at : tie.Need-add-at
 add-at c = search needs
 
-cast-put : tie.Need-cast-put
-cast-put c = search needs
+high-word-requires : tie.Need-high-word-requires
+high-word-requires c κs = search needs
 
 put-requires : tie.Need-put-requires
 put-requires c κs = search needs
@@ -43,8 +43,8 @@ put-requires c κs = search needs
 add-put : tie.Need-add-put
 add-put c = search needs
 
-cast-put-2 : tie.Need-cast-put-2
-cast-put-2 c = search needs
+low-word-requires : tie.Need-low-word-requires
+low-word-requires c κs = search needs
 
 put-requires-2 : tie.Need-put-requires-2
 put-requires-2 c κs = search needs
@@ -55,10 +55,10 @@ same-length c = search needs
 returns-4 : tie.Need-returns-4
 unfolding valueW
 returns-4 c =
-    let f0 = c .before .before .before .before .before .before .before .before .if3 .left in
-    let f1 = c .before .before .before .before .before .before .before .before .before .if2 .left in
-    let f2 = c .before .before .before .before .before .before .before .before .before .before .if1 .left in
-    (refl, simp (tests, ← (c .before .before .put2 .ensures .0), ← (c .before .before .put2 .ensures .1), ← (c .before .before .before .before .before .before .put .ensures .0), ← (c .before .before .before .before .before .before .put .ensures .1), f0, f1, f2))
+    let f0 = c .before .before .before .before .before .before .before .before .before .before .if3 .left in
+    let f1 = c .before .before .before .before .before .before .before .before .before .before .before .if2 .left in
+    let f2 = c .before .before .before .before .before .before .before .before .before .before .before .before .if1 .left in
+    (refl, simp (tests, ← (c .before .before .put2 .ensures .0), ← (c .before .before .put2 .ensures .1), ← (c .before .before .before .low-word .ensures), ← (c .before .before .before .before .before .before .before .put .ensures .0), ← (c .before .before .before .before .before .before .before .put .ensures .1), ← (c .before .before .before .before .before .before .before .before .high-word .ensures), f0, f1, f2))
 
 pub value-spec : {M : Type 1} → statement M
 value-spec =
@@ -69,10 +69,10 @@ value-spec =
     returns-3
     mul-at
     add-at
-    cast-put
+    high-word-requires
     put-requires
     add-put
-    cast-put-2
+    low-word-requires
     put-requires-2
     same-length
     returns-4)

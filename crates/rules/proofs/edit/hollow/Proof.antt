@@ -1,10 +1,10 @@
--- `hollow` of `rules::plan` meets its contract: the code is its mirror in specs/.
+-- `hollow` of `rules::edit` meets its contract: the code is its mirror in specs/.
 -- Assumes nothing.
-use Rattle.rules.specs.Planning.{hollowW}
+use Rattle.rules.specs.Editing.{hollowW}
 use Rattle.sock.proofs.Tests.{tests}
 use borrow.Author.Needs.{needs}
-use Rattle.rules.proofs.plan.hollow.Statement.{statement}
-use Rattle.rules.proofs.plan.hollow.Tie as tie
+use Rattle.rules.proofs.edit.hollow.Statement.{statement}
+use Rattle.rules.proofs.edit.hollow.Tie as tie
 
 put-requires : tie.Need-put-requires
 put-requires c κs = search needs

@@ -1,4 +1,4 @@
--- What a turn says of the process before and after; and the laws of assign, if and while.
+-- What a rewriting says of the process before and after; and the laws of assign, if and while.
 -- Assumes nothing.
 use Prim.Native.Nat.{ℕ, suc, _+_, _-_, _*_, _≤_, _<_}
 use native.Mathlib.Omega.{arith}
@@ -26,12 +26,13 @@ use Rattle.skipping.proofs.Skips.{code-end}
 use Rattle.evaluating.specs.Evaluating.{evaluated}
 use Rattle.evaluating.proofs.Evaluates.{evaluates}
 use Rattle.writers.proofs.Laid.{Near, Laid, laid-put, laid-then, laid-copy, copy-end}
-use Rattle.rules.specs.declared.turn.Turn.{Turn}
-use Rattle.rules.specs.Turning.{Turned, turned, vanishing, keeping, refused, at, partW, assignW, partEnd, branchW, levelsLeft, unrollW, repeatW}
+use Rattle.rules.specs.Storing.{takes, unchanged}
+use Rattle.rules.specs.declared.rewriting.Rewriting.{Rewriting}
+use Rattle.rules.specs.Rewriting.{Rewritten, rewritten, vanishing, keeping, refused, at, partW, assignW, partEnd, branchW, unrollW, repeatW}
 use Rattle.rules.proofs.Deep.{code-fits, head-nil}
 
 -- the words of q, which is not nil: fresh ones, then a part of r's own
-pub record Pieces (r q : Run) (t : Turn) (fresh : List ℕ) : Type 0 where
+pub record Pieces (r q : Run) (t : Rewriting) (fresh : List ℕ) : Type 0 where
   pub before : List ℕ
   pub kept : List ℕ
   pub behind : List ℕ
@@ -46,17 +47,17 @@ pub both-ways : (b : Bool) → b ≡ true → b ≡ false → ⊥
 both-ways b p q = let z : bit true ≡ bit false = ap bit (sym p ∙ q) in omega arith
 
 -- r turns into q
-pub record Becomes (r q : Run) (t : Turn) (fresh : List ℕ) : Type 0 where
+pub record Becomes (r q : Run) (t : Rewriting) (fresh : List ℕ) : Type 0 where
   pub accepted : t .number ≡ 0
   pub empty : t .nil ≡ isDone q
   pub pieces : isDone q ≡ false → Pieces r q t fresh
 
 -- r, `level` levels deep, turns into q and no value changes; or q would be too deep
-pub data Outcome (r : Run) (level : ℕ) (q : Run) (t : Turn) (fresh : List ℕ) : Type 0 where
+pub data Outcome (r : Run) (level : ℕ) (q : Run) (t : Rewriting) (fresh : List ℕ) : Type 0 where
   deepens : t .number ≡ 8 → t .nil ≡ false → isDone q ≡ false → 65 < level + runDepth q → Outcome r level q t fresh
-  becomes : Becomes r q t fresh → t .x ≡ 32 → level + runDepth q ≤ 65 → Outcome r level q t fresh
+  becomes : Becomes r q t fresh → t .store .variable ≡ 32 → level + runDepth q ≤ 65 → Outcome r level q t fresh
 
-pub becomes-nil : (r : Run) (x v : ℕ) (fresh : List ℕ) → Becomes r nil (vanishing x v) fresh
+pub becomes-nil : (r : Run) (x v : ℕ) (fresh : List ℕ) → Becomes r nil (vanishing (takes x v)) fresh
 unfolding isDone
 becomes-nil r x v fresh = record { accepted = refl; empty = refl; pieces = λ z. absurd (both-ways true refl z) }
 
@@ -90,13 +91,13 @@ module _ (ws rest : List ℕ) (r : Run) (p : Node) (f : Fits (code false) anywhe
 
   pub part-becomes :
       (from upto end : ℕ) → from ≡ length before → upto ≡ from + length (words p) → end ≡ upto + length behind →
-      Becomes r (enable p) (partW ws from upto end x v) fresh
+      Becomes r (enable p) (partW ws from upto end (takes x v)) fresh
   unfolding partW
   part-becomes from upto end a b c =
       let head : at ws from ≡ headWord p = head-on ws from p (behind ++ rest) (rw a part-stands) in
       by (isNil p) (ap (λ w. eqb w 0) head ∙ head-nil f) (enable-done f)
     where
-      by : (b : Bool) → eqb (at ws from) 0 ≡ b → isDone (enable p) ≡ b → Becomes r (enable p) (cond (eqb (at ws from) 0) (vanishing x v) (keeping 0 from upto end x v)) fresh
+      by : (b : Bool) → eqb (at ws from) 0 ≡ b → isDone (enable p) ≡ b → Becomes r (enable p) (cond (eqb (at ws from) 0) (vanishing (takes x v)) (keeping 0 from upto end (takes x v))) fresh
       by true q z = rw q (record { accepted = refl; empty = sym z; pieces = λ n. absurd (both-ways (isDone (enable p)) z n) })
       by false q z =
           rw q
@@ -116,14 +117,6 @@ module _ (ws rest : List ℕ) (r : Run) (p : Node) (f : Fits (code false) anywhe
                   room = omega arith;
                 };
           })
-
-levels-left : (level : ℕ) → levelsLeft level ≡ 64 - level
-unfolding levelsLeft
-levels-left level = by (ltb level 64) refl
-  where
-    by : (b : Bool) → ltb level 64 ≡ b → cond b (64 - level) 0 ≡ 64 - level
-    by true q = refl
-    by false q = let z : 64 ≤ level = ltb-false level 64 q in omega arith
 
 -- ---- assign, if, while, at the words of the process
 
@@ -150,11 +143,11 @@ module _ (n issued : ℕ) (ws : List ℕ) (ok : Words ws) (few : n ≤ 8) (small
     expr-head : at ws 0 ≡ h
     expr-head = ap (λ l. getD l 0 0) (stands ∙ ap (λ l. l ++ rest) expr-words)
 
-  pub assign-turns :
+  pub assign-rewrites :
       (h : ℕ) (e : Expr) → FitsExpr e → depth (node h [] (e ∷ []) absent noParts) ≤ 64 → ws ≡ words (node h [] (e ∷ []) absent noParts) ++ rest →
-      assignW ws (valuesWords vs) ≡ vanishing (variableOf h) (evaluate vs e)
+      assignW ws (valuesWords vs) ≡ vanishing (takes (variableOf h) (evaluate vs e))
   unfolding assignW
-  assign-turns h e g deep stands = rw (expr-value h e noParts g deep stands, expr-head h e noParts g deep stands)
+  assign-rewrites h e g deep stands = rw (expr-value h e noParts g deep stands, expr-head h e noParts g deep stands)
 
   -- code that stands at a position ends there
   ends-at : (i : ℕ) (m : Node) (more : List ℕ) → Fits (code false) anywhere m → depth m ≤ 64 → drop i ws ≡ words m ++ more → partEnd ws i ≡ i + length (words m)
@@ -191,17 +184,17 @@ module _ (n issued : ℕ) (ws : List ℕ) (ok : Words ws) (few : n ≤ 8) (small
         ends-at (length (h ∷ exprWords e) + length (words p)) q rest fq (omega arith)
         (rw (← long) (part-stands ws rest (act m) q fq ((h ∷ exprWords e) ++ words p) [] stands-act again 32 0 fresh))
 
-    pub branch-turns : Becomes (act m) (enable (cond (isTrue (evaluate vs e)) p q)) (branchW ws (valuesWords vs)) fresh
+    pub branch-rewrites : Becomes (act m) (enable (cond (isTrue (evaluate vs e)) p q)) (branchW ws (valuesWords vs)) fresh
     unfolding branchW isTrue
-    branch-turns =
+    branch-rewrites =
         rw (expr-value h e (p & q & noParts) g deep stands, first-ends, second-ends) (by (eqb (evaluate vs e) 0))
       where
         by :
             (b : Bool) →
             Becomes (act m) (enable (cond (not b) p q))
             (cond b
-            (partW ws (length (h ∷ exprWords e) + length (words p)) (length (h ∷ exprWords e) + length (words p) + length (words q)) (length (h ∷ exprWords e) + length (words p) + length (words q)) 32 0)
-            (partW ws (length (h ∷ exprWords e)) (length (h ∷ exprWords e) + length (words p)) (length (h ∷ exprWords e) + length (words p) + length (words q)) 32 0))
+            (partW ws (length (h ∷ exprWords e) + length (words p)) (length (h ∷ exprWords e) + length (words p) + length (words q)) (length (h ∷ exprWords e) + length (words p) + length (words q)) unchanged)
+            (partW ws (length (h ∷ exprWords e)) (length (h ∷ exprWords e) + length (words p)) (length (h ∷ exprWords e) + length (words p) + length (words q)) unchanged))
             fresh
         by true = part-becomes ws rest (act m) q fq ((h ∷ exprWords e) ++ words p) [] stands-act again 32 0 fresh _ _ _ (sym long) refl (omega arith)
         by false = part-becomes ws rest (act m) p fp (h ∷ exprWords e) (words q) stands-act two-words 32 0 fresh _ _ _ refl refl refl
@@ -242,7 +235,7 @@ module _ (n issued : ℕ) (ws : List ℕ) (ok : Words ws) (few : n ≤ 8) (small
     same-again = rw kind
 
     -- the same words again
-    itself : (made : List ℕ) (t : Turn) →
+    itself : (made : List ℕ) (t : Rewriting) →
         t .number ≡ 0 → t .nil ≡ false → t .from ≡ 0 → t .upto ≡ size (act w) → t .end ≡ size (act w) →
         t .fresh ≤ length made → (q : Run) → isDone q ≡ false → runWords q ≡ take (t .fresh) made ++ runWords (act w) →
         Becomes (act w) q t made
@@ -272,7 +265,7 @@ module _ (n issued : ℕ) (ws : List ℕ) (ok : Words ws) (few : n ≤ 8) (small
         (laid-copy ws (words p) rest (length (h ∷ exprWords e)) (length (h ∷ exprWords e) + length (words p)) (set fresh 0 4096) 1 body-stands
         (omega (arith, within)) refl (omega (arith, within, length-set fresh 0 4096)))
 
-    unrolled-count : unrollW ws (length (h ∷ exprWords e)) (length (h ∷ exprWords e) + length (words p)) fresh .turn .fresh ≡ suc (length (words p))
+    unrolled-count : unrollW ws (length (h ∷ exprWords e)) (length (h ∷ exprWords e) + length (words p)) fresh .rewriting .fresh ≡ suc (length (words p))
     unfolding unrollW
     unrolled-count =
         copy-end ws (words p) rest (length (h ∷ exprWords e)) (length (h ∷ exprWords e) + length (words p)) 1 (length fresh) body-stands
@@ -289,51 +282,51 @@ module _ (n issued : ℕ) (ws : List ℕ) (ok : Words ws) (few : n ≤ 8) (small
     made-of : {last new : List ℕ} {k : ℕ} → Laid fresh 0 new last → k ≡ length new → take k last ≡ new
     made-of {last} {new} l q = ap (λ i. take i last) (q ∙ (let z : length new ≡ 0 + length new = omega arith in z)) ∙ l .begins
 
-    abbrev Plain : Turn → Type 0
+    abbrev Plain : Rewriting → Type 0
     Plain t =
         (t .number ≡ 0) × (t .nil ≡ false) × (t .from ≡ 0) × (t .upto ≡ length (h ∷ exprWords e) + length (words p))
-        × (t .end ≡ length (h ∷ exprWords e) + length (words p)) × (t .x ≡ 32)
+        × (t .end ≡ length (h ∷ exprWords e) + length (words p)) × (t .store .variable ≡ 32)
 
-    unrolled-plain : Plain (unrollW ws (length (h ∷ exprWords e)) (length (h ∷ exprWords e) + length (words p)) fresh .turn)
+    unrolled-plain : Plain (unrollW ws (length (h ∷ exprWords e)) (length (h ∷ exprWords e) + length (words p)) fresh .rewriting)
     unfolding unrollW
     unrolled-plain = (refl, refl, refl, refl, refl, refl)
 
     -- if there are levels left for it
-    unrolled-turns :
-        (b : Bool) → leb (depth w) (levelsLeft level) ≡ b → level ≤ 64 →
-        (let u = cond (eqb (cond b (length (words w)) 0) 0) (turned (refused 8) fresh)
+    unrolled-rewrites :
+        (b : Bool) → leb (depth w) (64 - level) ≡ b → level ≤ 64 →
+        (let u = cond (eqb (cond b (length (words w)) 0) 0) (rewritten (refused 8) fresh)
         (unrollW ws (length (h ∷ exprWords e)) (length (h ∷ exprWords e) + length (words p)) fresh) in
-        Outcome (act w) level (seq (enable p) w) (u .turn) (u .fresh))
+        Outcome (act w) level (seq (enable p) w) (u .rewriting) (u .fresh))
     unfolding isDone size
-    unrolled-turns false q low =
-        deepens refl refl refl (omega (arith, twice-deep, leb-false (depth w) (levelsLeft level) q, levels-left level))
-    unrolled-turns true q low =
+    unrolled-rewrites false q low =
+        deepens refl refl refl (omega (arith, twice-deep, leb-false (depth w) (64 - level) q))
+    unrolled-rewrites true q low =
         rw (ne-eqb (length (words w)) 0 (λ z. omega (arith, whole-length, ap length (words-act w))))
         (becomes
         (itself _ _ (unrolled-plain .0) (unrolled-plain .1) (unrolled-plain .2) (unrolled-plain .3 ∙ sym whole-length) (unrolled-plain .4 ∙ sym whole-length)
         (omega (arith, unrolled-count, unrolled .keeps, within)) (seq (enable p) w) refl (twice ∙ ap (λ l. l ++ runWords (act w)) (sym (made-of unrolled unrolled-count))))
         (unrolled-plain .5)
-        (omega (arith, twice-deep, leb-true (depth w) (levelsLeft level) q, levels-left level)))
+        (omega (arith, twice-deep, leb-true (depth w) (64 - level) q)))
 
     -- the rule: false, nothing is left; true, the body and the while again, where the body is not nil
-    pub repeat-turns :
+    pub repeat-rewrites :
         level + depth w ≤ 65 → level ≤ 64 →
         (let u = repeatW level bound ws (valuesWords vs) fresh in
-        Outcome (act w) level (cond (isTrue (evaluate vs e)) (seqOf (enable p) w) nil) (u .turn) (u .fresh))
+        Outcome (act w) level (cond (isTrue (evaluate vs e)) (seqOf (enable p) w) nil) (u .rewriting) (u .fresh))
     unfolding repeatW isTrue seqOf isDone size depth
-    repeat-turns low few-levels =
-        rw (expr-value h e (p & noParts) g deep stands, body-ends, body-head, code-fits ws ok n issued small fm (levelsLeft level) 0 rest stands, enable-done fp)
+    repeat-rewrites low few-levels =
+        rw (expr-value h e (p & noParts) g deep stands, body-ends, body-head, code-fits ws ok n issued small fm (64 - level) 0 rest stands, enable-done fp)
         (by (eqb (evaluate vs e) 0) (isNil p))
       where
         by :
             (a b : Bool) →
             (let end : ℕ = length (h ∷ exprWords e) + length (words p) in
-            let u : Turned =
-            cond a (turned (vanishing 32 0) fresh)
-            (cond b (turned (keeping 0 0 end end 32 0) fresh)
-            (cond (eqb (cond (leb (depth w) (levelsLeft level)) (0 + length (words w)) 0) 0) (turned (refused 8) fresh)
+            let u : Rewritten =
+            cond a (rewritten (vanishing unchanged) fresh)
+            (cond b (rewritten (keeping 0 0 end end unchanged) fresh)
+            (cond (eqb (cond (leb (depth w) (64 - level)) (0 + length (words w)) 0) 0) (rewritten (refused 8) fresh)
             (unrollW ws (length (h ∷ exprWords e)) end fresh))) in
-            Outcome (act w) level (cond (not a) (cond b (enable w) (seq (enable p) w)) nil) (u .turn) (u .fresh))
+            Outcome (act w) level (cond (not a) (cond b (enable w) (seq (enable p) w)) nil) (u .rewriting) (u .fresh))
         by true b = becomes (becomes-nil (act w) 32 0 fresh) refl (omega (arith, depth-nil))
         by false true =
             rw same-again
@@ -343,4 +336,4 @@ module _ (n issued : ℕ) (ws : List ℕ) (ok : Words ws) (few : n ≤ 8) (small
             (omega (arith, depth-act w)))
         by false false =
             let z : 0 + length (words w) ≡ length (words w) = omega arith in
-            rw z (unrolled-turns (leb (depth w) (levelsLeft level)) refl few-levels)
+            rw z (unrolled-rewrites (leb (depth w) (64 - level)) refl few-levels)

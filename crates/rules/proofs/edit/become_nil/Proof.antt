@@ -1,10 +1,10 @@
--- `become_nil` of `rules::plan` meets its contract: the code is its mirror in specs/.
+-- `become_nil` of `rules::edit` meets its contract: the code is its mirror in specs/.
 -- Assumes nothing.
-use Rattle.rules.specs.Planning.{nilW}
+use Rattle.rules.specs.Editing.{nilW}
 use Rattle.sock.proofs.Tests.{tests}
 use borrow.Author.Needs.{needs}
-use Rattle.rules.proofs.plan.become_nil.Statement.{statement}
-use Rattle.rules.proofs.plan.become_nil.Tie as tie
+use Rattle.rules.proofs.edit.become_nil.Statement.{statement}
+use Rattle.rules.proofs.edit.become_nil.Tie as tie
 
 hollow-requires : tie.Need-hollow-requires
 hollow-requires c κs = search needs

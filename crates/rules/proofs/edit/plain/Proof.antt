@@ -1,10 +1,10 @@
--- `plain` of `rules::plan` meets its contract: the code is its mirror in specs/.
+-- `plain` of `rules::edit` meets its contract: the code is its mirror in specs/.
 -- Assumes nothing.
-use Rattle.rules.specs.Planning.{plainW}
+use Rattle.rules.specs.Editing.{plainW}
 use Rattle.sock.proofs.Tests.{tests}
 use borrow.Author.Needs.{needs}
-use Rattle.rules.proofs.plan.plain.Statement.{statement}
-use Rattle.rules.proofs.plan.plain.Tie as tie
+use Rattle.rules.proofs.edit.plain.Statement.{statement}
+use Rattle.rules.proofs.edit.plain.Tie as tie
 
 become-nil-requires : tie.Need-become-nil-requires
 become-nil-requires c κs = search needs

@@ -1,4 +1,4 @@
--- What a plan says of an engine's process: its words afterwards, in pieces of the words before and fresh ones.
+-- What an edit says of an engine's process: its words afterwards, in pieces of the words before and fresh ones.
 -- Assumes nothing.
 use Prim.Native.Nat.{ℕ, zero, suc, _+_, _-_, _≤_, _<_}
 use native.Mathlib.Omega.{arith}
@@ -10,40 +10,41 @@ use lib.Seq.{take-at, take-add, drop-at, drop-drop, length-take-le, take-suc-set
 use Rattle.sock.specs.Running.{Run, nil, seq, par, scope, executor, waiter, notice, act, runWords, size}
 use Rattle.sock.specs.Frames.{Located, isDone, plug}
 use Rattle.sock.proofs.Located.{size-positive}
-use Rattle.finding.specs.declared.find.Spot.{Spot}
+use Rattle.finding.specs.declared.find.Site.{Site}
 use Rattle.finding.proofs.Framing.{region}
 use Rattle.finding.proofs.Pieces.{hole, Swap}
 use Rattle.finding.proofs.Spots.{Spotted}
 use Rattle.finding.proofs.Edits.{part, edited, nil-plain, swap-plain, cut-order}
 use Rattle.layout.specs.Positions.{onward}
 use Rattle.writers.proofs.Laid.{Near, onward-near}
-use Rattle.rules.specs.declared.turn.Turn.{Turn}
-use Rattle.rules.specs.declared.plan.Plan.{Plan}
-use Rattle.rules.specs.Planning.{hollowW, nilW, plainW}
-use Rattle.rules.proofs.Turns.{Pieces, Becomes, both-ways}
+use Rattle.rules.specs.Storing.{takes}
+use Rattle.rules.specs.declared.rewriting.Rewriting.{Rewriting}
+use Rattle.rules.specs.declared.edit.Edit.{Edit}
+use Rattle.rules.specs.Editing.{hollowW, nilW, plainW}
+use Rattle.rules.proofs.Rewrites.{Pieces, Becomes, both-ways}
 
--- a plan's words for the process start..end
-abbrev pub laidOut : List ℕ → ℕ → ℕ → Plan → List ℕ → List ℕ
+-- an edit's words for the process start..end
+abbrev pub laidOut : List ℕ → ℕ → ℕ → Edit → List ℕ → List ℕ
 laidOut ws start end p fresh =
-    part start (p .l) ws
-    ++ (take (p .f) fresh
-    ++ (part (p .m) (p .a) ws ++ (part (p .f) (p .g) fresh ++ (part (p .b) (p .c) ws ++ part (p .d) end ws))))
+    part start (p .list) ws
+    ++ (take (p .listed) fresh
+    ++ (part (p .past) (p .from) ws ++ (part (p .listed) (p .fresh) fresh ++ (part (p .upto) (p .gap) ws ++ part (p .end) end ws))))
 
-pub record Ordered (start end : ℕ) (p : Plan) : Type 0 where
-  pub l-in : start ≤ p .l
-  pub m-in : p .l ≤ p .m
-  pub a-in : p .m ≤ p .a
-  pub b-in : p .a ≤ p .b
-  pub c-in : p .b ≤ p .c
-  pub d-in : p .c ≤ p .d
-  pub end-in : p .d ≤ end
-  pub fresh-in : p .f ≤ p .g
+pub record Ordered (start end : ℕ) (p : Edit) : Type 0 where
+  pub l-in : start ≤ p .list
+  pub m-in : p .list ≤ p .past
+  pub a-in : p .past ≤ p .from
+  pub b-in : p .from ≤ p .upto
+  pub c-in : p .upto ≤ p .gap
+  pub d-in : p .gap ≤ p .end
+  pub end-in : p .end ≤ end
+  pub fresh-in : p .listed ≤ p .fresh
 
 -- the process start..end becomes q, whose words are known if the fresh ones are not too many for any result
-pub record Plans (ws : List ℕ) (start end : ℕ) (p : Plan) (fresh : List ℕ) (q : Run) : Type 0 where
+pub record Edits (ws : List ℕ) (start end : ℕ) (p : Edit) (fresh : List ℕ) (q : Run) : Type 0 where
   pub order : Ordered start end p
-  pub sized : size q + ((p .m - p .l) + ((p .b - p .a) + (p .d - p .c))) ≡ (end - start) + p .g
-  pub words : p .g ≤ 8192 → laidOut ws start end p fresh ≡ runWords q
+  pub sized : size q + ((p .past - p .list) + ((p .upto - p .from) + (p .end - p .gap))) ≡ (end - start) + p .fresh
+  pub words : p .fresh ≤ 8192 → laidOut ws start end p fresh ≡ runWords q
 
 -- ---- from an edit of all the words
 
@@ -75,40 +76,40 @@ cancel-behind x y z e =
 in-front : (s a b c d e f g : List ℕ) → (s ++ a) ++ (b ++ (c ++ (d ++ (e ++ (f ++ g))))) ≡ s ++ ((a ++ (b ++ (c ++ (d ++ (e ++ f))))) ++ g)
 in-front s a b c d e f g = simp append-assoc
 
-module _ (ws : List ℕ) (start end : ℕ) (p : Plan) (fresh : List ℕ) (o : Ordered start end p) (inside : end ≤ length ws) where
+module _ (ws : List ℕ) (start end : ℕ) (p : Edit) (fresh : List ℕ) (o : Ordered start end p) (inside : end ≤ length ws) where
   pub edited-inside :
-      edited ws (p .l) (p .m) (take (p .f) fresh) (p .a) (p .b) (part (p .f) (p .g) fresh) (p .c) (p .d)
+      edited ws (p .list) (p .past) (take (p .listed) fresh) (p .from) (p .upto) (part (p .listed) (p .fresh) fresh) (p .gap) (p .end)
       ≡ take start ws ++ (laidOut ws start end p fresh ++ drop end ws)
   unfolding edited
   edited-inside =
-      ap₂ (λ (x y : List ℕ). x ++ (take (p .f) fresh ++ (part (p .m) (p .a) ws ++ (part (p .f) (p .g) fresh ++ (part (p .b) (p .c) ws ++ y)))))
-      (take-part start (p .l) ws (o .l-in)) (part-drop (p .d) end ws (o .end-in))
-      ∙ in-front (take start ws) (part start (p .l) ws) (take (p .f) fresh) (part (p .m) (p .a) ws) (part (p .f) (p .g) fresh) (part (p .b) (p .c) ws)
-      (part (p .d) end ws) (drop end ws)
+      ap₂ (λ (x y : List ℕ). x ++ (take (p .listed) fresh ++ (part (p .past) (p .from) ws ++ (part (p .listed) (p .fresh) fresh ++ (part (p .upto) (p .gap) ws ++ y)))))
+      (take-part start (p .list) ws (o .l-in)) (part-drop (p .end) end ws (o .end-in))
+      ∙ in-front (take start ws) (part start (p .list) ws) (take (p .listed) fresh) (part (p .past) (p .from) ws) (part (p .listed) (p .fresh) fresh) (part (p .upto) (p .gap) ws)
+      (part (p .end) end ws) (drop end ws)
 
   pub edited-words :
       (q : Run) →
-      edited ws (p .l) (p .m) (take (p .f) fresh) (p .a) (p .b) (part (p .f) (p .g) fresh) (p .c) (p .d) ≡ take start ws ++ (runWords q ++ drop end ws) →
+      edited ws (p .list) (p .past) (take (p .listed) fresh) (p .from) (p .upto) (part (p .listed) (p .fresh) fresh) (p .gap) (p .end) ≡ take start ws ++ (runWords q ++ drop end ws) →
       laidOut ws start end p fresh ≡ runWords q
   edited-words q e = cancel-behind _ _ (drop end ws) (cancel-front (take start ws) _ _ (sym edited-inside ∙ e))
 
-  pub laid-length : p .g ≤ length fresh → length (laidOut ws start end p fresh) + ((p .m - p .l) + ((p .b - p .a) + (p .d - p .c))) ≡ (end - start) + p .g
+  pub laid-length : p .fresh ≤ length fresh → length (laidOut ws start end p fresh) + ((p .past - p .list) + ((p .upto - p .from) + (p .end - p .gap))) ≡ (end - start) + p .fresh
   laid-length room =
-      let x1 = part-length start (p .l) ws (o .l-in) (omega (arith, o .m-in, o .a-in, o .b-in, o .c-in, o .d-in, o .end-in)) in
-      let x2 = length-take-le (p .f) fresh (omega (arith, o .fresh-in)) in
-      let x3 = part-length (p .m) (p .a) ws (o .a-in) (omega (arith, o .b-in, o .c-in, o .d-in, o .end-in)) in
-      let x4 = part-length (p .f) (p .g) fresh (o .fresh-in) room in
-      let x5 = part-length (p .b) (p .c) ws (o .c-in) (omega (arith, o .d-in, o .end-in)) in
-      let x6 = part-length (p .d) end ws (o .end-in) inside in
-      let y5 = length-append (part (p .b) (p .c) ws) (part (p .d) end ws) in
-      let y4 = length-append (part (p .f) (p .g) fresh) (part (p .b) (p .c) ws ++ part (p .d) end ws) in
-      let y3 = length-append (part (p .m) (p .a) ws) (part (p .f) (p .g) fresh ++ (part (p .b) (p .c) ws ++ part (p .d) end ws)) in
-      let y2 = length-append (take (p .f) fresh) (part (p .m) (p .a) ws ++ (part (p .f) (p .g) fresh ++ (part (p .b) (p .c) ws ++ part (p .d) end ws))) in
-      let y1 = length-append (part start (p .l) ws)
-      (take (p .f) fresh ++ (part (p .m) (p .a) ws ++ (part (p .f) (p .g) fresh ++ (part (p .b) (p .c) ws ++ part (p .d) end ws)))) in
-      sums start (p .l) (p .m) (p .f) (p .a) (p .b) (p .g) (p .c) (p .d) end _ _ _ _ _ _ _ _ _
-      (gap start (p .l) (o .l-in)) (gap (p .l) (p .m) (o .m-in)) (gap (p .m) (p .a) (o .a-in)) (gap (p .a) (p .b) (o .b-in)) (gap (p .b) (p .c) (o .c-in))
-      (gap (p .c) (p .d) (o .d-in)) (gap (p .d) end (o .end-in)) (gap (p .f) (p .g) (o .fresh-in))
+      let x1 = part-length start (p .list) ws (o .l-in) (omega (arith, o .m-in, o .a-in, o .b-in, o .c-in, o .d-in, o .end-in)) in
+      let x2 = length-take-le (p .listed) fresh (omega (arith, o .fresh-in)) in
+      let x3 = part-length (p .past) (p .from) ws (o .a-in) (omega (arith, o .b-in, o .c-in, o .d-in, o .end-in)) in
+      let x4 = part-length (p .listed) (p .fresh) fresh (o .fresh-in) room in
+      let x5 = part-length (p .upto) (p .gap) ws (o .c-in) (omega (arith, o .d-in, o .end-in)) in
+      let x6 = part-length (p .end) end ws (o .end-in) inside in
+      let y5 = length-append (part (p .upto) (p .gap) ws) (part (p .end) end ws) in
+      let y4 = length-append (part (p .listed) (p .fresh) fresh) (part (p .upto) (p .gap) ws ++ part (p .end) end ws) in
+      let y3 = length-append (part (p .past) (p .from) ws) (part (p .listed) (p .fresh) fresh ++ (part (p .upto) (p .gap) ws ++ part (p .end) end ws)) in
+      let y2 = length-append (take (p .listed) fresh) (part (p .past) (p .from) ws ++ (part (p .listed) (p .fresh) fresh ++ (part (p .upto) (p .gap) ws ++ part (p .end) end ws))) in
+      let y1 = length-append (part start (p .list) ws)
+      (take (p .listed) fresh ++ (part (p .past) (p .from) ws ++ (part (p .listed) (p .fresh) fresh ++ (part (p .upto) (p .gap) ws ++ part (p .end) end ws)))) in
+      sums start (p .list) (p .past) (p .listed) (p .from) (p .upto) (p .fresh) (p .gap) (p .end) end _ _ _ _ _ _ _ _ _
+      (gap start (p .list) (o .l-in)) (gap (p .list) (p .past) (o .m-in)) (gap (p .past) (p .from) (o .a-in)) (gap (p .from) (p .upto) (o .b-in)) (gap (p .upto) (p .gap) (o .c-in))
+      (gap (p .gap) (p .end) (o .d-in)) (gap (p .end) end (o .end-in)) (gap (p .listed) (p .fresh) (o .fresh-in))
       (y1 ∙ rw (x1, y2, x2, y3, x3, y4, x4, y5, x5, x6))
     where
       gap : (a b : ℕ) → a ≤ b → b ≡ a + (b - a)
@@ -121,12 +122,12 @@ module _ (ws : List ℕ) (start end : ℕ) (p : Plan) (fresh : List ℕ) (o : Or
       sums s l m f a b g c d e n x1 y1 x2 y2 x3 y3 x4 x5 h1 h2 h3 h4 h5 h6 h7 h8 q = omega arith
 
   -- where the fresh words have room
-  pub plans-of :
-      (q : Run) → p .g ≤ length fresh →
-      edited ws (p .l) (p .m) (take (p .f) fresh) (p .a) (p .b) (part (p .f) (p .g) fresh) (p .c) (p .d) ≡ take start ws ++ (runWords q ++ drop end ws) →
-      Plans ws start end p fresh q
+  pub edits-of :
+      (q : Run) → p .fresh ≤ length fresh →
+      edited ws (p .list) (p .past) (take (p .listed) fresh) (p .from) (p .upto) (part (p .listed) (p .fresh) fresh) (p .gap) (p .end) ≡ take start ws ++ (runWords q ++ drop end ws) →
+      Edits ws start end p fresh q
   unfolding size
-  plans-of q room e =
+  edits-of q room e =
       let w = edited-words q e in
       record { order = o; sized = rw w at (laid-length room); words = λ h. w }
 
@@ -136,30 +137,30 @@ take-most zero l = omega arith
 take-most (suc n) [] = omega arith
 take-most (suc n) (x ∷ l) = let h = take-most n l in omega arith
 
-module _ (ws : List ℕ) (start end : ℕ) (p : Plan) (fresh : List ℕ) (q : Run) (plans : Plans ws start end p fresh q) (inside : end ≤ length ws) (few : p .g ≤ 8192) where
+module _ (ws : List ℕ) (start end : ℕ) (p : Edit) (fresh : List ℕ) (q : Run) (edits : Edits ws start end p fresh q) (inside : end ≤ length ws) (few : p .fresh ≤ 8192) where
   o : Ordered start end p
-  o = plans .order
+  o = edits .order
 
-  pub fresh-room : p .g ≤ length fresh
+  pub fresh-room : p .fresh ≤ length fresh
   unfolding size
   fresh-room =
-      let x1 = part-length start (p .l) ws (o .l-in) (omega (arith, o .m-in, o .a-in, o .b-in, o .c-in, o .d-in, o .end-in)) in
-      let x3 = part-length (p .m) (p .a) ws (o .a-in) (omega (arith, o .b-in, o .c-in, o .d-in, o .end-in)) in
-      let x5 = part-length (p .b) (p .c) ws (o .c-in) (omega (arith, o .d-in, o .end-in)) in
-      let x6 = part-length (p .d) end ws (o .end-in) inside in
-      let y5 = length-append (part (p .b) (p .c) ws) (part (p .d) end ws) in
-      let y4 = length-append (part (p .f) (p .g) fresh) (part (p .b) (p .c) ws ++ part (p .d) end ws) in
-      let y3 = length-append (part (p .m) (p .a) ws) (part (p .f) (p .g) fresh ++ (part (p .b) (p .c) ws ++ part (p .d) end ws)) in
-      let y2 = length-append (take (p .f) fresh) (part (p .m) (p .a) ws ++ (part (p .f) (p .g) fresh ++ (part (p .b) (p .c) ws ++ part (p .d) end ws))) in
-      let y1 = length-append (part start (p .l) ws)
-      (take (p .f) fresh ++ (part (p .m) (p .a) ws ++ (part (p .f) (p .g) fresh ++ (part (p .b) (p .c) ws ++ part (p .d) end ws)))) in
-      let both : take (p .g) fresh ≡ take (p .f) fresh ++ part (p .f) (p .g) fresh = take-part (p .f) (p .g) fresh (o .fresh-in) in
-      let z = ap length both ∙ length-append (take (p .f) fresh) (part (p .f) (p .g) fresh) in
-      let w = ap length (plans .words few) in
-      sums start (p .l) (p .m) (p .a) (p .b) (p .g) (p .c) (p .d) end _ _ _ _ _ _ _ _ _ _ _ _
-      (gap start (p .l) (o .l-in)) (gap (p .l) (p .m) (o .m-in)) (gap (p .m) (p .a) (o .a-in)) (gap (p .a) (p .b) (o .b-in)) (gap (p .b) (p .c) (o .c-in))
-      (gap (p .c) (p .d) (o .d-in)) (gap (p .d) end (o .end-in))
-      (sym w ∙ (y1 ∙ rw (x1, y2, y3, x3, y4, y5, x5, x6))) (plans .sized) z (take-most (p .g) fresh)
+      let x1 = part-length start (p .list) ws (o .l-in) (omega (arith, o .m-in, o .a-in, o .b-in, o .c-in, o .d-in, o .end-in)) in
+      let x3 = part-length (p .past) (p .from) ws (o .a-in) (omega (arith, o .b-in, o .c-in, o .d-in, o .end-in)) in
+      let x5 = part-length (p .upto) (p .gap) ws (o .c-in) (omega (arith, o .d-in, o .end-in)) in
+      let x6 = part-length (p .end) end ws (o .end-in) inside in
+      let y5 = length-append (part (p .upto) (p .gap) ws) (part (p .end) end ws) in
+      let y4 = length-append (part (p .listed) (p .fresh) fresh) (part (p .upto) (p .gap) ws ++ part (p .end) end ws) in
+      let y3 = length-append (part (p .past) (p .from) ws) (part (p .listed) (p .fresh) fresh ++ (part (p .upto) (p .gap) ws ++ part (p .end) end ws)) in
+      let y2 = length-append (take (p .listed) fresh) (part (p .past) (p .from) ws ++ (part (p .listed) (p .fresh) fresh ++ (part (p .upto) (p .gap) ws ++ part (p .end) end ws))) in
+      let y1 = length-append (part start (p .list) ws)
+      (take (p .listed) fresh ++ (part (p .past) (p .from) ws ++ (part (p .listed) (p .fresh) fresh ++ (part (p .upto) (p .gap) ws ++ part (p .end) end ws)))) in
+      let both : take (p .fresh) fresh ≡ take (p .listed) fresh ++ part (p .listed) (p .fresh) fresh = take-part (p .listed) (p .fresh) fresh (o .fresh-in) in
+      let z = ap length both ∙ length-append (take (p .listed) fresh) (part (p .listed) (p .fresh) fresh) in
+      let w = ap length (edits .words few) in
+      sums start (p .list) (p .past) (p .from) (p .upto) (p .fresh) (p .gap) (p .end) end _ _ _ _ _ _ _ _ _ _ _ _
+      (gap start (p .list) (o .l-in)) (gap (p .list) (p .past) (o .m-in)) (gap (p .past) (p .from) (o .a-in)) (gap (p .from) (p .upto) (o .b-in)) (gap (p .upto) (p .gap) (o .c-in))
+      (gap (p .gap) (p .end) (o .d-in)) (gap (p .end) end (o .end-in))
+      (sym w ∙ (y1 ∙ rw (x1, y2, y3, x3, y4, y5, x5, x6))) (edits .sized) z (take-most (p .fresh) fresh)
     where
       gap : (a b : ℕ) → a ≤ b → b ≡ a + (b - a)
       gap a b h = omega arith
@@ -202,22 +203,22 @@ hollow-part false f fresh h near =
     let none : f - f ≡ 0 = omega arith in
     (rw none, refl, (omega arith, omega arith), refl)
 
-module _ (f target : ℕ) (r : Run) (start level : ℕ) (l : Located) (s : Spot) (ws : List ℕ) (words : drop start ws ≡ runWords r ++ drop (start + size r) ws)
+module _ (f target : ℕ) (r : Run) (start level : ℕ) (l : Located) (s : Site) (ws : List ℕ) (words : drop start ws ≡ runWords r ++ drop (start + size r) ws)
     (spotted : Spotted f target r start level l s) (near : Near (length ws)) where
   inside : start + size r ≤ length ws
   unfolding size
   inside = omega (arith, size-positive r, sym (length-drop start ws) ∙ ap length words, length-append (runWords r) (drop (start + length (runWords r)) ws))
 
   -- nil in its place
-  pub nil-plans :
+  pub nil-edits :
       (x v : ℕ) (fresh : List ℕ) → 0 < length fresh → Near (length fresh) →
-      (let u = nilW s start start 0 x v fresh in
-      Plans ws start (start + size r) (u .plan) (u .fresh) (plug (l .frames) nil))
+      (let u = nilW s start start 0 (takes x v) fresh in
+      Edits ws start (start + size r) (u .edit) (u .fresh) (plug (l .frames) nil))
   unfolding nilW
-  nil-plans x v fresh room big =
+  nil-edits x v fresh room big =
       let w = hollow-part (s .hollow) 0 fresh room big in
       let c = cut-order f target r start level l s ws (drop (start + size r) ws) words spotted in
-      let o : Ordered start (start + size r) (nilW s start start 0 x v fresh .plan) =
+      let o : Ordered start (start + size r) (nilW s start start 0 (takes x v) fresh .edit) =
       record {
         l-in = omega arith;
         m-in = omega arith;
@@ -228,13 +229,13 @@ module _ (f target : ℕ) (r : Run) (start level : ℕ) (l : Located) (s : Spot)
         end-in = c .4;
         fresh-in = omega arith;
       } in
-      plans-of ws start (start + size r) (nilW s start start 0 x v fresh .plan) (hollowW (s .hollow) 0 fresh .fresh) o inside (plug (l .frames) nil)
+      edits-of ws start (start + size r) (nilW s start start 0 (takes x v) fresh .edit) (hollowW (s .hollow) 0 fresh .fresh) o inside (plug (l .frames) nil)
       (omega (arith, w .2 .1, w .3))
-      (ap (λ k. edited ws start start [] (s .a) (s .b) k (s .c) (s .d)) (w .0)
+      (ap (λ k. edited ws start start [] (s .from) (s .upto) k (s .gap) (s .end)) (w .0)
       ∙ nil-plain f target r start level l s ws (drop (start + size r) ws) words spotted)
 
   -- another in its place
-  module _ (q : Run) (t : Turn) (fresh : List ℕ) (lives : isDone q ≡ false) (p : Pieces (l .process) q t fresh) where
+  module _ (q : Run) (t : Rewriting) (fresh : List ℕ) (lives : isDone q ≡ false) (p : Pieces (l .process) q t fresh) where
     standing : (start ≤ target) × (target + size (l .process) ≤ start + size r)
     unfolding size
     standing =
@@ -268,18 +269,18 @@ module _ (f target : ℕ) (r : Run) (start level : ℕ) (l : Located) (s : Spot)
     further-on n h =
         onward-near (s .at) n (length ws) near (omega (arith, spotted .at, standing .1, process-size, inside)) ∙ ap (λ k. k + n) (spotted .at)
 
-    pub swap-plans :
+    pub swap-edits :
         t .nil ≡ false →
         (let u = plainW s start t fresh in
-        Plans ws start (start + size r) (u .plan) (u .fresh) (plug (l .frames) q))
+        Edits ws start (start + size r) (u .edit) (u .fresh) (plug (l .frames) q))
     unfolding plainW
-    swap-plans z =
+    swap-edits z =
         let a = further-on (t .from) (omega (arith, p .upto, p .ends)) in
         let b = further-on (t .upto) (omega (arith, p .ends)) in
         let c = further-on (t .end) (omega arith) in
         let room = p .room in
         rw (z, a, b, c, spotted .at)
-        (plans-of ws start (start + size r) _ fresh
+        (edits-of ws start (start + size r) _ fresh
         (record {
           l-in = omega arith;
           m-in = omega arith;
@@ -297,16 +298,16 @@ module _ (f target : ℕ) (r : Run) (start level : ℕ) (l : Located) (s : Spot)
         (omega (arith, p .from)) (omega (arith, p .upto)) (omega (arith, p .ends))))
 
   -- what becomes of it, whatever that is
-  pub plain-plans :
-      (q : Run) (t : Turn) (fresh : List ℕ) → 0 < length fresh → Near (length fresh) → Becomes (l .process) q t fresh →
+  pub plain-edits :
+      (q : Run) (t : Rewriting) (fresh : List ℕ) → 0 < length fresh → Near (length fresh) → Becomes (l .process) q t fresh →
       (let u = plainW s start t fresh in
-      Plans ws start (start + size r) (u .plan) (u .fresh) (plug (l .frames) q) × (u .plan .number ≡ 0) × (u .plan .x ≡ t .x) × (u .plan .v ≡ t .v))
+      Edits ws start (start + size r) (u .edit) (u .fresh) (plug (l .frames) q) × (u .edit .number ≡ 0) × (u .edit .store .variable ≡ t .store .variable) × (u .edit .store .value ≡ t .store .value))
   unfolding plainW nilW
-  plain-plans q t fresh some big b = by (isDone q) refl
+  plain-edits q t fresh some big b = by (isDone q) refl
     where
       by :
           (d : Bool) → isDone q ≡ d →
           (let u = plainW s start t fresh in
-          Plans ws start (start + size r) (u .plan) (u .fresh) (plug (l .frames) q) × (u .plan .number ≡ 0) × (u .plan .x ≡ t .x) × (u .plan .v ≡ t .v))
-      by true e = rw (b .empty ∙ e, done-nil q e) (nil-plans (t .x) (t .v) fresh some big, refl, refl, refl)
-      by false e = (swap-plans q t fresh e (b .pieces e) (b .empty ∙ e), rw (b .empty ∙ e) (b .accepted), rw (b .empty ∙ e) refl, rw (b .empty ∙ e) refl)
+          Edits ws start (start + size r) (u .edit) (u .fresh) (plug (l .frames) q) × (u .edit .number ≡ 0) × (u .edit .store .variable ≡ t .store .variable) × (u .edit .store .value ≡ t .store .value))
+      by true e = rw (b .empty ∙ e, done-nil q e) (nil-edits (t .store .variable) (t .store .value) fresh some big, refl, refl, refl)
+      by false e = (swap-edits q t fresh e (b .pieces e) (b .empty ∙ e), rw (b .empty ∙ e) (b .accepted), rw (b .empty ∙ e) refl, rw (b .empty ∙ e) refl)

@@ -1,10 +1,10 @@
--- `to_part` of `rules::turn` meets its contract: the code is its mirror in specs/.
+-- `to_part` of `rules::rewriting` meets its contract: the code is its mirror in specs/.
 -- Assumes nothing.
-use Rattle.rules.specs.Turning.{partW}
+use Rattle.rules.specs.Rewriting.{partW}
 use Rattle.sock.proofs.Tests.{tests}
 use borrow.Author.Needs.{needs}
-use Rattle.rules.proofs.turn.to_part.Statement.{statement}
-use Rattle.rules.proofs.turn.to_part.Tie as tie
+use Rattle.rules.proofs.rewriting.to_part.Statement.{statement}
+use Rattle.rules.proofs.rewriting.to_part.Tie as tie
 
 word-requires : tie.Need-word-requires
 word-requires c κs = search needs
