@@ -1,10 +1,11 @@
 -- Evaluation on words, as the code goes. The proofs show that it is the definitions' evaluation; no contract of a call names it.
-use Prim.Native.Nat.{ℕ, zero, suc, _+_, _-_, _*_, _/_, _%_}
+use Prim.Native.Nat.{ℕ, zero, suc, _+_, _-_, _*_, _%_}
 use mathlib.Core.Bool.{cond}
 use mathlib.Core.List.{List}
 use lib.Dec.{ltb, eqb}
 use lib.ListN.{length, getD}
-use Rattle.sock.specs.Words.{bit, valueOf}
+use Rattle.sock.specs.Words.{tagOf, readVariable, valueOf, bit}
+use Rattle.layout.specs.Tags
 use Rattle.evaluating.specs.declared.evaluate.Evaluated.{Evaluated}
 
 abbrev at : List ℕ → ℕ → ℕ
@@ -16,9 +17,9 @@ valueIn vs x = valueOf (at vs (x * 2)) (at vs (x * 2 + 1))
 
 unfoldable pub operated : ℕ → ℕ → ℕ → ℕ
 operated tag a b =
-    cond (eqb tag 2) ((a + b) % 4294967296)
-    (cond (eqb tag 3) ((a + 4294967296 - b) % 4294967296)
-    (cond (eqb tag 4) (bit (ltb a b)) (bit (eqb a b))))
+    cond (eqb tag Tags.sum) ((a + b) % 4294967296)
+    (cond (eqb tag Tags.difference) ((a + 4294967296 - b) % 4294967296)
+    (cond (eqb tag Tags.less) (bit (ltb a b)) (bit (eqb a b))))
 
 abbrev nowhere : Evaluated
 nowhere = record { end = 0; value = 0 }
@@ -32,8 +33,8 @@ both sub tag i =
 
 unfoldable pub evaluatedAt : (ℕ → Evaluated) → List ℕ → List ℕ → ℕ → ℕ → Evaluated
 evaluatedAt sub ws vs i w =
-    cond (eqb (w / 8192) 0) (constantAt ws i)
-    (cond (eqb (w / 8192) 1) (record { end = i + 1; value = valueIn vs (w / 256 % 32) }) (both sub (w / 8192) (i + 1)))
+    cond (eqb (tagOf w) Tags.constant) (constantAt ws i)
+    (cond (eqb (tagOf w) Tags.variable) (record { end = i + 1; value = valueIn vs (readVariable w) }) (both sub (tagOf w) (i + 1)))
 
 unfoldable pub evaluated : ℕ → List ℕ → List ℕ → ℕ → Evaluated
 evaluated zero ws vs i = nowhere

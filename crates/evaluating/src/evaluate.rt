@@ -1,22 +1,18 @@
 // Values and expressions on words. Sum and difference run round.
-use layout::number::wide;
+use layout::field::read_variable;
+use layout::field::tag_of;
+use layout::field::value_of;
 use layout::number::word;
+use layout::tag;
 ghost use mathlib.Core.Path.{_≡_};
-ghost use Prim.Native.Nat.{_+_, _*_, _<_};
-ghost use lib.ListN.{length, getD};
-ghost use Rattle.sock.specs.Words.{valueOf};
+ghost use Prim.Native.Nat.{_<_};
+ghost use lib.ListN.{length};
 ghost use Rattle.evaluating.specs.Evaluating.{valueIn, operated, constantAt, evaluated};
 
 // Where an expression ends, and its value.
 pub struct Evaluated {
     pub end: usize,
     pub value: u32,
-}
-
-fn long(high: u16, low: u16) -> u32
-    ensures { λ r. ⌜ r ≡ valueOf high low ⌝ }
-{
-    (high as u32) * 65536 + (low as u32)
 }
 
 // The value of a variable among values of two words each, of which an engine has 32; a word that is not there counts as 0.
@@ -26,19 +22,19 @@ pub fn variable(values: &[u16], x: usize) -> u32
     if values.len() <= x {
         return 0;
     }
-    long(word(values, x * 2), word(values, x * 2 + 1))
+    value_of(word(values, x * 2), word(values, x * 2 + 1))
 }
 
-fn operate(tag: usize, a: u32, b: u32) -> u32
-    ensures { λ r. ⌜ r ≡ operated tag a b ⌝ }
+fn operate(operator: usize, a: u32, b: u32) -> u32
+    ensures { λ r. ⌜ r ≡ operated operator a b ⌝ }
 {
-    if tag == 2 {
+    if operator == tag::SUM {
         return std::num::wrapping_add_u32(a, b);
     }
-    if tag == 3 {
+    if operator == tag::DIFFERENCE {
         return std::num::wrapping_sub_u32(a, b);
     }
-    if tag == 4 {
+    if operator == tag::LESS {
         if a < b {
             return 1;
         }
@@ -57,7 +53,7 @@ fn constant(ws: &[u16], at: usize) -> Evaluated
     }
     Evaluated {
         end: at + 3,
-        value: long(ws[at + 1], ws[at + 2]),
+        value: value_of(ws[at + 1], ws[at + 2]),
     }
 }
 
@@ -71,19 +67,20 @@ pub fn evaluate(ws: &[u16], values: &[u16], at: usize, depth: usize) -> Evaluate
     if ws.len() <= at {
         return Evaluated { end: 0, value: 0 };
     }
-    let w = wide(ws[at]);
-    match w / 8192 {
-        0 => constant(ws, at),
-        1 => Evaluated {
+    let w = ws[at];
+    let t = tag_of(w);
+    match t {
+        tag::CONSTANT => constant(ws, at),
+        tag::VARIABLE => Evaluated {
             end: at + 1,
-            value: variable(values, w / 256 % 32),
+            value: variable(values, read_variable(w)),
         },
         _ => {
             let a = evaluate(ws, values, at + 1, depth - 1);
             let b = evaluate(ws, values, a.end, depth - 1);
             Evaluated {
                 end: b.end,
-                value: operate(w / 8192, a.value, b.value),
+                value: operate(t, a.value, b.value),
             }
         }
     }

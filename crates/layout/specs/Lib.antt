@@ -3,4 +3,5 @@ pub mod Heads
 pub mod Keys
 pub mod Limits
 pub mod Positions
+pub mod Tags
 pub mod Units

@@ -2,7 +2,7 @@
 use crate::number::wide;
 ghost use mathlib.Core.Path.{_≡_};
 ghost use Prim.Native.Nat.{_<_};
-ghost use Rattle.sock.specs.Words.{kindOf, countOf, variableOf, nameOf, secondOf, markOf, zombieOf, firstVariable, nextVariable, firstName, executorsClient, deadOf, waitersServer, noticesClient, keyOf, tagOf, readVariable, scopeKey, highWord, lowWord};
+ghost use Rattle.sock.specs.Words.{kindOf, countOf, variableOf, nameOf, secondOf, markOf, zombieOf, firstVariable, nextVariable, firstName, executorsClient, deadOf, waitersServer, noticesClient, keyOf, tagOf, readVariable, valueOf, scopeKey, highWord, lowWord};
 
 // A head's kind.
 pub fn kind_of(h: u16) -> usize
@@ -148,4 +148,11 @@ pub fn read_variable(w: u16) -> usize
     ensures { λ r. ⌜ (r ≡ readVariable w) × (r < 32) ⌝ }
 {
     wide(w) / 256 % 32
+}
+
+// A value, from its two words.
+pub fn value_of(high: u16, low: u16) -> u32
+    ensures { λ r. ⌜ r ≡ valueOf high low ⌝ }
+{
+    (high as u32) * 65536 + (low as u32)
 }

@@ -18,32 +18,32 @@ returns c =
 add-t3 : tie.Need-add-t3
 add-t3 c = search needs
 
-add-long : tie.Need-add-long
-add-long c = search needs
+add-value-of : tie.Need-add-value-of
+add-value-of c = search needs
 
-mul-long : tie.Need-mul-long
-mul-long c = search needs
+mul-value-of : tie.Need-mul-value-of
+mul-value-of c = search needs
 
-shared-slice-read-long : tie.Need-shared-slice-read-long
-shared-slice-read-long c = search needs
+shared-slice-read-value-of : tie.Need-shared-slice-read-value-of
+shared-slice-read-value-of c = search needs
 
-add-long-2 : tie.Need-add-long-2
-add-long-2 c = search needs
+add-value-of-2 : tie.Need-add-value-of-2
+add-value-of-2 c = search needs
 
-mul-long-2 : tie.Need-mul-long-2
-mul-long-2 c = search needs
+mul-value-of-2 : tie.Need-mul-value-of-2
+mul-value-of-2 c = search needs
 
-shared-slice-read-long-2 : tie.Need-shared-slice-read-long-2
-shared-slice-read-long-2 c = search needs
+shared-slice-read-value-of-2 : tie.Need-shared-slice-read-value-of-2
+shared-slice-read-value-of-2 c = search needs
 
-long-requires : tie.Need-long-requires
-long-requires c κs = search needs
+value-of-requires : tie.Need-value-of-requires
+value-of-requires c κs = search needs
 
 returns-2 : tie.Need-returns-2
 unfolding constantAt
 returns-2 c =
     let f0 = c .before .before .before .if1 .left in
-    simp (tests, ← (c .long .ensures), f0)
+    simp (tests, ← (c .value-of .ensures), f0)
 
 pub constant-spec : {M : Type 1} → statement M
 constant-spec =
@@ -52,11 +52,11 @@ constant-spec =
     sub-if1
     returns
     add-t3
-    add-long
-    mul-long
-    shared-slice-read-long
-    add-long-2
-    mul-long-2
-    shared-slice-read-long-2
-    long-requires
+    add-value-of
+    mul-value-of
+    shared-slice-read-value-of
+    add-value-of-2
+    mul-value-of-2
+    shared-slice-read-value-of-2
+    value-of-requires
     returns-2)

@@ -35,12 +35,12 @@ add-word c = search needs
 word-requires-2 : tie.Need-word-requires-2
 word-requires-2 c κs = search needs
 
-long-requires : tie.Need-long-requires
-long-requires c κs = search needs
+value-of-requires : tie.Need-value-of-requires
+value-of-requires c κs = search needs
 
 returns-2 : tie.Need-returns-2
 unfolding valueIn
-returns-2 c = simp (← (c .before .before .word .ensures), ← (c .before .word2 .ensures), ← (c .long .ensures))
+returns-2 c = simp (← (c .before .before .word .ensures), ← (c .before .word2 .ensures), ← (c .value-of .ensures))
 
 pub variable-spec : {M : Type 1} → statement M
 variable-spec =
@@ -52,5 +52,5 @@ variable-spec =
     mul-word-2
     add-word
     word-requires-2
-    long-requires
+    value-of-requires
     returns-2)
