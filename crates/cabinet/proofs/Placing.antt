@@ -51,7 +51,7 @@ known-placed {ws} {s} e k h =
       part = sym (part-by ws e (some c) (k .reads) ∙ rw (lt-ltb e (length (c .engines)) b, count, first));
     }
 
-module _ (ws : List ℕ) (ok : Words ws) (s : Starts) (q : s ≡ surveyed 64 8192 11 ws) (e : ℕ) where
+module _ (ws : List ℕ) (ok : Words ws) (s : Starts) (q : s ≡ surveyed standard 11 ws) (e : ℕ) where
   pub is-placed : e < s .engines → Placed ws s e
   is-placed h = known-placed e (survey-known standard ws ok s q (λ z. omega arith)) h
 

@@ -1,5 +1,8 @@
 // The calls on bytes.
 use crate::words::hold;
+use layout::context::ROOT;
+use layout::limit::STANDARD;
+use layout::limit::VALUES;
 use layout::number::wide;
 use reading::survey::survey;
 ghost use mathlib.Core.Path.{_≡_};
@@ -41,7 +44,7 @@ pub extern "C" fn sock_ends(config: &[u8], serial: u16) -> u64
 fn part(ws: &[u16], engine: u16) -> u64
     ensures { λ r. ⌜ r ≡ packedPart (processPart standard (now (ws .entry)) engine) ⌝ }
 {
-    let s = survey(ws, 64, 8192, 11);
+    let s = survey(ws, STANDARD, ROOT);
     let e = wide(engine);
     let n = s.engines;
     if n <= e {
@@ -49,7 +52,7 @@ fn part(ws: &[u16], engine: u16) -> u64
     }
     let starts = s.starts;
     let first = starts[e];
-    let end = starts[e + 1] - 64;
+    let end = starts[e + 1] - VALUES;
     (first as u64) * 4294967296 + ((end - first) as u64)
 }
 

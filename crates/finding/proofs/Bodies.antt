@@ -26,7 +26,7 @@ use Rattle.finding.proofs.Spots.{Spotted, Around, under}
 use Rattle.finding.proofs.Arounds.{around-executor, scopeWords, scope-kept, around-scope}
 
 -- the spot closed, with another nearest scope at another level, and another catcher
-abbrev pub closedSpot : Site → ℕ → ℕ → ℕ → Site
+abbrev closedSpot : Site → ℕ → ℕ → ℕ → Site
 closedSpot s near near-level catcher =
     record {
       at = s .at;

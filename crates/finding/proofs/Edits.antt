@@ -97,7 +97,7 @@ region-changed g (executorFrame o y client serial ∷ fs) t = region-changed g f
 abbrev pub unchanged : Entries → Entries
 unchanged h = h
 
-pub nearest-unchanged : (fs : List Frame) → onNearest unchanged fs ≡ fs
+nearest-unchanged : (fs : List Frame) → onNearest unchanged fs ≡ fs
 unfolding onNearest
 nearest-unchanged [] = refl
 nearest-unchanged (seqFrame q ∷ fs) = ap (λ l. seqFrame q ∷ l) (nearest-unchanged fs)

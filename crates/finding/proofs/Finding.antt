@@ -1,24 +1,20 @@
 -- The mirrored search, one level of it: what the code knows at each of its returns.
 -- Assumes nothing.
-use Prim.Native.Nat.{ℕ, zero, suc, _+_, _-_, _/_, _<_}
-use native.Mathlib.Omega.{arith}
+use Prim.Native.Nat.{ℕ, zero, suc, _+_, _-_, _<_}
+use native.Mathlib.Numerals.{add-one, sub-one}
 use mathlib.Core.Path.{_≡_, refl, sym, ap, _∙_}
 use mathlib.Core.Bool.{Bool, true, false, cond}
 use mathlib.Core.List.{List}
 use borrow.Author.Tests.{lt-ltb, eq-eqb, ne-eqb}
 use lib.Dec.{ltb, eqb}
 use lib.ListN.{length, getD}
+use Rattle.sock.specs.Kind
+use Rattle.sock.specs.Words.{kindOf}
 use Rattle.skipping.specs.Pass.{noteAt, passEnd}
 use Rattle.finding.specs.declared.find.Site.{Site}
 use Rattle.finding.specs.declared.find.Found.{Found}
 use Rattle.finding.specs.declared.find.Found.the-variants.{Hit, Past}
 use Rattle.finding.specs.Find.{hereW, cut, seqSpot, inSeqW, nodeW, outsideW, findW}
-
-pred-suc : (d : ℕ) → suc d - 1 ≡ d
-pred-suc d = omega arith
-
-plus-one : (d : ℕ) → d + 1 ≡ suc d
-plus-one d = omega arith
 
 pub find-none : (d : ℕ) (ws notes : List ℕ) (target level i : ℕ) → d ≡ 0 → Past 0 ≡ findW d ws notes target level i
 unfolding findW
@@ -33,11 +29,11 @@ pub find-step :
     (hereW d ws notes level i)
     (cond (outsideW i target (noteAt notes i))
     (Past (noteAt notes i))
-    (nodeW (findW (d - 1) ws notes target (level + 1)) (d - 1) ws notes target level (getD ws i 0 / 2048) i)))
+    (nodeW (findW (d - 1) ws notes target (level + 1)) (d - 1) ws notes target level (kindOf (getD ws i 0)) i)))
     (Past 0)
 unfolding findW
 find-step zero ws notes target level i h = absurd (h refl)
-find-step (suc d) ws notes target level i h = rw (pred-suc d)
+find-step (suc d) ws notes target level i h = rw (sub-one (suc d))
 
 pub find-here :
     (d : ℕ) (ws notes : List ℕ) (target level i : ℕ) (r : Found) →
@@ -71,25 +67,25 @@ pub find-node :
     e ≡ noteAt notes i →
     b ≡ outsideW i target e →
     b ≡ false →
-    r ≡ nodeW (findW (d - 1) ws notes target (level + 1)) (d - 1) ws notes target level (getD ws i 0 / 2048) i →
+    r ≡ nodeW (findW (d - 1) ws notes target (level + 1)) (d - 1) ws notes target level (kindOf (getD ws i 0)) i →
     r ≡ findW d ws notes target level i
 find-node d ws notes target level i e b r p q s m o f t =
     t ∙ sym (find-step d ws notes target level i p ∙ simp (lt-ltb i (length ws) q, ne-eqb i target s, ← m, ← o, f))
 
 -- any other kind
 pub node-other :
-    (sub : ℕ → Found) (d : ℕ) (ws notes : List ℕ) (target level i w e : ℕ) →
-    w ≡ getD ws i 0 →
-    (w / 2048 ≡ 2 → ⊥) →
-    (w / 2048 ≡ 3 → ⊥) →
-    (w / 2048 ≡ 11 → ⊥) →
-    (w / 2048 ≡ 16 → ⊥) →
+    (sub : ℕ → Found) (d : ℕ) (ws notes : List ℕ) (target level i k e : ℕ) →
+    k ≡ kindOf (getD ws i 0) →
+    (k ≡ Kind.seq → ⊥) →
+    (k ≡ Kind.par → ⊥) →
+    (k ≡ Kind.scope → ⊥) →
+    (k ≡ Kind.executor → ⊥) →
     e ≡ passEnd (d + 1) ws notes i →
-    Past e ≡ nodeW sub d ws notes target level (getD ws i 0 / 2048) i
+    Past e ≡ nodeW sub d ws notes target level (kindOf (getD ws i 0)) i
 unfolding nodeW
-node-other sub d ws notes target level i w e v k2 k3 k11 k16 t =
-    let end : e ≡ passEnd (suc d) ws notes i = t ∙ ap (λ k. passEnd k ws notes i) (plus-one d) in
-    sym (simp (← v, ne-eqb (w / 2048) 2 k2, ne-eqb (w / 2048) 3 k3, ne-eqb (w / 2048) 11 k11, ne-eqb (w / 2048) 16 k16, end))
+node-other sub d ws notes target level i k e v seq par scope executor t =
+    let end : e ≡ passEnd (suc d) ws notes i = t ∙ ap (λ k. passEnd k ws notes i) (add-one d) in
+    sym (simp (← v, ne-eqb k Kind.seq seq, ne-eqb k Kind.par par, ne-eqb k Kind.scope scope, ne-eqb k Kind.executor executor, end))
 
 -- the first of a seq becomes nil, before a nil and before any other
 pub seq-hollow :

@@ -141,7 +141,7 @@ module _ (f target : ℕ) (ws notes : List ℕ) (d i level : ℕ) where
   -- ---- a par
 
   module _ (a b : Run) (left : T (not (isDone a))) (right : T (not (isDone b))) where
-    pub left-agrees :
+    left-agrees :
         (l : Located) (s : Site) →
         Spotted f target a (i + 1) (level + 1) l s →
         Agrees f target (par a b) i level (some (behind (leftFrame b ∷ []) l)) (leftW i s)

@@ -101,7 +101,7 @@ outside-last (executorFrame o y client serial ∷ xs) ys t = outside-last xs ys 
 
 -- ---- with a scope among them
 
-pub nearest-some : (g : Entries → Entries) (xs ys : List Frame) → T (scoped xs) → onNearest g (xs ++ ys) ≡ onNearest g xs ++ ys
+nearest-some : (g : Entries → Entries) (xs ys : List Frame) → T (scoped xs) → onNearest g (xs ++ ys) ≡ onNearest g xs ++ ys
 unfolding onNearest scoped
 nearest-some g [] ys t = absurd t
 nearest-some g (seqFrame q ∷ xs) ys t = ap (λ l. seqFrame q ∷ l) (nearest-some g xs ys t)
@@ -110,7 +110,7 @@ nearest-some g (rightFrame b ∷ xs) ys t = ap (λ l. rightFrame b ∷ l) (neare
 nearest-some g (scopeFrame name mark zombie h ∷ xs) ys t = refl
 nearest-some g (executorFrame o y client serial ∷ xs) ys t = ap (λ l. executorFrame o y client serial ∷ l) (nearest-some g xs ys t)
 
-pub region-first : (xs ys : List Frame) → T (scoped xs) → region (xs ++ ys) ≡ region xs
+region-first : (xs ys : List Frame) → T (scoped xs) → region (xs ++ ys) ≡ region xs
 unfolding region scoped
 region-first [] ys t = absurd t
 region-first (seqFrame q ∷ xs) ys t = region-first xs ys t
@@ -119,7 +119,7 @@ region-first (rightFrame b ∷ xs) ys t = region-first xs ys t
 region-first (scopeFrame name mark zombie h ∷ xs) ys t = refl
 region-first (executorFrame o y client serial ∷ xs) ys t = region-first xs ys t
 
-pub scoped-first : (xs ys : List Frame) → T (scoped xs) → scoped (xs ++ ys) ≡ true
+scoped-first : (xs ys : List Frame) → T (scoped xs) → scoped (xs ++ ys) ≡ true
 unfolding scoped
 scoped-first [] ys t = absurd t
 scoped-first (seqFrame q ∷ xs) ys t = scoped-first xs ys t
@@ -137,7 +137,7 @@ outside-first (rightFrame b ∷ xs) ys t = outside-first xs ys t
 outside-first (scopeFrame name mark zombie h ∷ xs) ys t = length-append xs ys
 outside-first (executorFrame o y client serial ∷ xs) ys t = outside-first xs ys t
 
-pub scoped-last : (xs ys : List Frame) → T (not (scoped xs)) → scoped (xs ++ ys) ≡ scoped ys
+scoped-last : (xs ys : List Frame) → T (not (scoped xs)) → scoped (xs ++ ys) ≡ scoped ys
 unfolding scoped
 scoped-last [] ys t = refl
 scoped-last (seqFrame q ∷ xs) ys t = scoped-last xs ys t
@@ -146,7 +146,7 @@ scoped-last (rightFrame b ∷ xs) ys t = scoped-last xs ys t
 scoped-last (scopeFrame name mark zombie h ∷ xs) ys t = absurd t
 scoped-last (executorFrame o y client serial ∷ xs) ys t = scoped-last xs ys t
 
-pub scoped-nearest : (g : Entries → Entries) (xs : List Frame) → scoped (onNearest g xs) ≡ scoped xs
+scoped-nearest : (g : Entries → Entries) (xs : List Frame) → scoped (onNearest g xs) ≡ scoped xs
 unfolding onNearest scoped
 scoped-nearest g [] = refl
 scoped-nearest g (seqFrame q ∷ xs) = scoped-nearest g xs
@@ -164,7 +164,7 @@ pub record Outer (fs : List Frame) (o : Frame) : Type 0 where
   pub same : scoped (fs ++ o ∷ []) ≡ scoped fs
 
 -- a frame that is no scope's
-pub outer-plain :
+outer-plain :
     (fs : List Frame) (o : Frame) → ((g : Entries → Entries) → onNearest g (o ∷ []) ≡ o ∷ []) → region (o ∷ []) ≡ [] → scoped (o ∷ []) ≡ false → Outer fs o
 outer-plain fs o p q s = record { changed = λ g. changed g (scoped fs) refl; regions = λ g. shut (onNearest g fs); stays = shut fs; same = same (scoped fs) refl }
   where

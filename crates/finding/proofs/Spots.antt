@@ -41,7 +41,7 @@ pub record Spotted (f target : ℕ) (r : Run) (i deep : ℕ) (l : Located) (s : 
 
 -- ---- the process itself
 
-abbrev pub hereSpot : ℕ → ℕ → ℕ → Site
+abbrev hereSpot : ℕ → ℕ → ℕ → Site
 hereSpot i level e =
     record { at = i; level = level; from = i; upto = e; gap = e; end = e; hollow = true; closed = false; scope = 0; «scope_level» = 0; catcher = 0 }
 

@@ -65,7 +65,7 @@ module _ (gs : List Frame) where
   unfolding lifted
   leaf p l = step p l none refl
 
-  pub locate-behind : (r : Run) (p : ℕ) (fs : List Frame) → locate r p (fs ++ gs) ≡ lifted gs (locate r p fs)
+  locate-behind : (r : Run) (p : ℕ) (fs : List Frame) → locate r p (fs ++ gs) ≡ lifted gs (locate r p fs)
   unfolding locate
   locate-behind nil p fs = leaf p _
   locate-behind (seq a q) p fs = into 1 p _ (λ i. locate a i (seqFrame q ∷ fs)) λ i. locate-behind a i (seqFrame q ∷ fs)

@@ -1,6 +1,6 @@
 -- Finding on positions, as the code goes. The proofs show that this is the definitions' `locate`, with what `plug` then makes of the words;
 -- no contract of a call names it.
-use Prim.Native.Nat.{ℕ, zero, suc, _+_, _/_, _%_}
+use Prim.Native.Nat.{ℕ, zero, suc, _+_}
 use mathlib.Core.Bool.{Bool, true, false, not, _||_, cond}
 use mathlib.Core.List.{List}
 use lib.Dec.{ltb, leb, eqb}
@@ -78,9 +78,13 @@ scopeOf i scope = cond (eqb scope 0) i scope
 unfoldable pub levelOf : ℕ → ℕ → ℕ → ℕ
 levelOf level scope inner = cond (eqb scope 0) level inner
 
--- the fault that the process at `target` throws; 128 if it is no throw
+-- no name is this one
+abbrev pub noFault : ℕ
+noFault = 128
+
+-- the fault that the process at `target` throws; none if it is no throw
 unfoldable pub faultAt : List ℕ → ℕ → ℕ
-faultAt ws target = cond (eqb (kindOf (getD ws target 0)) Kind.throw) (nameOf (getD ws target 0)) 128
+faultAt ws target = cond (eqb (kindOf (getD ws target 0)) Kind.throw) (nameOf (getD ws target 0)) noFault
 
 unfoldable pub catchesW : ℕ → List ℕ → ℕ → ℕ → Bool
 catchesW d ws i fault = eqb (zombieOf (getD ws i 0)) 1 || not (eqb (skipList d ws fault (i + 2)) 0)

@@ -1,16 +1,21 @@
 // Finding an enabled process by its position: the cut that its end would make, the nearest scope, and the scope that catches its fault.
+use layout::field;
+use layout::field::kind_of;
+use layout::field::name_of;
+use layout::field::zombie_of;
+use layout::head;
 use layout::kind;
-use layout::number::wide;
 use skipping::pass::note_at;
 use skipping::pass::pass;
 use skipping::pass::pass_list;
 use skipping::skip::skip_list;
 ghost use mathlib.Core.Path.{_≡_};
-ghost use Prim.Native.Nat.{_+_, _/_, _<_};
+ghost use Prim.Native.Nat.{_+_, _<_};
 ghost use lib.ListN.{length, getD};
+ghost use Rattle.sock.specs.Words.{kindOf};
 ghost use Rattle.finding.specs.Find.{atMost, findW, nodeW, outsideW, cut, shutIn, hereW, inSeqW, inParW, leftW, besideW, inBodyW, inScopeW, scopeOf, levelOf, catcherOf, faultAt, catchesW};
 
-// The process at `at`, `level` levels deep. Were it nil, the words a..b and c..d would go; `hollow` tells that a nil would stand at a.
+// The process at `at`, `level` levels deep. Were it nil, the words from..upto and gap..end would go; `hollow` tells that a nil would stand at `from`.
 // `scope` is the head of the nearest scope, `scope_level` its level, `catcher` the head of the scope that stops the fault of a throw; 0
 // where there is none.
 pub struct Site {
@@ -47,10 +52,13 @@ pub fn locate(
     find(ws, notes, at, target, at_most(depth), at_most(level))
 }
 
+// Levels are counted below this.
+const LEVELS: usize = 32768;
+
 fn at_most(levels: usize) -> usize
     ensures { λ r. ⌜ (r ≡ atMost levels) × (r < 32768) ⌝ }
 {
-    if levels < 32768 { levels } else { 32767 }
+    if levels < LEVELS { levels } else { LEVELS - 1 }
 }
 
 // The same. A process whose end is marked and that does not have the target is passed at once: where all are marked, the search goes down
@@ -78,9 +86,9 @@ fn find(ws: &[u16], notes: &[u16], at: usize, target: usize, depth: usize, level
 // By the kind of the process at `at`, whose parts are `depth` levels deep at most; the target is not its head.
 fn node(ws: &[u16], notes: &[u16], at: usize, target: usize, depth: usize, level: usize) -> Found
     requires { ⌜ (level + 1 + depth < 65536) × (at < length (now ws)) ⌝ }
-    ensures { λ r. ⌜ r ≡ nodeW (findW depth (now (ws .entry)) (now (notes .entry)) target (level + 1)) depth (now (ws .entry)) (now (notes .entry)) target level (getD (now (ws .entry)) at 0 / 2048) at ⌝ }
+    ensures { λ r. ⌜ r ≡ nodeW (findW depth (now (ws .entry)) (now (notes .entry)) target (level + 1)) depth (now (ws .entry)) (now (notes .entry)) target level (kindOf (getD (now (ws .entry)) at 0)) at ⌝ }
 {
-    match wide(ws[at]) / 2048 {
+    match kind_of(ws[at]) {
         kind::SEQ => {
             let f = find(ws, notes, at + 1, target, depth, level + 1);
             in_seq(ws, notes, at, f, depth)
@@ -129,7 +137,7 @@ fn here(ws: &[u16], notes: &[u16], at: usize, depth: usize, level: usize) -> Fou
     })
 }
 
-// The spot, if the words a..b and c..d go from now on; the cut goes on outwards where a nil stands.
+// The site, if the words a..b and c..d go from now on; the cut goes on outwards where a nil stands.
 fn cut_at(s: Site, a: usize, b: usize, c: usize, d: usize, hollow: bool) -> Site
     ensures { λ r. ⌜ r ≡ cut s a b c d hollow ⌝ }
 {
@@ -181,7 +189,7 @@ fn in_seq(ws: &[u16], notes: &[u16], at: usize, f: Found, depth: usize) -> Found
             if ws.len() <= q {
                 return Found::Past(0);
             }
-            if ws[q] == 0 {
+            if ws[q] == head::NIL {
                 return Found::Hit(cut_at(s, at, q + 1, q + 1, q + 1, true));
             }
             Found::Hit(cut_at(s, at, q, q, q, false))
@@ -271,7 +279,7 @@ fn catcher_of(ws: &[u16], at: usize, target: usize, catcher: usize, depth: usize
     ensures { λ r. ⌜ r ≡ catcherOf depth (now (ws .entry)) target at catcher ⌝ }
 {
     let fault = fault_at(ws, target);
-    if 64 <= fault {
+    if field::NAMES <= fault {
         return 0;
     }
     if catcher != 0 {
@@ -280,18 +288,20 @@ fn catcher_of(ws: &[u16], at: usize, target: usize, catcher: usize, depth: usize
     if catches(ws, at, fault, depth) { at } else { 0 }
 }
 
-// The fault that the process at `target` throws; 128 if it is no throw.
+// No name is this one.
+const NO_FAULT: usize = 128;
+
+// The fault that the process at `target` throws; none if it is no throw.
 fn fault_at(ws: &[u16], target: usize) -> usize
     ensures { λ r. ⌜ r ≡ faultAt (now (ws .entry)) target ⌝ }
 {
     if ws.len() <= target {
-        return 128;
+        return NO_FAULT;
     }
-    let w = wide(ws[target]);
-    if w / 2048 == kind::THROW {
-        w / 32 % 64
+    if kind_of(ws[target]) == kind::THROW {
+        name_of(ws[target])
     } else {
-        128
+        NO_FAULT
     }
 }
 
@@ -300,7 +310,7 @@ fn catches(ws: &[u16], at: usize, fault: usize, depth: usize) -> bool
     requires { ⌜ at < length (now ws) ⌝ }
     ensures { λ r. ⌜ r ≡ catchesW depth (now (ws .entry)) at fault ⌝ }
 {
-    if wide(ws[at]) / 4 % 2 == 1 {
+    if zombie_of(ws[at]) == 1 {
         return true;
     }
     skip_list(ws, at + 2, depth, fault) != 0

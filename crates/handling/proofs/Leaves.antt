@@ -51,7 +51,7 @@ pasted-keeps ws from upto out to =
     let s : upto - from ≤ length out - to = nltb→le (length out - to) (upto - from) d in
     length-paste out to (drop from ws) (upto - from) (omega arith) (omega (arith, length-drop from ws))))))
 
-pub lowered-keeps : (out : List ℕ) (from upto : ℕ) → from ≤ upto → length (lowered out from upto) ≡ length out
+lowered-keeps : (out : List ℕ) (from upto : ℕ) → from ≤ upto → length (lowered out from upto) ≡ length out
 unfolding lowered
 lowered-keeps out from upto h =
     cond-case (λ (l : List ℕ). length l ≡ length out) (eqb from 0) (λ t. refl) (λ a.
@@ -80,7 +80,7 @@ module _
         laid-then (laid-put out to head (omega arith)) (x .laid (omega arith))
 
     -- the first became nil: the second over it
-    pub second-alone :
+    second-alone :
         Leaves e1 true la a r (set out to head) (to + 1) p → length a ≡ 1 → Near (to + length b + (2 + r)) →
         Leaves e2 nb lb b (2 + r) out to (sub e1 (p .out) to)
     second-alone x one near =
@@ -96,7 +96,7 @@ module _
         }
 
     -- both stay
-    pub both-stay :
+    both-stay :
         Leaves e1 false la a r (set out to head) (to + 1) p → la ≤ length a → lb ≤ length b → Near (to + length (head ∷ a ++ b) + (2 + r)) →
         (q : Wrote) → Leaves e2 nb lb b r (p .out) (to + 1 + length a) q →
         Leaves e2 false (suc (max la lb)) (head ∷ a ++ b) (2 + r) out to
@@ -117,7 +117,7 @@ module _
         }
 
     -- the second became nil: the first moved down
-    pub first-alone :
+    first-alone :
         Leaves e1 false la a r (set out to head) (to + 1) p → nb ≡ true → length b ≡ 1 →
         (q : Wrote) → Leaves e2 nb lb b r (p .out) (to + 1 + length a) q →
         Leaves e2 false la a (2 + r) out to

@@ -4,7 +4,6 @@ pub mod Levels
 pub mod Listed
 pub mod Measures
 pub mod Merged
-pub mod Others
 pub mod Pairs
 pub mod Rebuilds
 pub mod Replaced

@@ -20,6 +20,7 @@ use Rattle.sock.proofs.Nodes.{code-more}
 use Rattle.sock.proofs.Handlers.{replaced-fits}
 use Rattle.sock.proofs.ByKind.{head-tests}
 use Rattle.sock.proofs.Positions.{at-past}
+use Rattle.sock.proofs.Located.{node-size}
 use Rattle.layout.specs.Positions.{onward}
 use Rattle.writers.specs.Writing.{pasted, pastedEnd}
 use Rattle.writers.proofs.Laid.{Near, near-below, laid-put, laid-then, laid-copy, copy-end}
@@ -50,7 +51,7 @@ nil-word h q t noFixed noExprs noList noPart =
     ap (λ (n : ℕ). n ∷ []) y
 
 -- nil that fits is the word 0
-pub nil-words : {s : Stratum} {p : Place} {m : Node} → Fits s p m → isNil m ≡ true → words m ≡ 0 ∷ []
+nil-words : {s : Stratum} {p : Place} {m : Node} → Fits s p m → isNil m ≡ true → words m ≡ 0 ∷ []
 unfolding rowOf rows processesOf
 nil-words {s} {p} (fits {h = h} t fx ex bl pt nf) z =
     let q : kindOf h ≡ 0 = eqb-true (kindOf h) 0 z in
@@ -219,7 +220,7 @@ module _ (ws : List ℕ) (near : Near (length ws)) (old : Old) (o : Node) where
           let e : drop (old .from) ws ≡ words o ++ rest = s .1 .0 in
           let u : old .upto ≡ old .from + length (words o) = s .1 .1 in
           let deep-enough : depth o ≤ length (words o) = shallow o in
-          let some : 0 < length (words o) = long o in
+          let some : 0 < length (words o) = node-size o in
           let l : length ws - old .from ≡ length (words o) + length rest =
           sym (length-drop (old .from) ws) ∙ ap length e ∙ length-append (words o) rest in
           rw (is .empty ∙ z)
@@ -232,6 +233,3 @@ module _ (ws : List ℕ) (near : Near (length ws)) (old : Old) (o : Node) where
             keeps = pasted-keeps ws (old .from) (old .upto) out to;
             laid = λ r. laid-copy ws (words o) rest (old .from) (old .upto) out to e (omega arith) u (omega arith);
           })
-        where
-          long : (m : Node) → 0 < length (words m)
-          long (node h f es b ps) = omega arith

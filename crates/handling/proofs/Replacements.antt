@@ -2,6 +2,7 @@
 -- Assumes nothing.
 use Prim.Native.Nat.{ℕ, zero, suc, _-_, _≤_, _<_, max}
 use native.Mathlib.Omega.{arith}
+use native.Mathlib.Numerals.{sub-one}
 use mathlib.Core.Path.{_≡_, refl, sym, _∙_}
 use mathlib.Core.Bool.{true, false, cond}
 use mathlib.Core.List.{List}
@@ -14,9 +15,6 @@ use Rattle.handling.specs.Replacing.{wrote, Walk, parW, parAfter, closeP
 use Rattle.handling.specs.declared.replace.Rebuilt.{Rebuilt}
 use Rattle.handling.specs.declared.replace.Old.{Old}
 
-suc-pred : (d : ℕ) → suc d - 1 ≡ d
-suc-pred d = omega arith
-
 pub replace-step :
     (d : ℕ) (ws : List ℕ) (old : Old) (i : ℕ) (out : List ℕ) (to : ℕ) →
     (d ≡ 0 → ⊥) →
@@ -25,7 +23,7 @@ pub replace-step :
     (nodeW (expressionLevels (d - 1) ws) (codeLevels d ws) (replaceW (d - 1) ws old) ws old (getD ws i 0) i out to)
 unfolding replaceW
 replace-step zero ws old i out to h = absurd (h refl)
-replace-step (suc d) ws old i out to h = rw (suc-pred d)
+replace-step (suc d) ws old i out to h = rw (sub-one (suc d))
 
 pub parts-step :
     (sub : Walk) (n levels i : ℕ) (out : List ℕ) (to : ℕ) →
@@ -34,7 +32,7 @@ pub parts-step :
     ≡ partsW sub (n - 1) (max levels (onward (sub i out to .answer .levels) 1)) (sub i out to .answer .end) (sub i out to .out) (sub i out to .answer .to)
 unfolding partsW
 parts-step sub zero levels i out to h = absurd (omega arith)
-parts-step sub (suc n) levels i out to h = rw (suc-pred n)
+parts-step sub (suc n) levels i out to h = rw (sub-one (suc n))
 
 pub parts-end : (sub : Walk) (n levels i : ℕ) (out : List ℕ) (to : ℕ) → n ≤ 0 → partsW sub n levels i out to ≡ wrote i to false levels out
 unfolding partsW

@@ -292,7 +292,7 @@ module _ (ws : List ℕ) (near : Near (length ws)) (old : Old) (o : Node) (fo : 
   unfolding replaceW
   replace-level d i out to h = simp (lt-leb (length ws) i (h .inside), h .word)
 
-  pub all-replace : (d : ℕ) → Replaces ws near old o d
+  all-replace : (d : ℕ) → Replaces ws near old o d
   unfolding words depth processesOf
   all-replace zero c p (node h f es b ps) (fits t fx ex bl pt nf) low i rest e out to room = absurd (omega arith)
   all-replace (suc d) c p (node h f es b ps) (fits t fx ex bl pt nf) low i rest e out to room =

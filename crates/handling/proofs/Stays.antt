@@ -76,7 +76,7 @@ module _ (o : Node) where
     all-same noPart q = refl
     all-same (onePart {k = k} {n = n} x xs) q = rw (same x (ap (λ s. partStratum s k n) q), all-same xs q)
 
-  pub replaced-same : {p : Place} {m : Node} → Fits (code false) p m → replaced o m ≡ m
+  replaced-same : {p : Place} {m : Node} → Fits (code false) p m → replaced o m ≡ m
   replaced-same f = same f refl
 
 -- ---- one entry
@@ -118,7 +118,7 @@ without-short k (entry j p es) =
     (λ t. let r = without-short k es in let b = length-append (words p) (entriesWords (without k es)) in omega arith)
 
 module _ (k : ℕ) {p : Node} (f : Fits (code false) anywhere p) (h : Entries) where
-  pub update-one : update h (entry k p noEntries) ≡ installed k p h
+  update-one : update h (entry k p noEntries) ≡ installed k p h
   unfolding update
   update-one = ap (λ m. installed k m h) (replaced-same (handler k h) f)
 

@@ -9,12 +9,13 @@ use lib.Dec.{T, eqb}
 use lib.ListN.{length, getD, take, drop, length-append, length-set, length-drop}
 use borrow.Author.Tests.{eq-eqb, ne-eqb, eqb-true, eqb-false}
 use Rattle.sock.specs.Words.{keyWord}
-use Rattle.sock.specs.Term.{Node, node, Entries, noEntries, entry, nilNode}
+use Rattle.sock.specs.Term.{Node, Entries, noEntries, entry, nilNode}
 use Rattle.sock.specs.Layout.{count, words, entriesWords, depth, entriesDepth}
 use Rattle.sock.specs.Reading.{code, anywhere, holds}
 use Rattle.sock.specs.Handlers.{handler, without}
 use Rattle.sock.proofs.Fits.{Fits, FitsEntries, emptyFits, entryFitsOn}
 use Rattle.sock.proofs.Positions.{at-head}
+use Rattle.sock.proofs.Located.{node-size}
 use Rattle.writers.specs.Writing.{pasted}
 use Rattle.writers.proofs.Laid.{Near, onward-near, Laid, laid-then}
 use Rattle.handling.specs.Taking.{Passed, Took, passing, passed, lessIf, passW, passesW, tookW, takeW}
@@ -41,7 +42,7 @@ no-handler : (b c : Bool) (p : Node) {m : Node} → (c ≡ false → m ≡ nilNo
 no-handler true c p f e = absurd (subst T e tt)
 no-handler false c p f e = f e
 
-pub handler-absent : (k : ℕ) (h : Entries) → holds k h ≡ false → handler k h ≡ nilNode
+handler-absent : (k : ℕ) (h : Entries) → holds k h ≡ false → handler k h ≡ nilNode
 unfolding holds handler
 handler-absent k noEntries e = refl
 handler-absent k (entry j p es) e = no-handler (eqb k j) (holds k es) p (handler-absent k es) e
@@ -62,7 +63,7 @@ unfolding count
 one-goes true c j p es w f e = refl
 one-goes false c j p es w f e = ap suc (f e)
 
-pub count-present : (k : ℕ) (h : Entries) → holds k h ≡ true → count h ≡ suc (count (without k h))
+count-present : (k : ℕ) (h : Entries) → holds k h ≡ true → count h ≡ suc (count (without k h))
 unfolding holds without count
 count-present k noEntries e = absurd (subst T (sym e) tt)
 count-present k (entry j p es) e = one-goes (eqb k j) (holds k es) j p es (without k es) (count-present k es) e
@@ -204,10 +205,6 @@ pub record Takes (ws : List ℕ) (k : ℕ) (h : Entries) (out : List ℕ) (t : T
   pub present : holds k h ≡ true → Stands ws (t .answer .from) (t .answer .upto) (handler k h)
   pub keyed : holds k h ≡ true → Keyed ws (t .answer .from) k
 
-words-some : (m : Node) → 0 < length (words m)
-unfolding words
-words-some (node h f es b ps) = omega arith
-
 -- the count, and the words in front of which it is put
 module _ (ws : List ℕ) (k : ℕ) (h : Entries) (at : ℕ) (out : List ℕ) (p : Passed)
     (r : Passes ws k (holds k h) (handler k h) (without k h) (passing at 1 0 0) out p) where
@@ -215,7 +212,7 @@ module _ (ws : List ℕ) (k : ℕ) (h : Entries) (at : ℕ) (out : List ℕ) (p 
   unfolding lessIf
   counted true x =
       let s = r .present x in
-      let z = words-some (handler k h) in
+      let z = node-size (handler k h) in
       let y : p .state .upto ≡ p .state .from + length (words (handler k h)) = s .1 .1 in
       let c = count-present k h x in
       rw (ne-eqb (p .state .upto) 0 (λ q. omega arith)) (omega arith)

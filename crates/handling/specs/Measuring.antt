@@ -1,10 +1,12 @@
 -- How deep expressions and code are, on words, as the code goes.
-use Prim.Native.Nat.{ℕ, zero, suc, _+_, _*_, _/_, _%_, max}
+use Prim.Native.Nat.{ℕ, zero, suc, _+_, _*_, max}
 use mathlib.Core.Bool.{cond}
 use mathlib.Core.List.{List, [], _∷_}
-use lib.Dec.{ltb, leb, eqb}
+use lib.Dec.{leb, eqb}
 use lib.ListN.{length, getD}
+use Rattle.sock.specs.Words.{kindOf, countOf, tagOf}
 use Rattle.layout.specs.Positions.{onward}
+use Rattle.layout.specs.Tags
 use Rattle.handling.specs.declared.measure.Measured.{Measured}
 
 abbrev pub measured : ℕ → ℕ → Measured
@@ -20,8 +22,8 @@ unfoldable pub expressionLevels : ℕ → List ℕ → ℕ → Measured
 expressionLevels zero ws i = measured 0 0
 expressionLevels (suc d) ws i =
     cond (leb (length ws) i) (measured 0 0)
-    (cond (eqb (at ws i / 8192) 0) (measured (onward i 3) 1)
-    (cond (eqb (at ws i / 8192) 1) (measured (i + 1) 1) (operandLevels (expressionLevels d ws) (i + 1))))
+    (cond (eqb (tagOf (at ws i)) Tags.constant) (measured (onward i 3) 1)
+    (cond (eqb (tagOf (at ws i)) Tags.variable) (measured (i + 1) 1) (operandLevels (expressionLevels d ws) (i + 1))))
 
 unfoldable pub partsLevels : (ℕ → Measured) → ℕ → ℕ → ℕ → Measured
 partsLevels sub zero deepest i = measured i (onward deepest 1)
@@ -46,7 +48,7 @@ nodeLevels ex sub ws h i =
     ∷ partsLevels sub 2 0 (i + 1)
     ∷ expressedLevels ex sub 2 (i + 1)
     ∷ expressedLevels ex sub 1 (i + 1)
-    ∷ partsLevels sub (h % 2048 * 2) 0 (i + 1)
+    ∷ partsLevels sub (countOf h * 2) 0 (i + 1)
     ∷ measured (onward i 1) 1
     ∷ partsLevels sub 1 0 (onward i 2)
     ∷ measured (onward i 2) 1
@@ -54,7 +56,7 @@ nodeLevels ex sub ws h i =
     ∷ partsLevels sub 1 0 (onward i 3)
     ∷ listLevels sub ws (i + 1)
     ∷ [])
-    (h / 2048) (measured (onward i 1) 1)
+    (kindOf h) (measured (onward i 1) 1)
 
 unfoldable pub codeLevels : ℕ → List ℕ → ℕ → Measured
 codeLevels zero ws i = measured 0 0

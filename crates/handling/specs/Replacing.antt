@@ -1,9 +1,11 @@
 -- cH replaced on words, as the code goes: the place reached, and the output.
-use Prim.Native.Nat.{ℕ, zero, suc, _+_, _-_, _*_, _/_, _%_, max}
+use Prim.Native.Nat.{ℕ, zero, suc, _-_, _*_, max}
 use mathlib.Core.Bool.{Bool, true, false, cond}
 use mathlib.Core.List.{List, [], _∷_}
-use lib.Dec.{leb, eqb}
+use lib.Dec.{leb}
 use lib.ListN.{length, getD, set}
+use Rattle.sock.specs.Kind
+use Rattle.sock.specs.Words.{kindOf, countOf, headOf}
 use Rattle.layout.specs.Positions.{onward}
 use Rattle.writers.specs.Writing.{pasted, pastedEnd, lowered}
 use Rattle.handling.specs.Measuring.{expressionLevels, codeLevels}
@@ -36,7 +38,7 @@ afterFirst sub p out to =
     wrote (q .answer .end) (q .answer .to) false (onward (max (p .answer .levels) (q .answer .levels)) 1) (q .out))
 
 unfoldable pub seqW : Walk → ℕ → List ℕ → ℕ → Wrote
-seqW sub i out to = afterFirst sub (sub (onward i 1) (set out to 4096) (onward to 1)) out to
+seqW sub i out to = afterFirst sub (sub (onward i 1) (set out to (headOf Kind.seq 0)) (onward to 1)) out to
 
 unfoldable pub closePar : Wrote → Wrote → ℕ → Wrote
 closePar p q to =
@@ -49,7 +51,7 @@ parAfter sub p to =
     cond (p .answer .nil) (sub (p .answer .end) (p .out) to) (closePar p (sub (p .answer .end) (p .out) (p .answer .to)) to)
 
 unfoldable pub parW : Walk → ℕ → List ℕ → ℕ → Wrote
-parW sub i out to = parAfter sub (sub (onward i 1) (set out to 6144) (onward to 1)) to
+parW sub i out to = parAfter sub (sub (onward i 1) (set out to (headOf Kind.par 0)) (onward to 1)) to
 
 -- `n` parts, one after the other, in a node that is `levels` deep so far
 unfoldable pub partsW : Walk → ℕ → ℕ → ℕ → List ℕ → ℕ → Wrote
@@ -82,7 +84,7 @@ nodeW ex code sub ws old h i out to =
     ∷ parW sub i out to
     ∷ conditionW ex sub ws i 2 out to
     ∷ conditionW ex sub ws i 1 out to
-    ∷ keptW sub ws i (onward i 1) 1 (h % 2048 * 2) out to
+    ∷ keptW sub ws i (onward i 1) 1 (countOf h * 2) out to
     ∷ otherW code ws i out to
     ∷ keptW sub ws i (onward i 2) 1 1 out to
     ∷ otherW code ws i out to
@@ -93,7 +95,7 @@ nodeW ex code sub ws old h i out to =
     ∷ otherW code ws i out to
     ∷ cHW ws old i out to
     ∷ [])
-    (h / 2048) (otherW code ws i out to)
+    (kindOf h) (otherW code ws i out to)
 
 unfoldable pub replaceW : ℕ → List ℕ → Old → ℕ → List ℕ → ℕ → Wrote
 replaceW zero ws old i out to = wrote 0 0 false 0 out

@@ -1,9 +1,10 @@
 -- An entry taken out of a scope's list on words, as the code goes: how far it has come, and the output.
-use Prim.Native.Nat.{ℕ, zero, suc, _-_, _/_}
+use Prim.Native.Nat.{ℕ, zero, suc, _-_}
 use mathlib.Core.Bool.{cond}
 use mathlib.Core.List.{List}
 use lib.Dec.{eqb}
 use lib.ListN.{getD, set}
+use Rattle.sock.specs.Words.{keyOf}
 use Rattle.skipping.specs.Skip.{skipEnd}
 use Rattle.layout.specs.Positions.{onward}
 use Rattle.writers.specs.Writing.{pasted, pastedEnd}
@@ -30,7 +31,7 @@ lessIf n upto = cond (eqb upto 0) n (n - 1)
 unfoldable pub passW : ℕ → List ℕ → ℕ → Passing → List ℕ → Passed
 passW depth ws key s out =
     let e = skipEnd depth ws (onward (s .at) 1) in
-    cond (eqb (getD ws (s .at) 0 / 512) key)
+    cond (eqb (keyOf (getD ws (s .at) 0)) key)
     (passed (passing e (s .to) (onward (s .at) 1) e) out)
     (passed (passing e (pastedEnd ws (s .at) e (s .to)) (s .from) (s .upto)) (pasted ws (s .at) e out (s .to)))
 

@@ -1,7 +1,11 @@
 // How deep expressions and code are.
+use layout::field::count_of;
+use layout::field::kind_of;
+use layout::field::tag_of;
 use layout::kind;
 use layout::number::further;
 use layout::number::wide;
+use layout::tag;
 ghost use mathlib.Core.Path.{_≡_};
 ghost use Prim.Native.Nat.{_<_, max};
 ghost use lib.ListN.{length};
@@ -44,12 +48,12 @@ pub fn expression_levels(ws: &[u16], at: usize, depth: usize) -> Measured
     if ws.len() <= at {
         return nowhere();
     }
-    match wide(ws[at]) / 8192 {
-        0 => Measured {
+    match tag_of(ws[at]) {
+        tag::CONSTANT => Measured {
             end: further(at, 3),
             levels: 1,
         },
-        1 => Measured {
+        tag::VARIABLE => Measured {
             end: at + 1,
             levels: 1,
         },
@@ -74,15 +78,14 @@ pub fn code_levels(ws: &[u16], at: usize, depth: usize) -> Measured
     if ws.len() <= at {
         return nowhere();
     }
-    let h = wide(ws[at]);
-    match h / 2048 {
+    match kind_of(ws[at]) {
         kind::NIL => leaf(at),
         kind::ASSIGN => expressed(ws, at + 1, 0, depth - 1),
         kind::SEQ => parts(ws, at + 1, 0, 2, depth - 1),
         kind::PAR => parts(ws, at + 1, 0, 2, depth - 1),
         kind::IF => expressed(ws, at + 1, 2, depth - 1),
         kind::WHILE => expressed(ws, at + 1, 1, depth - 1),
-        kind::CHOICE => parts(ws, at + 1, 0, h % 2048 * 2, depth - 1),
+        kind::CHOICE => parts(ws, at + 1, 0, count_of(ws[at]) * 2, depth - 1),
         kind::ONE_WAY => leaf(at),
         kind::REQUEST => parts(ws, further(at, 2), 0, 1, depth - 1),
         kind::NOTIFY => Measured {

@@ -2,11 +2,12 @@
 use crate::measure::code_levels;
 use crate::measure::expression_levels;
 use crate::measure::larger;
+use layout::field::count_of;
+use layout::field::kind_of;
 use layout::head;
 use layout::kind;
 use layout::number::further;
 use layout::number::less_one;
-use layout::number::wide;
 use writers::write::copy;
 use writers::write::down;
 use writers::write::put;
@@ -35,7 +36,7 @@ fn put_old(ws: &[u16], old: Old, out: &mut [u16], to: usize) -> usize
     ensures { λ r. ⌜ (r ≡ oldEnd (now (ws .entry)) old to) × (now (out .exit) ≡ oldOut (now (ws .entry)) old (now (out .entry)) to) ⌝ }
 {
     if old.nil {
-        return put(out, to, 0);
+        return put(out, to, head::NIL);
     }
     let from = old.from;
     let upto = old.upto;
@@ -62,11 +63,10 @@ pub fn replace(ws: &[u16], at: usize, old: Old, depth: usize, out: &mut [u16], t
             levels: 0,
         };
     }
-    let h = wide(ws[at]);
-    match h / 2048 {
+    match kind_of(ws[at]) {
         kind::NIL => Rebuilt {
             end: further(at, 1),
-            to: put(out, to, 0),
+            to: put(out, to, head::NIL),
             nil: true,
             levels: 1,
         },
@@ -80,7 +80,7 @@ pub fn replace(ws: &[u16], at: usize, old: Old, depth: usize, out: &mut [u16], t
             at,
             further(at, 1),
             1,
-            h % 2048 * 2,
+            count_of(ws[at]) * 2,
             old,
             depth - 1,
             out,

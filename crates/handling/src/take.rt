@@ -1,4 +1,5 @@
 // A scope's list without the entry of a key, into scratch.
+use layout::field::key_of;
 use layout::number::further;
 use layout::number::less_one;
 use layout::number::wide;
@@ -41,7 +42,7 @@ fn pass(ws: &[u16], s: Passing, key: usize, depth: usize, out: &mut [u16]) -> Pa
     let to = s.to;
     let from = further(at, 1);
     let e = skip(ws, from, depth);
-    if wide(word(ws, at)) / 512 == key {
+    if key_of(word(ws, at)) == key {
         return Passing {
             at: e,
             to,

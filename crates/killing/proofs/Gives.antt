@@ -8,7 +8,7 @@ use mathlib.Core.Bool.{Bool, true, false, cond}
 use mathlib.Core.Option.{Option, none, some}
 use mathlib.Core.List.{List, [], _∷_, _++_}
 use lib.Dec.{eqb}
-use lib.ListN.{length, take, set}
+use lib.ListN.{length, set}
 use borrow.Author.Tests.{ne-eqb}
 use Rattle.sock.specs.Term.{Node}
 use Rattle.sock.specs.Layout.{words}
@@ -33,23 +33,6 @@ pub record Gave (r : Run) (out : List ℕ) (to e : ℕ) (k : Killed) (s : Run) :
 pub data Gives (r : Run) (out : List ℕ) (to e : ℕ) (k : Killed) : Option Run → Type 0 where
   stops : k .moved .end ≡ 0 → Gives r out to e k none
   gives : {s : Run} → Gave r out to e k s → Gives r out to e k (some s)
-
-module _ {r : Run} {out : List ℕ} {to e : ℕ} {k : Killed} where
-  pub gives-none : {o : Option Run} → Gives r out to e k o → o ≡ none → k .moved .end ≡ 0
-  gives-none (stops z) q = z
-  gives-none (gives g) q = let y : _≡_ {A = ℕ} 0 1 = cc in absurd (omega arith)
-
-  pub gives-some : {o : Option Run} {s : Run} → Gives r out to e k o → o ≡ some s → Gave r out to e k s
-  gives-some (stops z) q = let y : _≡_ {A = ℕ} 0 1 = cc in absurd (omega arith)
-  gives-some {s = s} (gives {s = t} g) q = let y : t ≡ s = cc in rw y at g
-
-  -- the output keeps its length, and begins with what came before and the words of what is killed
-  pub gave-keeps : {s : Run} → Gave r out to e k s → length (k .out) ≡ length out
-  gave-keeps g = g .laid .keeps
-
-  pub gave-begins : {s : Run} → Gave r out to e k s → take (to + size s) (k .out) ≡ take to out ++ runWords s
-  unfolding size
-  gave-begins g = g .laid .begins
 
 -- the walk does this of r at a position, wherever there is room
 abbrev pub Does : Walk → ℕ → Run → Option Run → Type 0
@@ -97,7 +80,7 @@ seq-gives {a} {q} d sub ws notes at f c out to room near =
 -- ---- par
 
 -- the same for an output that words were laid over before, from the same place on
-pub gives-again :
+gives-again :
     {a r : Run} {o : Option Run} {out mid x : List ℕ} {to e : ℕ} {k : Killed} →
     to ≤ length out → Laid out to x mid → size a ≤ size r → Gives a mid to e k o → Gives r out to e k o
 gives-again h l z (stops e) = stops e

@@ -15,7 +15,7 @@ use Rattle.sock.specs.Layout.{count, words, entriesWords, depth, entriesDepth}
 use Rattle.sock.specs.Running.{Mark, Run, nil, seq, par, scope, executor, waiter, notice, act, asNode, runWords, size, runDepth}
 use Rattle.sock.specs.Configuration.{guarded}
 use Rattle.sock.specs.Frames.{Located, locate, isDone}
-use Rattle.sock.specs.Rules.{kill, climb}
+use Rattle.sock.specs.Rules.{climb}
 use Rattle.sock.proofs.Fits.{FitsEntries, Sound, nilSound, seqSound, parSound, scopeSound, executorSound, waiterSound, noticeSound, actSound}
 use Rattle.sock.proofs.Fields.{plain-kind, end-tests}
 use Rattle.sock.proofs.ByKind.{runKind, kind-asNode, done-kind, code-kind}
@@ -26,7 +26,7 @@ use Rattle.skipping.proofs.Notes.{Right, pass-code, pass-run, pass-entries}
 use Rattle.killing.specs.Killing.{goneKind, goneW, stuckW, vanishedW, kindW, killW}
 use Rattle.writers.proofs.Laid.{Near}
 use Rattle.sock.proofs.Positions.{stands-within, word-at, at-past, drop-after}
-use Rattle.sock.proofs.Around.{killed, killed-beside, Throws, free, killed-climb}
+use Rattle.sock.proofs.Around.{killed, Throws, free, killed-climb}
 use Rattle.killing.proofs.Gives.{Gives, stops, Does, Vanishes, seq-gives, par-gives}
 use Rattle.killing.proofs.Noticed.{vanish-gives, kept-gives, waiter-gives, executor-gives}
 use Rattle.killing.proofs.Zombies.{dead-gives, turned-gives}
@@ -236,12 +236,6 @@ module _
     (d at : ℕ) (shallow : runDepth r ≤ d) (rest : List ℕ) (stands : drop at ws ≡ runWords r ++ rest)
     (out : List ℕ) (to : ℕ) (room : to + 2 * size r ≤ length out) (near : Near (length out))
   where
-    -- the position is not inside
-    pub kill-beside :
-        (hole : ℕ) → (at < hole → hole < at + size r → ⊥) →
-        Gives r out to (at + size r) (killW d ws notes f hole at out to) (kill f r)
-    kill-beside hole h = rw (killed-beside f hole r at h) at (kills ws notes right n issued few small f bf hole s d at shallow rest stands out to room near)
-
     -- a throw stands at the position, and no scope around it is a zombie or holds the fault
     pub kill-climb :
         (p : ℕ) (l : Located) → locate r p [] ≡ some l → Throws (l .process) → T (free f (l .frames)) →

@@ -1,30 +1,30 @@
 -- Killing on words: one level of it, and its pieces from what the code knows where it returns.
 -- Assumes nothing.
-use Prim.Native.Nat.{ℕ, zero, suc, _+_, _-_, _/_, _%_, _≤_, _<_}
-use native.Mathlib.Omega.{arith}
+use Prim.Native.Nat.{ℕ, zero, suc, _+_, _-_, _≤_, _<_}
+use native.Mathlib.Numerals.{sub-one}
 use mathlib.Core.Path.{_≡_, refl}
 use mathlib.Core.Bool.{true, false, cond}
 use mathlib.Core.List.{List}
 use lib.Dec.{leb}
 use lib.ListN.{length, getD, set}
 use borrow.Author.Tests.{le-ltb, lt-leb, ne-eqb}
+use Rattle.sock.specs.Kind
+use Rattle.sock.specs.Words.{kindOf, zombieOf, headOf}
 use Rattle.skipping.specs.Pass.{passEnd, passList}
+use Rattle.layout.specs.Killed.{noticeHead, noticeWord}
 use Rattle.layout.specs.Positions.{onward}
 use Rattle.writers.specs.Writing.{pasted, pastedEnd, lowered}
-use Rattle.killing.specs.Killing.{Killed, Walk, stuckW, made, goes, noticeHead, noticeWord, noticeW, executorOn, executorW, headFor, liveOn, liveW, goneW, leftOn, parW, rightOn, rightW, scopeAt, scopeW, kindW, killW}
+use Rattle.killing.specs.Killing.{Killed, Walk, stuckW, made, goes, noticeW, executorOn, executorW, headFor, liveOn, liveW, goneW, leftOn, parW, rightOn, rightW, scopeAt, scopeW, kindW, killW}
 use Rattle.killing.specs.declared.kill.Moved.{Moved}
-
-pred-suc : (d : ℕ) → suc d - 1 ≡ d
-pred-suc d = omega arith
 
 pub kill-step :
     (d : ℕ) (ws notes : List ℕ) (fault hole i : ℕ) (out : List ℕ) (to : ℕ) →
     (d ≡ 0 → ⊥) →
     killW d ws notes fault hole i out to
-    ≡ cond (leb (length ws) i) (stuckW out) (kindW d (d - 1) (killW (d - 1) ws notes fault hole) ws notes fault hole (getD ws i 0 / 2048) i out to)
+    ≡ cond (leb (length ws) i) (stuckW out) (kindW d (d - 1) (killW (d - 1) ws notes fault hole) ws notes fault hole (kindOf (getD ws i 0)) i out to)
 unfolding killW
 kill-step zero ws notes fault hole i out to h = absurd (h refl)
-kill-step (suc d) ws notes fault hole i out to h = rw (pred-suc d)
+kill-step (suc d) ws notes fault hole i out to h = rw (sub-one (suc d))
 
 -- a notice's three words one after the other
 pub notice-made :
@@ -52,7 +52,7 @@ both r o = record { moved = r; out = o }
 -- an executor whose body is killed to nil, or not
 module _
     (sub : Walk) (ws : List ℕ) (fault i : ℕ) (out : List ℕ) (to one : ℕ) (start : List ℕ) (p : Moved) (next : List ℕ) (r : Moved) (last : List ℕ)
-    (inside : i < length ws) (a : one ≡ onward to 1) (b : start ≡ set out to 6144)
+    (inside : i < length ws) (a : one ≡ onward to 1) (b : start ≡ set out to (headOf Kind.par 0))
     (c : p ≡ sub (i + 3) start one .moved) (d : next ≡ sub (i + 3) start one .out) (e : p .end ≡ 0 → ⊥)
   where
     pub executor-alone :
@@ -102,7 +102,7 @@ par-gone below sub ws notes i out to e r last g h x y = rw (g, ← h, x, y)
 -- a par whose left side is killed to nil, or not
 module _
     (below : ℕ) (sub : Walk) (ws notes : List ℕ) (i : ℕ) (out : List ℕ) (to one : ℕ) (start : List ℕ) (p : Moved) (next : List ℕ) (r : Moved) (last : List ℕ)
-    (g : goneW ws i ≡ false) (a : one ≡ onward to 1) (b : start ≡ set out to 6144)
+    (g : goneW ws i ≡ false) (a : one ≡ onward to 1) (b : start ≡ set out to (headOf Kind.par 0))
     (c : p ≡ sub i start one .moved) (d : next ≡ sub i start one .out) (e : p .end ≡ 0 → ⊥)
   where
     pub par-right :
@@ -146,17 +146,15 @@ module _
 
 -- a live scope with nil body
 pub scope-stuck :
-    (d : ℕ) (sub : Walk) (ws notes : List ℕ) (hole i : ℕ) (out : List ℕ) (to body h w : ℕ) →
+    (d : ℕ) (sub : Walk) (ws notes : List ℕ) (hole i : ℕ) (out : List ℕ) (to body z : ℕ) →
     i < length ws →
     body ≡ passList d ws notes (i + 2) →
     (body ≡ 0 → ⊥) →
     body < length ws →
-    h ≡ getD ws i 0 →
-    (h / 4 % 2 ≡ 1 → ⊥) →
-    w ≡ getD ws body 0 →
-    w ≡ 0 →
+    z ≡ zombieOf (getD ws i 0) →
+    (z ≡ 1 → ⊥) →
+    getD ws body 0 ≡ 0 →
     stuckW out ≡ scopeW d sub ws notes hole i out to
 unfolding scopeW scopeAt
-scope-stuck d sub ws notes hole i out to body h w e1 e2 e3 e4 e5 e6 e7 e8 =
-    rw
-    (lt-leb (length ws) i e1, ← e2, ne-eqb body 0 e3, lt-leb (length ws) body e4, ← e5, ne-eqb (h / 4 % 2) 1 e6, ← e7, e8)
+scope-stuck d sub ws notes hole i out to body z e1 e2 e3 e4 e5 e6 e7 =
+    rw (lt-leb (length ws) i e1, ← e2, ne-eqb body 0 e3, lt-leb (length ws) body e4, ← e5, ne-eqb z 1 e6, e7)

@@ -19,8 +19,9 @@ use Rattle.sock.proofs.Fields.{bit-below}
 use Rattle.sock.proofs.Measures.{words-nil, words-par, words-executor, words-waiter, words-notice, size-nil, size-par, size-executor, size-waiter, size-notice}
 use Rattle.sock.proofs.Located.{size-positive}
 use Rattle.skipping.specs.Pass.{passEnd}
+use Rattle.layout.specs.Killed.{noticeHead, noticeWord}
 use Rattle.writers.specs.Writing.{pasted}
-use Rattle.killing.specs.Killing.{Killed, Walk, made, noticeHead, noticeWord, deadWord, waiterW, keptW, vanishedW, noticeW, executorOn, executorW}
+use Rattle.killing.specs.Killing.{Killed, Walk, made, deadWord, waiterW, keptW, vanishedW, noticeW, executorOn, executorW}
 use Rattle.writers.proofs.Laid.{Near, onward-near, Laid, laid-put, laid-then, laid-again, laid-set, laid-copy, copy-end}
 use Rattle.sock.proofs.Positions.{stands-within, word-at}
 use Rattle.killing.proofs.Gives.{Gives, stops, gives, Does, goes-stops, goes-on}

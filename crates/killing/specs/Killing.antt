@@ -1,13 +1,15 @@
 -- Killing on words, as the code goes: where the source ends, where the writing has come to, and the output then. A piece for each kind
 -- takes the killing one level down. The proofs show that it is the definitions' killing and climb; no contract of a call names it.
-use Prim.Native.Nat.{ℕ, zero, suc, _+_, _-_, _*_, _/_, _%_}
+use Prim.Native.Nat.{ℕ, zero, suc, _+_, _-_}
 use mathlib.Core.Bool.{Bool, true, false, cond}
 use mathlib.Core.List.{List}
 use lib.Dec.{ltb, leb, eqb}
 use lib.ListN.{length, getD, set}
 use Rattle.sock.specs.Kind
-use Rattle.sock.specs.Words.{kindOf, zombieOf}
+use Rattle.sock.specs.Words.{kindOf, zombieOf, headOf}
+use Rattle.sock.specs.Running.{unmarked, ownName, markNumber}
 use Rattle.skipping.specs.Pass.{passEnd, passList}
+use Rattle.layout.specs.Killed.{zombieHead, noticeHead, noticeWord, waiterWord}
 use Rattle.layout.specs.Positions.{onward}
 use Rattle.writers.specs.Writing.{pasted, pastedEnd, lowered}
 use Rattle.killing.specs.declared.kill.Moved.{Moved}
@@ -42,21 +44,14 @@ goes k next = cond (eqb (k .moved .end) 0) (stuckW (k .out)) next
 
 -- a scope's head as a zombie's, with mark 2 and with mark 0
 abbrev pub ownZombie : ℕ → ℕ
-ownZombie h = h / 32 * 32 + 20
+ownZombie h = zombieHead h (markNumber ownName)
 
 abbrev pub plainZombie : ℕ → ℕ
-plainZombie h = h / 32 * 32 + 4
-
--- a notice's head from an executor's, and its first word from the fault and the executor's
-abbrev pub noticeHead : ℕ → ℕ
-noticeHead h = 36864 + h / 32 % 64 * 32
-
-abbrev pub noticeWord : ℕ → ℕ → ℕ
-noticeWord fault w = fault % 64 * 1024 + w / 8192 * 128
+plainZombie h = zombieHead h (markNumber unmarked)
 
 -- a waiter's first word with the bit dead
 abbrev pub deadWord : ℕ → ℕ
-deadWord w = 32768 + w % 32768
+deadWord w = waiterWord 1 w
 
 -- ---- those without parts that are killed
 
@@ -118,7 +113,7 @@ leftOn d sub ws notes one to k =
 
 unfoldable pub parW : ℕ → Walk → List ℕ → List ℕ → Walk
 parW d sub ws notes i out to =
-    cond (goneW ws i) (sub (passEnd d ws notes i) out to) (leftOn d sub ws notes (onward to 1) to (sub i (set out to 6144) (onward to 1)))
+    cond (goneW ws i) (sub (passEnd d ws notes i) out to) (leftOn d sub ws notes (onward to 1) to (sub i (set out to (headOf Kind.par 0)) (onward to 1)))
 
 -- ---- scope
 
@@ -169,7 +164,7 @@ executorOn ws fault i to k =
 
 unfoldable pub executorW : Walk → List ℕ → ℕ → Walk
 executorW sub ws fault i out to =
-    cond (leb (length ws) i) (stuckW out) (executorOn ws fault i to (sub (i + 3) (set out to 6144) (onward to 1)))
+    cond (leb (length ws) i) (stuckW out) (executorOn ws fault i to (sub (i + 3) (set out to (headOf Kind.par 0)) (onward to 1)))
 
 -- ---- by kind
 

@@ -1,18 +1,21 @@
 // Killing with a fault, into scratch. A scope around the position `hole`, from which a fault climbs, turns zombie with mark 0, any other
 // one with mark 2; but for that the climb does what killing does. What it need not look into it passes over by the notes noted of it, not
 // word by word. Total: what does not fit can't be killed.
+use layout::field;
+use layout::field::kind_of;
+use layout::field::zombie_of;
 use layout::head;
+use layout::killed;
 use layout::kind;
 use layout::number::further;
 use layout::number::less_one;
-use layout::number::wide;
 use skipping::pass::pass;
 use skipping::pass::pass_list;
 use writers::write::copy;
 use writers::write::down;
 use writers::write::put;
 ghost use mathlib.Core.Path.{_≡_};
-ghost use Rattle.killing.specs.Killing.{stopped, ownZombie, plainZombie, headFor, noticeHead, noticeWord, deadWord};
+ghost use Rattle.killing.specs.Killing.{stopped, ownZombie, plainZombie, headFor, deadWord};
 ghost use Rattle.killing.specs.Killing.{noticeW, waiterW, keptW, vanishedW, killW, goneW, seqW, parW, rightW, scopeW, zombieW, liveW, executorW};
 
 // Where the source ends and where the writing has come to; `nil` is 1 if only nil was written, else 0, a number since the bytes behind a
@@ -51,7 +54,7 @@ pub fn kill(
     if ws.len() <= at {
         return stuck();
     }
-    match wide(ws[at]) / 2048 {
+    match kind_of(ws[at]) {
         kind::SEQ => kill_seq(ws, notes, at + 1, fault, hole, depth - 1, out, to),
         kind::PAR => kill_par(ws, notes, at + 1, fault, hole, depth - 1, out, to),
         kind::SCOPE => kill_scope(ws, notes, at, fault, hole, depth - 1, out, to),
@@ -94,7 +97,7 @@ fn gone(ws: &[u16], at: usize) -> bool
     if ws.len() <= at {
         return false;
     }
-    match wide(ws[at]) / 2048 {
+    match kind_of(ws[at]) {
         kind::SEQ => false,
         kind::PAR => false,
         kind::SCOPE => false,
@@ -197,10 +200,10 @@ fn kill_scope(
     if ws.len() <= body {
         return stuck();
     }
-    if wide(ws[at]) / 4 % 2 == 1 {
+    if zombie_of(ws[at]) == 1 {
         return kill_zombie(ws, notes, at, body, fault, hole, depth, out, to);
     }
-    if wide(ws[body]) == 0 {
+    if ws[body] == head::NIL {
         return stuck();
     }
     kill_live(ws, notes, at, body, fault, hole, depth, out, to)
@@ -278,13 +281,13 @@ fn zombie_head(ws: &[u16], at: usize, hole: usize, end: usize) -> u16
 fn own_zombie(h: u16) -> u16
     ensures { λ r. ⌜ r ≡ ownZombie h ⌝ }
 {
-    h / 32 * 32 + 20
+    killed::zombie(h, field::OWN_NAME)
 }
 
 fn plain_zombie(h: u16) -> u16
     ensures { λ r. ⌜ r ≡ plainZombie h ⌝ }
 {
-    h / 32 * 32 + 4
+    killed::zombie(h, field::UNMARKED)
 }
 
 // An executor becomes its killed body par a notice.
@@ -324,26 +327,13 @@ fn notice(ws: &[u16], at: usize, fault: u16, end: usize, out: &mut [u16], to: us
     if ws.len() - at < 3 {
         return stuck();
     }
-    let a = put(out, to, notice_head(ws[at]));
-    let b = put(out, a, notice_word(fault, ws[at + 1]));
+    let a = put(out, to, killed::notice(ws[at]));
+    let b = put(out, a, killed::notice_word(fault, ws[at + 1]));
     Moved {
         end: end,
         to: put(out, b, ws[at + 2]),
         nil: 0,
     }
-}
-
-// From an executor's head, and from a fault and an executor's client.
-fn notice_head(h: u16) -> u16
-    ensures { λ r. ⌜ r ≡ noticeHead h ⌝ }
-{
-    36864 + h / 32 % 64 * 32
-}
-
-fn notice_word(fault: u16, client: u16) -> u16
-    ensures { λ r. ⌜ r ≡ noticeWord fault client ⌝ }
-{
-    fault % 64 * 1024 + client / 8192 * 128
 }
 
 // A waiter turns dead.
@@ -379,7 +369,7 @@ fn kill_waiter(
 fn dead_word(w: u16) -> u16
     ensures { λ r. ⌜ r ≡ deadWord w ⌝ }
 {
-    32768 + w % 32768
+    killed::waiter_word(1, w)
 }
 
 // A notice stays.
@@ -402,7 +392,7 @@ fn vanish(ws: &[u16], notes: &[u16], at: usize, depth: usize, out: &mut [u16], t
 {
     Moved {
         end: pass(ws, notes, at, depth),
-        to: put(out, to, 0),
+        to: put(out, to, head::NIL),
         nil: 1,
     }
 }

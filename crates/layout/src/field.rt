@@ -2,7 +2,8 @@
 use crate::number::wide;
 ghost use mathlib.Core.Path.{_≡_};
 ghost use Prim.Native.Nat.{_<_};
-ghost use Rattle.sock.specs.Words.{kindOf, countOf, variableOf, nameOf, secondOf, markOf, zombieOf, firstVariable, nextVariable, firstName, executorsClient, deadOf, waitersServer, noticesClient, keyOf, tagOf, readVariable, valueOf, scopeKey, highWord, lowWord};
+ghost use lib.Dec.{leb};
+ghost use Rattle.sock.specs.Words.{kindOf, countOf, variableOf, nameOf, secondOf, markOf, zombieOf, firstVariable, nextVariable, firstName, executorsClient, deadOf, waitersServer, noticesClient, keyOf, keyWord, scopeKey, tagOf, readVariable, valueOf, highWord, lowWord};
 
 // A head's kind.
 pub fn kind_of(h: u16) -> usize
@@ -38,6 +39,14 @@ pub fn second_of(h: u16) -> usize
 {
     wide(h) % 32
 }
+
+// How many names there are.
+pub const NAMES: usize = 64;
+
+// The marks of a scope that marks no fault: none, and its own name.
+pub const UNMARKED: u16 = 0;
+
+pub const OWN_NAME: u16 = 2;
 
 // Document 01's mark, 2 bits after a scope's name.
 pub fn mark_of(h: u16) -> usize
@@ -134,6 +143,13 @@ pub fn low_word(v: u32) -> u16
     ensures { λ r. ⌜ r ≡ lowWord v ⌝ }
 {
     (v % 65536) as u16
+}
+
+// Whether a key word is a scope's.
+pub fn is_scope_key(w: u16) -> bool
+    ensures { λ r. ⌜ r ≡ leb (keyWord (scopeKey 0)) w ⌝ }
+{
+    32768 <= w
 }
 
 // What an expression is, in 3 bits.

@@ -3,6 +3,8 @@ ghost use mathlib.Core.Path.{_≡_};
 ghost use Rattle.layout.specs.Heads.{executorHead, clientWord, waiterHead, serverWord, throwHead, clearedHead, faultedHead, faultWord};
 
 // Where nothing but the kind is in them.
+pub const NIL: u16 = 0;
+
 pub const SEQ: u16 = 4096;
 
 pub const PAR: u16 = 6144;

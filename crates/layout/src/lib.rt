@@ -4,6 +4,7 @@ pub mod context;
 pub mod field;
 pub mod head;
 pub mod key;
+pub mod killed;
 pub mod kind;
 pub mod limit;
 pub mod mark;

@@ -14,6 +14,11 @@ pub const DEEPEST: usize = 64;
 
 pub const LONGEST: usize = 8192;
 
+pub const STANDARD: Limits = Limits {
+    deepest: DEEPEST,
+    longest: LONGEST,
+};
+
 pub fn standard() -> Limits
     ensures { λ r. ⌜ figures r ≡ standard ⌝ }
 {

@@ -4,6 +4,11 @@ ghost use Prim.Native.Nat.{_-_, _<_};
 ghost use lib.ListN.{getD};
 ghost use Rattle.layout.specs.Positions.{onward};
 
+// The largest word, and a figure above all words.
+pub const LARGEST: u16 = 65535;
+
+pub const ABOVE: usize = 65536;
+
 // A word as a number.
 pub fn wide(w: u16) -> usize
     ensures { λ r. ⌜ (r ≡ w) × (r < 65536) ⌝ }

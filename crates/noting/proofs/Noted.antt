@@ -10,6 +10,7 @@ use lib.Bits.{bitAnd}
 use lib.Dec.{T, leb, ltb, eqb, leb→le}
 use lib.ListN.{length, getD, set, drop, replicate, length-append, length-drop}
 use lib.Seq.{set-out, getD-set-same, getD-set-other}
+use Rattle.sock.specs.Configuration.{Limits}
 use Rattle.sock.specs.Term.{Block}
 use Rattle.sock.specs.Layout.{words, entriesWords, blockWords, depth, entriesDepth, blockDepth}
 use Rattle.sock.specs.Reading.{Got, code}
@@ -18,8 +19,10 @@ use Rattle.sock.proofs.Reading.{Holds, something, holds-then, holds-check, Take
 use Rattle.skipping.specs.Pass.{noteAt, listNoteAt}
 use Rattle.skipping.proofs.Skips.{code-end, list-end}
 use Rattle.skipping.proofs.Notes.{RightNote, RightListNote, Right}
+use Rattle.reading.specs.Survey.{opens}
 use Rattle.reading.specs.Tables.{headMask}
 use Rattle.reading.specs.Walk.{when, at, processEnd, listEnd, markedEnd, endAfter}
+use Rattle.reading.proofs.Surveys.{is-open}
 use Rattle.reading.proofs.Combining.{Words}
 use Rattle.reading.proofs.Contexts.{numberOf}
 use Rattle.reading.proofs.Ending.{Ends, fails, reads}
@@ -217,19 +220,12 @@ module _ (ws : List ℕ) (ok : Words ws) (short : length ws < 65536) (n issued :
 
 -- ---- the notes of a configuration
 
-pub survey-right : (deepest longest : ℕ) → longest < 65536 → (ws : List ℕ) → Words ws → (m : List ℕ) → Right ws m → Right ws (surveyNotes deepest longest ws m)
+pub survey-right : (limits : Limits) → limits .longest < 65536 → (ws : List ℕ) → Words ws → (m : List ℕ) → Right ws m → Right ws (surveyNotes limits ws m)
 unfolding surveyNotes
-survey-right deepest longest low ws ok m r = by (leb 2 (length ws) && leb (length ws) longest && ltb 0 (at ws 0) && leb (at ws 0) 8) refl
+survey-right limits low ws ok m r = by (opens limits ws) refl
   where
-    few : (a b c d : Bool) → a && b && c && d ≡ true → T b
-    few true true c d e = tt
-    few true false c d e = absurd (true≢false (sym e))
-    few false b c d e = absurd (true≢false (sym e))
-
-    by :
-        (b : Bool) → leb 2 (length ws) && leb (length ws) longest && ltb 0 (at ws 0) && leb (at ws 0) 8 ≡ b →
-        Right ws (cond b (enginesNotes deepest ws (at ws 0 * 65536 + at ws 1) (at ws 0) 2 m) m)
+    by : (b : Bool) → b ≡ opens limits ws → Right ws (cond b (enginesNotes (limits .deepest) ws (at ws 0 * 65536 + at ws 1) (at ws 0) 2 m) m)
     by false e = r
     by true e =
-        let short : length ws ≤ longest = leb→le (length ws) longest (few (leb 2 (length ws)) (leb (length ws) longest) (ltb 0 (at ws 0)) (leb (at ws 0) 8) e) in
-        engines-right ws ok (omega arith) (at ws 0) (at ws 1) (ok 1) deepest (at ws 0) 2 m r
+        let o = is-open limits ws true e refl in
+        engines-right ws ok (omega (arith, o .short)) (at ws 0) (at ws 1) (ok 1) (limits .deepest) (at ws 0) 2 m r

@@ -11,8 +11,10 @@ use lib.Bits.{bitAnd}
 use lib.Dec.{leb, ltb, eqb}
 use lib.ListN.{length}
 use lib.Seq.{set-out}
+use Rattle.sock.specs.Configuration.{Limits}
 use Rattle.sock.specs.Kind.{rows, rowOf}
 use Rattle.sock.specs.Reading.{allowed, placed}
+use Rattle.reading.specs.Survey.{opens}
 use Rattle.reading.specs.Tables.{spareOf, headMask}
 use Rattle.reading.specs.Walk.{on, when, at, exprEnd, processEnd, twoEnd, restOf, entriesEnd, listEnd, markedEnd, scopeEnd, endAfter, executorEnd, nodeEnd}
 use Rattle.sock.proofs.Tests.{tests}
@@ -257,17 +259,14 @@ module _
           ∙ rw (le-ltb (length ws - i) 64 p, ← ended, ← noted, ne-eqb f 0 some, less))
           ∙ same
 
--- what the code knows where it goes through the engines
-pub survey-notes :
-    (deepest longest : ℕ) (ws : List ℕ) (n w : ℕ) (m : List ℕ) →
-    2 ≤ length ws →
-    length ws ≤ longest →
-    n ≡ at ws 0 →
-    w ≡ at ws 1 →
-    (n ≡ 0 → ⊥) →
-    n ≤ 8 →
-    enginesNotes deepest ws (n * 65536 + w) n 2 m ≡ surveyNotes deepest longest ws m
-unfolding surveyNotes
-survey-notes deepest longest ws n w m p q e f some few =
-    let passed : (leb 2 (length ws) && leb (length ws) longest && ltb 0 n && leb n 8) ≡ true = simp (tests, p, q, some, few) in
-    rw (← e, ← f, passed)
+-- ---- the whole
+
+module _ (limits : Limits) (ws : List ℕ) (b : Bool) (same : b ≡ opens limits ws) (m : List ℕ) where
+  pub survey-notes :
+      (n w : ℕ) → b ≡ true → n ≡ at ws 0 → w ≡ at ws 1 → enginesNotes (limits .deepest) ws (n * 65536 + w) n 2 m ≡ surveyNotes limits ws m
+  unfolding surveyNotes
+  survey-notes n w e p q = rw (← same, e, p, q)
+
+  pub survey-none : b ≡ false → m ≡ surveyNotes limits ws m
+  unfolding surveyNotes
+  survey-none e = rw (← same, e)

@@ -9,8 +9,10 @@ use lib.Dec.{leb, ltb, eqb}
 use lib.ListN.{length, set}
 use Rattle.sock.specs.Kind
 use Rattle.sock.specs.Words.{kindOf, headOf}
+use Rattle.sock.specs.Configuration.{Limits}
 use Rattle.layout.specs.Contexts.{code, running, notNil, receiver, root}
 use Rattle.layout.specs.Units
+use Rattle.reading.specs.Survey.{opens}
 use Rattle.reading.specs.Tables.{headMask}
 use Rattle.reading.specs.Walk.{at, processEnd, markedEnd, endAfter}
 
@@ -83,7 +85,5 @@ enginesNotes deepest ws bound (suc left) i m =
     (cond (eqb (processEnd deepest ws bound root (i + 64)) 0) (notesW deepest ws bound root (i + 64) m)
     (enginesNotes deepest ws bound left (processEnd deepest ws bound root (i + 64)) (notesW deepest ws bound root (i + 64) m)))
 
-unfoldable pub surveyNotes : ℕ → ℕ → List ℕ → List ℕ → List ℕ
-surveyNotes deepest longest ws m =
-    cond (leb 2 (length ws) && leb (length ws) longest && ltb 0 (at ws 0) && leb (at ws 0) 8)
-    (enginesNotes deepest ws (at ws 0 * 65536 + at ws 1) (at ws 0) 2 m) m
+unfoldable pub surveyNotes : Limits → List ℕ → List ℕ → List ℕ
+surveyNotes limits ws m = cond (opens limits ws) (enginesNotes (limits .deepest) ws (at ws 0 * 65536 + at ws 1) (at ws 0) 2 m) m

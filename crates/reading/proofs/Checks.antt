@@ -49,7 +49,7 @@ start-by limits ws = by (readConfig limits ws)
 
 -- ---- the readable check
 
-module _ (limits : Limits) (ws : List ℕ) (ok : Words ws) (s : Starts) (e : s ≡ surveyed (limits .deepest) (limits .longest) 11 ws) where
+module _ (limits : Limits) (ws : List ℕ) (ok : Words ws) (s : Starts) (e : s ≡ surveyed limits 11 ws) where
   pub not-readable : s .engines ≡ 0 → 1 ≡ checkReadable limits ws
   unfolding passed _!_
   not-readable h = sym (readable-by limits ws none (survey-unknown limits ws ok s e h))
@@ -110,7 +110,7 @@ not-so : (b : Bool) → (T b → ⊥) → false ≡ b
 not-so true f = absurd (f tt)
 not-so false f = refl
 
-module _ (limits : Limits) (ws : List ℕ) (ok : Words ws) (s : Starts) (e : s ≡ surveyed (limits .deepest) (limits .longest) 3 ws) where
+module _ (limits : Limits) (ws : List ℕ) (ok : Words ws) (s : Starts) (e : s ≡ surveyed limits 3 ws) where
   pub not-code : s .engines ≡ 0 → false ≡ eqb (checkStart limits ws) 0
   unfolding isFresh fresh
   not-code h = by (readConfig limits ws) refl ∙ sym (start-by limits ws)

@@ -46,7 +46,7 @@ module _ (limits : Limits) (ws : List ℕ) where
   unknown-by r (isRead {c} f) h = let some : 0 < length (c .engines) = config-found limits ws c r .1 .fitting .some in absurd (omega arith)
 
 -- the survey as an engine's root
-module _ (limits : Limits) (ws : List ℕ) (ok : Words ws) (s : Starts) (e : s ≡ surveyed (limits .deepest) (limits .longest) 11 ws) where
+module _ (limits : Limits) (ws : List ℕ) (ok : Words ws) (s : Starts) (e : s ≡ surveyed limits 11 ws) where
   pub survey-known : (s .engines ≡ 0 → ⊥) → Known limits ws s
   survey-known h = known-by limits ws refl (rw (← e) at (survey-law limits ws ok)) h
 
@@ -94,7 +94,7 @@ module _ (limits : Limits) (ws : List ℕ) where
       let some : 0 < length (c .engines) = config-found limits ws c (code-config limits ws c r .0) .1 .fitting .some in
       absurd (omega arith)
 
-module _ (limits : Limits) (ws : List ℕ) (ok : Words ws) (s : Starts) (e : s ≡ surveyed (limits .deepest) (limits .longest) 3 ws) where
+module _ (limits : Limits) (ws : List ℕ) (ok : Words ws) (s : Starts) (e : s ≡ surveyed limits 3 ws) where
   code-surveyed : Surveyed (readAs 0 limits ws) s
   code-surveyed = rw e (survey-reads 0 (omega arith) limits ws ok λ n issued few word m f. awake-asNode' (code-runs few word f))
 

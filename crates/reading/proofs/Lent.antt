@@ -49,7 +49,7 @@ known-lent {limits} {ws} {s} e k h =
       part = sym (part-by limits ws e (some c) (k .reads) ∙ rw (lt-ltb e (length (c .engines)) b, count, first));
     }
 
-module _ (limits : Limits) (ws : List ℕ) (ok : Words ws) (s : Starts) (q : s ≡ surveyed (limits .deepest) (limits .longest) 11 ws) (e : ℕ) where
+module _ (limits : Limits) (ws : List ℕ) (ok : Words ws) (s : Starts) (q : s ≡ surveyed limits 11 ws) (e : ℕ) where
   pub is-lent : e < s .engines → Lent limits ws s e
   is-lent h = known-lent e (survey-known limits ws ok s q (λ z. omega arith)) h
 

@@ -26,7 +26,7 @@ use Rattle.sock.proofs.Located.{values-length, startOf}
 use Rattle.reading.specs.declared.survey.Starts.{Starts}
 use Rattle.reading.specs.Tables.{stratumOf}
 use Rattle.reading.specs.Walk.{at, processEnd}
-use Rattle.reading.specs.Survey.{noStarts, enginesFrom, surveyed}
+use Rattle.reading.specs.Survey.{noStarts, enginesFrom, opens, surveyed}
 use Rattle.reading.proofs.Combining.{Words, same-test}
 use Rattle.reading.proofs.Ending.{Ends, fails, reads}
 use Rattle.reading.proofs.Processes.{process-ends}
@@ -237,8 +237,8 @@ module _ (x : ℕ) (few : x < 3) (limits : Limits) where
 
   pub survey-reads :
       (ws : List ℕ) → Words ws → ((n issued : ℕ) → n ≤ 8 → issued < 65536 → (m : Node) → Fits (stratumOf n issued x) root m → asNode (awake m) ≡ m) →
-      Surveyed (readAs x limits ws) (surveyed (limits .deepest) (limits .longest) (x * 4 + 3) ws)
-  unfolding readAs surveyed
+      Surveyed (readAs x limits ws) (surveyed limits (x * 4 + 3) ws)
+  unfolding readAs surveyed opens
   survey-reads [] ok back = unread
   survey-reads (n ∷ []) ok back = unread
   survey-reads (n ∷ issued ∷ ws) ok back =
@@ -251,6 +251,6 @@ module _ (x : ℕ) (few : x < 3) (limits : Limits) where
       let t = and-left (ltb 0 n && leb n 8) (isWord issued) t in
       leb→le n 8 (and-right (ltb 0 n) (leb n 8) t))
 
-pub survey-law : (limits : Limits) (ws : List ℕ) → Words ws → Surveyed (readConfig limits ws) (surveyed (limits .deepest) (limits .longest) 11 ws)
+pub survey-law : (limits : Limits) (ws : List ℕ) → Words ws → Surveyed (readConfig limits ws) (surveyed limits 11 ws)
 survey-law limits ws ok =
     rw read-running at (survey-reads 2 (omega arith) limits ws ok λ n issued few word m f. awake-asNode' f)

@@ -4,18 +4,19 @@ use Prim.Native.Nat.{ℕ, zero, suc, _+_, _-_, _*_, _/_, _%_, _<_, _≤_}
 use native.Mathlib.Omega.{arith}
 use native.Mathlib.Numerals.{sub-one}
 use mathlib.Core.Path.{_≡_, refl, sym, _∙_}
-use mathlib.Core.Bool.{true, _&&_, cond}
+use mathlib.Core.Bool.{Bool, true, false, _&&_, cond}
 use mathlib.Core.List.{List}
-use lib.Dec.{leb, ltb, eqb}
+use lib.Dec.{T, leb, ltb, eqb, leb→le}
 use lib.ListN.{length, set, replicate}
 use borrow.Author.Tests.{lt-ltb, le-ltb, eq-eqb, ne-eqb}
 use Rattle.sock.specs.Reading.{Got}
+use Rattle.sock.specs.Configuration.{Limits}
+use Rattle.sock.proofs.Logic.{and-left, and-right, true-test}
 use Rattle.reading.specs.declared.survey.Starts.{Starts}
 use Rattle.reading.specs.Walk.{at, processEnd}
-use Rattle.reading.specs.Survey.{noStarts, enginesFrom, surveyed}
+use Rattle.reading.specs.Survey.{noStarts, enginesFrom, opens, surveyed}
 use Rattle.reading.proofs.Combining.{Words}
 use Rattle.reading.proofs.Ending.{Ends, fails, reads}
-use Rattle.reading.proofs.Tests.{tests}
 use Rattle.reading.proofs.Processes.{process-ends}
 
 -- ---- a process ends inside the words, past where it begins
@@ -69,17 +70,35 @@ module _
   pub all-read : n ≤ e → i ≡ length ws → record { engines = n; starts = set starts n (i + 64) } ≡ whole
   all-read h t = sym (engines-end sub ws n (n - e) e i starts (omega arith) ∙ simp (eq-eqb i (length ws) t)) ∙ same
 
--- what the code knows where it goes through the engines
-pub surveyed-all :
-    (deepest longest c : ℕ) (ws : List ℕ) (n w : ℕ) →
-    2 ≤ length ws →
-    length ws ≤ longest →
-    n ≡ at ws 0 →
-    w ≡ at ws 1 →
-    (n ≡ 0 → ⊥) →
-    n ≤ 8 →
-    enginesFrom (processEnd deepest ws (n * 65536 + w) c) ws n n 0 2 (replicate 9 0) ≡ surveyed deepest longest c ws
-unfolding surveyed
-surveyed-all deepest longest c ws n w p q e f some few =
-    let passed : (leb 2 (length ws) && leb (length ws) longest && ltb 0 n && leb n 8) ≡ true = simp (tests, p, q, some, few) in
-    rw (← e, ← f, passed)
+-- ---- the whole
+
+-- what the code knows of words that begin and end as a configuration may
+pub record Opened (limits : Limits) (ws : List ℕ) : Type 0 where
+  pub long : 2 ≤ length ws
+  pub short : length ws ≤ limits .longest
+  pub few : at ws 0 ≤ 8
+
+module _ (limits : Limits) (ws : List ℕ) (b : Bool) (same : b ≡ opens limits ws) where
+  pub is-open : b ≡ true → Opened limits ws
+  unfolding opens
+  is-open e =
+      let long : Bool = leb 2 (length ws) in
+      let short : Bool = leb (length ws) (limits .longest) in
+      let some : Bool = ltb 0 (at ws 0) in
+      let t : T (long && short && some && leb (at ws 0) 8) = true-test (sym same ∙ e) in
+      let u : T (long && short) = and-left (long && short) some (and-left (long && short && some) (leb (at ws 0) 8) t) in
+      record {
+        long = leb→le 2 (length ws) (and-left long short u);
+        short = leb→le (length ws) (limits .longest) (and-right long short u);
+        few = leb→le (at ws 0) 8 (and-right (long && short && some) (leb (at ws 0) 8) t);
+      }
+
+  pub surveyed-all :
+      (c n w : ℕ) → b ≡ true → n ≡ at ws 0 → w ≡ at ws 1 →
+      enginesFrom (processEnd (limits .deepest) ws (n * 65536 + w) c) ws n n 0 2 (replicate 9 0) ≡ surveyed limits c ws
+  unfolding surveyed
+  surveyed-all c n w e p q = rw (← same, e, p, q)
+
+  pub surveyed-none : (c : ℕ) → b ≡ false → noStarts ≡ surveyed limits c ws
+  unfolding surveyed
+  surveyed-none c e = rw (← same, e)

@@ -119,7 +119,7 @@ ends-by : (limits : Limits) (ws : List ℕ) (serial : ℕ) (o : Option Config) �
 unfolding ends known
 ends-by limits ws serial o r = rw r
 
-module _ (limits : Limits) (ws : List ℕ) (ok : Words ws) (s : Starts) (e : s ≡ surveyed (limits .deepest) (limits .longest) 11 ws) (serial : ℕ) where
+module _ (limits : Limits) (ws : List ℕ) (ok : Words ws) (s : Starts) (e : s ≡ surveyed limits 11 ws) (serial : ℕ) where
   pub ends-unread : s .engines ≡ 0 → noCounts 1 ≡ endCounts (ends limits ws serial)
   unfolding counted _!_ _>>=_
   ends-unread h = sym (ap endCounts (ends-by limits ws serial none (survey-unknown limits ws ok s e h)))

@@ -1,12 +1,7 @@
 -- What the calls answer, in the types that the code declares.
 use Prim.Native.Nat.{ℕ}
-use Rattle.sock.specs.Configuration.{Limits}
 use Rattle.sock.specs.Calls.{Ends}
 use Rattle.reading.specs.declared.ends.EndCounts.{EndCounts}
-
--- the limits that the code is handed
-abbrev pub within : ℕ → ℕ → Limits
-within deepest longest = record { deepest = deepest; longest = longest }
 
 abbrev pub endCounts : Ends → EndCounts
 endCounts e = record { number = e .number; waiters = e .waiters; workers = e .workers }

@@ -1,5 +1,10 @@
 // The calls that only read: readable check, start check, process of an engine.
 use crate::survey::survey;
+use layout::context::FRESH_ROOT;
+use layout::context::ROOT;
+use layout::limit::Limits;
+use layout::limit::STANDARD;
+use layout::limit::VALUES;
 use layout::number::wide;
 ghost use mathlib.Core.Path.{_≡_};
 ghost use Prim.Native.Nat.{ℕ, _<_};
@@ -7,18 +12,14 @@ ghost use lib.Dec.{eqb};
 ghost use lib.ListN.{length, getD};
 ghost use Rattle.sock.specs.Configuration.{standard};
 ghost use Rattle.sock.specs.Calls.{checkReadable, checkStart, processOf};
-ghost use Rattle.reading.specs.Answers.{within};
+ghost use Rattle.layout.specs.Limits.{figures};
 ghost use Rattle.reading.specs.Tally.{noneNil};
-
-const DEEPEST: usize = 64;
-
-const LONGEST: usize = 8192;
 
 // Readable check: 0, or 1 if the configuration is not readable.
 pub fn check_readable(ws: &[u16]) -> u8
     ensures { λ r. ⌜ r ≡ checkReadable standard (now (ws .entry)) ⌝ }
 {
-    let s = survey(ws, DEEPEST, LONGEST, 11);
+    let s = survey(ws, STANDARD, ROOT);
     if s.engines == 0 { 1 } else { 0 }
 }
 
@@ -39,10 +40,10 @@ fn none_nil(ws: &[u16], starts: [usize; 9], n: usize) -> bool
 }
 
 // Whether every engine's process is a scope that has not begun, and no serial is issued.
-fn is_fresh(ws: &[u16], deepest: usize, longest: usize) -> bool
-    ensures { λ r. ⌜ r ≡ eqb (checkStart (within deepest longest) (now (ws .entry))) 0 ⌝ }
+fn is_fresh(ws: &[u16], limits: Limits) -> bool
+    ensures { λ r. ⌜ r ≡ eqb (checkStart (figures limits) (now (ws .entry))) 0 ⌝ }
 {
-    let s = survey(ws, deepest, longest, 3);
+    let s = survey(ws, limits, FRESH_ROOT);
     let n = s.engines;
     if n == 0 {
         return false;
@@ -58,7 +59,7 @@ fn is_fresh(ws: &[u16], deepest: usize, longest: usize) -> bool
 pub fn check_start(ws: &[u16]) -> u8
     ensures { λ r. ⌜ r ≡ checkStart standard (now (ws .entry)) ⌝ }
 {
-    if is_fresh(ws, DEEPEST, LONGEST) {
+    if is_fresh(ws, STANDARD) {
         return 0;
     }
     if check_readable(ws) == 0 { 11 } else { 1 }
@@ -68,7 +69,7 @@ pub fn check_start(ws: &[u16]) -> u8
 pub fn process_of(ws: &[u16], engine: u16) -> &[u16]
     ensures { λ r. ⌜ now r ≡ processOf standard (now (ws .entry)) engine ⌝ }
 {
-    let s = survey(ws, DEEPEST, LONGEST, 11);
+    let s = survey(ws, STANDARD, ROOT);
     let e = wide(engine);
     let n = s.engines;
     if n <= e {
@@ -76,6 +77,6 @@ pub fn process_of(ws: &[u16], engine: u16) -> &[u16]
     }
     let starts = s.starts;
     let first = starts[e];
-    let end = starts[e + 1] - 64;
+    let end = starts[e + 1] - VALUES;
     &ws[first..end]
 }

@@ -9,7 +9,7 @@ use layout::context::RUNNING;
 use layout::key::NO_KEY;
 use layout::kind;
 use layout::limit::DEEPEST;
-use layout::limit::LONGEST;
+use layout::limit::STANDARD;
 use layout::number::wide;
 use layout::unit;
 use layout::unit::WORD;
@@ -175,7 +175,7 @@ fn total(
 pub fn ends(ws: &[u16], serial: u16) -> EndCounts
     ensures { λ r. ⌜ r ≡ endCounts (calls.ends standard (now (ws .entry)) serial) ⌝ }
 {
-    let s = survey(ws, DEEPEST, LONGEST, ROOT);
+    let s = survey(ws, STANDARD, ROOT);
     let n = s.engines;
     if n == 0 {
         return refused(1);

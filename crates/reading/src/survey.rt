@@ -1,10 +1,16 @@
 // Where each engine's process begins, once the whole configuration is known to be readable.
 use crate::reader::read;
+use layout::limit::ENGINES;
+use layout::limit::HEADER;
+use layout::limit::Limits;
+use layout::limit::VALUES;
 use layout::number::wide;
+use layout::unit::WORD;
 ghost use mathlib.Core.Path.{_≡_};
 ghost use Prim.Native.Nat.{_<_, _≤_};
 ghost use lib.ListN.{length, replicate};
-ghost use Rattle.reading.specs.Survey.{noStarts, enginesFrom, surveyed};
+ghost use Rattle.layout.specs.Limits.{figures};
+ghost use Rattle.reading.specs.Survey.{noStarts, enginesFrom, opens, surveyed};
 ghost use Rattle.reading.specs.Walk.{processEnd};
 
 // How many engines there are, 0 if the words are unreadable, and where each one's process begins; behind the last, where the next would.
@@ -22,24 +28,32 @@ pub fn unreadable() -> Starts
     }
 }
 
-// Every process in one context: 11 as an engine's root, 3 as one that has not begun; in none, from 12 on, nothing is readable.
-pub fn survey(ws: &[u16], deepest: usize, longest: usize, context: usize) -> Starts
-    ensures { λ r. ⌜ r ≡ surveyed deepest longest context (now (ws .entry)) ⌝ }
+// Whether the words begin and end as a configuration may: n from 1 on and at most 8, and no more words than the limits have.
+pub fn opened(ws: &[u16], limits: Limits) -> bool
+    ensures { λ r. ⌜ r ≡ opens (figures limits) (now (ws .entry)) ⌝ }
 {
-    if ws.len() < 2 {
-        return unreadable();
+    if ws.len() < HEADER {
+        return false;
     }
-    if longest < ws.len() {
-        return unreadable();
+    if limits.longest < ws.len() {
+        return false;
     }
     let n = wide(ws[0]);
     if n == 0 {
-        return unreadable();
+        return false;
     }
-    if 8 < n {
-        return unreadable();
+    n <= ENGINES
+}
+
+// Every process in one context: an engine's root, that of one that has not begun; where no process stands, nothing is readable.
+pub fn survey(ws: &[u16], limits: Limits, context: usize) -> Starts
+    ensures { λ r. ⌜ r ≡ surveyed (figures limits) context (now (ws .entry)) ⌝ }
+{
+    if opened(ws, limits) {
+        let n = wide(ws[0]);
+        return engines(ws, limits.deepest, context, n, n * WORD + wide(ws[1]));
     }
-    engines(ws, deepest, context, n, n * 65536 + wide(ws[1]))
+    unreadable()
 }
 
 fn engines(ws: &[u16], deepest: usize, context: usize, n: usize, bound: usize) -> Starts
@@ -47,14 +61,14 @@ fn engines(ws: &[u16], deepest: usize, context: usize, n: usize, bound: usize) -
     ensures { λ r. ⌜ r ≡ enginesFrom (processEnd deepest (now (ws .entry)) bound context) (now (ws .entry)) n n 0 2 (replicate 9 0) ⌝ }
 {
     let mut starts = [0usize; 9];
-    let mut at = 2;
+    let mut at = HEADER;
     let mut e = 0;
     while e < n {
-        if ws.len() - at < 64 {
+        if ws.len() - at < VALUES {
             return unreadable();
         }
-        starts[e] = at + 64;
-        at = read(ws, at + 64, deepest, context, bound);
+        starts[e] = at + VALUES;
+        at = read(ws, at + VALUES, deepest, context, bound);
         if at == 0 {
             return unreadable();
         }
@@ -63,6 +77,6 @@ fn engines(ws: &[u16], deepest: usize, context: usize, n: usize, bound: usize) -
     if at != ws.len() {
         return unreadable();
     }
-    starts[n] = at + 64;
+    starts[n] = at + VALUES;
     Starts { engines: n, starts }
 }

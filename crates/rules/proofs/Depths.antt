@@ -89,3 +89,11 @@ depth-some r = node-some (asNode r)
   where
     node-some : (m : Node) → 0 < depth m
     node-some (node h f es b ps) = omega arith
+
+-- no deeper than a limit, which is no more than the fuel of walks
+pub record Shallow (most : ℕ) (r : Run) : Type 0 where
+  pub low : most ≤ 64
+  pub kept : runDepth r ≤ most
+
+pub shallow : {most : ℕ} {r : Run} → Shallow most r → runDepth r ≤ 64
+shallow d = omega (arith, d .low, d .kept)

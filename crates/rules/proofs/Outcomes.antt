@@ -1,6 +1,6 @@
 -- What a rule alone makes of an engine's process, as an edit.
 -- Assumes nothing.
-use Prim.Native.Nat.{ℕ, _+_, _≤_, _<_}
+use Prim.Native.Nat.{ℕ, suc, _+_, _≤_, _<_}
 use native.Mathlib.Omega.{arith}
 use mathlib.Core.Path.{_≡_, refl, ap}
 use mathlib.Core.Bool.{Bool, true, false}
@@ -21,40 +21,40 @@ use Rattle.rules.specs.declared.edit.Edit.{Edit}
 use Rattle.rules.specs.Editing.{plainW}
 use Rattle.rules.proofs.Rewrites.{Becomes, Outcome, deepens, becomes}
 use Rattle.rules.proofs.Edits.{Edits, done-nil, plain-edits}
-use Rattle.rules.proofs.Depths.{depth-some, plug-fits, plug-too-deep}
+use Rattle.rules.proofs.Depths.{depth-some, plug-fits, plug-too-deep, Shallow}
 
--- the rule's result for the process start..end: none where something can't be killed
-pub data Ruled (ws : List ℕ) (start end : ℕ) (p : Edit) (fresh : List ℕ) : Option Run → Type 0 where
-  unkillable : p .number ≡ 6 → Ruled ws start end p fresh none
-  tooDeep : {q : Run} → p .number ≡ 8 → 64 < runDepth q → Ruled ws start end p fresh (some q)
-  ruled : {q : Run} → p .number ≡ 0 → Edits ws start end p fresh q → runDepth q ≤ 64 → Ruled ws start end p fresh (some q)
+-- the rule's result for the process start..end: none where something can't be killed, and refused where it is deeper than `most`
+pub data Ruled (most : ℕ) (ws : List ℕ) (start end : ℕ) (p : Edit) (fresh : List ℕ) : Option Run → Type 0 where
+  unkillable : p .number ≡ 6 → Ruled most ws start end p fresh none
+  tooDeep : {q : Run} → p .number ≡ 8 → most < runDepth q → Ruled most ws start end p fresh (some q)
+  ruled : {q : Run} → p .number ≡ 0 → Edits ws start end p fresh q → runDepth q ≤ most → Ruled most ws start end p fresh (some q)
 
 module _ (f target : ℕ) (r : Run) (start : ℕ) (l : Located) (s : Site) (ws : List ℕ) (words : drop start ws ≡ runWords r ++ drop (start + size r) ws)
-    (spotted : Spotted f target r start 1 l s) (near : Near (length ws)) {n issued : ℕ} (frames : SoundFrames n issued (l .frames)) (deep : runDepth r ≤ 64) where
+    (spotted : Spotted f target r start 1 l s) (near : Near (length ws)) {n issued : ℕ} (frames : SoundFrames n issued (l .frames)) {most : ℕ} (deep : Shallow most r) where
   whole : wrap (l .frames) (l .process) ≡ r
   whole = spotted .wraps
 
   -- nil is no deeper than what it takes the place of
-  nil-fits : runDepth (plug (l .frames) nil) ≤ 64
+  nil-fits : runDepth (plug (l .frames) nil) ≤ most
   nil-fits =
       let s : NoLarger nil (l .process) = record { shorter = omega (arith, size-nil, size-positive (l .process)); shallower = omega (arith, depth-nil, depth-some (l .process)) } in
       let p : runDepth (plug (l .frames) nil) ≤ runDepth (wrap (l .frames) (l .process)) = plug-shrinks frames s .shallower in
       omega (arith, p, ap runDepth whole)
 
   pub becomes-ruled :
-      (q : Run) (t : Rewriting) (fresh : List ℕ) → 0 < length fresh → Near (length fresh) → Becomes (l .process) q t fresh → s .level + runDepth q ≤ 65 →
-      (let u = plainW s start t fresh in Ruled ws start (start + size r) (u .edit) (u .fresh) (some (plug (l .frames) q)) × (u .edit .store .variable ≡ t .store .variable) × (u .edit .store .value ≡ t .store .value))
+      (q : Run) (t : Rewriting) (fresh : List ℕ) → 0 < length fresh → Near (length fresh) → Becomes (l .process) q t fresh → s .level + runDepth q ≤ suc most →
+      (let u = plainW s start t fresh in Ruled most ws start (start + size r) (u .edit) (u .fresh) (some (plug (l .frames) q)) × (u .edit .store .variable ≡ t .store .variable) × (u .edit .store .value ≡ t .store .value))
   becomes-ruled q t fresh room big b low =
       let p = plain-edits f target r start 1 l s ws words spotted near q t fresh room big b in
       (ruled (p .1) (p .0) (by (isDone q) refl), p .2, p .3)
     where
-      by : (b : Bool) → isDone q ≡ b → runDepth (plug (l .frames) q) ≤ 64
+      by : (b : Bool) → isDone q ≡ b → runDepth (plug (l .frames) q) ≤ most
       by true e = rw (done-nil q e) nil-fits
-      by false e = plug-fits frames (l .process) q 64 e (omega (arith, deep, ap runDepth whole)) (omega (arith, spotted .level))
+      by false e = plug-fits frames (l .process) q most e (omega (arith, deep .kept, ap runDepth whole)) (omega (arith, spotted .level))
 
   pub outcome-ruled :
-      (q : Run) (t : Rewriting) (fresh : List ℕ) → 0 < length fresh → Near (length fresh) → Outcome (l .process) (s .level) q t fresh →
-      (let u = plainW s start t fresh in Ruled ws start (start + size r) (u .edit) (u .fresh) (some (plug (l .frames) q)))
+      (q : Run) (t : Rewriting) (fresh : List ℕ) → 0 < length fresh → Near (length fresh) → Outcome most (l .process) (s .level) q t fresh →
+      (let u = plainW s start t fresh in Ruled most ws start (start + size r) (u .edit) (u .fresh) (some (plug (l .frames) q)))
   unfolding plainW
-  outcome-ruled q t fresh room big (deepens a e d h) = rw e (tooDeep a (plug-too-deep frames q 64 d (omega (arith, spotted .level))))
+  outcome-ruled q t fresh room big (deepens a e d h) = rw e (tooDeep a (plug-too-deep frames q most d (omega (arith, spotted .level))))
   outcome-ruled q t fresh room big (becomes b x low) = becomes-ruled q t fresh room big b low .0

@@ -28,6 +28,7 @@ use Rattle.evaluating.proofs.Evaluates.{evaluates}
 use Rattle.writers.proofs.Laid.{Near, Laid, laid-put, laid-then, laid-copy, copy-end}
 use Rattle.rules.specs.Storing.{takes, unchanged}
 use Rattle.rules.specs.declared.rewriting.Rewriting.{Rewriting}
+use Rattle.layout.specs.declared.limit.Limits.{Limits}
 use Rattle.rules.specs.Rewriting.{Rewritten, rewritten, vanishing, keeping, refused, at, partW, assignW, partEnd, branchW, unrollW, repeatW}
 use Rattle.rules.proofs.Deep.{code-fits, head-nil}
 
@@ -52,10 +53,10 @@ pub record Becomes (r q : Run) (t : Rewriting) (fresh : List ℕ) : Type 0 where
   pub empty : t .nil ≡ isDone q
   pub pieces : isDone q ≡ false → Pieces r q t fresh
 
--- r, `level` levels deep, turns into q and no value changes; or q would be too deep
-pub data Outcome (r : Run) (level : ℕ) (q : Run) (t : Rewriting) (fresh : List ℕ) : Type 0 where
-  deepens : t .number ≡ 8 → t .nil ≡ false → isDone q ≡ false → 65 < level + runDepth q → Outcome r level q t fresh
-  becomes : Becomes r q t fresh → t .store .variable ≡ 32 → level + runDepth q ≤ 65 → Outcome r level q t fresh
+-- r, `level` levels deep, turns into q and no value changes; or q would be deeper than `most`
+pub data Outcome (most : ℕ) (r : Run) (level : ℕ) (q : Run) (t : Rewriting) (fresh : List ℕ) : Type 0 where
+  deepens : t .number ≡ 8 → t .nil ≡ false → isDone q ≡ false → suc most < level + runDepth q → Outcome most r level q t fresh
+  becomes : Becomes r q t fresh → t .store .variable ≡ 32 → level + runDepth q ≤ suc most → Outcome most r level q t fresh
 
 pub becomes-nil : (r : Run) (x v : ℕ) (fresh : List ℕ) → Becomes r nil (vanishing (takes x v)) fresh
 unfolding isDone
@@ -203,7 +204,7 @@ module _ (n issued : ℕ) (ws : List ℕ) (ok : Words ws) (few : n ≤ 8) (small
   module _ (h : ℕ) (kind : kindOf h ≡ 5) (e : Expr) (p : Node) (g : FitsExpr e) (fp : Fits (code false) anywhere p)
       (deep : depth (node h [] (e ∷ []) absent (p & noParts)) ≤ 64) (stands : ws ≡ words (node h [] (e ∷ []) absent (p & noParts)) ++ rest)
       (fm : Fits (code false) anywhere (node h [] (e ∷ []) absent (p & noParts)))
-      (fresh : List ℕ) (wide : length ws ≤ length fresh) (near : Near (length fresh)) (level : ℕ) where
+      (fresh : List ℕ) (wide : length ws ≤ length fresh) (near : Near (length fresh)) (limits : Limits) (level : ℕ) where
     abbrev w : Node
     w = node h [] (e ∷ []) absent (p & noParts)
 
@@ -293,29 +294,29 @@ module _ (n issued : ℕ) (ws : List ℕ) (ok : Words ws) (few : n ≤ 8) (small
 
     -- if there are levels left for it
     unrolled-rewrites :
-        (b : Bool) → leb (depth w) (64 - level) ≡ b → level ≤ 64 →
+        (b : Bool) → leb (depth w) (limits .deepest - level) ≡ b → level ≤ limits .deepest →
         (let u = cond (eqb (cond b (length (words w)) 0) 0) (rewritten (refused 8) fresh)
         (unrollW ws (length (h ∷ exprWords e)) (length (h ∷ exprWords e) + length (words p)) fresh) in
-        Outcome (act w) level (seq (enable p) w) (u .rewriting) (u .fresh))
+        Outcome (limits .deepest) (act w) level (seq (enable p) w) (u .rewriting) (u .fresh))
     unfolding isDone size
     unrolled-rewrites false q low =
-        deepens refl refl refl (omega (arith, twice-deep, leb-false (depth w) (64 - level) q))
+        deepens refl refl refl (omega (arith, twice-deep, leb-false (depth w) (limits .deepest - level) q))
     unrolled-rewrites true q low =
         rw (ne-eqb (length (words w)) 0 (λ z. omega (arith, whole-length, ap length (words-act w))))
         (becomes
         (itself _ _ (unrolled-plain .0) (unrolled-plain .1) (unrolled-plain .2) (unrolled-plain .3 ∙ sym whole-length) (unrolled-plain .4 ∙ sym whole-length)
         (omega (arith, unrolled-count, unrolled .keeps, within)) (seq (enable p) w) refl (twice ∙ ap (λ l. l ++ runWords (act w)) (sym (made-of unrolled unrolled-count))))
         (unrolled-plain .5)
-        (omega (arith, twice-deep, leb-true (depth w) (64 - level) q)))
+        (omega (arith, twice-deep, leb-true (depth w) (limits .deepest - level) q)))
 
     -- the rule: false, nothing is left; true, the body and the while again, where the body is not nil
     pub repeat-rewrites :
-        level + depth w ≤ 65 → level ≤ 64 →
-        (let u = repeatW level bound ws (valuesWords vs) fresh in
-        Outcome (act w) level (cond (isTrue (evaluate vs e)) (seqOf (enable p) w) nil) (u .rewriting) (u .fresh))
+        level + depth w ≤ suc (limits .deepest) → level ≤ limits .deepest →
+        (let u = repeatW limits level bound ws (valuesWords vs) fresh in
+        Outcome (limits .deepest) (act w) level (cond (isTrue (evaluate vs e)) (seqOf (enable p) w) nil) (u .rewriting) (u .fresh))
     unfolding repeatW isTrue seqOf isDone size depth
     repeat-rewrites low few-levels =
-        rw (expr-value h e (p & noParts) g deep stands, body-ends, body-head, code-fits ws ok n issued small fm (64 - level) 0 rest stands, enable-done fp)
+        rw (expr-value h e (p & noParts) g deep stands, body-ends, body-head, code-fits ws ok n issued small fm (limits .deepest - level) 0 rest stands, enable-done fp)
         (by (eqb (evaluate vs e) 0) (isNil p))
       where
         by :
@@ -324,9 +325,9 @@ module _ (n issued : ℕ) (ws : List ℕ) (ok : Words ws) (few : n ≤ 8) (small
             let u : Rewritten =
             cond a (rewritten (vanishing unchanged) fresh)
             (cond b (rewritten (keeping 0 0 end end unchanged) fresh)
-            (cond (eqb (cond (leb (depth w) (64 - level)) (0 + length (words w)) 0) 0) (rewritten (refused 8) fresh)
+            (cond (eqb (cond (leb (depth w) (limits .deepest - level)) (0 + length (words w)) 0) 0) (rewritten (refused 8) fresh)
             (unrollW ws (length (h ∷ exprWords e)) end fresh))) in
-            Outcome (act w) level (cond (not a) (cond b (enable w) (seq (enable p) w)) nil) (u .rewriting) (u .fresh))
+            Outcome (limits .deepest) (act w) level (cond (not a) (cond b (enable w) (seq (enable p) w)) nil) (u .rewriting) (u .fresh))
         by true b = becomes (becomes-nil (act w) 32 0 fresh) refl (omega (arith, depth-nil))
         by false true =
             rw same-again
@@ -336,4 +337,4 @@ module _ (n issued : ℕ) (ws : List ℕ) (ok : Words ws) (few : n ≤ 8) (small
             (omega (arith, depth-act w)))
         by false false =
             let z : 0 + length (words w) ≡ length (words w) = omega arith in
-            rw z (unrolled-rewrites (leb (depth w) (64 - level)) refl few-levels)
+            rw z (unrolled-rewrites (leb (depth w) (limits .deepest - level)) refl few-levels)

@@ -5,6 +5,7 @@ use mathlib.Core.List.{List}
 use lib.Dec.{eqb}
 use lib.ListN.{getD, set}
 use Rattle.sock.specs.Words.{variableOf}
+use Rattle.layout.specs.declared.limit.Limits.{Limits}
 use Rattle.reading.specs.Walk.{processEnd}
 use Rattle.skipping.specs.Skip.{skipEnd}
 use Rattle.writers.specs.Writing.{pasted, pastedEnd}
@@ -53,11 +54,11 @@ branchW ws vs =
 unfoldable pub unrollW : List ℕ → ℕ → ℕ → List ℕ → Rewritten
 unrollW ws from end fresh = rewritten (keeping (pastedEnd ws from end 1) 0 end end unchanged) (pasted ws from end (set fresh 0 4096) 1)
 
-unfoldable pub repeatW : ℕ → ℕ → List ℕ → List ℕ → List ℕ → Rewritten
-repeatW level bound ws vs fresh =
+unfoldable pub repeatW : Limits → ℕ → ℕ → List ℕ → List ℕ → List ℕ → Rewritten
+repeatW limits level bound ws vs fresh =
     let e = evaluated 64 ws vs 1 in
     let end = partEnd ws (e .end) in
     cond (eqb (e .value) 0) (rewritten (vanishing unchanged) fresh)
     (cond (eqb (at ws (e .end)) 0) (rewritten (keeping 0 0 end end unchanged) fresh)
-    (cond (eqb (processEnd (64 - level) ws bound 0 0) 0) (rewritten (refused 8) fresh)
+    (cond (eqb (processEnd (limits .deepest - level) ws bound 0 0) 0) (rewritten (refused 8) fresh)
     (unrollW ws (e .end) end fresh)))

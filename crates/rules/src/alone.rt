@@ -9,8 +9,8 @@ use crate::store::one;
 use evaluating::evaluate::evaluate;
 use layout::field::variable_of;
 use layout::head;
-use layout::limit::DEEPEST;
 use layout::limit::FUEL;
+use layout::limit::Limits;
 use layout::number::less;
 use layout::number::word;
 use reading::reader::read;
@@ -56,9 +56,10 @@ pub fn repeat(
     values: &[u16],
     level: usize,
     bound: usize,
+    limits: Limits,
     fresh: &mut [u16],
 ) -> Rewriting
-    ensures { λ r. ⌜ (r ≡ repeatW level bound (now (part .entry)) (now (values .entry)) (now (fresh .entry)) .rewriting) × (now (fresh .exit) ≡ repeatW level bound (now (part .entry)) (now (values .entry)) (now (fresh .entry)) .fresh) ⌝ }
+    ensures { λ r. ⌜ (r ≡ repeatW limits level bound (now (part .entry)) (now (values .entry)) (now (fresh .entry)) .rewriting) × (now (fresh .exit) ≡ repeatW limits level bound (now (part .entry)) (now (values .entry)) (now (fresh .entry)) .fresh) ⌝ }
 {
     let e = evaluate(part, values, 1, FUEL);
     let body = e.end;
@@ -69,7 +70,7 @@ pub fn repeat(
     if word(part, body) == 0 {
         return keep(0, 0, end, end, nothing());
     }
-    if read(part, 0, less(DEEPEST, level), 0, bound) == 0 {
+    if read(part, 0, less(limits.deepest, level), 0, bound) == 0 {
         return refusal(8);
     }
     unroll(part, body, end, fresh)

@@ -1,13 +1,13 @@
 -- The law of comp: the handler under its name runs in its place, and the nearest scope has lost it.
 -- Assumes nothing.
-use Prim.Native.Nat.{ℕ, _+_, _-_, _*_, _≤_, _<_}
+use Prim.Native.Nat.{ℕ, suc, _+_, _-_, _*_, _≤_, _<_}
 use native.Mathlib.Omega.{arith}
 use mathlib.Core.Path.{_≡_, refl, sym, ap, _∙_}
 use mathlib.Core.Bool.{Bool, true, false, not, cond}
 use mathlib.Core.Option.{some}
 use mathlib.Core.List.{List, [], _∷_, _++_, append-nil}
 use borrow.Author.Tests.{eq-eqb, ne-eqb, leb-true, leb-false, ltb-false}
-use lib.Dec.{T, eqb, leb, ltb}
+use lib.Dec.{T, eqb, leb, ltb, lit<}
 use lib.ListN.{length, getD, take, drop, length-append, length-drop}
 use Rattle.sock.specs.Words.{nameOf, scopeKey}
 use Rattle.sock.specs.Term.{Node, node, absent, Entries, noParts, isNil, nilNode}
@@ -29,7 +29,7 @@ use Rattle.finding.proofs.Framing.{scoped, region, nearest-self}
 use Rattle.finding.proofs.Spots.{Spotted}
 use Rattle.finding.proofs.Edits.{part, edited, swap-edited, process-at, list-at, region-changed, scope-none}
 use Rattle.writers.specs.Writing.{pasted, pastedEnd}
-use Rattle.writers.proofs.Laid.{Near, onward-near, Laid, laid-under, laid-copy, copy-end}
+use Rattle.writers.proofs.Laid.{Near, onward-near, Laid, laid-under, laid-copy, copy-end, near-of}
 use Rattle.handling.specs.Taking.{Took, takeW}
 use Rattle.handling.proofs.Takes.{Takes, takes, Stands, without-absent}
 use Rattle.handling.proofs.Stays.{without-shallow, without-short}
@@ -38,9 +38,11 @@ use Rattle.rules.specs.Editing.{Edited, refusedEdit, nilW}
 use Rattle.rules.specs.Editing.{edited as editing}
 use Rattle.rules.proofs.Rewrites.{first-at, enable-words}
 use Rattle.rules.proofs.Deep.{code-fits}
-use Rattle.rules.proofs.Depths.{spread, plug-depth, plug-too-deep}
+use Rattle.rules.proofs.Depths.{spread, plug-depth, plug-too-deep, Shallow, shallow}
 use Rattle.rules.proofs.Edits.{Edits, edits-of, done-nil}
 use Rattle.rules.proofs.Outcomes.{Ruled, tooDeep, ruled}
+use Rattle.layout.specs.declared.limit.Limits.{Limits}
+use Rattle.layout.specs.Positions.{onward}
 use Rattle.scopes.specs.Compensating.{movedW, compensatedW}
 use Rattle.scopes.proofs.NilLists.{laid-part}
 use Rattle.scopes.proofs.NearestLists.{nearest-empty, nearest-kept, nearest-length, nearest-spread, nearest-within, without-keeps, handler-lives}
@@ -54,10 +56,13 @@ node-some (node a b c d e) = omega arith
 module _ (f target : ℕ) (r : Run) (start : ℕ) (l : Located) (s : Site) (ws notes : List ℕ) (right : Right ws notes)
     (words-at : drop start ws ≡ runWords r ++ drop (start + size r) ws)
     (spotted : Spotted f target r start 1 l s) (near : Near (length ws)) {n issued : ℕ} (frames : SoundFrames n issued (l .frames))
-    (deep : runDepth r ≤ 64)
+    (limits : Limits) (deep : Shallow (limits .deepest) r)
     (pos : 0 < start) (ok : Words ws) (few : n ≤ 8) (small : issued < 65536) (short : length ws ≤ 8192)
     (fresh : List ℕ) (room : Roomy ws fresh) (big : Near (length fresh))
     (h : ℕ) (is : l .process ≡ act (node h [] [] absent noParts)) where
+  levels-at : onward (limits .deepest) 1 ≡ suc (limits .deepest)
+  levels-at = onward-near (limits .deepest) 1 128 (near-of 128 (lit< tt)) (omega (arith, deep .low)) ∙ omega arith
+
   abbrev bound : ℕ
   bound = n * 65536 + issued
 
@@ -94,13 +99,13 @@ module _ (f target : ℕ) (r : Run) (start : ℕ) (l : Located) (s : Site) (ws n
   gone e c = sym (ap (λ fs. plug fs (enable m)) c ∙ ap (plug (l .frames)) (done-nil (enable m) (enable-done fitting ∙ ap isNil e)))
 
   abbrev Result : Edited → Type 0
-  Result u = Ruled ws start (start + size r) (u .edit) (u .fresh) (some (plug changed (enable m))) × (u .edit .store .variable ≡ 32)
+  Result u = Ruled (limits .deepest) ws start (start + size r) (u .edit) (u .fresh) (some (plug changed (enable m))) × (u .edit .store .variable ≡ 32)
 
   stays-nil : (made : List ℕ) → length made ≡ length fresh → m ≡ nilNode → changed ≡ l .frames → Result (nilW s start start 0 unchanged made)
   stays-nil made same e c =
       rw (← (gone e c)) (nil-ruled f target r start l s ws words-at spotted near frames deep made (omega arith) (rw same big))
 
-  bare : T (not (scoped (l .frames))) → Result (compensatedW bound ws notes start s fresh)
+  bare : T (not (scoped (l .frames))) → Result (compensatedW limits bound ws notes start s fresh)
   unfolding compensatedW handler
   bare t =
       let z = scope-none f target r start 1 l s ws (drop (start + size r) ws) words-at spotted t in
@@ -129,7 +134,7 @@ module _ (f target : ℕ) (r : Run) (start : ℕ) (l : Located) (s : Site) (ws n
     changed-sound : SoundFrames n issued changed
     changed-sound = nearest-sound (without-keeps (nameOf h)) frames
 
-    changed-deep : spread changed ≤ 64
+    changed-deep : spread changed ≤ limits .deepest
     changed-deep =
         omega (
           arith,
@@ -227,18 +232,18 @@ module _ (f target : ℕ) (r : Run) (start : ℕ) (l : Located) (s : Site) (ws n
           (omega arith) (omega arith) (omega arith) (without k) t)))
 
       -- if there are levels left for it
-      placed : (b : Bool) → leb (depth m) (65 - s .level) ≡ b →
+      placed : (b : Bool) → leb (depth m) (suc (limits .deepest) - s .level) ≡ b →
           Result (cond (eqb (cond b (from + length (words m)) 0) 0) (editing (refusedEdit 8) (took .out))
           (movedW ws notes s (took .answer) (took .out)))
       unfolding movedW
       placed false e =
           let low = level-low f target r start l s ws words-at spotted near frames deep in (
             tooDeep refl
-                (plug-too-deep changed-sound (enable m) 64 lives
+                (plug-too-deep changed-sound (enable m) (limits .deepest) lives
                 (omega (
                   arith,
                   enabled-deep,
-                  leb-false (depth m) (65 - s .level) e,
+                  leb-false (depth m) (suc (limits .deepest) - s .level) e,
                   spotted .level,
                   nearest-length (without k) (l .frames),
                   low,
@@ -255,7 +260,7 @@ module _ (f target : ℕ) (r : Run) (start : ℕ) (l : Located) (s : Site) (ws n
                   d,
                   changed-deep,
                   enabled-deep,
-                  leb-true (depth m) (65 - s .level) e,
+                  leb-true (depth m) (suc (limits .deepest) - s .level) e,
                   spotted .level,
                   nearest-length (without k) (l .frames),
                   low,
@@ -263,35 +268,35 @@ module _ (f target : ℕ) (r : Run) (start : ℕ) (l : Located) (s : Site) (ws n
             refl,
           )
 
-    under : (b : Bool) → holds k es ≡ b → Result (compensatedW bound ws notes start s fresh)
+    under : (b : Bool) → holds k es ≡ b → Result (compensatedW limits bound ws notes start s fresh)
     unfolding compensatedW
     under b e =
         let first = list-first f target r start l s ws words-at spotted near frames deep t in
-        rw (ne-eqb (s .scope) 0 (λ z. omega arith), to-list f target r start l s ws words-at spotted near frames deep t, head-at) (by b e)
+        rw (levels-at, ne-eqb (s .scope) 0 (λ z. omega arith), to-list f target r start l s ws words-at spotted near frames deep t, head-at) (by b e)
       where
         by : (b : Bool) → holds k es ≡ b →
             Result (cond (eqb (took .answer .upto) 0) (nilW s start start 0 unchanged (took .out))
-            (cond (eqb (processEnd (65 - s .level) ws bound 0 (took .answer .from)) 0) (editing (refusedEdit 8) (took .out))
+            (cond (eqb (processEnd (suc (limits .deepest) - s .level) ws bound 0 (took .answer .from)) 0) (editing (refusedEdit 8) (took .out))
             (movedW ws notes s (took .answer) (took .out))))
         by true e =
             let x : Stands ws (took .answer .from) (took .answer .upto) m = stands e in
             rw (
               ne-eqb (took .answer .upto) 0 (λ z. omega (arith, x .1 .1, some-words e)),
-              code-fits ws ok n issued small fitting (65 - s .level) (took .answer .from) (x .0) (x .1 .0),
+              code-fits ws ok n issued small fitting (suc (limits .deepest) - s .level) (took .answer .from) (x .0) (x .1 .0),
             )
-            (placed e (leb (depth m) (65 - s .level)) refl)
+            (placed e (leb (depth m) (suc (limits .deepest) - s .level)) refl)
         by false e =
             rw (eq-eqb (took .answer .upto) 0 (taking .absent e .0))
             (stays-nil (took .out) (taking .keeps) (taking .absent e .1) (nearest-kept (without k) (l .frames) (without-absent k es e)))
 
   -- the rule
   pub compensates :
-      (let u = compensatedW (n * 65536 + issued) ws notes start s fresh in
-      Ruled ws start (start + size r) (u .edit) (u .fresh)
+      (let u = compensatedW limits (n * 65536 + issued) ws notes start s fresh in
+      Ruled (limits .deepest) ws start (start + size r) (u .edit) (u .fresh)
       (some (plug (onNearest (without (scopeKey (nameOf h))) (l .frames)) (enable (handler (scopeKey (nameOf h)) (nearest (l .frames))))))
       × (u .edit .store .variable ≡ 32))
   compensates = by (scoped (l .frames)) refl
     where
-      by : (b : Bool) → scoped (l .frames) ≡ b → Result (compensatedW bound ws notes start s fresh)
+      by : (b : Bool) → scoped (l .frames) ≡ b → Result (compensatedW limits bound ws notes start s fresh)
       by true e = under (rw e tt) (holds k es) refl
       by false e = bare (rw e tt)

@@ -25,6 +25,7 @@ use Rattle.writers.proofs.Laid.{Near}
 use Rattle.rules.specs.Storing.{unchanged}
 use Rattle.rules.specs.Editing.{nilW}
 use Rattle.rules.proofs.Outcomes.{Ruled}
+use Rattle.rules.proofs.Depths.{Shallow, shallow}
 use Rattle.scopes.specs.Ending.{endingW, endedW}
 use Rattle.scopes.proofs.ScopeLists.{nil-ruled, list-first}
 use Rattle.scopes.proofs.ScopeWords.{inner-sound, scope-fits, head-mark, head-zombie, head-at, own-key}
@@ -35,13 +36,13 @@ use Rattle.scopes.proofs.Scratch.{Roomy}
 module _ (f target : ℕ) (r : Run) (start : ℕ) (l : Located) (s : Site) (ws notes : List ℕ) (right : Right ws notes)
     (words-at : drop start ws ≡ runWords r ++ drop (start + size r) ws)
     (spotted : Spotted f target r start 1 l s) (near : Near (length ws)) {n issued : ℕ} (frames : SoundFrames n issued (l .frames))
-    (deep : runDepth r ≤ 64)
+    {most : ℕ} (deep : Shallow most r)
     (pos : 0 < start) (few : n ≤ 8) (small : issued < 65536) (short : length ws ≤ 8192)
     (fresh : List ℕ) (room : Roomy ws fresh) (big : Near (length fresh)) (sound : Sound n issued r) where
   abbrev Result : ℕ → Mark → Bool → Entries → Type 0
   Result name mark zombie h =
       (let u = endedW ws notes start s fresh in
-      Ruled ws start (start + size r) (u .edit) (u .fresh) (some (ending name mark zombie h (l .frames))) × (u .edit .store .variable ≡ 32))
+      Ruled most ws start (start + size r) (u .edit) (u .fresh) (some (ending name mark zombie h (l .frames))) × (u .edit .store .variable ≡ 32))
 
   module _ (name : ℕ) (mark : Mark) (zombie : Bool) (h : Entries) (is : l .process ≡ scope name mark zombie h nil) where
     inner : Sound n issued (scope name mark zombie h nil)
@@ -58,7 +59,7 @@ module _ (f target : ℕ) (r : Run) (start : ℕ) (l : Located) (s : Site) (ws n
       (name : ℕ) (h : Entries) → l .process ≡ scope name unmarked false h nil →
       (let u =
       cond (eqb (s .scope) 0) (nilW s start start 0 unchanged fresh) (endingW ws notes s (scopeKey name) fresh) in
-      Ruled ws start (start + size r) (u .edit) (u .fresh)
+      Ruled most ws start (start + size r) (u .edit) (u .fresh)
       (some
       (plug (onNearest (λ outer. update outer (entry (scopeKey name) (handler (scopeKey name) h) noEntries)) (l .frames)) nil))
       × (u .edit .store .variable ≡ 32))
@@ -67,7 +68,7 @@ module _ (f target : ℕ) (r : Run) (start : ℕ) (l : Located) (s : Site) (ws n
       by : (c : Bool) → scoped (l .frames) ≡ c →
           (let u =
           cond (eqb (s .scope) 0) (nilW s start start 0 unchanged fresh) (endingW ws notes s (scopeKey name) fresh) in
-          Ruled ws start (start + size r) (u .edit) (u .fresh)
+          Ruled most ws start (start + size r) (u .edit) (u .fresh)
           (some
           (plug (onNearest (λ outer. update outer (entry (scopeKey name) (handler (scopeKey name) h) noEntries)) (l .frames)) nil))
           × (u .edit .store .variable ≡ 32))

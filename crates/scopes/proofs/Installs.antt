@@ -35,23 +35,24 @@ use Rattle.handling.proofs.Grows.{replaced-small}
 use Rattle.handling.proofs.Sizes.{update-small}
 use Rattle.handling.proofs.Updates.{Updates, updates}
 use Rattle.rules.specs.Editing.{Edited, edited, refusedEdit, nilW}
-use Rattle.rules.proofs.Depths.{wrap-depth, depth-some}
+use Rattle.rules.proofs.Depths.{wrap-depth, depth-some, Shallow, shallow}
 use Rattle.rules.proofs.Outcomes.{Ruled, tooDeep, ruled}
+use Rattle.layout.specs.declared.limit.Limits.{Limits}
 use Rattle.scopes.specs.Installing.{tooDeepW, updatedW, installedW}
 use Rattle.scopes.proofs.NearestLists.{nearest-length, nearest-spread, nearest-within, nearest-deep, update-keeps}
 use Rattle.scopes.proofs.ScopeLists.{whole-inside, frames-deep, nil-ruled, process-inside, list-deep, region-length, list-first, list-inside, to-list, list-ends}
 use Rattle.scopes.proofs.NilLists.{hollow-to, list-edits}
 use Rattle.scopes.proofs.Scratch.{Spacious}
 
-too-deep : (level levels : ℕ) → level ≤ 64 → tooDeepW level levels ≡ ltb 64 (level + levels)
+too-deep : (limits : Limits) (level levels : ℕ) → limits .deepest ≤ 64 → level ≤ limits .deepest → tooDeepW limits level levels ≡ ltb (limits .deepest) (level + levels)
 unfolding tooDeepW
-too-deep level levels h = by (ltb 64 levels) refl
+too-deep limits level levels low h = by (ltb (limits .deepest) levels) refl
   where
-    by : (b : Bool) → ltb 64 levels ≡ b → cond b true (ltb 64 (onward level levels)) ≡ ltb 64 (level + levels)
-    by true e = let z : 64 < levels = ltb-true 64 levels e in sym (lt-ltb 64 (level + levels) (omega arith))
+    by : (b : Bool) → ltb (limits .deepest) levels ≡ b → cond b true (ltb (limits .deepest) (onward level levels)) ≡ ltb (limits .deepest) (level + levels)
+    by true e = let z : limits .deepest < levels = ltb-true (limits .deepest) levels e in sym (lt-ltb (limits .deepest) (level + levels) (omega arith))
     by false e =
-        let z : levels ≤ 64 = ltb-false 64 levels e in
-        ap (ltb 64) (onward-near level levels 128 (near-of 128 (omega arith)) (omega arith))
+        let z : levels ≤ limits .deepest = ltb-false (limits .deepest) levels e in
+        ap (ltb (limits .deepest)) (onward-near level levels 128 (near-of 128 (omega arith)) (omega arith))
 
 hole-short : (b : Bool) → length (hole b) ≤ 1
 hole-short true = omega arith
@@ -60,7 +61,7 @@ hole-short false = omega arith
 module _ (f target : ℕ) (r : Run) (start : ℕ) (l : Located) (s : Site) (ws notes : List ℕ) (right : Right ws notes)
     (words-at : drop start ws ≡ runWords r ++ drop (start + size r) ws)
     (spotted : Spotted f target r start 1 l s) (near : Near (length ws)) {n issued : ℕ} (frames : SoundFrames n issued (l .frames))
-    (deep : runDepth r ≤ 64)
+    (limits : Limits) (deep : Shallow (limits .deepest) r)
     (pos : 0 < start) (short : length ws ≤ 8192)
     (fresh : List ℕ) (room : 0 < length fresh) (big : Near (length fresh))
     (h : ℕ) (new : Entries) (is : l .process ≡ act (node h [] [] (list new) noParts)) (fit : FitsEntries false zero new) where
@@ -85,9 +86,9 @@ module _ (f target : ℕ) (r : Run) (start : ℕ) (l : Located) (s : Site) (ws n
   its-depth = ap runDepth is ∙ (depth-act (node h [] [] (list new) noParts) ∙ omega arith)
 
   abbrev Result : Edited → Type 0
-  Result u = Spacious u fresh → Ruled ws start (start + size r) (u .edit) (u .fresh) (some (plug changed nil)) × (u .edit .store .variable ≡ 32)
+  Result u = Spacious u fresh → Ruled (limits .deepest) ws start (start + size r) (u .edit) (u .fresh) (some (plug changed nil)) × (u .edit .store .variable ≡ 32)
 
-  bare : T (not (scoped (l .frames))) → Result (installedW ws notes start s fresh)
+  bare : T (not (scoped (l .frames))) → Result (installedW limits ws notes start s fresh)
   unfolding installedW
   bare t =
       let z = scope-none f target r start 1 l s ws (drop (start + size r) ws) words-at spotted t in
@@ -143,10 +144,10 @@ module _ (f target : ℕ) (r : Run) (start : ℕ) (l : Located) (s : Site) (ws n
     level-is : s .«scope_level» ≡ suc (outside (l .frames))
     level-is = omega (arith, spotted .near-level t)
 
-    level-low : suc (outside (l .frames) + entriesDepth es) ≤ 64
+    level-low : suc (outside (l .frames) + entriesDepth es) ≤ limits .deepest
     level-low = omega (arith, nearest-within (l .frames) t, frames-deep f target r start l s ws words-at spotted near frames deep .0)
 
-    changed-fits : suc (outside (l .frames)) + made .answer .levels ≤ 64 → runDepth (plug changed nil) ≤ 64
+    changed-fits : suc (outside (l .frames)) + made .answer .levels ≤ limits .deepest → runDepth (plug changed nil) ≤ limits .deepest
     changed-fits low =
         let a : NoLarger nil (l .process) =
         record {
@@ -160,7 +161,7 @@ module _ (f target : ℕ) (r : Run) (start : ℕ) (l : Located) (s : Site) (ws n
         let d = frames-deep f target r start l s ws words-at spotted near frames deep in
         omega (arith, d .0, d .1, level-low, nearest-length change (l .frames), nearest-spread change (l .frames), updating .covers)
 
-    changed-deep : 64 < suc (outside (l .frames)) + made .answer .levels → 64 < runDepth (plug changed nil)
+    changed-deep : limits .deepest < suc (outside (l .frames)) + made .answer .levels → limits .deepest < runDepth (plug changed nil)
     changed-deep high = omega (arith, nearest-deep frames change t nil, updating .shallow)
 
     list-laid : made .answer .to + 130 ≤ length fresh → take (made .answer .to) (made .out) ≡ region changed
@@ -183,10 +184,10 @@ module _ (f target : ℕ) (r : Run) (start : ℕ) (l : Located) (s : Site) (ws n
 
     -- if there are levels left for it
     placed :
-        (b : Bool) → ltb 64 (suc (outside (l .frames)) + made .answer .levels) ≡ b →
+        (b : Bool) → ltb (limits .deepest) (suc (outside (l .frames)) + made .answer .levels) ≡ b →
         Result (cond b (edited (refusedEdit 8) (made .out)) (updatedW ws notes s (s .scope + 2) (made .answer .to) (made .out)))
     unfolding updatedW nilW
-    placed true e = λ w. (tooDeep refl (changed-deep (ltb-true 64 (suc (outside (l .frames)) + made .answer .levels) e)), refl)
+    placed true e = λ w. (tooDeep refl (changed-deep (ltb-true (limits .deepest) (suc (outside (l .frames)) + made .answer .levels) e)), refl)
     placed false e = λ w.
         rw (list-ends f target r start l s ws words-at spotted near frames deep t notes right) (
           ruled refl
@@ -194,11 +195,11 @@ module _ (f target : ℕ) (r : Run) (start : ℕ) (l : Located) (s : Site) (ws n
               (updating .reaches)
               to-near
               (λ x. omega (arith, updating .keeps, spared w x)) (λ x. list-laid (spared w x)) 32 0)
-              (changed-fits (ltb-false 64 (suc (outside (l .frames)) + made .answer .levels) e)),
+              (changed-fits (ltb-false (limits .deepest) (suc (outside (l .frames)) + made .answer .levels) e)),
           refl,
         )
 
-    under : Result (installedW ws notes start s fresh)
+    under : Result (installedW limits ws notes start s fresh)
     unfolding installedW
     under =
         let first = list-first f target r start l s ws words-at spotted near frames deep t in
@@ -206,18 +207,18 @@ module _ (f target : ℕ) (r : Run) (start : ℕ) (l : Located) (s : Site) (ws n
           ne-eqb (s .scope) 0 (λ z. omega arith),
           to-list f target r start l s ws words-at spotted near frames deep t,
           to-own,
-          ap (λ n. tooDeepW n (made .answer .levels)) level-is
-              ∙ too-deep (suc (outside (l .frames))) (made .answer .levels) (omega (arith, level-low)),
+          ap (λ n. tooDeepW limits n (made .answer .levels)) level-is
+              ∙ too-deep limits (suc (outside (l .frames))) (made .answer .levels) (deep .low) (omega (arith, level-low)),
         )
-        (placed (ltb 64 (suc (outside (l .frames)) + made .answer .levels)) refl)
+        (placed (ltb (limits .deepest) (suc (outside (l .frames)) + made .answer .levels)) refl)
 
   pub installs :
-      (let u = installedW ws notes start s fresh in
+      (let u = installedW limits ws notes start s fresh in
       Spacious u fresh →
-      Ruled ws start (start + size r) (u .edit) (u .fresh) (some (plug (onNearest (λ x. update x new) (l .frames)) nil))
+      Ruled (limits .deepest) ws start (start + size r) (u .edit) (u .fresh) (some (plug (onNearest (λ x. update x new) (l .frames)) nil))
       × (u .edit .store .variable ≡ 32))
   installs = by (scoped (l .frames)) refl
     where
-      by : (b : Bool) → scoped (l .frames) ≡ b → Result (installedW ws notes start s fresh)
+      by : (b : Bool) → scoped (l .frames) ≡ b → Result (installedW limits ws notes start s fresh)
       by true e = under (rw e tt)
       by false e = bare (rw e tt)

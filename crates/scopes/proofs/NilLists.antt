@@ -23,6 +23,7 @@ use Rattle.rules.specs.Storing.{takes}
 use Rattle.rules.specs.declared.edit.Edit.{Edit}
 use Rattle.rules.specs.Editing.{hollowW, nilW}
 use Rattle.rules.proofs.Edits.{Ordered, Edits, edited-words}
+use Rattle.rules.proofs.Depths.{Shallow, shallow}
 use Rattle.scopes.proofs.ScopeLists.{whole-inside}
 
 -- words laid behind others
@@ -54,7 +55,7 @@ hollow-laid false f out h = let z : f + 0 - f ≡ 0 = omega arith in (refl, ap (
 module _ (f target : ℕ) (r : Run) (start : ℕ) (l : Located) (s : Site) (ws : List ℕ)
     (words : drop start ws ≡ runWords r ++ drop (start + size r) ws)
     (spotted : Spotted f target r start 1 l s) (near : Near (length ws)) {n issued : ℕ} (frames : SoundFrames n issued (l .frames))
-    (deep : runDepth r ≤ 64)
+    {most : ℕ} (deep : Shallow most r)
     (t : T (scoped (l .frames))) (g : Entries → Entries) (to : ℕ) (out : List ℕ)
     (reaches : to ≡ 1 + length (entriesWords (g (nearest (l .frames))))) (low : Near (to + 1)) (room : to ≤ 8192 → to < length out)
     (laid : to ≤ 8192 → take to out ≡ region (onNearest g (l .frames))) (x v : ℕ) where

@@ -38,7 +38,7 @@ use Rattle.handling.proofs.Takes.{Takes, takes, Stands, Keyed}
 use Rattle.handling.proofs.Updates.{Updates, updates-by}
 use Rattle.handling.proofs.Stays.{one-shallow, one-short, update-nil, without-short}
 use Rattle.rules.specs.Editing.{Edited, nilW}
-use Rattle.rules.proofs.Depths.{wrap-depth, depth-some}
+use Rattle.rules.proofs.Depths.{wrap-depth, depth-some, Shallow, shallow}
 use Rattle.rules.proofs.Outcomes.{Ruled, ruled}
 use Rattle.scopes.specs.Installing.{updatedW}
 use Rattle.scopes.specs.Ending.{promotedTo, promotedW, endingW}
@@ -61,7 +61,7 @@ outside-less (executorFrame o y client serial ∷ fs) t = let r = outside-less f
 module _ (f target : ℕ) (r : Run) (start : ℕ) (l : Located) (s : Site) (ws notes : List ℕ) (right : Right ws notes)
     (words-at : drop start ws ≡ runWords r ++ drop (start + size r) ws)
     (spotted : Spotted f target r start 1 l s) (near : Near (length ws)) {n issued : ℕ} (frames : SoundFrames n issued (l .frames))
-    (deep : runDepth r ≤ 64)
+    {most : ℕ} (deep : Shallow most r)
     (few : n ≤ 8) (small : issued < 65536) (short : length ws ≤ 8192)
     (fresh : List ℕ) (room : Roomy ws fresh)
     (name : ℕ) (mark : Mark) (zombie : Bool) (h : Entries) (is : l .process ≡ scope name mark zombie h nil)
@@ -91,7 +91,7 @@ module _ (f target : ℕ) (r : Run) (start : ℕ) (l : Located) (s : Site) (ws n
   unfolding entryFits
   lone-fits = entryFitsOn {least = 0} {k = k} (omega arith) (omega arith) tt (code-more fitting) emptyFits
 
-  own-place : length (l .frames) + suc (max (entriesDepth h) 1) ≤ 64
+  own-place : length (l .frames) + suc (max (entriesDepth h) 1) ≤ most
   own-place = its-place f target r start l s ws words-at spotted near frames deep name mark zombie h is
 
   inside : target + 4 + length (entriesWords h) ≤ length ws
@@ -108,7 +108,7 @@ module _ (f target : ℕ) (r : Run) (start : ℕ) (l : Located) (s : Site) (ws n
   not-huge : 2 + length (entriesWords (change es)) ≤ length ws
   not-huge = omega (arith, one-short k fitting es, handler-short k h, inside, list-short)
 
-  changed-fits : runDepth (plug changed nil) ≤ 64
+  changed-fits : runDepth (plug changed nil) ≤ most
   changed-fits =
       let a : NoLarger nil (l .process) =
       record {
@@ -133,7 +133,7 @@ module _ (f target : ℕ) (r : Run) (start : ℕ) (l : Located) (s : Site) (ws n
       )
 
   abbrev Result : Edited → Type 0
-  Result u = Ruled ws start (start + size r) (u .edit) (u .fresh) (some (plug changed nil)) × (u .edit .store .variable ≡ 32)
+  Result u = Ruled most ws start (start + size r) (u .edit) (u .fresh) (some (plug changed nil)) × (u .edit .store .variable ≡ 32)
 
   -- once the new list stands in the fresh words
   placed :
@@ -217,7 +217,7 @@ module _ (f target : ℕ) (r : Run) (start : ℕ) (l : Located) (s : Site) (ws n
 
   pub promotes :
       (let u = endingW ws notes s (scopeKey name) fresh in
-      Ruled ws start (start + size r) (u .edit) (u .fresh)
+      Ruled most ws start (start + size r) (u .edit) (u .fresh)
       (some
       (plug (onNearest (λ outer. update outer (entry (scopeKey name) (handler (scopeKey name) h) noEntries)) (l .frames)) nil))
       × (u .edit .store .variable ≡ 32))

@@ -29,7 +29,7 @@ use Rattle.handling.specs.Taking.{Took, takeW}
 use Rattle.handling.proofs.Takes.{Takes, takes, Stands}
 use Rattle.handling.proofs.Stays.{without-shallow, without-short}
 use Rattle.rules.proofs.Rewrites.{enable-words}
-use Rattle.rules.proofs.Depths.{plug-fits}
+use Rattle.rules.proofs.Depths.{plug-fits, Shallow, shallow}
 use Rattle.rules.proofs.Edits.{Edits, edits-of, part-first}
 use Rattle.rules.proofs.Outcomes.{Ruled, ruled}
 use Rattle.scopes.specs.Ending.{took, takeBehindW, takenTo, takenW, resumedW}
@@ -87,7 +87,7 @@ module _ (ws : List ℕ) (k : ℕ) (h : Entries) (lent : List ℕ) (t : Took) (t
 module _ (f target : ℕ) (r : Run) (start : ℕ) (l : Located) (s : Site) (ws notes : List ℕ) (right : Right ws notes)
     (words-at : drop start ws ≡ runWords r ++ drop (start + size r) ws)
     (spotted : Spotted f target r start 1 l s) (near : Near (length ws)) {n issued : ℕ} (frames : SoundFrames n issued (l .frames))
-    (deep : runDepth r ≤ 64)
+    {most : ℕ} (deep : Shallow most r)
     (few : n ≤ 8) (small : issued < 65536) (short : length ws ≤ 8192)
     (fresh : List ℕ) (room : Roomy ws fresh) (big : Near (length fresh))
     (name : ℕ) (mark : Mark) (zombie : Bool) (h : Entries) (is : l .process ≡ scope name mark zombie h nil)
@@ -214,11 +214,11 @@ module _ (f target : ℕ) (r : Run) (start : ℕ) (l : Located) (s : Site) (ws n
   unfolding runDepth
   enabled-deep = ap depth (enable-asNode fitting)
 
-  fits-in : runDepth (plug (l .frames) q) ≤ 64
+  fits-in : runDepth (plug (l .frames) q) ≤ most
   unfolding isDone
   fits-in =
       let whole = spotted .wraps in
-      plug-fits frames (l .process) q 64 refl (omega (arith, deep, ap runDepth whole))
+      plug-fits frames (l .process) q most refl (omega (arith, deep .kept, ap runDepth whole))
       (omega (
         arith,
         its-place f target r start l s ws words-at spotted near frames deep name mark zombie h is,
@@ -230,7 +230,7 @@ module _ (f target : ℕ) (r : Run) (start : ℕ) (l : Located) (s : Site) (ws n
 
   pub resumes :
       (let u = resumedW ws notes start (s .at) k fresh in
-      Ruled ws start (start + size r) (u .edit) (u .fresh)
+      Ruled most ws start (start + size r) (u .edit) (u .fresh)
       (some (plug (l .frames) (scope name unmarked zombie (without k h) (enable (handler k h)))))
       × (u .edit .store .variable ≡ 32))
   unfolding resumedW

@@ -27,14 +27,14 @@ use Rattle.rules.specs.Storing.{unchanged}
 use Rattle.rules.specs.Rewriting.{vanishing}
 use Rattle.rules.specs.Editing.{nilW, plainW}
 use Rattle.rules.proofs.Rewrites.{becomes-nil}
-use Rattle.rules.proofs.Depths.{spread, wrap-depth, depth-some}
+use Rattle.rules.proofs.Depths.{spread, wrap-depth, depth-some, Shallow, shallow}
 use Rattle.rules.proofs.Outcomes.{Ruled, becomes-ruled}
 use Rattle.scopes.proofs.NearestLists.{nearest-within}
 
 module _ (f target : ℕ) (r : Run) (start : ℕ) (l : Located) (s : Site) (ws : List ℕ)
     (words : drop start ws ≡ runWords r ++ drop (start + size r) ws)
     (spotted : Spotted f target r start 1 l s) (near : Near (length ws)) {n issued : ℕ} (frames : SoundFrames n issued (l .frames))
-    (deep : runDepth r ≤ 64) where
+    {most : ℕ} (deep : Shallow most r) where
   pub whole-inside : start + size r ≤ length ws
   unfolding size
   whole-inside =
@@ -46,24 +46,24 @@ module _ (f target : ℕ) (r : Run) (start : ℕ) (l : Located) (s : Site) (ws :
             (drop (start + length (runWords r)) ws),
       )
 
-  pub frames-deep : (spread (l .frames) ≤ 64) × (length (l .frames) + runDepth (l .process) ≤ 64)
+  pub frames-deep : (spread (l .frames) ≤ most) × (length (l .frames) + runDepth (l .process) ≤ most)
   frames-deep =
       let w : wrap (l .frames) (l .process) ≡ r = spotted .wraps in
       let d : max (spread (l .frames)) (length (l .frames) + runDepth (l .process)) ≡ runDepth r =
       sym (wrap-depth (l .frames) (l .process)) ∙ ap runDepth w in
       (omega arith, omega arith)
 
-  pub level-low : s .level ≤ 64
+  pub level-low : s .level ≤ most
   level-low = let d = frames-deep .1 in let p = depth-some (l .process) in let e = spotted .level in omega arith
 
   -- the process becomes nil, no list changes
   pub nil-ruled :
       (fresh : List ℕ) → 0 < length fresh → Near (length fresh) →
       (let u = nilW s start start 0 unchanged fresh in
-      Ruled ws start (start + size r) (u .edit) (u .fresh) (some (plug (l .frames) nil)) × (u .edit .store .variable ≡ 32))
+      Ruled most ws start (start + size r) (u .edit) (u .fresh) (some (plug (l .frames) nil)) × (u .edit .store .variable ≡ 32))
   unfolding plainW
   nil-ruled fresh room big =
-      let low : s .level + runDepth nil ≤ 65 = omega (arith, level-low, depth-nil) in
+      let low : s .level + runDepth nil ≤ suc most = omega (arith, level-low, depth-nil) in
       let b =
       becomes-ruled f target r start l s ws words spotted near frames deep nil (vanishing unchanged) fresh room big
       (becomes-nil (l .process) 32 0 fresh) low in

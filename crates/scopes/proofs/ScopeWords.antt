@@ -26,6 +26,7 @@ use Rattle.finding.proofs.Edits.{process-at}
 use Rattle.layout.specs.Positions.{onward}
 use Rattle.writers.proofs.Laid.{Near, onward-near}
 use Rattle.layout.specs.Heads.{clearedHead}
+use Rattle.rules.proofs.Depths.{Shallow, shallow}
 use Rattle.scopes.specs.Ending.{keyAtW}
 use Rattle.scopes.proofs.ScopeLists.{whole-inside, frames-deep, process-inside}
 
@@ -116,7 +117,7 @@ handler-short k (entry j p es) =
 module _ (f target : ℕ) (r : Run) (start : ℕ) (l : Located) (s : Site) (ws : List ℕ)
     (words-at : drop start ws ≡ runWords r ++ drop (start + size r) ws)
     (spotted : Spotted f target r start 1 l s) (near : Near (length ws)) {n issued : ℕ} (frames : SoundFrames n issued (l .frames))
-    (deep : runDepth r ≤ 64)
+    {most : ℕ} (deep : Shallow most r)
     (name : ℕ) (mark : Mark) (zombie : Bool) (h : Entries) (is : l .process ≡ scope name mark zombie h nil) where
   pub its-words : runWords (l .process) ≡ scopeHead name mark zombie ∷ (markedFault mark * 1024) ∷ count h ∷ (entriesWords h ++ (0 ∷ []))
   its-words =
@@ -131,7 +132,7 @@ module _ (f target : ℕ) (r : Run) (start : ℕ) (l : Located) (s : Site) (ws :
   pub its-depth : runDepth (l .process) ≡ suc (max (entriesDepth h) 1)
   its-depth = ap runDepth is ∙ (depth-scope name mark zombie h nil ∙ ap (λ d. suc (max (entriesDepth h) d)) depth-nil)
 
-  pub its-place : length (l .frames) + suc (max (entriesDepth h) 1) ≤ 64
+  pub its-place : length (l .frames) + suc (max (entriesDepth h) 1) ≤ most
   its-place = omega (arith, frames-deep f target r start l s ws words-at spotted near frames deep .1, its-depth)
 
   pub its-inside : target + 4 + length (entriesWords h) ≤ length ws

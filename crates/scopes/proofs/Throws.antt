@@ -40,7 +40,7 @@ use Rattle.killing.proofs.Gives.{Gives, stops, gives}
 use Rattle.killing.proofs.Killed.{kill-climb}
 use Rattle.rules.proofs.Rewrites.{head-on}
 use Rattle.rules.proofs.Edits.{part-first, edits-of}
-use Rattle.rules.proofs.Depths.{wrap-depth, depth-some}
+use Rattle.rules.proofs.Depths.{wrap-depth, depth-some, Shallow, shallow}
 use Rattle.rules.proofs.Outcomes.{Ruled, unkillable, ruled}
 use Rattle.layout.specs.Heads.{faultedHead, faultWord}
 use Rattle.scopes.specs.Throwing.{faultW, clearedW, clearedBy, uncaughtW, listedW, markedW, bodyW, openedTo, openedW, caughtW, thrownW}
@@ -66,12 +66,12 @@ cleared-stuck :
 unfolding clearedBy clearedW
 cleared-stuck start a k e = rw e (refl, refl)
 
-module _ (ws : List ℕ) (start end : ℕ) (inside : end ≤ length ws) (q : Run) (deep : runDepth q ≤ 64) (a e to : ℕ) (k : Killed)
+module _ (ws : List ℕ) (start end : ℕ) (inside : end ≤ length ws) (q : Run) {most : ℕ} (deep : runDepth q ≤ most) (a e to : ℕ) (k : Killed)
     (ends : k .moved .end ≡ e) (reaches : k .moved .to ≡ to) (some-end : 0 < e) (from : start ≤ a) (upto : a ≤ e) (in-end : e ≤ end)
     (room : to ≤ length (k .out)) where
   cleared-ruled :
       edited ws start start [] a e (take to (k .out)) e e ≡ take start ws ++ (runWords q ++ drop end ws) →
-      (let u = clearedBy start a k in Ruled ws start end (u .edit) (u .fresh) (some q) × (u .edit .store .variable ≡ 32))
+      (let u = clearedBy start a k in Ruled most ws start end (u .edit) (u .fresh) (some q) × (u .edit .store .variable ≡ 32))
   unfolding clearedBy clearedW
   cleared-ruled w =
       rw (ends, reaches, ne-eqb e 0 (λ z. omega arith)) (
@@ -103,14 +103,14 @@ whole-edited ws fr start e =
 module _ (ws notes : List ℕ) (right : Right ws notes) (n issued : ℕ) (few : n ≤ 8) (small : issued < 65536)
     {r : Run} (sound : Sound n issued r)
     (start : ℕ) (words : drop start ws ≡ runWords r ++ drop (start + size r) ws) (pos : 0 < start)
-    (deep : runDepth r ≤ 64) (short : length ws ≤ 8192) (fresh : List ℕ) (large : Roomy ws fresh) (near : Near (length fresh))
+    {most : ℕ} (deep : Shallow most r) (short : length ws ≤ 8192) (fresh : List ℕ) (large : Roomy ws fresh) (near : Near (length fresh))
     (f : ℕ) (low : f < 64) where
   inside : start + size r ≤ length ws
   unfolding size
   inside = stands-within ws (runWords r) _ start words (size-positive r)
 
   -- the climb is no deeper than all of it
-  climb-deep : (p : ℕ) (l : Located) → locate r p [] ≡ some l → All (λ q. runDepth q ≤ 64) (climb f (l .frames) nil)
+  climb-deep : (p : ℕ) (l : Located) → locate r p [] ≡ some l → All (λ q. runDepth q ≤ most) (climb f (l .frames) nil)
   unfolding wrap
   climb-deep p l e =
       let s = all-some (locate-sound sound p noFrames) e in
@@ -123,8 +123,8 @@ module _ (ws notes : List ℕ) (right : Right ws notes) (n issued : ℕ) (few : 
   module _ (target : ℕ) (l : Located) (place : within r start target ≡ some l) (throws : Throws (l .process))
       (passes : T (free f (l .frames))) where
     uncaught-by :
-        {k : Killed} {o : Option Run} → Gives r fresh 0 (start + size r) k o → All (λ q. runDepth q ≤ 64) o →
-        (let u = clearedBy start start k in Ruled ws start (start + size r) (u .edit) (u .fresh) o × (u .edit .store .variable ≡ 32))
+        {k : Killed} {o : Option Run} → Gives r fresh 0 (start + size r) k o → All (λ q. runDepth q ≤ most) o →
+        (let u = clearedBy start start k in Ruled most ws start (start + size r) (u .edit) (u .fresh) o × (u .edit .store .variable ≡ 32))
     unfolding clearedBy size
     uncaught-by {k = k} (stops e) a = let c = cleared-stuck start start k e in (unkillable (c .0), c .1)
     uncaught-by {k = k} (gives {s = q} g) a =
@@ -137,13 +137,13 @@ module _ (ws notes : List ℕ) (right : Right ws notes) (n issued : ℕ) (few : 
 
     pub uncaught-ruled :
         (let u = uncaughtW ws notes start f target fresh in
-        Ruled ws start (start + size r) (u .edit) (u .fresh) (climb f (l .frames) nil) × (u .edit .store .variable ≡ 32))
+        Ruled most ws start (start + size r) (u .edit) (u .fresh) (climb f (l .frames) nil) × (u .edit .store .variable ≡ 32))
     unfolding uncaughtW
     uncaught-ruled =
         let h : start ≤ target = within-from r start target l place in
         let e : locate r (target - start) [] ≡ some l = sym (within-locate r start target h) ∙ place in
         let z : start + (target - start) ≡ target = omega arith in
-        let g = kill-climb ws notes right n issued few small f low sound 64 start deep (drop (start + size r) ws) words fresh 0
+        let g = kill-climb ws notes right n issued few small f low sound 64 start (shallow deep) (drop (start + size r) ws) words fresh 0
         (omega (arith, inside)) near
         (target - start) l e throws passes in
         uncaught-by (rw z at g) (climb-deep (target - start) l e)
@@ -183,7 +183,7 @@ module _ (ws notes : List ℕ) (right : Right ws notes) (n issued : ℕ) (few : 
     spot : (s : Site) × Spotted (faultAt ws c) c r start 1 (record { frames = outer; process = whole }) s
     spot =
         let g = found n issued few small ws notes right c sound 64 start 1
-        (drop (start + size r) ws) pos deep words _ stopping in
+        (drop (start + size r) ws) pos (shallow deep) words _ stopping in
         (g .0, g .1 .1)
 
     stands : (more : List ℕ) × (drop c ws ≡ runWords whole ++ more)
@@ -318,8 +318,8 @@ module _ (ws notes : List ℕ) (right : Right ws notes) (n issued : ℕ) (few : 
     caught-by :
         {mid : List ℕ} {k : Killed} {o : Option Run} → Laid fresh 0 (own marked) mid →
         Gives a mid (length (own marked)) (body + size a) k o →
-        All (λ q. runDepth q ≤ 64) (also o λ p. some (caughtBy p)) →
-        (let u = clearedBy start c k in Ruled ws start (start + size r) (u .edit) (u .fresh) (also o λ p. some (caughtBy p))
+        All (λ q. runDepth q ≤ most) (also o λ p. some (caughtBy p)) →
+        (let u = clearedBy start c k in Ruled most ws start (start + size r) (u .edit) (u .fresh) (also o λ p. some (caughtBy p))
         × (u .edit .store .variable ≡ 32))
     unfolding also size isDone
     caught-by {k = k} laid (stops e) d = let z = cleared-stuck start c k e in (unkillable (z .0), z .1)
@@ -350,7 +350,7 @@ module _ (ws notes : List ℕ) (right : Right ws notes) (n issued : ℕ) (few : 
 
     pub caught-ruled :
         (let u = caughtW ws notes start c f target fresh in
-        Ruled ws start (start + size r) (u .edit) (u .fresh) (climb f (inner ++ scopeFrame name mark zombie h ∷ outer) nil)
+        Ruled most ws start (start + size r) (u .edit) (u .fresh) (climb f (inner ++ scopeFrame name mark zombie h ∷ outer) nil)
         × (u .edit .store .variable ≡ 32))
     unfolding caughtW
     caught-ruled =
@@ -370,7 +370,7 @@ module _ (ws notes : List ℕ) (right : Right ws notes) (n issued : ℕ) (few : 
         {o : Option Located} {k : ℕ} → Standing r start o k → Sought f (l .frames) (l .process) o →
         (let u = cond (eqb k 0) (uncaughtW ws notes start f target fresh)
         (caughtW ws notes start k f target fresh) in
-        Ruled ws start (start + size r) (u .edit) (u .fresh) (climb f (l .frames) nil) × (u .edit .store .variable ≡ 32))
+        Ruled most ws start (start + size r) (u .edit) (u .fresh) (climb f (l .frames) nil) × (u .edit .store .variable ≡ 32))
     thrown-by nowhere (unstopped t) = uncaught-ruled target l place throws t
     thrown-by (somewhere {k = k} h e) (stoppedBy {l = g} w) =
         rw (ne-eqb k 0 (λ z. omega arith), w .frames)
@@ -382,7 +382,7 @@ module _ (ws notes : List ℕ) (right : Right ws notes) (n issued : ℕ) (few : 
     pub climb-ruled :
         faultW ws target ≡ f →
         (let u = thrownW ws notes start s fresh in
-        Ruled ws start (start + size r) (u .edit) (u .fresh) (climb f (l .frames) nil) × (u .edit .store .variable ≡ 32))
+        Ruled most ws start (start + size r) (u .edit) (u .fresh) (climb f (l .frames) nil) × (u .edit .store .variable ≡ 32))
     unfolding thrownW
     climb-ruled e = rw (spotted .at, e) (thrown-by (spotted .catcher low) (sought f (l .frames) (l .process)))
 
@@ -390,13 +390,13 @@ module _ (ws notes : List ℕ) (right : Right ws notes) (n issued : ℕ) (few : 
 module _ (ws notes : List ℕ) (right : Right ws notes) (n issued : ℕ) (few : n ≤ 8) (small : issued < 65536)
     {r : Run} (sound : Sound n issued r)
     (start : ℕ) (words : drop start ws ≡ runWords r ++ drop (start + size r) ws) (pos : 0 < start)
-    (deep : runDepth r ≤ 64) (short : length ws ≤ 8192) (fresh : List ℕ) (large : Roomy ws fresh) (near : Near (length fresh))
+    {most : ℕ} (deep : Shallow most r) (short : length ws ≤ 8192) (fresh : List ℕ) (large : Roomy ws fresh) (near : Near (length fresh))
     (target : ℕ) (l : Located) (s : Site) (place : within r start target ≡ some l)
     (spotted : Spotted (faultAt ws target) target r start 1 l s) where
   pub thrown-ruled :
       (m : Node) → l .process ≡ act m → kind m ≡ 13 →
       (let u = thrownW ws notes start s fresh in
-      Ruled ws start (start + size r) (u .edit) (u .fresh) (climb (nameOf (headWord m)) (l .frames) nil) × (u .edit .store .variable ≡ 32))
+      Ruled most ws start (start + size r) (u .edit) (u .fresh) (climb (nameOf (headWord m)) (l .frames) nil) × (u .edit .store .variable ≡ 32))
   unfolding faultAt faultW
   thrown-ruled m e k =
       let p = process-at (faultAt ws target) target r start 1 l s ws (drop (start + size r) ws) words spotted in

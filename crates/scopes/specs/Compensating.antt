@@ -7,6 +7,7 @@ use lib.ListN.{getD}
 use Rattle.sock.specs.Words.{nameOf, scopeKey}
 use Rattle.reading.specs.Walk.{processEnd}
 use Rattle.skipping.specs.Pass.{passList}
+use Rattle.layout.specs.declared.limit.Limits.{Limits}
 use Rattle.layout.specs.Positions.{onward}
 use Rattle.writers.specs.Writing.{pasted, pastedEnd}
 use Rattle.finding.specs.declared.find.Site.{Site}
@@ -32,10 +33,10 @@ movedW ws notes s t fresh =
     })
     (pasted ws (t .from) (t .upto) fresh (t .to))
 
-unfoldable pub compensatedW : ℕ → List ℕ → List ℕ → ℕ → Site → List ℕ → Edited
-compensatedW bound ws notes start s fresh =
+unfoldable pub compensatedW : Limits → ℕ → List ℕ → List ℕ → ℕ → Site → List ℕ → Edited
+compensatedW limits bound ws notes start s fresh =
     cond (eqb (s .scope) 0) (nilW s start start 0 unchanged fresh)
     (let t = takeW 64 ws (onward (s .scope) 2) (scopeKey (nameOf (getD ws (s .at) 0))) fresh in
     cond (eqb (t .answer .upto) 0) (nilW s start start 0 unchanged (t .out))
-    (cond (eqb (processEnd (65 - s .level) ws bound 0 (t .answer .from)) 0) (edited (refusedEdit 8) (t .out))
+    (cond (eqb (processEnd (onward (limits .deepest) 1 - s .level) ws bound 0 (t .answer .from)) 0) (edited (refusedEdit 8) (t .out))
     (movedW ws notes s (t .answer) (t .out))))

@@ -3,8 +3,8 @@ use finding::find::Site;
 use handling::take::Taken;
 use handling::take::take;
 use layout::field::scope_key;
-use layout::limit::DEEPEST;
 use layout::limit::FUEL;
+use layout::limit::Limits;
 use layout::number::further;
 use layout::number::less;
 use layout::number::word;
@@ -51,9 +51,10 @@ pub fn compensated(
     start: usize,
     s: Site,
     bound: usize,
+    limits: Limits,
     fresh: &mut [u16],
 ) -> Edit
-    ensures { λ r. ⌜ (r ≡ compensatedW bound (now (ws .entry)) (now (notes .entry)) start s (now (fresh .entry)) .edit) × (now (fresh .exit) ≡ compensatedW bound (now (ws .entry)) (now (notes .entry)) start s (now (fresh .entry)) .fresh) ⌝ }
+    ensures { λ r. ⌜ (r ≡ compensatedW limits bound (now (ws .entry)) (now (notes .entry)) start s (now (fresh .entry)) .edit) × (now (fresh .exit) ≡ compensatedW limits bound (now (ws .entry)) (now (notes .entry)) start s (now (fresh .entry)) .fresh) ⌝ }
 {
     if s.scope == 0 {
         return become_nil(s, start, start, 0, nothing(), fresh);
@@ -63,7 +64,15 @@ pub fn compensated(
     if t.upto == 0 {
         return become_nil(s, start, start, 0, nothing(), fresh);
     }
-    if read(ws, t.from, less(DEEPEST + 1, s.level), 0, bound) == 0 {
+    if read(
+        ws,
+        t.from,
+        less(further(limits.deepest, 1), s.level),
+        0,
+        bound,
+    )
+        == 0
+    {
         return refuse(8);
     }
     moved(ws, notes, s, t, fresh)

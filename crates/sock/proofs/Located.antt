@@ -109,7 +109,7 @@ pub record Stands (all : Run) (ws : List ℕ) (p : ℕ) (l : Located) : Type 0 w
   pub rest : List ℕ
   pub begins : drop p ws ≡ runWords (l .process) ++ rest
 
-node-size : (m : Node) → 0 < length (words m)
+pub node-size : (m : Node) → 0 < length (words m)
 unfolding words
 node-size (node h f es b ps) = omega arith
 

@@ -105,7 +105,7 @@ module _ (fresh : List ℕ) (near : Near (length fresh)) (room : 4 ≤ length fr
       by false false false = fail-few other _
 
   -- an edit made of such a rewriting
-  pub plain-few : (s : Site) (start : ℕ) (t : Rewriting) → t .fresh ≤ 4 → plainW s start t fresh .edit .fresh ≤ 8192
+  pub plain-few : (s : Site) (start : ℕ) (t : Rewriting) → t .fresh ≤ 4 → plainW s start t fresh .edit .fresh ≤ 4
   unfolding plainW nilW hollowW
   plain-few s start t h = by (t .nil) (s .hollow)
     where
@@ -117,7 +117,7 @@ module _ (fresh : List ℕ) (near : Near (length fresh)) (room : 4 ≤ length fr
           (cond b (placed (onward 0 1) (set fresh 0 0)) (placed 0 fresh) .fresh))
           (edited
           (record { number = t .number; list = start; past = start; listed = 0; from = s .at; upto = onward (s .at) (t .from); fresh = t .fresh; gap = onward (s .at) (t .upto); end = onward (s .at) (t .end); store = record { variable = t .store .variable; value = t .store .value } })
-          fresh) .edit .fresh ≤ 8192
+          fresh) .edit .fresh ≤ 4
       by true true = omega (arith, first-place)
       by true false = omega arith
       by false b = omega arith

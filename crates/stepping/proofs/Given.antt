@@ -13,6 +13,8 @@ use Rattle.sock.proofs.Fits.{FitsConfig}
 use Rattle.sock.proofs.Located.{startOf}
 use Rattle.rules.specs.declared.edit.Edit.{Edit}
 use Rattle.rules.proofs.Edits.{Edits}
+use Rattle.layout.specs.declared.limit.Limits.{Limits}
+use Rattle.stepping.proofs.Modest.{Modest}
 use Rattle.stepping.specs.declared.answer.Answer.{Answer}
 use Rattle.stepping.specs.Answering.{answered, refusing, sizedW, lengthOf, writeOneW, oneW, writeTwoW, twoW}
 use Rattle.stepping.proofs.Goal.{given, fitted, fitted-deep, fitted-by}
@@ -43,7 +45,7 @@ depth-at (g ∷ es) (suc e) d n h b = depth-at es e d n (omega arith) (omega ari
 told : (n : ℕ) → n ≤ 8192 → n % 65536 ≡ n
 told n h = omega arith
 
-module _ (c : Config) (fits : FitsConfig c) (deep : enginesDepth (c .engines) ≤ 64) (ws : List ℕ) (same : encode c ≡ ws) (short : length ws ≤ 8192) where
+module _ {limits : Limits} (modest : Modest limits) (c : Config) (fits : FitsConfig c) (deep : enginesDepth (c .engines) ≤ limits .deepest) (ws : List ℕ) (same : encode c ≡ ws) (short : length ws ≤ limits .longest) where
   -- ---- one
 
   module _ (e : ℕ) (h : e < length (c .engines)) (p : Edit) (fresh : List ℕ) (kind : ℕ) (out : List ℕ) where
@@ -56,27 +58,27 @@ module _ (c : Config) (fits : FitsConfig c) (deep : enginesDepth (c .engines) �
     abbrev made : List ℕ → Run → Stepped
     made vs q = record { config = record { issued = c .issued; engines = withEngine e vs q (c .engines) }; kind = kind; serial = 0; fault = 0 }
 
-    pub one-refused : (p .number ≡ 0 → ⊥) → oneW ws start end p kind fresh out ≡ answered (refusing (p .number)) out
+    pub one-refused : (p .number ≡ 0 → ⊥) → oneW limits ws start end p kind fresh out ≡ answered (refusing (p .number)) out
     unfolding oneW
     one-refused z = rw (ne-eqb (p .number) 0 z)
 
-    pub one-deep : (vs : List ℕ) (q : Run) → p .number ≡ 8 → 64 < runDepth q → oneW ws start end p kind fresh out ≡ given (fitted (length out) (made vs q)) out
+    pub one-deep : (vs : List ℕ) (q : Run) → p .number ≡ 8 → limits .deepest < runDepth q → oneW limits ws start end p kind fresh out ≡ given (fitted limits (length out) (made vs q)) out
     one-deep vs q z d =
         one-refused (λ y. omega arith)
         ∙ (ap (λ k. answered (refusing k) out) z
-        ∙ sym (fitted-deep (made vs q) out (omega (arith, fits .word)) (depth-over (c .engines) e _ 64 h d)))
+        ∙ sym (fitted-deep limits (made vs q) out (omega (arith, fits .word)) (depth-over (c .engines) e _ (limits .deepest) h d)))
 
     pub one-given :
-        (vs : List ℕ) (q : Run) → p .number ≡ 0 → Edits ws start end p fresh q → runDepth q ≤ 64 →
+        (vs : List ℕ) (q : Run) → p .number ≡ 0 → Edits ws start end p fresh q → runDepth q ≤ limits .deepest →
         vs ≡ valued (engineAt c e .values) (p .store .variable) (p .store .value) →
-        oneW ws start end p kind fresh out ≡ given (fitted (length out) (made vs q)) out
+        oneW limits ws start end p kind fresh out ≡ given (fitted limits (length out) (made vs q)) out
     unfolding oneW
     one-given vs q z edits d v =
         rw (eq-eqb (p .number) 0 z, v)
-        (fitted-by (made (valued (engineAt c e .values) (p .store .variable) (p .store .value)) q) out (writeOneW ws start end p fresh out .out) (sizedW (length ws) p) (sizedW (length ws) p % 65536)
-        (omega (arith, fits .word)) (depth-set (c .engines) e _ 64 deep d) (next-fits c fits e h ws same p fresh q edits short (length out)) λ a b.
-        let s = next-sized c fits e h ws same p fresh q edits short (omega (arith, next-few c fits e h ws same p fresh q edits)) in
-        (ap (λ k. k % 65536) s ∙ told _ a, next-written c fits e h ws same p fresh q edits out a b))
+        (fitted-by limits (made (valued (engineAt c e .values) (p .store .variable) (p .store .value)) q) out (writeOneW ws start end p fresh out .out) (sizedW limits (length ws) p) (sizedW limits (length ws) p % 65536)
+        (omega (arith, fits .word)) (depth-set (c .engines) e _ (limits .deepest) deep d) (next-fits c fits e h ws same p fresh q edits modest short (length out)) λ a b.
+        let s = next-sized c fits e h ws same p fresh q edits modest short (omega (arith, next-few c fits e h ws same p fresh q edits)) in
+        (ap (λ k. k % 65536) s ∙ told _ (omega (arith, a, modest .few)), next-written c fits e h ws same p fresh q edits out (omega (arith, a, modest .few)) b))
 
   -- ---- two, in the order of the words
 
@@ -84,10 +86,10 @@ module _ (c : Config) (fits : FitsConfig c) (deep : enginesDepth (c .engines) �
       (edits1 : Edits ws (startOf c e) (startOf c e + size (engineAt c e .process)) p1 f1 q1) (p2 : Edit) (f2 : List ℕ) (q2 : Run)
       (edits2 : Edits ws (startOf c i) (startOf c i + size (engineAt c i .process)) p2 f2 q2) (issued : ℕ) where
     pub two-given :
-        (a : Answer) (out : List ℕ) → issued ≤ 65535 → runDepth q1 ≤ 64 → runDepth q2 ≤ 64 → p1 .fresh ≤ 8192 → p2 .fresh ≤ 8192 →
-        twoW ws (startOf c e) (startOf c e + size (engineAt c e .process)) p1 f1 (startOf c i) (startOf c i + size (engineAt c i .process)) p2 f2 issued a out
+        (a : Answer) (out : List ℕ) → issued ≤ 65535 → runDepth q1 ≤ limits .deepest → runDepth q2 ≤ limits .deepest → p1 .fresh ≤ limits .longest → p2 .fresh ≤ limits .longest →
+        twoW limits ws (startOf c e) (startOf c e + size (engineAt c e .process)) p1 f1 (startOf c i) (startOf c i + size (engineAt c i .process)) p2 f2 issued a out
         ≡ given
-        (fitted (length out)
+        (fitted limits (length out)
         (record {
           config = two.next c fits e i low high ws same p1 f1 q1 edits1 p2 f2 q2 edits2 issued;
           kind = a .kind;
@@ -97,8 +99,8 @@ module _ (c : Config) (fits : FitsConfig c) (deep : enginesDepth (c .engines) �
         out
     unfolding twoW
     two-given a out fine d1 d2 g1 g2 =
-        let s = two.two-sized c fits e i low high ws same p1 f1 q1 edits1 p2 f2 q2 edits2 issued short g1 g2 in
-        fitted-by _ out (writeTwoW ws (startOf c e) (startOf c e + size (engineAt c e .process)) p1 f1 (startOf c i) (startOf c i + size (engineAt c i .process)) p2 f2 issued out)
-        (sizedW (sizedW (length ws) p1) p2) (sizedW (sizedW (length ws) p1) p2 % 65536) fine
-        (depth-set (set (c .engines) e _) i _ 64 (depth-set (c .engines) e _ 64 deep d1) d2) (ap (λ k. lengthOf k (length out)) s) λ x y.
-        (ap (λ k. k % 65536) s ∙ told _ x, two.two-written c fits e i low high ws same p1 f1 q1 edits1 p2 f2 q2 edits2 issued out x y)
+        let s = two.two-sized c fits e i low high ws same p1 f1 q1 edits1 p2 f2 q2 edits2 issued modest short g1 g2 in
+        fitted-by limits _ out (writeTwoW ws (startOf c e) (startOf c e + size (engineAt c e .process)) p1 f1 (startOf c i) (startOf c i + size (engineAt c i .process)) p2 f2 issued out)
+        (sizedW limits (sizedW limits (length ws) p1) p2) (sizedW limits (sizedW limits (length ws) p1) p2 % 65536) fine
+        (depth-set (set (c .engines) e _) i _ (limits .deepest) (depth-set (c .engines) e _ (limits .deepest) deep d1) d2) (ap (λ k. lengthOf limits k (length out)) s) λ x y.
+        (ap (λ k. k % 65536) s ∙ told _ (omega (arith, x, modest .few)), two.two-written c fits e i low high ws same p1 f1 q1 edits1 p2 f2 q2 edits2 issued out (omega (arith, x, modest .few)) y)

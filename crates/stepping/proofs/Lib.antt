@@ -5,6 +5,7 @@ pub mod Goal
 pub mod Law
 pub mod Lone
 pub mod LoneLaw
+pub mod Modest
 pub mod Movers
 pub mod Overs
 pub mod PairLaw

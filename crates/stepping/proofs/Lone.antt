@@ -56,6 +56,10 @@ use Rattle.scopes.proofs.Installs
 use Rattle.scopes.proofs.Throws.{thrown-ruled}
 use Rattle.scopes.proofs.Ends.{ends}
 use Rattle.scopes.proofs.Scratch.{Roomy, Spacious}
+use Rattle.layout.specs.declared.limit.Limits.{Limits}
+use Rattle.layout.specs.Limits.{figures}
+use Rattle.rules.proofs.Depths.{Shallow}
+use Rattle.stepping.proofs.Modest.{Modest}
 use Rattle.stepping.specs.Exchanging.{lent}
 use Rattle.stepping.specs.Alone.{rewrittenW, valuedW, scopedW, ruleW}
 use Rattle.stepping.proofs.Writes.{valued}
@@ -99,11 +103,11 @@ unfolding plainW
 plain-number s start t fresh e = rw e
 
 -- a while keeps the scratch's length
-repeat-keeps : (level bound : ℕ) (ws values fresh : List ℕ) → length (repeatW level bound ws values fresh .fresh) ≡ length fresh
+repeat-keeps : (limits : Limits) (level bound : ℕ) (ws values fresh : List ℕ) → length (repeatW limits level bound ws values fresh .fresh) ≡ length fresh
 unfolding repeatW unrollW
-repeat-keeps level bound ws values fresh =
+repeat-keeps limits level bound ws values fresh =
     let e = evaluated 64 ws values 1 in
-    by (eqb (e .value) 0) (eqb (at ws (e .end)) 0) (eqb (processEnd (64 - level) ws bound 0 0) 0)
+    by (eqb (e .value) 0) (eqb (at ws (e .end)) 0) (eqb (processEnd (limits .deepest - level) ws bound 0 0) 0)
   where
     by : (a b c : Bool) →
         (let e = evaluated 64 ws values 1 in
@@ -123,7 +127,7 @@ pub words-part : (ws : List ℕ) (i : ℕ) → Words ws → Words (drop i ws)
 words-part ws i ok k = subst (λ (w : ℕ). w < 65536) (sym (getD-drop i ws k 0)) (ok (i + k))
 
 module _ (ws : List ℕ) (ok : Words ws) (n issued : ℕ) (few : n ≤ 8) (small : issued < 65536) (r : Run) (sound : Sound n issued r)
-    (start : ℕ) (words-at : drop start ws ≡ runWords r ++ drop (start + size r) ws) (low : 64 ≤ start) (deep : runDepth r ≤ 64)
+    (start : ℕ) (words-at : drop start ws ≡ runWords r ++ drop (start + size r) ws) (low : 64 ≤ start) (limits : Limits) (deep : Shallow (limits .deepest) r)
     (short : length ws ≤ 8192) (target : ℕ) (l : Located) (s : Site) (place : within r start target ≡ some l)
     (spotted : Spotted (faultAt ws target) target r start 1 l s) where
   pub near : Near (length ws)
@@ -155,13 +159,13 @@ module _ (ws : List ℕ) (ok : Words ws) (n issued : ℕ) (few : n ≤ 8) (small
   pub part-lent : lent (s .at) (length ws) ws ≡ drop (s .at) ws
   part-lent = take-all (length ws - s .at) (drop (s .at) ws) (omega (arith, length-drop (s .at) ws))
 
-  pub process-deep : length (l .frames) + runDepth (l .process) ≤ 64
+  pub process-deep : length (l .frames) + runDepth (l .process) ≤ limits .deepest
   process-deep = frames-deep (faultAt ws target) target r start l s ws words-at spotted near (standing .frames) deep .1
 
   its-level : s .level ≡ 1 + length (l .frames)
   its-level = spotted .level
 
-  level : s .level ≤ 64
+  level : s .level ≤ limits .deepest
   level = level-low (faultAt ws target) target r start l s ws words-at spotted near (standing .frames) deep
 
   abbrev bound : ℕ
@@ -169,22 +173,22 @@ module _ (ws : List ℕ) (ok : Words ws) (n issued : ℕ) (few : n ≤ 8) (small
 
   module _ (vs : List ℕ) (below : AllBelow 4294967296 vs) (values : part (start - 64) start ws ≡ valuesWords vs)
       (notes : List ℕ) (right : Right ws notes) (fresh : List ℕ) (room : Roomy ws fresh)
-      (wide : Spacious (ruleW ws notes start s (kind (asNode (l .process))) bound fresh) fresh) (big : Near (length fresh)) where
+      (wide : Spacious (ruleW limits ws notes start s (kind (asNode (l .process))) bound fresh) fresh) (big : Near (length fresh)) where
     -- what the rule makes, if it moves alone
     abbrev Makes : Edited → Move → Type 0
     Makes u stuck = Unit {0}
     Makes u (alone vs' q) =
-        Ruled ws start (start + size r) (u .edit) (u .fresh) q × (u .edit .number ≡ 0 → vs' ≡ valued vs (u .edit .store .variable) (u .edit .store .value))
+        Ruled (limits .deepest) ws start (start + size r) (u .edit) (u .fresh) q × (u .edit .number ≡ 0 → vs' ≡ valued vs (u .edit .store .variable) (u .edit .store .value))
     Makes u (sends m) = Unit {0}
 
     -- no value changes
     still : (u : Edited) (q : Option Run) →
-        Ruled ws start (start + size r) (u .edit) (u .fresh) q × (u .edit .store .variable ≡ 32) → Makes u (alone vs q)
+        Ruled (limits .deepest) ws start (start + size r) (u .edit) (u .fresh) q × (u .edit .store .variable ≡ 32) → Makes u (alone vs q)
     still u q (a, b) = (a, λ z. rw b)
 
     made-scope : (name : ℕ) (mark : Mark) (zombie : Bool) (h : Entries) (a : Run) → l .process ≡ scope name mark zombie h a →
         (b : Bool) → isDone a ≡ b →
-        Makes (ruleW ws notes start s 11 bound fresh) (cond b (alone vs (some (ending name mark zombie h (l .frames)))) stuck)
+        Makes (ruleW limits ws notes start s 11 bound fresh) (cond b (alone vs (some (ending name mark zombie h (l .frames)))) stuck)
     unfolding ruleW scopedW
     made-scope name mark zombie h a is false e = tt
     made-scope name mark zombie h a is true e =
@@ -197,8 +201,8 @@ module _ (ws : List ℕ) (ok : Words ws) (n issued : ℕ) (few : n ≤ 8) (small
 
     -- assign, if and while
     plain-rule : (k : ℕ) → k ≤ 6 →
-        (let t = rewrittenW (drop (s .at) ws) (valuesWords vs) (s .level) k bound fresh in
-        ruleW ws notes start s k bound fresh ≡ plainW s start (t .rewriting) (t .fresh))
+        (let t = rewrittenW limits (drop (s .at) ws) (valuesWords vs) (s .level) k bound fresh in
+        ruleW limits ws notes start s k bound fresh ≡ plainW s start (t .rewriting) (t .fresh))
     unfolding ruleW valuedW
     plain-rule k h =
         let fits = whole-inside (faultAt ws target) target r start l s ws words-at spotted near (standing .frames) deep in
@@ -213,7 +217,7 @@ module _ (ws : List ℕ) (ok : Words ws) (n issued : ℕ) (few : n ≤ 8) (small
 
     -- the process becomes q, and no value changes
     turns : (q : Run) (t : Rewriting) (made : List ℕ) → length made ≡ length fresh → Becomes (l .process) q t made → t .store .variable ≡ 32 →
-        s .level + runDepth q ≤ 65 → Makes (plainW s start t made) (alone vs (some (plug (l .frames) q)))
+        s .level + runDepth q ≤ suc (limits .deepest) → Makes (plainW s start t made) (alone vs (some (plug (l .frames) q)))
     turns q t made same b x high =
         let u = becomes-ruled (faultAt ws target) target r start l s ws words-at spotted near (standing .frames) deep q t made
         (omega arith) (rw same big) b high in
@@ -223,11 +227,11 @@ module _ (ws : List ℕ) (ok : Words ws) (n issued : ℕ) (few : n ≤ 8) (small
     node-at : (m : Node) → l .process ≡ act m → drop (s .at) ws ≡ words m ++ rest
     node-at m is = part-at ∙ ap (λ w. w ++ rest) (ap runWords is ∙ words-act m)
 
-    node-deep : (m : Node) → l .process ≡ act m → s .level + depth m ≤ 65
+    node-deep : (m : Node) → l .process ≡ act m → s .level + depth m ≤ suc (limits .deepest)
     node-deep m is = omega (arith, process-deep, its-level, ap runDepth is ∙ depth-act m)
 
     made-assign : (h : ℕ) (e : Expr) → FitsExpr e → l .process ≡ act (node h [] (e ∷ []) absent noParts) →
-        Makes (ruleW ws notes start s 1 bound fresh) (alone (set vs (variableOf h) (evaluate vs e)) (some (plug (l .frames) nil)))
+        Makes (ruleW limits ws notes start s 1 bound fresh) (alone (set vs (variableOf h) (evaluate vs e)) (some (plug (l .frames) nil)))
     unfolding rewrittenW
     made-assign h e g is =
         let m : Node = node h [] (e ∷ []) absent noParts in
@@ -243,7 +247,7 @@ module _ (ws : List ℕ) (ok : Words ws) (n issued : ℕ) (few : n ≤ 8) (small
 
     made-branch : (h : ℕ) (e : Expr) (p q : Node) → FitsExpr e → Fits (code false) anywhere p → Fits (code false) anywhere q →
         l .process ≡ act (node h [] (e ∷ []) absent (p & q & noParts)) →
-        Makes (ruleW ws notes start s 4 bound fresh) (alone vs (some (plug (l .frames) (enable (cond (isTrue (evaluate vs e)) p q)))))
+        Makes (ruleW limits ws notes start s 4 bound fresh) (alone vs (some (plug (l .frames) (enable (cond (isTrue (evaluate vs e)) p q)))))
     unfolding rewrittenW depth
     made-branch h e p q g fp fq is =
         let m : Node = node h [] (e ∷ []) absent (p & q & noParts) in
@@ -254,14 +258,14 @@ module _ (ws : List ℕ) (ok : Words ws) (n issued : ℕ) (few : n ≤ 8) (small
         (turns (enable (cond (isTrue (evaluate vs e)) p q)) (branchW (drop (s .at) ws) (valuesWords vs)) fresh refl
         (rw is b) (branch-none (drop (s .at) ws) (valuesWords vs)) (by (isTrue (evaluate vs e))))
       where
-        by : (b : Bool) → s .level + runDepth (enable (cond b p q)) ≤ 65
+        by : (b : Bool) → s .level + runDepth (enable (cond b p q)) ≤ suc (limits .deepest)
         by true = omega (arith, enabled-depth fp, node-deep (node h [] (e ∷ []) absent (p & q & noParts)) is)
         by false = omega (arith, enabled-depth fq, node-deep (node h [] (e ∷ []) absent (p & q & noParts)) is)
 
     made-repeat : (h : ℕ) (e : Expr) (p : Node) → kindOf h ≡ 5 → FitsExpr e → Fits (code false) anywhere p →
         Fits (code false) anywhere (node h [] (e ∷ []) absent (p & noParts)) →
         l .process ≡ act (node h [] (e ∷ []) absent (p & noParts)) →
-        Makes (ruleW ws notes start s 5 bound fresh)
+        Makes (ruleW limits ws notes start s 5 bound fresh)
         (alone vs
         (some (plug (l .frames) (cond (isTrue (evaluate vs e)) (seqOf (enable p) (node h [] (e ∷ []) absent (p & noParts))) nil))))
     unfolding rewrittenW
@@ -269,12 +273,12 @@ module _ (ws : List ℕ) (ok : Words ws) (n issued : ℕ) (few : n ≤ 8) (small
         let m : Node = node h [] (e ∷ []) absent (p & noParts) in
         let o = repeat-rewrites n issued (drop (s .at) ws) (words-part ws (s .at) ok) few small vs below rest h k e p g fp
         (omega (arith, node-deep m is)) (node-at m is) f fresh (omega (arith, length-drop (s .at) ws)) big
-        (s .level) (node-deep m is) level in
+        limits (s .level) (node-deep m is) level in
         rw (plain-rule 5 (omega arith))
         (by (cond (isTrue (evaluate vs e)) (seqOf (enable p) m) nil) _ _
-        (repeat-keeps (s .level) bound (drop (s .at) ws) (valuesWords vs) fresh) (rw is o))
+        (repeat-keeps limits (s .level) bound (drop (s .at) ws) (valuesWords vs) fresh) (rw is o))
       where
-        by : (q : Run) (t : Rewriting) (made : List ℕ) → length made ≡ length fresh → Outcome (l .process) (s .level) q t made →
+        by : (q : Run) (t : Rewriting) (made : List ℕ) → length made ≡ length fresh → Outcome (limits .deepest) (l .process) (s .level) q t made →
             Makes (plainW s start t made) (alone vs (some (plug (l .frames) q)))
         by q t made same (becomes b x high) = turns q t made same b x high
         by q t made same (deepens a b c d) = (
@@ -286,33 +290,33 @@ module _ (ws : List ℕ) (ok : Words ws) (n issued : ℕ) (few : n ≤ 8) (small
 
     -- inst, throw and comp
     made-install : (h : ℕ) (new : Entries) → kindOf h ≡ 12 → FitsEntries false zero new → l .process ≡ act (node h [] [] (list new) noParts) →
-        Makes (ruleW ws notes start s 12 bound fresh) (alone vs (some (plug (onNearest (λ x. update x new) (l .frames)) nil)))
+        Makes (ruleW limits ws notes start s 12 bound fresh) (alone vs (some (plug (onNearest (λ x. update x new) (l .frames)) nil)))
     unfolding ruleW scopedW asNode
     made-install h new k fit is =
-        still _ _ (Installs.installs (faultAt ws target) target r start l s ws notes right words-at spotted near (standing .frames) deep (omega arith)
+        still _ _ (Installs.installs (faultAt ws target) target r start l s ws notes right words-at spotted near (standing .frames) limits deep (omega arith)
         short fresh (omega (arith, room .few)) big h new is fit
         (let e : kind (asNode (l .process)) ≡ 12 = ap (λ p. kind (asNode p)) is ∙ k in rw e at wide))
 
     made-throw : (h : ℕ) → kindOf h ≡ 13 → l .process ≡ act (node h [] [] absent noParts) →
-        Makes (ruleW ws notes start s 13 bound fresh) (alone vs (climb (nameOf h) (l .frames) nil))
+        Makes (ruleW limits ws notes start s 13 bound fresh) (alone vs (climb (nameOf h) (l .frames) nil))
     unfolding ruleW scopedW
     made-throw h k is =
         still _ _ (thrown-ruled ws notes right n issued few small sound start words-at (omega arith) deep short fresh room big target l s
         place spotted (node h [] [] absent noParts) is k)
 
     made-compensate : (h : ℕ) → l .process ≡ act (node h [] [] absent noParts) →
-        Makes (ruleW ws notes start s 14 bound fresh)
+        Makes (ruleW limits ws notes start s 14 bound fresh)
         (alone vs
         (some (plug (onNearest (without (scopeKey (nameOf h))) (l .frames))
         (enable (handler (scopeKey (nameOf h)) (nearest (l .frames)))))))
     unfolding ruleW scopedW
     made-compensate h is =
         still _ _
-        (Compensates.compensates (faultAt ws target) target r start l s ws notes right words-at spotted near (standing .frames) deep (omega arith)
+        (Compensates.compensates (faultAt ws target) target r start l s ws notes right words-at spotted near (standing .frames) limits deep (omega arith)
         ok few small short fresh room big h is)
 
     made-act : (m : Node) → l .process ≡ act m → Fits (code false) anywhere m → Shape m →
-        Makes (ruleW ws notes start s (kind m) bound fresh) (acting vs (l .frames) m (action m))
+        Makes (ruleW limits ws notes start s (kind m) bound fresh) (acting vs (l .frames) m (action m))
     unfolding action acting
     made-act m is f (assigns {h} {e} k g) = rw k (made-assign h e g is)
     made-act m is f (branches {h} {e} {p} {q} k g fp fq) = rw k (made-branch h e p q g fp fq is)
@@ -326,7 +330,7 @@ module _ (ws : List ℕ) (ok : Words ws) (n issued : ℕ) (few : n ≤ 8) (small
     made-act m is f (throws {h} k t) = rw k (made-throw h k is)
     made-act m is f (compensates {h} k t) = rw k (made-compensate h is)
 
-    made : (p : Run) → l .process ≡ p → Sound n issued p → Makes (ruleW ws notes start s (runKind p) bound fresh) (moveOf vs (l .frames) p)
+    made : (p : Run) → l .process ≡ p → Sound n issued p → Makes (ruleW limits ws notes start s (runKind p) bound fresh) (moveOf vs (l .frames) p)
     unfolding moveOf onceDone
     made nil is g = tt
     made (seq a q) is g = tt
@@ -340,14 +344,14 @@ module _ (ws : List ℕ) (ok : Words ws) (n issued : ℕ) (few : n ≤ 8) (small
     -- the rule, whatever it is
     pub lone :
         (vs' : List ℕ) (q : Option Run) → moveOf vs (l .frames) (l .process) ≡ alone vs' q →
-        (let u = ruleW ws notes start s (kind (asNode (l .process))) bound fresh in
-        Ruled ws start (start + size r) (u .edit) (u .fresh) q × (u .edit .number ≡ 0 → vs' ≡ valued vs (u .edit .store .variable) (u .edit .store .value)))
+        (let u = ruleW limits ws notes start s (kind (asNode (l .process))) bound fresh in
+        Ruled (limits .deepest) ws start (start + size r) (u .edit) (u .fresh) q × (u .edit .number ≡ 0 → vs' ≡ valued vs (u .edit .store .variable) (u .edit .store .value)))
     lone vs' q e =
         rw (kind-asNode (standing .process))
-        (subst (Makes (ruleW ws notes start s (runKind (l .process)) bound fresh)) e (made (l .process) refl (standing .process)))
+        (subst (Makes (ruleW limits ws notes start s (runKind (l .process)) bound fresh)) e (made (l .process) refl (standing .process)))
 
 -- in a configuration that is known
-module _ (ws : List ℕ) (ok : Words ws) (starts : Starts) (known : Known standard ws starts) (e : ℕ)
+module _ (ws : List ℕ) (ok : Words ws) (starts : Starts) {limits : Limits} (modest : Modest limits) (known : Known (figures limits) ws starts) (e : ℕ)
     (h : e < length (known .config .engines)) where
   abbrev c : Config
   c = known .config
@@ -363,29 +367,30 @@ module _ (ws : List ℕ) (ok : Words ws) (starts : Starts) (known : Known standa
       one-stands c (known .readable .fitting) e h ws (known .same)
       ∙ ap (λ x. runWords run ++ x) (sym (one-behind c (known .readable .fitting) e h ws (known .same)))
 
-  pub run-deep : runDepth run ≤ 64
-  run-deep = omega (arith, engine-depth (c .engines) e (record { values = []; process = nil }) h, known .readable .shallow)
+  pub run-deep : Shallow (limits .deepest) run
+  run-deep =
+      record { low = modest .low; kept = omega (arith, engine-depth (c .engines) e (record { values = []; process = nil }) h, known .readable .shallow) }
 
   pub run-short : length ws ≤ 8192
-  run-short = rw (known .same) at (known .readable .short)
+  run-short = omega (arith, rw (known .same) at (known .readable .short), modest .few)
 
   module _ (target : ℕ) (l : Located) (s : Site) (place : within run (startOf c e) target ≡ some l)
       (spotted : Spotted (faultAt ws target) target run (startOf c e) 1 l s) where
     pub known-standing : Stands (length (c .engines)) (c .issued) l
     known-standing =
         standing ws ok (length (c .engines)) (c .issued) (known .readable .fitting .few) (known .readable .fitting .word) run (fit .sound)
-        (startOf c e) run-stands (omega arith) run-deep run-short target l s place spotted
+        (startOf c e) run-stands (omega arith) limits run-deep run-short target l s place spotted
 
     pub known-lone :
         (notes : List ℕ) → Right ws notes → (fresh : List ℕ) → Roomy ws fresh →
-        Spacious (ruleW ws notes (startOf c e) s (kind (asNode (l .process))) (length (c .engines) * 65536 + c .issued) fresh) fresh →
+        Spacious (ruleW limits ws notes (startOf c e) s (kind (asNode (l .process))) (length (c .engines) * 65536 + c .issued) fresh) fresh →
         Near (length fresh) →
         (vs' : List ℕ) (q : Option Run) → moveOf (engineAt c e .values) (l .frames) (l .process) ≡ alone vs' q →
-        (let u = ruleW ws notes (startOf c e) s (kind (asNode (l .process))) (length (c .engines) * 65536 + c .issued) fresh in
-        Ruled ws (startOf c e) (startOf c e + size run) (u .edit) (u .fresh) q
+        (let u = ruleW limits ws notes (startOf c e) s (kind (asNode (l .process))) (length (c .engines) * 65536 + c .issued) fresh in
+        Ruled (limits .deepest) ws (startOf c e) (startOf c e + size run) (u .edit) (u .fresh) q
         × (u .edit .number ≡ 0 → vs' ≡ valued (engineAt c e .values) (u .edit .store .variable) (u .edit .store .value)))
     known-lone notes right fresh room wide big =
         lone ws ok (length (c .engines)) (c .issued) (known .readable .fitting .few) (known .readable .fitting .word) run (fit .sound)
-        (startOf c e) run-stands (omega arith) run-deep run-short target l s place spotted (engineAt c e .values)
+        (startOf c e) run-stands (omega arith) limits run-deep run-short target l s place spotted (engineAt c e .values)
         (fit .bounded) (one-values c (known .readable .fitting) e h ws (known .same))
         notes right fresh room wide big

@@ -26,6 +26,9 @@ use Rattle.rules.specs.Editing.{Edited}
 use Rattle.writers.proofs.Laid.{Near, near-of}
 use Rattle.rules.proofs.Outcomes.{Ruled, unkillable, tooDeep, ruled}
 use Rattle.scopes.proofs.Scratch.{Roomy, Spacious}
+use Rattle.layout.specs.declared.limit.Limits.{Limits}
+use Rattle.layout.specs.Limits.{figures}
+use Rattle.stepping.proofs.Modest.{Modest}
 use Rattle.stepping.specs.Answering.{answered, refusing, oneW}
 use Rattle.stepping.specs.Alone.{ruleW, loneW, large, small, shortW, aloneW, surely}
 use Rattle.stepping.proofs.Goal.{given, given-refused}
@@ -41,7 +44,7 @@ large-length = length-replicate {A = ℕ} 16384 0
 small-length : length small ≡ 1024
 small-length = length-replicate {A = ℕ} 1024 0
 
-module _ (ws : List ℕ) (ok : Words ws) (s : Starts) (known : Known standard ws s) (e target : ℕ) (l : Located) (sp : Site) (seen : Seen ws ok s known e target l sp) where
+module _ (ws : List ℕ) (ok : Words ws) (s : Starts) {limits : Limits} (modest : Modest limits) (known : Known (figures limits) ws s) (e target : ℕ) (l : Located) (sp : Site) (seen : Seen ws ok s modest known e target l sp) where
   abbrev c : Config
   c = known .config
 
@@ -58,23 +61,23 @@ module _ (ws : List ℕ) (ok : Words ws) (s : Starts) (known : Known standard ws
   k = kind (asNode (l .process))
 
   abbrev a : Place
-  a = placed ws ok s known e l
+  a = placed ws ok s modest known e l
 
-  short : length ws ≤ 8192
+  short : length ws ≤ limits .longest
   short = known-length known .1
 
   by-rule :
-      (u : Edited) (vs' : List ℕ) (q : Option Run) → Ruled ws start end (u .edit) (u .fresh) q →
+      (u : Edited) (vs' : List ℕ) (q : Option Run) → Ruled (limits .deepest) ws start end (u .edit) (u .fresh) q →
       (u .edit .number ≡ 0 → vs' ≡ valued (engineAt c e .values) (u .edit .store .variable) (u .edit .store .value)) → (out : List ℕ) →
-      oneW ws start end (u .edit) k (u .fresh) out ≡ given (loneOf c a vs' q (length out)) out
+      oneW limits ws start end (u .edit) k (u .fresh) out ≡ given (loneOf limits c a vs' q (length out)) out
   unfolding loneOf
   by-rule u vs' none (unkillable z) v out =
-      one-refused c (known .readable .fitting) (known .readable .shallow) ws (known .same) short e (seen .inside) (u .edit) (u .fresh) k out (λ y. omega arith)
+      one-refused modest c (known .readable .fitting) (known .readable .shallow) ws (known .same) short e (seen .inside) (u .edit) (u .fresh) k out (λ y. omega arith)
       ∙ (ap (λ n. answered (refusing n) out) z ∙ sym (given-refused installing out))
   by-rule u vs' (some q) (tooDeep z d) v out =
-      one-deep c (known .readable .fitting) (known .readable .shallow) ws (known .same) short e (seen .inside) (u .edit) (u .fresh) k out vs' q z d
+      one-deep modest c (known .readable .fitting) (known .readable .shallow) ws (known .same) short e (seen .inside) (u .edit) (u .fresh) k out vs' q z d
   by-rule u vs' (some q) (ruled z edits d) v out =
-      one-given c (known .readable .fitting) (known .readable .shallow) ws (known .same) short e (seen .inside) (u .edit) (u .fresh) k out vs' q z edits d (v z)
+      one-given modest c (known .readable .fitting) (known .readable .shallow) ws (known .same) short e (seen .inside) (u .edit) (u .fresh) k out vs' q z edits d (v z)
 
   kind-low : k < 32 → k % 32 ≡ k
   kind-low h = omega arith
@@ -82,41 +85,41 @@ module _ (ws : List ℕ) (ok : Words ws) (s : Starts) (known : Known standard ws
   -- the answer and the output of a step alone
   pub lone-law :
       (notes : List ℕ) → Right ws notes → (vs' : List ℕ) (q : Option Run) → moveOf (engineAt c e .values) (l .frames) (l .process) ≡ alone vs' q → k < 32 → (out : List ℕ) →
-      aloneW ws notes (getD (s .starts) e 0) (getD (s .starts) (e + 1) 0) sp k bound out ≡ given (loneOf c a vs' q (length out)) out
+      aloneW limits ws notes (getD (s .starts) e 0) (getD (s .starts) (e + 1) 0) sp k bound out ≡ given (loneOf limits c a vs' q (length out)) out
   unfolding aloneW shortW loneW
-  lone-law notes right vs' q m low out = by (ltb 512 (length ws)) (ltb surely (ruleW ws notes (getD (s .starts) e 0) sp k bound small .edit .fresh)) refl refl
+  lone-law notes right vs' q m low out = by (ltb 512 (length ws)) (ltb surely (ruleW limits ws notes (getD (s .starts) e 0) sp k bound small .edit .fresh)) refl refl
     where
       first : getD (s .starts) e 0 ≡ start
       first = known .starts e (omega (arith, seen .inside))
 
       -- whatever the scratch is, if it has room
       scratched :
-          (fresh : List ℕ) → Roomy ws fresh → Spacious (ruleW ws notes start sp k bound fresh) fresh → Near (length fresh) →
-          loneW ws notes (getD (s .starts) e 0) (getD (s .starts) (e + 1) 0) sp k bound fresh out ≡ given (loneOf c a vs' q (length out)) out
+          (fresh : List ℕ) → Roomy ws fresh → Spacious (ruleW limits ws notes start sp k bound fresh) fresh → Near (length fresh) →
+          loneW limits ws notes (getD (s .starts) e 0) (getD (s .starts) (e + 1) 0) sp k bound fresh out ≡ given (loneOf limits c a vs' q (length out)) out
       scratched fresh room wide big =
-          let r = known-lone ws ok s known e (seen .inside) target l sp (seen .place) (seen .spotted) notes right fresh room wide big vs' q m in
+          let r = known-lone ws ok s modest known e (seen .inside) target l sp (seen .place) (seen .spotted) notes right fresh room wide big vs' q m in
           let last : getD (s .starts) (e + 1) 0 - 64 ≡ end =
           (let y : getD (s .starts) (e + 1) 0 ≡ startOf c (e + 1) = known .starts (e + 1) (omega (arith, seen .inside)) in
           let z = start-next c (known .readable .fitting) e (seen .inside) in
           omega arith) in
-          rw (first, last, kind-low low) (by-rule (ruleW ws notes start sp k bound fresh) vs' q (r .0) (r .1) out)
+          rw (first, last, kind-low low) (by-rule (ruleW limits ws notes start sp k bound fresh) vs' q (r .0) (r .1) out)
 
-      in-large : loneW ws notes (getD (s .starts) e 0) (getD (s .starts) (e + 1) 0) sp k bound large out ≡ given (loneOf c a vs' q (length out)) out
+      in-large : loneW limits ws notes (getD (s .starts) e 0) (getD (s .starts) (e + 1) 0) sp k bound large out ≡ given (loneOf limits c a vs' q (length out)) out
       in-large =
-          scratched large (record { twice = omega (arith, large-length, short); few = omega (arith, large-length) })
+          scratched large (record { twice = omega (arith, large-length, short, modest .few); few = omega (arith, large-length) })
           (λ h. omega (arith, large-length)) (rw large-length (near-of 16384 (lit< tt)))
 
       by :
-          (b d : Bool) → ltb 512 (length ws) ≡ b → ltb surely (ruleW ws notes (getD (s .starts) e 0) sp k bound small .edit .fresh) ≡ d →
-          cond b (loneW ws notes (getD (s .starts) e 0) (getD (s .starts) (e + 1) 0) sp k bound large out)
-          (cond d (loneW ws notes (getD (s .starts) e 0) (getD (s .starts) (e + 1) 0) sp k bound large out)
-          (loneW ws notes (getD (s .starts) e 0) (getD (s .starts) (e + 1) 0) sp k bound small out))
-          ≡ given (loneOf c a vs' q (length out)) out
+          (b d : Bool) → ltb 512 (length ws) ≡ b → ltb surely (ruleW limits ws notes (getD (s .starts) e 0) sp k bound small .edit .fresh) ≡ d →
+          cond b (loneW limits ws notes (getD (s .starts) e 0) (getD (s .starts) (e + 1) 0) sp k bound large out)
+          (cond d (loneW limits ws notes (getD (s .starts) e 0) (getD (s .starts) (e + 1) 0) sp k bound large out)
+          (loneW limits ws notes (getD (s .starts) e 0) (getD (s .starts) (e + 1) 0) sp k bound small out))
+          ≡ given (loneOf limits c a vs' q (length out)) out
       by true d p r = in-large
       by false true p r = in-large
       by false false p r =
           let few : length ws ≤ 512 = ltb-false 512 (length ws) p in
-          let spare : ruleW ws notes start sp k bound small .edit .fresh ≤ surely =
-          rw first at (ltb-false surely (ruleW ws notes (getD (s .starts) e 0) sp k bound small .edit .fresh) r) in
+          let spare : ruleW limits ws notes start sp k bound small .edit .fresh ≤ surely =
+          rw first at (ltb-false surely (ruleW limits ws notes (getD (s .starts) e 0) sp k bound small .edit .fresh) r) in
           scratched small (record { twice = omega (arith, small-length, few); few = omega (arith, small-length) })
           (λ h. omega (arith, spare, small-length)) (rw small-length (near-of 1024 (lit< tt)))

@@ -38,6 +38,10 @@ use Rattle.rules.specs.Rewriting.{at}
 use Rattle.rules.proofs.Rewrites.{head-on}
 use Rattle.rules.proofs.Edits.{done-nil}
 use Rattle.rules.proofs.Shapes.{Shape, assigns, branches, repeats, chooses, hears, serves, notifies, solicits, installs, throws, compensates, shape}
+use Rattle.layout.specs.declared.limit.Limits.{Limits}
+use Rattle.layout.specs.Limits.{figures}
+use Rattle.rules.proofs.Depths.{Shallow}
+use Rattle.stepping.proofs.Modest.{Modest}
 use Rattle.stepping.specs.Stepping.{bodyNil, byKind, movesW}
 use Rattle.stepping.proofs.Lone.{near, standing, rest, part-at, inside, process-deep, run-stands, run-deep, run-short}
 
@@ -79,25 +83,25 @@ head-done {a = a} g = by (isDone a) refl
         ne-eqb (headWord (asNode a)) 0 (λ z. k (sym (kind-asNode g) ∙ ap kindOf z))
 
 module _ (ws : List ℕ) (ok : Words ws) (n issued : ℕ) (few : n ≤ 8) (small : issued < 65536) (r : Run) (sound : Sound n issued r)
-    (start : ℕ) (words-at : drop start ws ≡ runWords r ++ drop (start + size r) ws) (low : 64 ≤ start) (deep : runDepth r ≤ 64)
+    (start : ℕ) (words-at : drop start ws ≡ runWords r ++ drop (start + size r) ws) (low : 64 ≤ start) (limits : Limits) (deep : Shallow (limits .deepest) r)
     (short : length ws ≤ 8192) (target : ℕ) (l : Located) (s : Site) (place : within r start target ≡ some l)
     (spotted : Spotted (faultAt ws target) target r start 1 l s) (vs notes : List ℕ) (right : Right ws notes) where
   abbrev more : List ℕ
-  more = rest ws ok n issued few small r sound start words-at low deep short target l s place spotted
+  more = rest ws ok n issued few small r sound start words-at low limits deep short target l s place spotted
 
   stands : drop (s .at) ws ≡ runWords (l .process) ++ more
-  stands = part-at ws ok n issued few small r sound start words-at low deep short target l s place spotted
+  stands = part-at ws ok n issued few small r sound start words-at low limits deep short target l s place spotted
 
   within-words : s .at + size (l .process) ≤ length ws
-  within-words = inside ws ok n issued few small r sound start words-at low deep short target l s place spotted
+  within-words = inside ws ok n issued few small r sound start words-at low limits deep short target l s place spotted
 
   shallow : runDepth (l .process) ≤ 64
-  shallow = omega (arith, process-deep ws ok n issued few small r sound start words-at low deep short target l s place spotted)
+  shallow = omega (arith, process-deep ws ok n issued few small r sound start words-at low limits deep short target l s place spotted, deep .low)
 
   onward-at : (k : ℕ) → k ≤ size (l .process) → onward (s .at) k ≡ s .at + k
   onward-at k h =
       onward-near (s .at) k (length ws)
-      (near ws ok n issued few small r sound start words-at low deep short target l s place spotted)
+      (near ws ok n issued few small r sound start words-at low limits deep short target l s place spotted)
       (omega (arith, within-words))
 
   -- a part that is done begins with the word 0
@@ -174,11 +178,11 @@ module _ (ws : List ℕ) (ok : Words ws) (n issued : ℕ) (few : n ≤ 8) (small
   pub moving : Moving (moveOf vs (l .frames) (l .process)) (movesW ws notes (s .at) (kind (asNode (l .process))))
   moving =
       let g : Sound n issued (l .process) =
-      standing ws ok n issued few small r sound start words-at low deep short target l s place spotted .process in
+      standing ws ok n issued few small r sound start words-at low limits deep short target l s place spotted .process in
       rw (kind-asNode g) (moves (l .process) refl g)
 
 -- in a configuration that is known
-module _ (ws : List ℕ) (ok : Words ws) (starts : Starts) (known : Known standard ws starts) (e : ℕ)
+module _ (ws : List ℕ) (ok : Words ws) (starts : Starts) {limits : Limits} (modest : Modest limits) (known : Known (figures limits) ws starts) (e : ℕ)
     (h : e < length (known .config .engines))
     (target : ℕ) (l : Located) (s : Site) (place : within (engineAt (known .config) e .process) (startOf (known .config) e) target ≡ some l)
     (spotted : Spotted (faultAt ws target) target (engineAt (known .config) e .process) (startOf (known .config) e) 1 l s)
@@ -193,5 +197,5 @@ module _ (ws : List ℕ) (ok : Words ws) (starts : Starts) (known : Known standa
       let fit : FitsEngine (length (c .engines)) (c .issued) (engineAt c e) = engine-fits _ (known .readable .fitting .engines) e h in
       moving ws ok (length (c .engines)) (c .issued) (known .readable .fitting .few) (known .readable .fitting .word)
       (engineAt c e .process) (fit .sound)
-      (startOf c e) (run-stands ws ok starts known e h) (omega arith) (run-deep ws ok starts known e h) (run-short ws ok starts known e h)
+      (startOf c e) (run-stands ws ok starts modest known e h) (omega arith) limits (run-deep ws ok starts modest known e h) (run-short ws ok starts modest known e h)
       target l s place spotted (engineAt c e .values) notes right

@@ -34,6 +34,9 @@ use Rattle.rules.specs.Editing.{Edited, plainW}
 use Rattle.rules.proofs.Rewrites.{Becomes, both-ways}
 use Rattle.rules.proofs.Edits.{Edits, plain-edits}
 use Rattle.rules.proofs.Outcomes.{Ruled, tooDeep, ruled, becomes-ruled}
+use Rattle.layout.specs.declared.limit.Limits.{Limits}
+use Rattle.layout.specs.Limits.{figures}
+use Rattle.stepping.proofs.Modest.{Modest}
 use Rattle.stepping.specs.declared.answer.Answer.{Answer}
 use Rattle.stepping.specs.Answering.{answered, refusing, accepting, twoW}
 use Rattle.stepping.specs.Meeting.{fitW, serialW, sendW, receiveW}
@@ -48,25 +51,25 @@ use Rattle.stepping.proofs.Fresh.{blank-length, blank-near, send-few, r
 use Rattle.stepping.proofs.Pairs.{Trades, Pairs, misfit, fit}
 use Rattle.stepping.proofs.Partners as partners
 
-module _ (ws : List ℕ) (ok : Words ws) (s : Starts) (known : Known standard ws s) where
+module _ (ws : List ℕ) (ok : Words ws) (s : Starts) {limits : Limits} (modest : Modest limits) (known : Known (figures limits) ws s) where
   abbrev c : Config
   c = known .config
 
   abbrev end : ℕ → ℕ
   end e = startOf c e + size (engineAt c e .process)
 
-  short : length ws ≤ 8192
+  short : length ws ≤ limits .longest
   short = known-length known .1
 
   -- what a rewriting makes of a process that was found, as an edit
   pub record Edited-by (e : ℕ) (l : Located) (u : Edited) (t : Rewriting) (q : Run) : Type 0 where
     pub edits : Edits ws (startOf c e) (end e) (u .edit) (u .fresh) (plug (l .frames) q)
-    pub deep : runDepth (plug (l .frames) q) ≤ 64
-    pub few : u .edit .fresh ≤ 8192
+    pub deep : runDepth (plug (l .frames) q) ≤ limits .deepest
+    pub few : u .edit .fresh ≤ limits .longest
     pub x : u .edit .store .variable ≡ t .store .variable
     pub v : u .edit .store .value ≡ t .store .value
 
-  module _ (e target : ℕ) (l : Located) (sp : Site) (seen : Seen ws ok s known e target l sp) where
+  module _ (e target : ℕ) (l : Located) (sp : Site) (seen : Seen ws ok s modest known e target l sp) where
     stands : drop (startOf c e) ws ≡ runWords (engineAt c e .process) ++ drop (end e) ws
     stands =
         one-stands c (known .readable .fitting) e (seen .inside) ws (known .same)
@@ -78,17 +81,17 @@ module _ (ws : List ℕ) (ok : Words ws) (s : Starts) (known : Known standard ws
     rewritten-edits q t fresh n few b low =
         let near : Near (length fresh) = rw (n ∙ sym blank-length) blank-near in
         let p =
-        plain-edits (faultAt ws target) target (engineAt c e .process) (startOf c e) 1 l sp ws stands (seen .spotted) (partners.near ws ok s known) q t fresh (omega arith) near b in
+        plain-edits (faultAt ws target) target (engineAt c e .process) (startOf c e) 1 l sp ws stands (seen .spotted) (partners.near ws ok s modest known) q t fresh (omega arith) near b in
         let g =
-        becomes-ruled (faultAt ws target) target (engineAt c e .process) (startOf c e) l sp ws stands (seen .spotted) (partners.near ws ok s known)
-        (partners.found-frames ws ok s known e (seen .inside) target l sp (seen .spotted)) (partners.engine-shallow ws ok s known e (seen .inside) target l sp (seen .spotted))
+        becomes-ruled (faultAt ws target) target (engineAt c e .process) (startOf c e) l sp ws stands (seen .spotted) (partners.near ws ok s modest known)
+        (partners.found-frames ws ok s modest known e (seen .inside) target l sp (seen .spotted)) (partners.engine-shallow ws ok s modest known e (seen .inside) target l sp (seen .spotted))
         q t fresh (omega arith) near b (omega (arith, seen .spotted .level, deep-in)) in
-        record { edits = p .0; deep = by (g .0) (p .1); few = plain-few fresh near (omega arith) sp (startOf c e) t few; x = p .2; v = p .3 }
+        record { edits = p .0; deep = by (g .0) (p .1); few = omega (arith, plain-few fresh near (omega arith) sp (startOf c e) t few, one-length c (known .readable .fitting) e (seen .inside) ws (known .same), short); x = p .2; v = p .3 }
       where
-        deep-in : length (l .frames) + runDepth (l .process) ≤ 64
-        deep-in = partners.found-deep ws ok s known e (seen .inside) target l sp (seen .spotted)
+        deep-in : length (l .frames) + runDepth (l .process) ≤ limits .deepest
+        deep-in = partners.found-deep ws ok s modest known e (seen .inside) target l sp (seen .spotted)
 
-        by : {p : Edit} {f : List ℕ} → Ruled ws (startOf c e) (end e) p f (some (plug (l .frames) q)) → p .number ≡ 0 → runDepth (plug (l .frames) q) ≤ 64
+        by : {p : Edit} {f : List ℕ} → Ruled (limits .deepest) ws (startOf c e) (end e) p f (some (plug (l .frames) q)) → p .number ≡ 0 → runDepth (plug (l .frames) q) ≤ limits .deepest
         by (tooDeep z d) y = absurd (omega arith)
         by (ruled z edits d) y = d
 
@@ -96,8 +99,8 @@ module _ (ws : List ℕ) (ok : Words ws) (s : Starts) (known : Known standard ws
 
   same-stepped :
       {i1 i2 k1 k2 s1 s2 f1 f2 : ℕ} {e1 e2 : List Engine} → i1 ≡ i2 → e1 ≡ e2 → k1 ≡ k2 → s1 ≡ s2 → f1 ≡ f2 → (out : List ℕ) →
-      given (fitted (length out) (record { config = record { issued = i1; engines = e1 }; kind = k1; serial = s1; fault = f1 })) out
-      ≡ given (fitted (length out) (record { config = record { issued = i2; engines = e2 }; kind = k2; serial = s2; fault = f2 })) out
+      given (fitted limits (length out) (record { config = record { issued = i1; engines = e1 }; kind = k1; serial = s1; fault = f1 })) out
+      ≡ given (fitted limits (length out) (record { config = record { issued = i2; engines = e2 }; kind = k2; serial = s2; fault = f2 })) out
   same-stepped a b d e f out = rw (a, b, d, e, f)
 
   starts-at : (e : ℕ) → e < length (c .engines) → (getD (s .starts) e 0 ≡ startOf c e) × (getD (s .starts) (e + 1) 0 - 64 ≡ end e)
@@ -107,8 +110,8 @@ module _ (ws : List ℕ) (ok : Words ws) (s : Starts) (known : Known standard ws
       (known .starts e (omega arith), omega arith)
 
   module _ (e : ℕ) (he : e < length (c .engines)) (i : ℕ) (hi : i < length (c .engines)) (other : e ≡ i → ⊥) (p : Edit) (f : List ℕ) (qa : Run)
-      (editsA : Edits ws (startOf c e) (end e) p f qa) (deepA : runDepth qa ≤ 64) (fewA : p .fresh ≤ 8192) (r : Edit) (g : List ℕ) (qb : Run)
-      (editsB : Edits ws (startOf c i) (end i) r g qb) (deepB : runDepth qb ≤ 64) (fewB : r .fresh ≤ 8192) (issued : ℕ) (fine : issued ≤ 65535) (told : Answer) (out : List ℕ) where
+      (editsA : Edits ws (startOf c e) (end e) p f qa) (deepA : runDepth qa ≤ limits .deepest) (fewA : p .fresh ≤ limits .longest) (r : Edit) (g : List ℕ) (qb : Run)
+      (editsB : Edits ws (startOf c i) (end i) r g qb) (deepB : runDepth qb ≤ limits .deepest) (fewB : r .fresh ≤ limits .longest) (issued : ℕ) (fine : issued ≤ 65535) (told : Answer) (out : List ℕ) where
     abbrev va : List ℕ
     va = valued (engineAt c e .values) (p .store .variable) (p .store .value)
 
@@ -116,9 +119,9 @@ module _ (ws : List ℕ) (ok : Words ws) (s : Starts) (known : Known standard ws
     vb = valued (engineAt c i .values) (r .store .variable) (r .store .value)
 
     ordered-law :
-        orderedW ws (s .starts) e i p f r g issued told out
+        orderedW limits ws (s .starts) e i p f r g issued told out
         ≡ given
-        (fitted (length out)
+        (fitted limits (length out)
         (record {
           config = record { issued = issued; engines = withEngine i vb qb (withEngine e va qa (c .engines)) };
           kind = told .kind;
@@ -132,9 +135,9 @@ module _ (ws : List ℕ) (ok : Words ws) (s : Starts) (known : Known standard ws
       where
         by :
             (b : Bool) → ltb e i ≡ b →
-            cond b (twoW ws (startOf c e) (end e) p f (startOf c i) (end i) r g issued told out) (twoW ws (startOf c i) (end i) r g (startOf c e) (end e) p f issued told out)
+            cond b (twoW limits ws (startOf c e) (end e) p f (startOf c i) (end i) r g issued told out) (twoW limits ws (startOf c i) (end i) r g (startOf c e) (end e) p f issued told out)
             ≡ given
-            (fitted (length out)
+            (fitted limits (length out)
             (record {
               config = record { issued = issued; engines = withEngine i vb qb (withEngine e va qa (c .engines)) };
               kind = told .kind;
@@ -143,11 +146,11 @@ module _ (ws : List ℕ) (ok : Words ws) (s : Starts) (known : Known standard ws
             }))
             out
         by true z =
-            two-given c (known .readable .fitting) (known .readable .shallow) ws (known .same) short e i (ltb-true e i z) hi p f qa editsA r g qb editsB issued told out fine deepA deepB
+            two-given modest c (known .readable .fitting) (known .readable .shallow) ws (known .same) short e i (ltb-true e i z) hi p f qa editsA r g qb editsB issued told out fine deepA deepB
             fewA fewB
         by false z =
             let low : i < e = (let y : i ≤ e = ltb-false e i z in lt-of-le-ne y (λ w. other (sym w))) in
-            two-given c (known .readable .fitting) (known .readable .shallow) ws (known .same) short i e low he r g qb editsB p f qa editsA issued told out fine deepB deepA
+            two-given modest c (known .readable .fitting) (known .readable .shallow) ws (known .same) short i e low he r g qb editsB p f qa editsA issued told out fine deepB deepA
             fewB fewA
             ∙ same-stepped refl (set-comm (c .engines) i e _ _ (λ w. other (sym w))) refl refl refl out
 
@@ -188,13 +191,13 @@ module _ (ws : List ℕ) (ok : Words ws) (s : Starts) (known : Known standard ws
 
   -- ---- two processes found
 
-  module _ (e ta : ℕ) (la : Located) (sa : Site) (seenA : Seen ws ok s known e ta la sa) (i tb : ℕ) (lb : Located) (sb : Site) (seenB : Seen ws ok s known i tb lb sb)
+  module _ (e ta : ℕ) (la : Located) (sa : Site) (seenA : Seen ws ok s modest known e ta la sa) (i tb : ℕ) (lb : Located) (sb : Site) (seenB : Seen ws ok s modest known i tb lb sb)
       (k : Numbers) (m : Message) (moves : moveOf (engineAt c e .values) (la .frames) (la .process) ≡ sends m) (low : kind (asNode (la .process)) < 32) (out : List ℕ) where
     abbrev a : Place
-    a = placed ws ok s known e la
+    a = placed ws ok s modest known e la
 
     abbrev b : Place
-    b = placed ws ok s known i lb
+    b = placed ws ok s modest known i lb
 
     abbrev kd : ℕ
     kd = kind (asNode (la .process))
@@ -218,7 +221,7 @@ module _ (ws : List ℕ) (ok : Words ws) (s : Starts) (known : Known standard ws
         (other : e ≡ i → ⊥) (x : Exchange) → spentW ws kd ≡ false →
         Trades (la .process) (lb .process) (engineAt c i .values) (issuedOf kd (c .issued) (suc (c .issued))) serial (faultOf kd) (sendW part kd i serial blank)
         (receiveW part values rest (offerW rest (k .branch)) kd e serial blank) x →
-        carryW ws part values rest (offerW rest (k .branch)) (s .starts) e i sa sb kd out ≡ given (fitted (length out) (exchanged c a b x)) out
+        carryW limits ws part values rest (offerW rest (k .branch)) (s .starts) e i sa sb kd out ≡ given (fitted limits (length out) (exchanged c a b x)) out
     unfolding carryW senderW receiverW
     carry-law other x left t =
         let few1 = send-few blank blank-near (omega (arith, blank-length)) part kd i serial in
@@ -237,9 +240,9 @@ module _ (ws : List ℕ) (ok : Words ws) (s : Starts) (known : Known standard ws
     -- where no serial is left
     spent-law :
         (x : Exchange) → spentW ws kd ≡ true → x .issued ≡ issuedOf kd (c .issued) (suc (c .issued)) →
-        answered (refusing 7) out ≡ given (fitted (length out) (exchanged c a b x)) out
+        answered (refusing 7) out ≡ given (fitted limits (length out) (exchanged c a b x)) out
     unfolding spentW issuedOf
-    spent-law x full q = sym (fitted-spent (exchanged c a b x) out (by (eqb kd 10) (eqb (at ws 1) 65535) full refl q))
+    spent-law x full q = sym (fitted-spent limits (exchanged c a b x) out (by (eqb kd 10) (eqb (at ws 1) 65535) full refl q))
       where
         by :
             (y z : Bool) → cond y z false ≡ true → eqb (at ws 1) 65535 ≡ z → x .issued ≡ cond y (suc (c .issued)) (c .issued) → 65535 < x .issued
@@ -249,46 +252,46 @@ module _ (ws : List ℕ) (ok : Words ws) (s : Starts) (known : Known standard ws
 
     meet-law :
         (other : e ≡ i → ⊥) →
-        meetW ws part values rest (s .starts) e i sa sb kd (k .branch) out ≡ given (pairOf c k a b m (length out)) out
+        meetW limits ws part values rest (s .starts) e i sa sb kd (k .branch) out ≡ given (pairOf limits c k a b m (length out)) out
     unfolding meetW
     meet-law other =
         by (exchange (c .issued) e i (k .branch) (engineAt c i .values) (lb .process) m) refl
-        (partners.partners-trade ws ok s known e (seenA .inside) ta la sa (seenA .spotted) i (seenB .inside) tb lb sb (seenB .spotted) (k .branch) m moves)
+        (partners.partners-trade ws ok s modest known e (seenA .inside) ta la sa (seenA .spotted) i (seenB .inside) tb lb sb (seenB .spotted) (k .branch) m moves)
       where
         by :
             (o : Option Exchange) → exchange (c .issued) e i (k .branch) (engineAt c i .values) (lb .process) m ≡ o →
             Pairs (c .issued) e i (k .branch) (la .process) (lb .process) (engineAt c i .values) part values rest kd blank o →
             cond (fitW part values rest (offerW rest (k .branch)) kd (k .branch) e i)
-            (cond (spentW ws kd) (answered (refusing 7) out) (carryW ws part values rest (offerW rest (k .branch)) (s .starts) e i sa sb kd out))
+            (cond (spentW ws kd) (answered (refusing 7) out) (carryW limits ws part values rest (offerW rest (k .branch)) (s .starts) e i sa sb kd out))
             (answered (refusing 5) out)
-            ≡ given (pairOf c k a b m (length out)) out
-        by none q (misfit z) = rw (z, pair-none c k a (length out) b m other q) (sym (given-refused noFit out))
-        by (some x) q (fit z t) = rw (z, pair-some c k a (length out) b m other x q) (spend (spentW ws kd) refl)
+            ≡ given (pairOf limits c k a b m (length out)) out
+        by none q (misfit z) = rw (z, pair-none limits c k a (length out) b m other q) (sym (given-refused noFit out))
+        by (some x) q (fit z t) = rw (z, pair-some limits c k a (length out) b m other x q) (spend (spentW ws kd) refl)
           where
             spend :
                 (y : Bool) → spentW ws kd ≡ y →
-                cond y (answered (refusing 7) out) (carryW ws part values rest (offerW rest (k .branch)) (s .starts) e i sa sb kd out)
-                ≡ given (fitted (length out) (exchanged c a b x)) out
+                cond y (answered (refusing 7) out) (carryW limits ws part values rest (offerW rest (k .branch)) (s .starts) e i sa sb kd out)
+                ≡ given (fitted limits (length out) (exchanged c a b x)) out
             spend true f = spent-law x f (t .issues)
             spend false f = carry-law other x f t
 
     -- the answer and the output of a step between two
-    pub pair-law : betweenW ws (s .starts) e i sa sb kd (k .branch) out ≡ given (pairOf c k a b m (length out)) out
+    pub pair-law : betweenW limits ws (s .starts) e i sa sb kd (k .branch) out ≡ given (pairOf limits c k a b m (length out)) out
     unfolding betweenW
     pair-law = by (ℕ-discrete e i)
       where
         start-low : startOf c e ≤ length ws
         start-low = omega (arith, one-length c (known .readable .fitting) e (seenA .inside) ws (known .same))
 
-        by : Dec (e ≡ i) → betweenW ws (s .starts) e i sa sb kd (k .branch) out ≡ given (pairOf c k a b m (length out)) out
-        by (yes q) = rw (eq-eqb e i q, pair-same c k a (length out) b m q) (sym (given-refused noFit out))
+        by : Dec (e ≡ i) → betweenW limits ws (s .starts) e i sa sb kd (k .branch) out ≡ given (pairOf limits c k a b m (length out)) out
+        by (yes q) = rw (eq-eqb e i q, pair-same limits c k a (length out) b m q) (sym (given-refused noFit out))
         by (no q) =
             rw (
               ne-eqb e i q,
               starts-at e (seenA .inside) .0,
               le-ltb (startOf c e) 64 (omega arith),
               le-ltb (length ws) (startOf c e) start-low,
-              le-ltb (length ws) (sa .at) (partners.found-inside ws ok s known e (seenA .inside) ta la sa (seenA .spotted)),
-              le-ltb (length ws) (sb .at) (partners.found-inside ws ok s known i (seenB .inside) tb lb sb (seenB .spotted)),
+              le-ltb (length ws) (sa .at) (partners.found-inside ws ok s modest known e (seenA .inside) ta la sa (seenA .spotted)),
+              le-ltb (length ws) (sb .at) (partners.found-inside ws ok s modest known i (seenB .inside) tb lb sb (seenB .spotted)),
             )
             (meet-law q)

@@ -24,8 +24,11 @@ use Rattle.finding.specs.Find.{faultAt}
 use Rattle.finding.proofs.Spots.{Spotted}
 use Rattle.finding.proofs.Edits.{process-at}
 use Rattle.writers.proofs.Laid.{Near, near-of, near-below}
-use Rattle.rules.proofs.Depths.{wrap-depth}
+use Rattle.rules.proofs.Depths.{wrap-depth, Shallow, shallow}
 use Rattle.scopes.proofs.ScopeWords.{inner-sound}
+use Rattle.layout.specs.declared.limit.Limits.{Limits}
+use Rattle.layout.specs.Limits.{figures}
+use Rattle.stepping.proofs.Modest.{Modest}
 use Rattle.stepping.specs.Exchanging.{blank, lent}
 use Rattle.stepping.proofs.Results.{one-stands, one-values}
 use Rattle.stepping.proofs.Pairs.{Pairs, sender-pairs}
@@ -66,12 +69,12 @@ outer-sound (scopeFrame name mark zombie h ∷ fs) a g =
 outer-sound (executorFrame o y client serial ∷ fs) a g =
     oneFrame (executor-frame (inner-sound fs (executor o y client serial a) g)) (outer-sound fs (executor o y client serial a) g)
 
-module _ (ws : List ℕ) (ok : Words ws) (s : Starts) (known : Known standard ws s) where
+module _ (ws : List ℕ) (ok : Words ws) (s : Starts) {limits : Limits} (modest : Modest limits) (known : Known (figures limits) ws s) where
   abbrev c : Config
   c = known .config
 
   pub near : Near (length ws)
-  near = near-below (length ws) 8192 (near-of 8192 (lit< tt)) (known-length known .1)
+  near = near-below (length ws) 8192 (near-of 8192 (lit< tt)) (omega (arith, known-length known .1, modest .few))
 
   -- the words from a place on
   pub lent-on : (k : ℕ) → lent k (length ws) ws ≡ drop k ws
@@ -95,17 +98,17 @@ module _ (ws : List ℕ) (ok : Words ws) (s : Starts) (known : Known standard ws
     pub found-frames : SoundFrames (length (c .engines)) (c .issued) (l .frames)
     found-frames = outer-sound (l .frames) (l .process) wrapped-sound
 
-    pub engine-shallow : runDepth r ≤ 64
+    pub engine-shallow : Shallow (limits .deepest) r
     engine-shallow =
         let a : runDepth r ≤ enginesDepth (c .engines) = engine-depth (c .engines) e _ h in
-        omega (arith, known .readable .shallow)
+        record { low = modest .low; kept = omega (arith, known .readable .shallow) }
 
     pub found-shallow : runDepth (l .process) ≤ 64
-    found-shallow = omega (arith, engine-shallow, sym (wrap-depth (l .frames) (l .process)) ∙ ap runDepth (spotted .wraps))
+    found-shallow = omega (arith, shallow engine-shallow, sym (wrap-depth (l .frames) (l .process)) ∙ ap runDepth (spotted .wraps))
 
     -- with the frames around it
-    pub found-deep : length (l .frames) + runDepth (l .process) ≤ 64
-    found-deep = omega (arith, engine-shallow, sym (wrap-depth (l .frames) (l .process)) ∙ ap runDepth (spotted .wraps))
+    pub found-deep : length (l .frames) + runDepth (l .process) ≤ limits .deepest
+    found-deep = omega (arith, engine-shallow .kept, sym (wrap-depth (l .frames) (l .process)) ∙ ap runDepth (spotted .wraps))
 
     abbrev pub behind : List ℕ
     behind =

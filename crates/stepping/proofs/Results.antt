@@ -18,6 +18,8 @@ use Rattle.writers.proofs.Laid.{Near, near-of, near-below, onward-near}
 use Rattle.finding.proofs.Edits.{part}
 use Rattle.rules.specs.declared.edit.Edit.{Edit}
 use Rattle.rules.proofs.Edits.{Ordered, Edits, part-first, fresh-room}
+use Rattle.layout.specs.declared.limit.Limits.{Limits}
+use Rattle.stepping.proofs.Modest.{Modest}
 use Rattle.stepping.specs.Writing.{engineW}
 use Rattle.stepping.specs.Answering.{sizedW, writeOneW, lengthOf}
 use Rattle.stepping.proofs.Overs.{Wrote, wrote-copy}
@@ -51,17 +53,18 @@ gone start end p o = within start (p .list) (p .past) (p .from) (p .upto) (p .ga
 
 -- the words that an edit leaves, if its fresh words are not too many
 pub edit-sized :
-    (ws : List ℕ) (start end : ℕ) (p : Edit) (fresh : List ℕ) (q : Run) → Edits ws start end p fresh q → (words : ℕ) →
-    end - start ≤ words → words ≤ 1000000 → p .fresh ≤ 8192 → sizedW words p + (end - start) ≡ words + size q
+    {limits : Limits} → Modest limits → (ws : List ℕ) (start end : ℕ) (p : Edit) (fresh : List ℕ) (q : Run) → Edits ws start end p fresh q → (words : ℕ) →
+    end - start ≤ words → words ≤ 1000000 → p .fresh ≤ limits .longest → sizedW limits words p + (end - start) ≡ words + size q
 unfolding sizedW
-edit-sized ws start end p fresh q edits words b a few =
-    let near : Near (words + p .fresh) = near-below (words + p .fresh) 1008192 (near-of 1008192 (lit< tt)) (omega arith) in
-    rw (le-ltb 8192 (p .fresh) few, onward-near words (p .fresh) (words + p .fresh) near (omega arith))
+edit-sized {limits} modest ws start end p fresh q edits words b a few =
+    let near : Near (words + p .fresh) = near-below (words + p .fresh) 1008192 (near-of 1008192 (lit< tt)) (omega (arith, modest .few)) in
+    rw (le-ltb (limits .longest) (p .fresh) few, onward-near words (p .fresh) (words + p .fresh) near (omega arith))
     (sums words (end - start) (p .fresh) (p .past - p .list) (p .upto - p .from) (p .end - p .gap) (size q) b (edits .sized) (gone start end p (edits .order)))
 
-pub edit-long : (words : ℕ) (p : Edit) → 8192 < p .fresh → sizedW words p ≡ 8193
+pub edit-long : {limits : Limits} → Modest limits → (words : ℕ) (p : Edit) → limits .longest < p .fresh → sizedW limits words p ≡ limits .longest + 1
 unfolding sizedW
-edit-long words p h = rw (lt-ltb 8192 (p .fresh) h)
+edit-long {limits} modest words p h =
+    rw (lt-ltb (limits .longest) (p .fresh) h) (onward-near (limits .longest) 1 10000 (near-of 10000 (lit< tt)) (omega (arith, modest .few)))
 
 -- there are at most as many fresh words as the process then has
 pub fresh-few : (ws : List ℕ) (start end : ℕ) (p : Edit) (fresh : List ℕ) (q : Run) → Edits ws start end p fresh q → p .fresh ≤ size q
@@ -166,23 +169,23 @@ module _ (c : Config) (fits : FitsConfig c) (e : ℕ) (h : e < length (c .engine
         valued-length false = length-set values (p .store .variable) (p .store .value) ∙ many
 
     -- how long the result is
-    pub next-sized : length ws ≤ 8192 → p .fresh ≤ 8192 → sizedW (length ws) p ≡ length (encode next)
-    next-sized short few =
-        let a = edit-sized ws start end p fresh q edits (length ws) (omega (arith, one-length)) (omega arith) few in
+    pub next-sized : {limits : Limits} → Modest limits → length ws ≤ limits .longest → p .fresh ≤ limits .longest → sizedW limits (length ws) p ≡ length (encode next)
+    next-sized modest short few =
+        let a = edit-sized modest ws start end p fresh q edits (length ws) (omega (arith, one-length)) (omega (arith, modest .few)) few in
         omega (arith, a, next-length, one-length)
 
     pub next-few : p .fresh ≤ length (encode next)
     next-few = omega (arith, fresh-few ws start end p fresh q edits, next-length)
 
-    pub next-fits : length ws ≤ 8192 → (room : ℕ) → lengthOf (sizedW (length ws) p) room ≡ lengthOf (length (encode next)) room
+    pub next-fits : {limits : Limits} → Modest limits → length ws ≤ limits .longest → (room : ℕ) → lengthOf limits (sizedW limits (length ws) p) room ≡ lengthOf limits (length (encode next)) room
     unfolding lengthOf
-    next-fits short room = by (leb (p .fresh) 8192) refl
+    next-fits {limits} modest short room = by (leb (p .fresh) (limits .longest)) refl
       where
-        by : (b : Bool) → leb (p .fresh) 8192 ≡ b → lengthOf (sizedW (length ws) p) room ≡ lengthOf (length (encode next)) room
-        by true e = ap (λ k. lengthOf k room) (next-sized short (leb-true (p .fresh) 8192 e))
+        by : (b : Bool) → leb (p .fresh) (limits .longest) ≡ b → lengthOf limits (sizedW limits (length ws) p) room ≡ lengthOf limits (length (encode next)) room
+        by true e = ap (λ k. lengthOf limits k room) (next-sized modest short (leb-true (p .fresh) (limits .longest) e))
         by false e =
-            let h : 8192 < p .fresh = leb-false (p .fresh) 8192 e in
-            rw (edit-long (length ws) p h, lt-ltb 8192 (length (encode next)) (omega (arith, next-few)))
+            let h : limits .longest < p .fresh = leb-false (p .fresh) (limits .longest) e in
+            rw (edit-long modest (length ws) p h, lt-ltb (limits .longest) (limits .longest + 1) (omega arith), lt-ltb (limits .longest) (length (encode next)) (omega (arith, next-few)))
 
     -- and what is written
     pub next-written :

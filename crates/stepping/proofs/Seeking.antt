@@ -28,10 +28,13 @@ use Rattle.finding.specs.Find.{findW, faultAt}
 use Rattle.finding.proofs.Within.{within, within-locate}
 use Rattle.finding.proofs.Spots.{Spotted}
 use Rattle.finding.proofs.Search.{missed, found}
+use Rattle.layout.specs.declared.limit.Limits.{Limits}
+use Rattle.layout.specs.Limits.{figures}
+use Rattle.stepping.proofs.Modest.{Modest}
 use Rattle.stepping.proofs.Results.{one-stands, one-behind, one-length}
 use Rattle.stepping.proofs.Given.{depth-at}
 
-module _ (ws : List ℕ) (ok : Words ws) (s : Starts) (known : Known standard ws s) where
+module _ (ws : List ℕ) (ok : Words ws) (s : Starts) {limits : Limits} (modest : Modest limits) (known : Known (figures limits) ws s) where
   abbrev c : Config
   c = known .config
 
@@ -60,7 +63,7 @@ module _ (ws : List ℕ) (ok : Words ws) (s : Starts) (known : Known standard ws
     start = startOf c e
 
     few-words : length ws ≤ 8192
-    few-words = known-length known .1
+    few-words = omega (arith, known-length known .1, modest .few)
 
     stands : drop start ws ≡ runWords r ++ drop (start + size r) ws
     stands =
@@ -74,7 +77,7 @@ module _ (ws : List ℕ) (ok : Words ws) (s : Starts) (known : Known standard ws
     sound = engine-fits _ (known .readable .fitting .engines) e h .sound
 
     shallow : runDepth r ≤ 64
-    shallow = depth-at (c .engines) e _ 64 h (known .readable .shallow)
+    shallow = depth-at (c .engines) e _ 64 h (omega (arith, known .readable .shallow, modest .low))
 
     located : within r start (start + p) ≡ locate r p []
     located = within-locate r start (start + p) (omega arith) ∙ ap (λ k. locate r k []) (let z : start + p - start ≡ p = omega arith in z)

@@ -17,6 +17,8 @@ use Rattle.writers.proofs.Laid.{Near, near-of}
 use Rattle.finding.proofs.Edits.{part}
 use Rattle.rules.specs.declared.edit.Edit.{Edit}
 use Rattle.rules.proofs.Edits.{Edits, part-first, fresh-room}
+use Rattle.layout.specs.declared.limit.Limits.{Limits}
+use Rattle.stepping.proofs.Modest.{Modest}
 use Rattle.stepping.specs.Writing.{Written, engineW}
 use Rattle.stepping.specs.Answering.{sizedW, writeTwoW}
 use Rattle.stepping.proofs.Overs.{over-length, over-then, Wrote, wrote-copy}
@@ -185,16 +187,16 @@ module _ (c : Config) (fits : FitsConfig c) (e i : ℕ) (low : e < i) (high : i 
         let m3 = same-words v2 many2 in
         omega (arith, second-start, one-length c fits i high ws same)
 
-    pub two-sized : length ws ≤ 8192 → p1 .fresh ≤ 8192 → p2 .fresh ≤ 8192 → sizedW (sizedW (length ws) p1) p2 ≡ length (encode next)
-    two-sized short few1 few2 =
+    pub two-sized : {limits : Limits} → Modest limits → length ws ≤ limits .longest → p1 .fresh ≤ limits .longest → p2 .fresh ≤ limits .longest → sizedW limits (sizedW limits (length ws) p1) p2 ≡ length (encode next)
+    two-sized {limits} modest short few1 few2 =
         let fit1 : size r1 ≤ length ws = omega (arith, one-length c fits e inside ws same) in
         let d1 : e1 - s1 ≡ size r1 = omega arith in
         let d2 : e2 - s2 ≡ size r2 = omega arith in
         let q1-small : size q1 ≤ size r1 + p1 .fresh = omega (arith, edits1 .sized) in
-        let one : sizedW (length ws) p1 + (e1 - s1) ≡ length ws + size q1 = edit-sized ws s1 e1 p1 f1 q1 edits1 (length ws) (omega arith) (omega arith) few1 in
+        let one : sizedW limits (length ws) p1 + (e1 - s1) ≡ length ws + size q1 = edit-sized modest ws s1 e1 p1 f1 q1 edits1 (length ws) (omega arith) (omega (arith, modest .few)) few1 in
         let both : size r1 + size r2 ≤ length ws = omega (arith, second-start, one-length c fits i high ws same) in
-        let two : sizedW (sizedW (length ws) p1) p2 + (e2 - s2) ≡ sizedW (length ws) p1 + size q2 =
-        edit-sized ws s2 e2 p2 f2 q2 edits2 (sizedW (length ws) p1) (omega arith) (omega arith) few2 in
+        let two : sizedW limits (sizedW limits (length ws) p1) p2 + (e2 - s2) ≡ sizedW limits (length ws) p1 + size q2 =
+        edit-sized modest ws s2 e2 p2 f2 q2 edits2 (sizedW limits (length ws) p1) (omega arith) (omega (arith, modest .few)) few2 in
         omega (arith, next-length)
 
     abbrev front : List ℕ

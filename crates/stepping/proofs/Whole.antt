@@ -9,32 +9,34 @@ use borrow.Author.Tests.{eq-eqb, ne-eqb}
 use lib.Dec.{eqb}
 use Rattle.sock.specs.Term.{kind}
 use Rattle.sock.specs.Running.{Run, asNode}
-use Rattle.sock.specs.Configuration.{standard, Config, guarded, readConfig}
+use Rattle.sock.specs.Configuration.{Config, guarded, readConfig}
 use Rattle.sock.specs.Frames.{plug}
 use Rattle.sock.specs.Rules.{also, Message, stuck, alone, sends, moveOf, Exchange, exchange}
 use Rattle.sock.specs.Calls.{unreadable, nobodyThere, noMove, noPartner, noFit, installing, Result, refused, _>>=_, _>>_, _!_, Numbers, Spot, enabledAt, movable, partner, effect, Stepped, withEngine, carriedOut, step}
+use Rattle.layout.specs.declared.limit.Limits.{Limits}
+use Rattle.layout.specs.Limits.{figures}
 use Rattle.stepping.specs.Stepping.{noneElse}
 use Rattle.stepping.proofs.Goal.{fitted}
 
 -- what follows once the process a is found
-unfoldable pub after : Config → Numbers → Spot → ℕ → Result Stepped
-after c k a room =
+unfoldable pub after : Limits → Config → Numbers → Spot → ℕ → Result Stepped
+after limits c k a room =
     (noMove ! movable k (moveOf (a .values) (a .frames) (a .process))) >>= λ m.
     (noPartner ! partner c k a m) >>= λ b.
     (noFit ! effect c k a b m) >>= λ x.
-    (installing ! carriedOut c a b x) >>= λ s. fitted room s
+    (installing ! carriedOut c a b x) >>= λ s. fitted limits room s
 
 pub step-read :
-    (ws : List ℕ) (k : Numbers) (room : ℕ) →
-    step standard ws k room ≡ ((unreadable ! readConfig standard ws) >>= λ c. (nobodyThere ! enabledAt c (k .engine) (k .position)) >>= λ a. after c k a room)
+    (limits : Limits) (ws : List ℕ) (k : Numbers) (room : ℕ) →
+    step (figures limits) ws k room ≡ ((unreadable ! readConfig (figures limits) ws) >>= λ c. (nobodyThere ! enabledAt c (k .engine) (k .position)) >>= λ a. after limits c k a room)
 unfolding step after fitted
-step-read ws k room = refl
+step-read limits ws k room = refl
 
 -- what one engine's step gives
-unfoldable pub loneOf : Config → Spot → List ℕ → Option Run → ℕ → Result Stepped
-loneOf c a vs none room = refused installing
-loneOf c a vs (some q) room =
-    fitted room
+unfoldable pub loneOf : Limits → Config → Spot → List ℕ → Option Run → ℕ → Result Stepped
+loneOf limits c a vs none room = refused installing
+loneOf limits c a vs (some q) room =
+    fitted limits room
     (record {
       config = record { issued = c .issued; engines = withEngine (a .engine) vs q (c .engines) };
       kind = kind (asNode (a .process));
@@ -43,8 +45,8 @@ loneOf c a vs (some q) room =
     })
 
 -- and a step of two
-unfoldable pub pairOf : Config → Numbers → Spot → Spot → Message → ℕ → Result Stepped
-pairOf c k a b m room = (noFit ! effect c k a b (sends m)) >>= λ x. (installing ! carriedOut c a b x) >>= λ s. fitted room s
+unfoldable pub pairOf : Limits → Config → Numbers → Spot → Spot → Message → ℕ → Result Stepped
+pairOf limits c k a b m room = (noFit ! effect c k a b (sends m)) >>= λ x. (installing ! carriedOut c a b x) >>= λ s. fitted limits room s
 
 abbrev pub exchanged : Config → Spot → Spot → Exchange → Stepped
 exchanged c a b x =
@@ -70,14 +72,14 @@ none-else i place branch = by (eqb i 0) (eqb place 0) (eqb branch 0)
     by true false c = refl
     by false b c = refl
 
-module _ (c : Config) (k : Numbers) (a : Spot) (room : ℕ) where
-  pub after-stuck : moveOf (a .values) (a .frames) (a .process) ≡ stuck → after c k a room ≡ refused noMove
+module _ (limits : Limits) (c : Config) (k : Numbers) (a : Spot) (room : ℕ) where
+  pub after-stuck : moveOf (a .values) (a .frames) (a .process) ≡ stuck → after limits c k a room ≡ refused noMove
   unfolding after movable _!_ _>>=_
   after-stuck e = rw e
 
   pub after-alone :
       (vs : List ℕ) (q : Option Run) → moveOf (a .values) (a .frames) (a .process) ≡ alone vs q →
-      after c k a room ≡ cond (noneElse (k .second) (k .secondPosition) (k .branch)) (loneOf c a vs q room) (refused noMove)
+      after limits c k a room ≡ cond (noneElse (k .second) (k .secondPosition) (k .branch)) (loneOf limits c a vs q room) (refused noMove)
   unfolding after movable partner effect carriedOut loneOf guarded _!_ _>>=_
   after-alone vs q e = rw (e, none-else (k .second) (k .secondPosition) (k .branch)) (by (noneElse (k .second) (k .secondPosition) (k .branch)) q)
     where
@@ -86,29 +88,29 @@ module _ (c : Config) (k : Numbers) (a : Spot) (room : ℕ) where
           ((noMove ! guarded b (some (alone vs q))) >>= λ m.
           (noPartner ! partner c k a m) >>= λ b.
           (noFit ! effect c k a b m) >>= λ x.
-          (installing ! carriedOut c a b x) >>= λ s. fitted room s)
-          ≡ cond b (loneOf c a vs q room) (refused noMove)
+          (installing ! carriedOut c a b x) >>= λ s. fitted limits room s)
+          ≡ cond b (loneOf limits c a vs q room) (refused noMove)
       by true none = refl
       by true (some q) = refl
       by false q = refl
 
   pub after-sends :
       (m : Message) → moveOf (a .values) (a .frames) (a .process) ≡ sends m →
-      after c k a room ≡ ((noPartner ! enabledAt c (k .second) (k .secondPosition)) >>= λ b. pairOf c k a b m room)
+      after limits c k a room ≡ ((noPartner ! enabledAt c (k .second) (k .secondPosition)) >>= λ b. pairOf limits c k a b m room)
   unfolding after movable partner pairOf _!_ _>>=_
   after-sends m e = rw e
 
-  pub pair-same : (b : Spot) (m : Message) → a .engine ≡ b .engine → pairOf c k a b m room ≡ refused noFit
+  pub pair-same : (b : Spot) (m : Message) → a .engine ≡ b .engine → pairOf limits c k a b m room ≡ refused noFit
   unfolding pairOf effect guarded _!_ _>>=_
   pair-same b m e = rw (eq-eqb (a .engine) (b .engine) e)
 
   module _ (b : Spot) (m : Message) (other : a .engine ≡ b .engine → ⊥) where
-    pub pair-none : exchange (c .issued) (a .engine) (b .engine) (k .branch) (b .values) (b .process) m ≡ none → pairOf c k a b m room ≡ refused noFit
+    pub pair-none : exchange (c .issued) (a .engine) (b .engine) (k .branch) (b .values) (b .process) m ≡ none → pairOf limits c k a b m room ≡ refused noFit
     unfolding pairOf effect guarded also _!_ _>>=_
     pair-none e = rw (ne-eqb (a .engine) (b .engine) other, e)
 
     pub pair-some :
         (x : Exchange) → exchange (c .issued) (a .engine) (b .engine) (k .branch) (b .values) (b .process) m ≡ some x →
-        pairOf c k a b m room ≡ fitted room (exchanged c a b x)
+        pairOf limits c k a b m room ≡ fitted limits room (exchanged c a b x)
     unfolding pairOf effect carriedOut guarded also _!_ _>>=_
     pair-some x e = rw (ne-eqb (a .engine) (b .engine) other, e)

@@ -12,36 +12,37 @@ use Rattle.scopes.specs.Compensating.{compensatedW}
 use Rattle.scopes.specs.Ending.{endedW}
 use Rattle.scopes.specs.Installing.{installedW}
 use Rattle.scopes.specs.Throwing.{thrownW}
+use Rattle.layout.specs.declared.limit.Limits.{Limits}
 use Rattle.stepping.specs.Answering.{Answered, oneW}
 use Rattle.stepping.specs.Exchanging.{lent}
 
-unfoldable pub rewrittenW : List ℕ → List ℕ → ℕ → ℕ → ℕ → List ℕ → Rewritten
-rewrittenW part vs level kind bound fresh =
+unfoldable pub rewrittenW : Limits → List ℕ → List ℕ → ℕ → ℕ → ℕ → List ℕ → Rewritten
+rewrittenW limits part vs level kind bound fresh =
     cond (eqb kind Kind.assign) (rewritten (assignW part vs) fresh)
-    (cond (eqb kind Kind.if) (rewritten (branchW part vs) fresh) (repeatW level bound part vs fresh))
+    (cond (eqb kind Kind.if) (rewritten (branchW part vs) fresh) (repeatW limits level bound part vs fresh))
 
-unfoldable pub valuedW : List ℕ → ℕ → Site → ℕ → ℕ → List ℕ → Rewritten
-valuedW ws start s kind bound fresh =
+unfoldable pub valuedW : Limits → List ℕ → ℕ → Site → ℕ → ℕ → List ℕ → Rewritten
+valuedW limits ws start s kind bound fresh =
     cond (ltb start 64) (rewritten (refused 1) fresh)
     (cond (ltb (length ws) start) (rewritten (refused 1) fresh)
     (cond (ltb (length ws) (s .at)) (rewritten (refused 1) fresh)
-    (rewrittenW (lent (s .at) (length ws) ws) (lent (start - 64) start ws) (s .level) kind bound fresh)))
+    (rewrittenW limits (lent (s .at) (length ws) ws) (lent (start - 64) start ws) (s .level) kind bound fresh)))
 
-unfoldable pub scopedW : List ℕ → List ℕ → ℕ → Site → ℕ → ℕ → List ℕ → Edited
-scopedW ws notes start s kind bound fresh =
+unfoldable pub scopedW : Limits → List ℕ → List ℕ → ℕ → Site → ℕ → ℕ → List ℕ → Edited
+scopedW limits ws notes start s kind bound fresh =
     cond (eqb kind Kind.scope) (endedW ws notes start s fresh)
-    (cond (eqb kind Kind.inst) (installedW ws notes start s fresh)
-    (cond (eqb kind Kind.throw) (thrownW ws notes start s fresh) (compensatedW bound ws notes start s fresh)))
+    (cond (eqb kind Kind.inst) (installedW limits ws notes start s fresh)
+    (cond (eqb kind Kind.throw) (thrownW ws notes start s fresh) (compensatedW limits bound ws notes start s fresh)))
 
-unfoldable pub ruleW : List ℕ → List ℕ → ℕ → Site → ℕ → ℕ → List ℕ → Edited
-ruleW ws notes start s kind bound fresh =
-    let t = valuedW ws start s kind bound fresh in
-    cond (ltb Kind.choice kind) (scopedW ws notes start s kind bound fresh) (plainW s start (t .rewriting) (t .fresh))
+unfoldable pub ruleW : Limits → List ℕ → List ℕ → ℕ → Site → ℕ → ℕ → List ℕ → Edited
+ruleW limits ws notes start s kind bound fresh =
+    let t = valuedW limits ws start s kind bound fresh in
+    cond (ltb Kind.choice kind) (scopedW limits ws notes start s kind bound fresh) (plainW s start (t .rewriting) (t .fresh))
 
-unfoldable pub loneW : List ℕ → List ℕ → ℕ → ℕ → Site → ℕ → ℕ → List ℕ → List ℕ → Answered
-loneW ws notes start next s kind bound fresh out =
-    let p = ruleW ws notes start s kind bound fresh in
-    oneW ws start (next - 64) (p .edit) (kind % 32) (p .fresh) out
+unfoldable pub loneW : Limits → List ℕ → List ℕ → ℕ → ℕ → Site → ℕ → ℕ → List ℕ → List ℕ → Answered
+loneW limits ws notes start next s kind bound fresh out =
+    let p = ruleW limits ws notes start s kind bound fresh in
+    oneW limits ws start (next - 64) (p .edit) (kind % 32) (p .fresh) out
 
 -- scratch for all, and for short configurations
 abbrev pub large : List ℕ
@@ -59,11 +60,11 @@ abbrev pub surely : ℕ
 surely = 800
 
 -- again with the long scratch, if there may have been too little room
-unfoldable pub shortW : List ℕ → List ℕ → ℕ → ℕ → Site → ℕ → ℕ → List ℕ → List ℕ → Answered
-shortW ws notes start next s kind bound fresh out =
-    cond (ltb surely (ruleW ws notes start s kind bound fresh .edit .fresh)) (loneW ws notes start next s kind bound large out)
-    (loneW ws notes start next s kind bound fresh out)
+unfoldable pub shortW : Limits → List ℕ → List ℕ → ℕ → ℕ → Site → ℕ → ℕ → List ℕ → List ℕ → Answered
+shortW limits ws notes start next s kind bound fresh out =
+    cond (ltb surely (ruleW limits ws notes start s kind bound fresh .edit .fresh)) (loneW limits ws notes start next s kind bound large out)
+    (loneW limits ws notes start next s kind bound fresh out)
 
-unfoldable pub aloneW : List ℕ → List ℕ → ℕ → ℕ → Site → ℕ → ℕ → List ℕ → Answered
-aloneW ws notes start next s kind bound out =
-    cond (ltb short (length ws)) (loneW ws notes start next s kind bound large out) (shortW ws notes start next s kind bound small out)
+unfoldable pub aloneW : Limits → List ℕ → List ℕ → ℕ → ℕ → Site → ℕ → ℕ → List ℕ → Answered
+aloneW limits ws notes start next s kind bound out =
+    cond (ltb short (length ws)) (loneW limits ws notes start next s kind bound large out) (shortW limits ws notes start next s kind bound small out)

@@ -6,6 +6,7 @@ use lib.Dec.{ltb, eqb}
 use lib.ListN.{length, set}
 use Rattle.layout.specs.Positions.{onward}
 use Rattle.rules.specs.declared.edit.Edit.{Edit}
+use Rattle.layout.specs.declared.limit.Limits.{Limits}
 use Rattle.stepping.specs.declared.answer.Answer.{Answer}
 use Rattle.stepping.specs.Writing.{Written, written, copyW, engineW}
 
@@ -23,22 +24,22 @@ refusing n = record { number = n; kind = 0; serial = 0; fault = 0; length = 0 }
 abbrev pub accepting : ℕ → ℕ → ℕ → ℕ → Answer
 accepting kind serial fault length = record { number = 0; kind = kind; serial = serial; fault = fault; length = length }
 
-unfoldable pub sizedW : ℕ → Edit → ℕ
-sizedW words p = cond (ltb 8192 (p .fresh)) 8193 (onward words (p .fresh) - (p .past - p .list) - (p .upto - p .from) - (p .end - p .gap))
+unfoldable pub sizedW : Limits → ℕ → Edit → ℕ
+sizedW limits words p = cond (ltb (limits .longest) (p .fresh)) (onward (limits .longest) 1) (onward words (p .fresh) - (p .past - p .list) - (p .upto - p .from) - (p .end - p .gap))
 
 unfoldable pub writeOneW : List ℕ → ℕ → ℕ → Edit → List ℕ → List ℕ → Written
 writeOneW ws start end p fresh out = copyW ws end (length ws) (engineW ws 0 start end p fresh out 0)
 
-unfoldable pub lengthOf : ℕ → ℕ → ℕ
-lengthOf length room = cond (ltb 8192 length) 9 (cond (ltb room length) 10 0)
+unfoldable pub lengthOf : Limits → ℕ → ℕ → ℕ
+lengthOf limits length room = cond (ltb (limits .longest) length) 9 (cond (ltb room length) 10 0)
 
-unfoldable pub oneW : List ℕ → ℕ → ℕ → Edit → ℕ → List ℕ → List ℕ → Answered
-oneW ws start end p kind fresh out =
-    let size = sizedW (length ws) p in
+unfoldable pub oneW : Limits → List ℕ → ℕ → ℕ → Edit → ℕ → List ℕ → List ℕ → Answered
+oneW limits ws start end p kind fresh out =
+    let size = sizedW limits (length ws) p in
     cond (eqb (p .number) 0)
-    (cond (eqb (lengthOf size (length out)) 0)
+    (cond (eqb (lengthOf limits size (length out)) 0)
     (answered (accepting kind 0 0 (size % 65536)) (writeOneW ws start end p fresh out .out))
-    (answered (refusing (lengthOf size (length out))) out))
+    (answered (refusing (lengthOf limits size (length out))) out))
     (answered (refusing (p .number)) out)
 
 unfoldable pub writeTwoW : List ℕ → ℕ → ℕ → Edit → List ℕ → ℕ → ℕ → Edit → List ℕ → ℕ → List ℕ → List ℕ
@@ -46,9 +47,9 @@ writeTwoW ws start end p fresh start2 end2 p2 fresh2 issued out =
     let w = engineW ws 0 start end p fresh out 0 in
     set (copyW ws end2 (length ws) (engineW ws end start2 end2 p2 fresh2 (w .out) (w .to)) .out) 1 issued
 
-unfoldable pub twoW : List ℕ → ℕ → ℕ → Edit → List ℕ → ℕ → ℕ → Edit → List ℕ → ℕ → Answer → List ℕ → Answered
-twoW ws start end p fresh start2 end2 p2 fresh2 issued a out =
-    let size = sizedW (sizedW (length ws) p) p2 in
-    cond (eqb (lengthOf size (length out)) 0)
+unfoldable pub twoW : Limits → List ℕ → ℕ → ℕ → Edit → List ℕ → ℕ → ℕ → Edit → List ℕ → ℕ → Answer → List ℕ → Answered
+twoW limits ws start end p fresh start2 end2 p2 fresh2 issued a out =
+    let size = sizedW limits (sizedW limits (length ws) p) p2 in
+    cond (eqb (lengthOf limits size (length out)) 0)
     (answered (accepting (a .kind) (a .serial) (a .fault) (size % 65536)) (writeTwoW ws start end p fresh start2 end2 p2 fresh2 issued out))
-    (answered (refusing (lengthOf size (length out))) out)
+    (answered (refusing (lengthOf limits size (length out))) out)

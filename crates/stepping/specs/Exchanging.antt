@@ -11,6 +11,7 @@ use Rattle.rules.specs.declared.edit.Edit.{Edit}
 use Rattle.rules.specs.Rewriting.{at}
 use Rattle.rules.specs.Offering.{offerW}
 use Rattle.rules.specs.Editing.{Edited, plainW}
+use Rattle.layout.specs.declared.limit.Limits.{Limits}
 use Rattle.stepping.specs.declared.answer.Answer.{Answer}
 use Rattle.stepping.specs.Answering.{Answered, answered, refusing, accepting, twoW}
 use Rattle.stepping.specs.Meeting.{fitW, serialW, sendW, receiveW}
@@ -28,11 +29,11 @@ receiverW ws vs other o s start kind client serial fresh =
 abbrev startAt : List ℕ → ℕ → ℕ
 startAt starts e = getD starts e 0
 
-unfoldable pub orderedW : List ℕ → List ℕ → ℕ → ℕ → Edit → List ℕ → Edit → List ℕ → ℕ → Answer → List ℕ → Answered
-orderedW ws starts e i p fresh q fresh2 issued accepted out =
+unfoldable pub orderedW : Limits → List ℕ → List ℕ → ℕ → ℕ → Edit → List ℕ → Edit → List ℕ → ℕ → Answer → List ℕ → Answered
+orderedW limits ws starts e i p fresh q fresh2 issued accepted out =
     cond (ltb e i)
-    (twoW ws (startAt starts e) (startAt starts (e + 1) - 64) p fresh (startAt starts i) (startAt starts (i + 1) - 64) q fresh2 issued accepted out)
-    (twoW ws (startAt starts i) (startAt starts (i + 1) - 64) q fresh2 (startAt starts e) (startAt starts (e + 1) - 64) p fresh issued accepted out)
+    (twoW limits ws (startAt starts e) (startAt starts (e + 1) - 64) p fresh (startAt starts i) (startAt starts (i + 1) - 64) q fresh2 issued accepted out)
+    (twoW limits ws (startAt starts i) (startAt starts (i + 1) - 64) q fresh2 (startAt starts e) (startAt starts (e + 1) - 64) p fresh issued accepted out)
 
 unfoldable pub nextOf : ℕ → ℕ
 nextOf issued = cond (eqb issued 65535) issued (issued + 1)
@@ -47,34 +48,34 @@ faultOf kind = cond (eqb kind Kind.notice) 1 0
 abbrev pub blank : List ℕ
 blank = replicate 64 0
 
-unfoldable pub carryW : List ℕ → List ℕ → List ℕ → List ℕ → Offer → List ℕ → ℕ → ℕ → Site → Site → ℕ → List ℕ → Answered
-carryW ws part vs other o starts e i a b kind out =
+unfoldable pub carryW : Limits → List ℕ → List ℕ → List ℕ → List ℕ → Offer → List ℕ → ℕ → ℕ → Site → Site → ℕ → List ℕ → Answered
+carryW limits ws part vs other o starts e i a b kind out =
     let next = nextOf (at ws 1) in
     let serial = serialW part kind next in
     let p = senderW part a (startAt starts e) kind i serial blank in
     let q = receiverW part vs other o b (startAt starts i) kind e serial blank in
-    orderedW ws starts e i (p .edit) (p .fresh) (q .edit) (q .fresh) (issuedOf kind (at ws 1) next) (accepting (kind % 32) serial (faultOf kind) 0) out
+    orderedW limits ws starts e i (p .edit) (p .fresh) (q .edit) (q .fresh) (issuedOf kind (at ws 1) next) (accepting (kind % 32) serial (faultOf kind) 0) out
 
 unfoldable pub spentW : List ℕ → ℕ → Bool
 spentW ws kind = cond (eqb kind Kind.solicit) (eqb (at ws 1) 65535) false
 
-unfoldable pub meetW : List ℕ → List ℕ → List ℕ → List ℕ → List ℕ → ℕ → ℕ → Site → Site → ℕ → ℕ → List ℕ → Answered
-meetW ws part vs other starts e i a b kind branch out =
+unfoldable pub meetW : Limits → List ℕ → List ℕ → List ℕ → List ℕ → List ℕ → ℕ → ℕ → Site → Site → ℕ → ℕ → List ℕ → Answered
+meetW limits ws part vs other starts e i a b kind branch out =
     let o = offerW other branch in
     cond (fitW part vs other o kind branch e i)
-    (cond (spentW ws kind) (answered (refusing 7) out) (carryW ws part vs other o starts e i a b kind out))
+    (cond (spentW ws kind) (answered (refusing 7) out) (carryW limits ws part vs other o starts e i a b kind out))
     (answered (refusing 5) out)
 
 -- the words from..upto lent
 abbrev pub lent : ℕ → ℕ → List ℕ → List ℕ
 lent from upto ws = take (upto - from) (drop from ws)
 
-unfoldable pub betweenW : List ℕ → List ℕ → ℕ → ℕ → Site → Site → ℕ → ℕ → List ℕ → Answered
-betweenW ws starts e i a b kind branch out =
+unfoldable pub betweenW : Limits → List ℕ → List ℕ → ℕ → ℕ → Site → Site → ℕ → ℕ → List ℕ → Answered
+betweenW limits ws starts e i a b kind branch out =
     let start = startAt starts e in
     cond (eqb e i) (answered (refusing 5) out)
     (cond (ltb start 64) (answered (refusing 5) out)
     (cond (ltb (length ws) start) (answered (refusing 5) out)
     (cond (ltb (length ws) (a .at)) (answered (refusing 5) out)
     (cond (ltb (length ws) (b .at)) (answered (refusing 5) out)
-    (meetW ws (lent (a .at) (length ws) ws) (lent (start - 64) start ws) (lent (b .at) (length ws) ws) starts e i a b kind branch out)))))
+    (meetW limits ws (lent (a .at) (length ws) ws) (lent (start - 64) start ws) (lent (b .at) (length ws) ws) starts e i a b kind branch out)))))

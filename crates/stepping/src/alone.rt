@@ -4,6 +4,7 @@ use crate::answer::one;
 use crate::exchange::end_before;
 use finding::find::Site;
 use layout::kind;
+use layout::limit::Limits;
 use layout::limit::VALUES;
 use rules::alone::assign;
 use rules::alone::branch;
@@ -36,9 +37,10 @@ fn rewritten(
     level: usize,
     kind: usize,
     bound: usize,
+    limits: Limits,
     fresh: &mut [u16],
 ) -> Rewriting
-    ensures { λ r. ⌜ (r ≡ rewrittenW (now (part .entry)) (now (values .entry)) level kind bound (now (fresh .entry)) .rewriting) × (now (fresh .exit) ≡ rewrittenW (now (part .entry)) (now (values .entry)) level kind bound (now (fresh .entry)) .fresh) ⌝ }
+    ensures { λ r. ⌜ (r ≡ rewrittenW limits (now (part .entry)) (now (values .entry)) level kind bound (now (fresh .entry)) .rewriting) × (now (fresh .exit) ≡ rewrittenW limits (now (part .entry)) (now (values .entry)) level kind bound (now (fresh .entry)) .fresh) ⌝ }
 {
     if kind == kind::ASSIGN {
         return assign(part, values);
@@ -46,7 +48,7 @@ fn rewritten(
     if kind == kind::IF {
         return branch(part, values);
     }
-    repeat(part, values, level, bound, fresh)
+    repeat(part, values, level, bound, limits, fresh)
 }
 
 // That the places are inside is known of all that was found.
@@ -56,9 +58,10 @@ fn valued(
     s: Site,
     kind: usize,
     bound: usize,
+    limits: Limits,
     fresh: &mut [u16],
 ) -> Rewriting
-    ensures { λ r. ⌜ (r ≡ valuedW (now (ws .entry)) start s kind bound (now (fresh .entry)) .rewriting) × (now (fresh .exit) ≡ valuedW (now (ws .entry)) start s kind bound (now (fresh .entry)) .fresh) ⌝ }
+    ensures { λ r. ⌜ (r ≡ valuedW limits (now (ws .entry)) start s kind bound (now (fresh .entry)) .rewriting) × (now (fresh .exit) ≡ valuedW limits (now (ws .entry)) start s kind bound (now (fresh .entry)) .fresh) ⌝ }
 {
     let at = s.at;
     if start < VALUES {
@@ -71,7 +74,15 @@ fn valued(
         return refusal(1);
     }
     let from = start - VALUES;
-    rewritten(&ws[at..], &ws[from..start], s.level, kind, bound, fresh)
+    rewritten(
+        &ws[at..],
+        &ws[from..start],
+        s.level,
+        kind,
+        bound,
+        limits,
+        fresh,
+    )
 }
 
 // The rules that look at scopes.
@@ -82,20 +93,21 @@ fn scoped(
     s: Site,
     kind: usize,
     bound: usize,
+    limits: Limits,
     fresh: &mut [u16],
 ) -> Edit
-    ensures { λ r. ⌜ (r ≡ scopedW (now (ws .entry)) (now (notes .entry)) start s kind bound (now (fresh .entry)) .edit) × (now (fresh .exit) ≡ scopedW (now (ws .entry)) (now (notes .entry)) start s kind bound (now (fresh .entry)) .fresh) ⌝ }
+    ensures { λ r. ⌜ (r ≡ scopedW limits (now (ws .entry)) (now (notes .entry)) start s kind bound (now (fresh .entry)) .edit) × (now (fresh .exit) ≡ scopedW limits (now (ws .entry)) (now (notes .entry)) start s kind bound (now (fresh .entry)) .fresh) ⌝ }
 {
     if kind == kind::SCOPE {
         return ended(ws, notes, start, s, fresh);
     }
     if kind == kind::INST {
-        return installed(ws, notes, start, s, fresh);
+        return installed(ws, notes, start, s, limits, fresh);
     }
     if kind == kind::THROW {
         return thrown(ws, notes, start, s, fresh);
     }
-    compensated(ws, notes, start, s, bound, fresh)
+    compensated(ws, notes, start, s, bound, limits, fresh)
 }
 
 // The rule of the kind given.
@@ -106,14 +118,15 @@ fn rule(
     s: Site,
     kind: usize,
     bound: usize,
+    limits: Limits,
     fresh: &mut [u16],
 ) -> Edit
-    ensures { λ r. ⌜ (r ≡ ruleW (now (ws .entry)) (now (notes .entry)) start s kind bound (now (fresh .entry)) .edit) × (now (fresh .exit) ≡ ruleW (now (ws .entry)) (now (notes .entry)) start s kind bound (now (fresh .entry)) .fresh) ⌝ }
+    ensures { λ r. ⌜ (r ≡ ruleW limits (now (ws .entry)) (now (notes .entry)) start s kind bound (now (fresh .entry)) .edit) × (now (fresh .exit) ≡ ruleW limits (now (ws .entry)) (now (notes .entry)) start s kind bound (now (fresh .entry)) .fresh) ⌝ }
 {
     if kind::CHOICE < kind {
-        return scoped(ws, notes, start, s, kind, bound, fresh);
+        return scoped(ws, notes, start, s, kind, bound, limits, fresh);
     }
-    let t = valued(ws, start, s, kind, bound, fresh);
+    let t = valued(ws, start, s, kind, bound, limits, fresh);
     plain(s, start, t, fresh)
 }
 
@@ -126,18 +139,20 @@ fn lone(
     s: Site,
     kind: usize,
     bound: usize,
+    limits: Limits,
     fresh: &mut [u16],
     out: &mut [u16],
 ) -> Answer
-    ensures { λ r. ⌜ (r ≡ loneW (now (ws .entry)) (now (notes .entry)) start next s kind bound (now (fresh .entry)) (now (out .entry)) .answer) × (now (out .exit) ≡ loneW (now (ws .entry)) (now (notes .entry)) start next s kind bound (now (fresh .entry)) (now (out .entry)) .out) × (now (fresh .exit) ≡ ruleW (now (ws .entry)) (now (notes .entry)) start s kind bound (now (fresh .entry)) .fresh) ⌝ }
+    ensures { λ r. ⌜ (r ≡ loneW limits (now (ws .entry)) (now (notes .entry)) start next s kind bound (now (fresh .entry)) (now (out .entry)) .answer) × (now (out .exit) ≡ loneW limits (now (ws .entry)) (now (notes .entry)) start next s kind bound (now (fresh .entry)) (now (out .entry)) .out) × (now (fresh .exit) ≡ ruleW limits (now (ws .entry)) (now (notes .entry)) start s kind bound (now (fresh .entry)) .fresh) ⌝ }
 {
-    let p = rule(ws, notes, start, s, kind, bound, fresh);
+    let p = rule(ws, notes, start, s, kind, bound, limits, fresh);
     one(
         ws,
         start,
         end_before(next),
         p,
         (kind % 32) as u8,
+        limits,
         fresh,
         out,
     )
@@ -152,12 +167,24 @@ fn roomy(
     s: Site,
     kind: usize,
     bound: usize,
+    limits: Limits,
     out: &mut [u16],
 ) -> Answer
-    ensures { λ r. ⌜ (r ≡ loneW (now (ws .entry)) (now (notes .entry)) start next s kind bound large (now (out .entry)) .answer) × (now (out .exit) ≡ loneW (now (ws .entry)) (now (notes .entry)) start next s kind bound large (now (out .entry)) .out) ⌝ }
+    ensures { λ r. ⌜ (r ≡ loneW limits (now (ws .entry)) (now (notes .entry)) start next s kind bound large (now (out .entry)) .answer) × (now (out .exit) ≡ loneW limits (now (ws .entry)) (now (notes .entry)) start next s kind bound large (now (out .entry)) .out) ⌝ }
 {
     let mut fresh = [0u16; LARGE];
-    lone(ws, notes, start, next, s, kind, bound, &mut fresh, out)
+    lone(
+        ws,
+        notes,
+        start,
+        next,
+        s,
+        kind,
+        bound,
+        limits,
+        &mut fresh,
+        out,
+    )
 }
 
 // With the short scratch. Inst can make more words than that holds, counts also those that find no room, and wants 130 places to spare:
@@ -170,14 +197,15 @@ fn short(
     s: Site,
     kind: usize,
     bound: usize,
+    limits: Limits,
     fresh: &mut [u16],
     out: &mut [u16],
 ) -> Answer
-    ensures { λ r. ⌜ (r ≡ shortW (now (ws .entry)) (now (notes .entry)) start next s kind bound (now (fresh .entry)) (now (out .entry)) .answer) × (now (out .exit) ≡ shortW (now (ws .entry)) (now (notes .entry)) start next s kind bound (now (fresh .entry)) (now (out .entry)) .out) × (now (fresh .exit) ≡ ruleW (now (ws .entry)) (now (notes .entry)) start s kind bound (now (fresh .entry)) .fresh) ⌝ }
+    ensures { λ r. ⌜ (r ≡ shortW limits (now (ws .entry)) (now (notes .entry)) start next s kind bound (now (fresh .entry)) (now (out .entry)) .answer) × (now (out .exit) ≡ shortW limits (now (ws .entry)) (now (notes .entry)) start next s kind bound (now (fresh .entry)) (now (out .entry)) .out) × (now (fresh .exit) ≡ ruleW limits (now (ws .entry)) (now (notes .entry)) start s kind bound (now (fresh .entry)) .fresh) ⌝ }
 {
-    let p = rule(ws, notes, start, s, kind, bound, fresh);
+    let p = rule(ws, notes, start, s, kind, bound, limits, fresh);
     if SURELY < p.fresh {
-        return roomy(ws, notes, start, next, s, kind, bound, out);
+        return roomy(ws, notes, start, next, s, kind, bound, limits, out);
     }
     one(
         ws,
@@ -185,6 +213,7 @@ fn short(
         end_before(next),
         p,
         (kind % 32) as u8,
+        limits,
         fresh,
         out,
     )
@@ -199,13 +228,25 @@ pub fn alone(
     s: Site,
     kind: usize,
     bound: usize,
+    limits: Limits,
     out: &mut [u16],
 ) -> Answer
-    ensures { λ r. ⌜ (r ≡ aloneW (now (ws .entry)) (now (notes .entry)) start next s kind bound (now (out .entry)) .answer) × (now (out .exit) ≡ aloneW (now (ws .entry)) (now (notes .entry)) start next s kind bound (now (out .entry)) .out) ⌝ }
+    ensures { λ r. ⌜ (r ≡ aloneW limits (now (ws .entry)) (now (notes .entry)) start next s kind bound (now (out .entry)) .answer) × (now (out .exit) ≡ aloneW limits (now (ws .entry)) (now (notes .entry)) start next s kind bound (now (out .entry)) .out) ⌝ }
 {
     if SHORT < ws.len() {
-        return roomy(ws, notes, start, next, s, kind, bound, out);
+        return roomy(ws, notes, start, next, s, kind, bound, limits, out);
     }
     let mut fresh = [0u16; SMALL];
-    short(ws, notes, start, next, s, kind, bound, &mut fresh, out)
+    short(
+        ws,
+        notes,
+        start,
+        next,
+        s,
+        kind,
+        bound,
+        limits,
+        &mut fresh,
+        out,
+    )
 }

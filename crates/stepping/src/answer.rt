@@ -1,6 +1,6 @@
 // The answer of a step, and the result written if it fits.
 use crate::writing::engine;
-use layout::limit::LONGEST;
+use layout::limit::Limits;
 use layout::number::further;
 use layout::number::less;
 use rules::edit::Edit;
@@ -44,11 +44,11 @@ pub fn accept(kind: u8, serial: u16, fault: u8, length: u16) -> Answer
 }
 
 // How many words there are once an edit is carried out on so many; too many where its fresh words alone are.
-fn sized(words: usize, p: Edit) -> usize
-    ensures { λ r. ⌜ r ≡ sizedW words p ⌝ }
+fn sized(limits: Limits, words: usize, p: Edit) -> usize
+    ensures { λ r. ⌜ r ≡ sizedW limits words p ⌝ }
 {
-    if LONGEST < p.fresh {
-        return LONGEST + 1;
+    if limits.longest < p.fresh {
+        return further(limits.longest, 1);
     }
     let a = further(words, p.fresh);
     let b = less(a, less(p.past, p.list));
@@ -64,10 +64,10 @@ fn write_one(ws: &[u16], start: usize, end: usize, p: Edit, fresh: &[u16], out: 
 }
 
 // The refusal of a length, or 0.
-fn fitting(length: usize, room: usize) -> u8
-    ensures { λ r. ⌜ r ≡ lengthOf length room ⌝ }
+fn fitting(limits: Limits, length: usize, room: usize) -> u8
+    ensures { λ r. ⌜ r ≡ lengthOf limits length room ⌝ }
 {
-    if LONGEST < length {
+    if limits.longest < length {
         return 9;
     }
     if room < length {
@@ -83,16 +83,17 @@ pub fn one(
     end: usize,
     p: Edit,
     kind: u8,
+    limits: Limits,
     fresh: &[u16],
     out: &mut [u16],
 ) -> Answer
-    ensures { λ r. ⌜ (r ≡ oneW (now (ws .entry)) start end p kind (now (fresh .entry)) (now (out .entry)) .answer) × (now (out .exit) ≡ oneW (now (ws .entry)) start end p kind (now (fresh .entry)) (now (out .entry)) .out) ⌝ }
+    ensures { λ r. ⌜ (r ≡ oneW limits (now (ws .entry)) start end p kind (now (fresh .entry)) (now (out .entry)) .answer) × (now (out .exit) ≡ oneW limits (now (ws .entry)) start end p kind (now (fresh .entry)) (now (out .entry)) .out) ⌝ }
 {
     if p.number != 0 {
         return refuse(p.number);
     }
-    let length = sized(ws.len(), p);
-    let n = fitting(length, out.len());
+    let length = sized(limits, ws.len(), p);
+    let n = fitting(limits, length, out.len());
     if n != 0 {
         return refuse(n);
     }
@@ -135,12 +136,13 @@ pub fn two(
     fresh2: &[u16],
     issued: u16,
     accepted: Answer,
+    limits: Limits,
     out: &mut [u16],
 ) -> Answer
-    ensures { λ r. ⌜ (r ≡ twoW (now (ws .entry)) start end p (now (fresh .entry)) start2 end2 p2 (now (fresh2 .entry)) issued accepted (now (out .entry)) .answer) × (now (out .exit) ≡ twoW (now (ws .entry)) start end p (now (fresh .entry)) start2 end2 p2 (now (fresh2 .entry)) issued accepted (now (out .entry)) .out) ⌝ }
+    ensures { λ r. ⌜ (r ≡ twoW limits (now (ws .entry)) start end p (now (fresh .entry)) start2 end2 p2 (now (fresh2 .entry)) issued accepted (now (out .entry)) .answer) × (now (out .exit) ≡ twoW limits (now (ws .entry)) start end p (now (fresh .entry)) start2 end2 p2 (now (fresh2 .entry)) issued accepted (now (out .entry)) .out) ⌝ }
 {
-    let length = sized(sized(ws.len(), p), p2);
-    let n = fitting(length, out.len());
+    let length = sized(limits, sized(limits, ws.len(), p), p2);
+    let n = fitting(limits, length, out.len());
     if n != 0 {
         return refuse(n);
     }

@@ -9,6 +9,7 @@ use crate::meeting::send;
 use crate::meeting::serial_of;
 use finding::find::Site;
 use layout::kind;
+use layout::limit::Limits;
 use layout::limit::VALUES;
 use layout::number::wide;
 use layout::number::word;
@@ -66,19 +67,48 @@ fn ordered(
     fresh2: &[u16],
     issued: u16,
     accepted: Answer,
+    limits: Limits,
     out: &mut [u16],
 ) -> Answer
     requires { ⌜ (e < 8) × (i < 8) ⌝ }
-    ensures { λ r. ⌜ (r ≡ orderedW (now (ws .entry)) starts e i p (now (fresh .entry)) q (now (fresh2 .entry)) issued accepted (now (out .entry)) .answer) × (now (out .exit) ≡ orderedW (now (ws .entry)) starts e i p (now (fresh .entry)) q (now (fresh2 .entry)) issued accepted (now (out .entry)) .out) ⌝ }
+    ensures { λ r. ⌜ (r ≡ orderedW limits (now (ws .entry)) starts e i p (now (fresh .entry)) q (now (fresh2 .entry)) issued accepted (now (out .entry)) .answer) × (now (out .exit) ≡ orderedW limits (now (ws .entry)) starts e i p (now (fresh .entry)) q (now (fresh2 .entry)) issued accepted (now (out .entry)) .out) ⌝ }
 {
     let a = starts[e];
     let b = end_before(starts[e + 1]);
     let c = starts[i];
     let d = end_before(starts[i + 1]);
     if e < i {
-        return two(ws, a, b, p, fresh, c, d, q, fresh2, issued, accepted, out);
+        return two(
+            ws,
+            a,
+            b,
+            p,
+            fresh,
+            c,
+            d,
+            q,
+            fresh2,
+            issued,
+            accepted,
+            limits,
+            out,
+        );
     }
-    two(ws, c, d, q, fresh2, a, b, p, fresh, issued, accepted, out)
+    two(
+        ws,
+        c,
+        d,
+        q,
+        fresh2,
+        a,
+        b,
+        p,
+        fresh,
+        issued,
+        accepted,
+        limits,
+        out,
+    )
 }
 
 // Where a process ends, if the next one begins at `start` behind its engine's values.
@@ -120,10 +150,11 @@ fn carry(
     a: Site,
     b: Site,
     kind: usize,
+    limits: Limits,
     out: &mut [u16],
 ) -> Answer
     requires { ⌜ (engine < 8) × (second < 8) ⌝ }
-    ensures { λ r. ⌜ (r ≡ carryW (now (ws .entry)) (now (part .entry)) (now (values .entry)) (now (other .entry)) o starts engine second a b kind (now (out .entry)) .answer) × (now (out .exit) ≡ carryW (now (ws .entry)) (now (part .entry)) (now (values .entry)) (now (other .entry)) o starts engine second a b kind (now (out .entry)) .out) ⌝ }
+    ensures { λ r. ⌜ (r ≡ carryW limits (now (ws .entry)) (now (part .entry)) (now (values .entry)) (now (other .entry)) o starts engine second a b kind (now (out .entry)) .answer) × (now (out .exit) ≡ carryW limits (now (ws .entry)) (now (part .entry)) (now (values .entry)) (now (other .entry)) o starts engine second a b kind (now (out .entry)) .out) ⌝ }
 {
     let e = wide(engine);
     let i = wide(second);
@@ -157,6 +188,7 @@ fn carry(
         &fresh2,
         issued_of(kind, issued, next),
         accepted,
+        limits,
         out,
     )
 }
@@ -184,10 +216,11 @@ fn meet(
     b: Site,
     kind: usize,
     branch: usize,
+    limits: Limits,
     out: &mut [u16],
 ) -> Answer
     requires { ⌜ (engine < 8) × (second < 8) ⌝ }
-    ensures { λ r. ⌜ (r ≡ meetW (now (ws .entry)) (now (part .entry)) (now (values .entry)) (now (other .entry)) starts engine second a b kind branch (now (out .entry)) .answer) × (now (out .exit) ≡ meetW (now (ws .entry)) (now (part .entry)) (now (values .entry)) (now (other .entry)) starts engine second a b kind branch (now (out .entry)) .out) ⌝ }
+    ensures { λ r. ⌜ (r ≡ meetW limits (now (ws .entry)) (now (part .entry)) (now (values .entry)) (now (other .entry)) starts engine second a b kind branch (now (out .entry)) .answer) × (now (out .exit) ≡ meetW limits (now (ws .entry)) (now (part .entry)) (now (values .entry)) (now (other .entry)) starts engine second a b kind branch (now (out .entry)) .out) ⌝ }
 {
     let o = offered(other, branch);
     if fit(
@@ -215,6 +248,7 @@ fn meet(
             a,
             b,
             kind,
+            limits,
             out,
         );
     }
@@ -231,10 +265,11 @@ pub(crate) fn between(
     b: Site,
     kind: usize,
     branch: usize,
+    limits: Limits,
     out: &mut [u16],
 ) -> Answer
     requires { ⌜ (engine < 8) × (second < 8) ⌝ }
-    ensures { λ r. ⌜ (r ≡ betweenW (now (ws .entry)) starts engine second a b kind branch (now (out .entry)) .answer) × (now (out .exit) ≡ betweenW (now (ws .entry)) starts engine second a b kind branch (now (out .entry)) .out) ⌝ }
+    ensures { λ r. ⌜ (r ≡ betweenW limits (now (ws .entry)) starts engine second a b kind branch (now (out .entry)) .answer) × (now (out .exit) ≡ betweenW limits (now (ws .entry)) starts engine second a b kind branch (now (out .entry)) .out) ⌝ }
 {
     let e = wide(engine);
     let start = starts[e];
@@ -268,6 +303,7 @@ pub(crate) fn between(
         b,
         kind,
         branch,
+        limits,
         out,
     )
 }

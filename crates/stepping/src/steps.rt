@@ -8,10 +8,10 @@ use finding::find::Site;
 use finding::find::locate;
 use layout::field::kind_of;
 use layout::kind;
-use layout::limit::DEEPEST;
 use layout::limit::ENGINES;
 use layout::limit::FUEL;
-use layout::limit::LONGEST;
+use layout::limit::Limits;
+use layout::limit::standard;
 use layout::number::further;
 use layout::number::wide;
 use layout::number::word;
@@ -22,6 +22,7 @@ ghost use Prim.Native.Nat.{_≤_, _<_};
 ghost use Rattle.sock.specs.Configuration.{standard};
 ghost use Rattle.sock.specs.Calls.{stepAnswer, stepOutput};
 ghost use Rattle.noting.specs.Noting.{surveyNotes};
+ghost use Rattle.layout.specs.Limits.{figures};
 ghost use Rattle.stepping.specs.Answers.{answerAs, numbers};
 ghost use Rattle.stepping.specs.Stepping.{bodyNil, byKind, movesW, receivingW, noneElse, movingW, manyNotes, stepW};
 
@@ -99,10 +100,11 @@ fn receiving(
     second: u16,
     place: u16,
     branch: u16,
+    limits: Limits,
     out: &mut [u16],
 ) -> Answer
     requires { ⌜ (n ≤ 8) × (engine < 8) ⌝ }
-    ensures { λ r. ⌜ (r ≡ receivingW (now (ws .entry)) (now (notes .entry)) starts n engine a kind second place branch (now (out .entry)) .answer) × (now (out .exit) ≡ receivingW (now (ws .entry)) (now (notes .entry)) starts n engine a kind second place branch (now (out .entry)) .out) ⌝ }
+    ensures { λ r. ⌜ (r ≡ receivingW limits (now (ws .entry)) (now (notes .entry)) starts n engine a kind second place branch (now (out .entry)) .answer) × (now (out .exit) ≡ receivingW limits (now (ws .entry)) (now (notes .entry)) starts n engine a kind second place branch (now (out .entry)) .out) ⌝ }
 {
     let i = wide(second);
     if n <= i {
@@ -111,7 +113,18 @@ fn receiving(
     let start = starts[i];
     match locate(ws, notes, start, further(start, wide(place)), FUEL, 1) {
         Found::Past(e) => refuse(4),
-        Found::Hit(b) => between(ws, starts, engine, second, a, b, kind, wide(branch), out),
+        Found::Hit(b) => between(
+            ws,
+            starts,
+            engine,
+            second,
+            a,
+            b,
+            kind,
+            wide(branch),
+            limits,
+            out,
+        ),
     }
 }
 
@@ -140,10 +153,11 @@ fn moving(
     place: u16,
     branch: u16,
     bound: usize,
+    limits: Limits,
     out: &mut [u16],
 ) -> Answer
     requires { ⌜ (n ≤ 8) × (engine < 8) ⌝ }
-    ensures { λ r. ⌜ (r ≡ movingW (now (ws .entry)) (now (notes .entry)) starts n engine a second place branch bound (now (out .entry)) .answer) × (now (out .exit) ≡ movingW (now (ws .entry)) (now (notes .entry)) starts n engine a second place branch bound (now (out .entry)) .out) ⌝ }
+    ensures { λ r. ⌜ (r ≡ movingW limits (now (ws .entry)) (now (notes .entry)) starts n engine a second place branch bound (now (out .entry)) .answer) × (now (out .exit) ≡ movingW limits (now (ws .entry)) (now (notes .entry)) starts n engine a second place branch bound (now (out .entry)) .out) ⌝ }
 {
     let kind = kind_of(word(ws, a.at));
     let m = moves(ws, notes, a.at, kind);
@@ -162,12 +176,23 @@ fn moving(
             second,
             place,
             branch,
+            limits,
             out,
         );
     }
     if none_else(second, place, branch) {
         let e = wide(engine);
-        return alone(ws, notes, starts[e], starts[e + 1], a, kind, bound, out);
+        return alone(
+            ws,
+            notes,
+            starts[e],
+            starts[e + 1],
+            a,
+            kind,
+            bound,
+            limits,
+            out,
+        );
     }
     refuse(3)
 }
@@ -181,11 +206,12 @@ fn stepped(
     second: u16,
     place: u16,
     branch: u16,
+    limits: Limits,
     out: &mut [u16],
 ) -> Answer
-    ensures { λ r. ⌜ (r ≡ stepW (now (ws .entry)) (now (notes .entry)) engine position second place branch (now (out .entry)) .answer) × (now (out .exit) ≡ stepW (now (ws .entry)) (now (notes .entry)) engine position second place branch (now (out .entry)) .out) × (now (notes .exit) ≡ surveyNotes 64 8192 (now (ws .entry)) (now (notes .entry))) ⌝ }
+    ensures { λ r. ⌜ (r ≡ stepW limits (now (ws .entry)) (now (notes .entry)) engine position second place branch (now (out .entry)) .answer) × (now (out .exit) ≡ stepW limits (now (ws .entry)) (now (notes .entry)) engine position second place branch (now (out .entry)) .out) × (now (notes .exit) ≡ surveyNotes (figures limits) (now (ws .entry)) (now (notes .entry))) ⌝ }
 {
-    let s = survey(ws, DEEPEST, LONGEST, notes);
+    let s = survey(ws, limits, notes);
     let n = s.engines;
     let e = wide(engine);
     if n == 0 {
@@ -213,6 +239,7 @@ fn stepped(
             place,
             branch,
             bound,
+            limits,
             out,
         ),
     }
@@ -226,12 +253,23 @@ fn with_notes(
     second: u16,
     place: u16,
     branch: u16,
+    limits: Limits,
     out: &mut [u16],
 ) -> Answer
-    ensures { λ r. ⌜ (r ≡ stepW (now (ws .entry)) manyNotes engine position second place branch (now (out .entry)) .answer) × (now (out .exit) ≡ stepW (now (ws .entry)) manyNotes engine position second place branch (now (out .entry)) .out) ⌝ }
+    ensures { λ r. ⌜ (r ≡ stepW limits (now (ws .entry)) manyNotes engine position second place branch (now (out .entry)) .answer) × (now (out .exit) ≡ stepW limits (now (ws .entry)) manyNotes engine position second place branch (now (out .entry)) .out) ⌝ }
 {
     let mut notes = [0u16; MANY];
-    stepped(ws, &mut notes, engine, position, second, place, branch, out)
+    stepped(
+        ws,
+        &mut notes,
+        engine,
+        position,
+        second,
+        place,
+        branch,
+        limits,
+        out,
+    )
 }
 
 // The call step: from a configuration's words and the five numbers to the answer and, where it is accepted, the next configuration's
@@ -248,9 +286,20 @@ pub fn step(
 ) -> Answer
     ensures { λ r. ⌜ (r ≡ answerAs (stepAnswer standard (now (ws .entry)) (numbers engine position second place branch) (now (out .entry)))) × (now (out .exit) ≡ stepOutput standard (now (ws .entry)) (numbers engine position second place branch) (now (out .entry))) ⌝ }
 {
+    let limits = standard();
     if SHORT < ws.len() {
-        return with_notes(ws, engine, position, second, place, branch, out);
+        return with_notes(ws, engine, position, second, place, branch, limits, out);
     }
     let mut notes = [0u16; FEW];
-    stepped(ws, &mut notes, engine, position, second, place, branch, out)
+    stepped(
+        ws,
+        &mut notes,
+        engine,
+        position,
+        second,
+        place,
+        branch,
+        limits,
+        out,
+    )
 }

@@ -6,14 +6,9 @@ use native.Mathlib.Numerals.{add-one}
 use mathlib.Core.Path.{_≡_, sym, ap, _∙_}
 use mathlib.Core.List.{List, _++_}
 use lib.ListN.{length, getD, set, drop, take, length-drop}
-use lib.Seq.{paste, paste-suc, length-paste, getD-drop, length-paste-head, getD-append-add}
+use lib.Seq.{paste, paste-suc, getD-drop, length-paste-head, getD-append-add}
 
 module _ (ws out out₀ : List ℕ) (from to n i : ℕ) where
-  pub copy-length : out ≡ paste out₀ to (drop from ws) i → i ≤ n → n ≤ length ws - from → to + n ≤ length out₀ → length out ≡ length out₀
-  copy-length e a b c =
-      ap length e
-      ∙ length-paste out₀ to (drop from ws) i (omega arith) (let l = length-drop from ws in omega arith)
-
   pub copy-turn : out ≡ paste out₀ to (drop from ws) i → i < n → n ≤ length ws - from → to + n ≤ length out₀ → set out (to + i) (getD ws (from + i) 0) ≡ paste out₀ to (drop from ws) (i + 1)
   copy-turn e a b c =
       let l = length-drop from ws in
@@ -22,7 +17,7 @@ module _ (ws out out₀ : List ℕ) (from to n i : ℕ) where
       rw (add-one i, e, ← (getD-drop from ws i 0)) (paste-suc out₀ to (drop from ws) i 0 p q)
 
 -- behind what a copy has reached the output is as it was
-pub paste-behind : (d s : List ℕ) (to n j : ℕ) → to + n ≤ length d → n ≤ length s → to + n ≤ j → getD (paste d to s n) j 0 ≡ getD d j 0
+paste-behind : (d s : List ℕ) (to n j : ℕ) → to + n ≤ length d → n ≤ length s → to + n ≤ j → getD (paste d to s n) j 0 ≡ getD d j 0
 paste-behind d s to n j a b c =
     let h : length (take to d ++ take n s) ≡ to + n = length-paste-head d to s n (omega arith) b in
     let k : to + n + (j - (to + n)) ≡ j = omega arith in
@@ -34,11 +29,6 @@ paste-behind d s to n j a b c =
 
 -- the words of the output moved down by one
 module _ (out out₀ : List ℕ) (from upto i : ℕ) where
-  pub down-length : out ≡ paste out₀ (from - 1) (drop from out₀) (i - from) → 0 < from → from ≤ i → i ≤ upto → upto ≤ length out₀ → length out ≡ length out₀
-  down-length e z a b c =
-      let l = length-drop from out₀ in
-      ap length e ∙ length-paste out₀ (from - 1) (drop from out₀) (i - from) (omega arith) (omega arith)
-
   pub down-turn : out ≡ paste out₀ (from - 1) (drop from out₀) (i - from) → 0 < from → from ≤ i → i < upto → upto ≤ length out₀ → set out (i - 1) (getD out i 0) ≡ paste out₀ (from - 1) (drop from out₀) (i + 1 - from)
   down-turn e z a b c =
       let l = length-drop from out₀ in

@@ -1,8 +1,8 @@
 -- What the writers leave in the output: words over it, where there is room for them; and the place behind them.
-use Prim.Native.Nat.{ℕ, _+_, _-_}
-use mathlib.Core.Bool.{cond, _||_}
+use Prim.Native.Nat.{ℕ, _-_}
+use mathlib.Core.Bool.{cond}
 use mathlib.Core.List.{List}
-use lib.Dec.{ltb, leb, eqb}
+use lib.Dec.{ltb, eqb}
 use lib.ListN.{length, drop}
 use lib.Seq.{paste}
 use Rattle.layout.specs.Positions.{onward}

@@ -5,8 +5,9 @@ use Rattle.finding.specs.Find.{nodeW, inParW, parSides}
 use Rattle.sock.proofs.Tests.{tests}
 use Rattle.finding.proofs.Finding.{find-none, find-step, find-here, find-outside, find-node, node-other}
 use Prim.Native.Nat.{ℕ, _+_, _*_, _<_}
-use borrow.Fn.Kinds.{In}
 use borrow.Fn.PlainCycle.{Measures, is, falls, and}
+use Prim.Native.Nat.{ℕ, _<_}
+use borrow.Fn.Kinds.{In}
 use Rattle.finding.proofs.find.find.Reads as find
 use Rattle.finding.proofs.find.find.Kinds as find-kinds
 use Rattle.finding.proofs.find.+find+in_par+node.Lts-find as find-lts
@@ -23,7 +24,7 @@ use Rattle.finding.proofs.find.in_scope.Reads as in-scope-reads
 use Rattle.finding.proofs.find.in_seq.Reads as in-seq-reads
 use Rattle.finding.proofs.find.left.Reads as left-reads
 use Rattle.finding.proofs.find.outside.Reads as outside-reads
-use Rattle.layout.proofs.number.wide.Reads as wide-reads
+use Rattle.layout.proofs.field.kind_of.Reads as kind-of-reads
 use Rattle.skipping.proofs.pass.note_at.Reads as note-at-reads
 use Rattle.skipping.proofs.pass.pass.Reads as pass-reads
 use Rattle.skipping.proofs.pass.pass_list.Reads as pass-list-reads
@@ -123,91 +124,91 @@ in-par-returns-2 t c =
     let f0 = c .before .before .before .e .given .1 in
     simp (← (c .beside .ensures), ← (c .before .find2 .ensures), f0, ← (c .before .before .before .before .before .find .ensures))
 
-node-mul-wide : (t : ℕ) → node-lts.Need-mul-wide (wide-reads.Asked, wide-reads.Learnt, find-below t, find.Post, in-seq-reads.Asked, in-seq-reads.Learnt, in-par-below t, in-par.Post, pass-list-reads.Asked, pass-list-reads.Learnt, in-scope-reads.Asked, in-scope-reads.Learnt, in-body-reads.Asked, in-body-reads.Learnt, pass-reads.Asked, pass-reads.Learnt) (node-at t) node.Post
-node-mul-wide t c = search needs
+node-mul-kind-of : (t : ℕ) → node-lts.Need-mul-kind-of (kind-of-reads.Asked, kind-of-reads.Learnt, find-below t, find.Post, in-seq-reads.Asked, in-seq-reads.Learnt, in-par-below t, in-par.Post, pass-list-reads.Asked, pass-list-reads.Learnt, in-scope-reads.Asked, in-scope-reads.Learnt, in-body-reads.Asked, in-body-reads.Learnt, pass-reads.Asked, pass-reads.Learnt) (node-at t) node.Post
+node-mul-kind-of t c = search needs
 
-node-shared-slice-read-wide : (t : ℕ) → node-lts.Need-shared-slice-read-wide (wide-reads.Asked, wide-reads.Learnt, find-below t, find.Post, in-seq-reads.Asked, in-seq-reads.Learnt, in-par-below t, in-par.Post, pass-list-reads.Asked, pass-list-reads.Learnt, in-scope-reads.Asked, in-scope-reads.Learnt, in-body-reads.Asked, in-body-reads.Learnt, pass-reads.Asked, pass-reads.Learnt) (node-at t) node.Post
-node-shared-slice-read-wide t c = search needs
+node-shared-slice-read-kind-of : (t : ℕ) → node-lts.Need-shared-slice-read-kind-of (kind-of-reads.Asked, kind-of-reads.Learnt, find-below t, find.Post, in-seq-reads.Asked, in-seq-reads.Learnt, in-par-below t, in-par.Post, pass-list-reads.Asked, pass-list-reads.Learnt, in-scope-reads.Asked, in-scope-reads.Learnt, in-body-reads.Asked, in-body-reads.Learnt, pass-reads.Asked, pass-reads.Learnt) (node-at t) node.Post
+node-shared-slice-read-kind-of t c = search needs
 
-node-wide-requires : (t : ℕ) → node-lts.Need-wide-requires (wide-reads.Asked, wide-reads.Learnt, find-below t, find.Post, in-seq-reads.Asked, in-seq-reads.Learnt, in-par-below t, in-par.Post, pass-list-reads.Asked, pass-list-reads.Learnt, in-scope-reads.Asked, in-scope-reads.Learnt, in-body-reads.Asked, in-body-reads.Learnt, pass-reads.Asked, pass-reads.Learnt) (node-at t) node.Post
-node-wide-requires t c κs = search needs
+node-kind-of-requires : (t : ℕ) → node-lts.Need-kind-of-requires (kind-of-reads.Asked, kind-of-reads.Learnt, find-below t, find.Post, in-seq-reads.Asked, in-seq-reads.Learnt, in-par-below t, in-par.Post, pass-list-reads.Asked, pass-list-reads.Learnt, in-scope-reads.Asked, in-scope-reads.Learnt, in-body-reads.Asked, in-body-reads.Learnt, pass-reads.Asked, pass-reads.Learnt) (node-at t) node.Post
+node-kind-of-requires t c κs = search needs
 
-node-add-find : (t : ℕ) → node-lts.Need-add-find (wide-reads.Asked, wide-reads.Learnt, find-below t, find.Post, in-seq-reads.Asked, in-seq-reads.Learnt, in-par-below t, in-par.Post, pass-list-reads.Asked, pass-list-reads.Learnt, in-scope-reads.Asked, in-scope-reads.Learnt, in-body-reads.Asked, in-body-reads.Learnt, pass-reads.Asked, pass-reads.Learnt) (node-at t) node.Post
+node-add-find : (t : ℕ) → node-lts.Need-add-find (kind-of-reads.Asked, kind-of-reads.Learnt, find-below t, find.Post, in-seq-reads.Asked, in-seq-reads.Learnt, in-par-below t, in-par.Post, pass-list-reads.Asked, pass-list-reads.Learnt, in-scope-reads.Asked, in-scope-reads.Learnt, in-body-reads.Asked, in-body-reads.Learnt, pass-reads.Asked, pass-reads.Learnt) (node-at t) node.Post
 node-add-find t c = search needs
 
-node-add-find-2 : (t : ℕ) → node-lts.Need-add-find-2 (wide-reads.Asked, wide-reads.Learnt, find-below t, find.Post, in-seq-reads.Asked, in-seq-reads.Learnt, in-par-below t, in-par.Post, pass-list-reads.Asked, pass-list-reads.Learnt, in-scope-reads.Asked, in-scope-reads.Learnt, in-body-reads.Asked, in-body-reads.Learnt, pass-reads.Asked, pass-reads.Learnt) (node-at t) node.Post
+node-add-find-2 : (t : ℕ) → node-lts.Need-add-find-2 (kind-of-reads.Asked, kind-of-reads.Learnt, find-below t, find.Post, in-seq-reads.Asked, in-seq-reads.Learnt, in-par-below t, in-par.Post, pass-list-reads.Asked, pass-list-reads.Learnt, in-scope-reads.Asked, in-scope-reads.Learnt, in-body-reads.Asked, in-body-reads.Learnt, pass-reads.Asked, pass-reads.Learnt) (node-at t) node.Post
 node-add-find-2 t c = search needs
 
-node-find-requires : (t : ℕ) → node-lts.Need-find-requires (wide-reads.Asked, wide-reads.Learnt, find-below t, find.Post, in-seq-reads.Asked, in-seq-reads.Learnt, in-par-below t, in-par.Post, pass-list-reads.Asked, pass-list-reads.Learnt, in-scope-reads.Asked, in-scope-reads.Learnt, in-body-reads.Asked, in-body-reads.Learnt, pass-reads.Asked, pass-reads.Learnt) (node-at t) node.Post
+node-find-requires : (t : ℕ) → node-lts.Need-find-requires (kind-of-reads.Asked, kind-of-reads.Learnt, find-below t, find.Post, in-seq-reads.Asked, in-seq-reads.Learnt, in-par-below t, in-par.Post, pass-list-reads.Asked, pass-list-reads.Learnt, in-scope-reads.Asked, in-scope-reads.Learnt, in-body-reads.Asked, in-body-reads.Learnt, pass-reads.Asked, pass-reads.Learnt) (node-at t) node.Post
 node-find-requires t c κs = search needs
 
-node-in-seq-requires : (t : ℕ) → node-lts.Need-in-seq-requires (wide-reads.Asked, wide-reads.Learnt, find-below t, find.Post, in-seq-reads.Asked, in-seq-reads.Learnt, in-par-below t, in-par.Post, pass-list-reads.Asked, pass-list-reads.Learnt, in-scope-reads.Asked, in-scope-reads.Learnt, in-body-reads.Asked, in-body-reads.Learnt, pass-reads.Asked, pass-reads.Learnt) (node-at t) node.Post
+node-in-seq-requires : (t : ℕ) → node-lts.Need-in-seq-requires (kind-of-reads.Asked, kind-of-reads.Learnt, find-below t, find.Post, in-seq-reads.Asked, in-seq-reads.Learnt, in-par-below t, in-par.Post, pass-list-reads.Asked, pass-list-reads.Learnt, in-scope-reads.Asked, in-scope-reads.Learnt, in-body-reads.Asked, in-body-reads.Learnt, pass-reads.Asked, pass-reads.Learnt) (node-at t) node.Post
 node-in-seq-requires t c κs = search needs
 
-node-add-in-par : (t : ℕ) → node-lts.Need-add-in-par (wide-reads.Asked, wide-reads.Learnt, find-below t, find.Post, in-seq-reads.Asked, in-seq-reads.Learnt, in-par-below t, in-par.Post, pass-list-reads.Asked, pass-list-reads.Learnt, in-scope-reads.Asked, in-scope-reads.Learnt, in-body-reads.Asked, in-body-reads.Learnt, pass-reads.Asked, pass-reads.Learnt) (node-at t) node.Post
+node-add-in-par : (t : ℕ) → node-lts.Need-add-in-par (kind-of-reads.Asked, kind-of-reads.Learnt, find-below t, find.Post, in-seq-reads.Asked, in-seq-reads.Learnt, in-par-below t, in-par.Post, pass-list-reads.Asked, pass-list-reads.Learnt, in-scope-reads.Asked, in-scope-reads.Learnt, in-body-reads.Asked, in-body-reads.Learnt, pass-reads.Asked, pass-reads.Learnt) (node-at t) node.Post
 node-add-in-par t c = search needs
 
-node-in-par-requires : (t : ℕ) → node-lts.Need-in-par-requires (wide-reads.Asked, wide-reads.Learnt, find-below t, find.Post, in-seq-reads.Asked, in-seq-reads.Learnt, in-par-below t, in-par.Post, pass-list-reads.Asked, pass-list-reads.Learnt, in-scope-reads.Asked, in-scope-reads.Learnt, in-body-reads.Asked, in-body-reads.Learnt, pass-reads.Asked, pass-reads.Learnt) (node-at t) node.Post
+node-in-par-requires : (t : ℕ) → node-lts.Need-in-par-requires (kind-of-reads.Asked, kind-of-reads.Learnt, find-below t, find.Post, in-seq-reads.Asked, in-seq-reads.Learnt, in-par-below t, in-par.Post, pass-list-reads.Asked, pass-list-reads.Learnt, in-scope-reads.Asked, in-scope-reads.Learnt, in-body-reads.Asked, in-body-reads.Learnt, pass-reads.Asked, pass-reads.Learnt) (node-at t) node.Post
 node-in-par-requires t c κs = search needs
 
-node-add-pass-list : (t : ℕ) → node-lts.Need-add-pass-list (wide-reads.Asked, wide-reads.Learnt, find-below t, find.Post, in-seq-reads.Asked, in-seq-reads.Learnt, in-par-below t, in-par.Post, pass-list-reads.Asked, pass-list-reads.Learnt, in-scope-reads.Asked, in-scope-reads.Learnt, in-body-reads.Asked, in-body-reads.Learnt, pass-reads.Asked, pass-reads.Learnt) (node-at t) node.Post
+node-add-pass-list : (t : ℕ) → node-lts.Need-add-pass-list (kind-of-reads.Asked, kind-of-reads.Learnt, find-below t, find.Post, in-seq-reads.Asked, in-seq-reads.Learnt, in-par-below t, in-par.Post, pass-list-reads.Asked, pass-list-reads.Learnt, in-scope-reads.Asked, in-scope-reads.Learnt, in-body-reads.Asked, in-body-reads.Learnt, pass-reads.Asked, pass-reads.Learnt) (node-at t) node.Post
 node-add-pass-list t c = search needs
 
-node-pass-list-requires : (t : ℕ) → node-lts.Need-pass-list-requires (wide-reads.Asked, wide-reads.Learnt, find-below t, find.Post, in-seq-reads.Asked, in-seq-reads.Learnt, in-par-below t, in-par.Post, pass-list-reads.Asked, pass-list-reads.Learnt, in-scope-reads.Asked, in-scope-reads.Learnt, in-body-reads.Asked, in-body-reads.Learnt, pass-reads.Asked, pass-reads.Learnt) (node-at t) node.Post
+node-pass-list-requires : (t : ℕ) → node-lts.Need-pass-list-requires (kind-of-reads.Asked, kind-of-reads.Learnt, find-below t, find.Post, in-seq-reads.Asked, in-seq-reads.Learnt, in-par-below t, in-par.Post, pass-list-reads.Asked, pass-list-reads.Learnt, in-scope-reads.Asked, in-scope-reads.Learnt, in-body-reads.Asked, in-body-reads.Learnt, pass-reads.Asked, pass-reads.Learnt) (node-at t) node.Post
 node-pass-list-requires t c κs = search needs
 
-node-add-find-3 : (t : ℕ) → node-lts.Need-add-find-3 (wide-reads.Asked, wide-reads.Learnt, find-below t, find.Post, in-seq-reads.Asked, in-seq-reads.Learnt, in-par-below t, in-par.Post, pass-list-reads.Asked, pass-list-reads.Learnt, in-scope-reads.Asked, in-scope-reads.Learnt, in-body-reads.Asked, in-body-reads.Learnt, pass-reads.Asked, pass-reads.Learnt) (node-at t) node.Post
+node-add-find-3 : (t : ℕ) → node-lts.Need-add-find-3 (kind-of-reads.Asked, kind-of-reads.Learnt, find-below t, find.Post, in-seq-reads.Asked, in-seq-reads.Learnt, in-par-below t, in-par.Post, pass-list-reads.Asked, pass-list-reads.Learnt, in-scope-reads.Asked, in-scope-reads.Learnt, in-body-reads.Asked, in-body-reads.Learnt, pass-reads.Asked, pass-reads.Learnt) (node-at t) node.Post
 node-add-find-3 t c = search needs
 
-node-find-requires-2 : (t : ℕ) → node-lts.Need-find-requires-2 (wide-reads.Asked, wide-reads.Learnt, find-below t, find.Post, in-seq-reads.Asked, in-seq-reads.Learnt, in-par-below t, in-par.Post, pass-list-reads.Asked, pass-list-reads.Learnt, in-scope-reads.Asked, in-scope-reads.Learnt, in-body-reads.Asked, in-body-reads.Learnt, pass-reads.Asked, pass-reads.Learnt) (node-at t) node.Post
+node-find-requires-2 : (t : ℕ) → node-lts.Need-find-requires-2 (kind-of-reads.Asked, kind-of-reads.Learnt, find-below t, find.Post, in-seq-reads.Asked, in-seq-reads.Learnt, in-par-below t, in-par.Post, pass-list-reads.Asked, pass-list-reads.Learnt, in-scope-reads.Asked, in-scope-reads.Learnt, in-body-reads.Asked, in-body-reads.Learnt, pass-reads.Asked, pass-reads.Learnt) (node-at t) node.Post
 node-find-requires-2 t c κs = search needs
 
-node-in-scope-requires : (t : ℕ) → node-lts.Need-in-scope-requires (wide-reads.Asked, wide-reads.Learnt, find-below t, find.Post, in-seq-reads.Asked, in-seq-reads.Learnt, in-par-below t, in-par.Post, pass-list-reads.Asked, pass-list-reads.Learnt, in-scope-reads.Asked, in-scope-reads.Learnt, in-body-reads.Asked, in-body-reads.Learnt, pass-reads.Asked, pass-reads.Learnt) (node-at t) node.Post
+node-in-scope-requires : (t : ℕ) → node-lts.Need-in-scope-requires (kind-of-reads.Asked, kind-of-reads.Learnt, find-below t, find.Post, in-seq-reads.Asked, in-seq-reads.Learnt, in-par-below t, in-par.Post, pass-list-reads.Asked, pass-list-reads.Learnt, in-scope-reads.Asked, in-scope-reads.Learnt, in-body-reads.Asked, in-body-reads.Learnt, pass-reads.Asked, pass-reads.Learnt) (node-at t) node.Post
 node-in-scope-requires t c κs = search needs
 
-node-add-find-4 : (t : ℕ) → node-lts.Need-add-find-4 (wide-reads.Asked, wide-reads.Learnt, find-below t, find.Post, in-seq-reads.Asked, in-seq-reads.Learnt, in-par-below t, in-par.Post, pass-list-reads.Asked, pass-list-reads.Learnt, in-scope-reads.Asked, in-scope-reads.Learnt, in-body-reads.Asked, in-body-reads.Learnt, pass-reads.Asked, pass-reads.Learnt) (node-at t) node.Post
+node-add-find-4 : (t : ℕ) → node-lts.Need-add-find-4 (kind-of-reads.Asked, kind-of-reads.Learnt, find-below t, find.Post, in-seq-reads.Asked, in-seq-reads.Learnt, in-par-below t, in-par.Post, pass-list-reads.Asked, pass-list-reads.Learnt, in-scope-reads.Asked, in-scope-reads.Learnt, in-body-reads.Asked, in-body-reads.Learnt, pass-reads.Asked, pass-reads.Learnt) (node-at t) node.Post
 node-add-find-4 t c = search needs
 
-node-add-find-5 : (t : ℕ) → node-lts.Need-add-find-5 (wide-reads.Asked, wide-reads.Learnt, find-below t, find.Post, in-seq-reads.Asked, in-seq-reads.Learnt, in-par-below t, in-par.Post, pass-list-reads.Asked, pass-list-reads.Learnt, in-scope-reads.Asked, in-scope-reads.Learnt, in-body-reads.Asked, in-body-reads.Learnt, pass-reads.Asked, pass-reads.Learnt) (node-at t) node.Post
+node-add-find-5 : (t : ℕ) → node-lts.Need-add-find-5 (kind-of-reads.Asked, kind-of-reads.Learnt, find-below t, find.Post, in-seq-reads.Asked, in-seq-reads.Learnt, in-par-below t, in-par.Post, pass-list-reads.Asked, pass-list-reads.Learnt, in-scope-reads.Asked, in-scope-reads.Learnt, in-body-reads.Asked, in-body-reads.Learnt, pass-reads.Asked, pass-reads.Learnt) (node-at t) node.Post
 node-add-find-5 t c = search needs
 
-node-find-requires-3 : (t : ℕ) → node-lts.Need-find-requires-3 (wide-reads.Asked, wide-reads.Learnt, find-below t, find.Post, in-seq-reads.Asked, in-seq-reads.Learnt, in-par-below t, in-par.Post, pass-list-reads.Asked, pass-list-reads.Learnt, in-scope-reads.Asked, in-scope-reads.Learnt, in-body-reads.Asked, in-body-reads.Learnt, pass-reads.Asked, pass-reads.Learnt) (node-at t) node.Post
+node-find-requires-3 : (t : ℕ) → node-lts.Need-find-requires-3 (kind-of-reads.Asked, kind-of-reads.Learnt, find-below t, find.Post, in-seq-reads.Asked, in-seq-reads.Learnt, in-par-below t, in-par.Post, pass-list-reads.Asked, pass-list-reads.Learnt, in-scope-reads.Asked, in-scope-reads.Learnt, in-body-reads.Asked, in-body-reads.Learnt, pass-reads.Asked, pass-reads.Learnt) (node-at t) node.Post
 node-find-requires-3 t c κs = search needs
 
-node-in-body-requires : (t : ℕ) → node-lts.Need-in-body-requires (wide-reads.Asked, wide-reads.Learnt, find-below t, find.Post, in-seq-reads.Asked, in-seq-reads.Learnt, in-par-below t, in-par.Post, pass-list-reads.Asked, pass-list-reads.Learnt, in-scope-reads.Asked, in-scope-reads.Learnt, in-body-reads.Asked, in-body-reads.Learnt, pass-reads.Asked, pass-reads.Learnt) (node-at t) node.Post
+node-in-body-requires : (t : ℕ) → node-lts.Need-in-body-requires (kind-of-reads.Asked, kind-of-reads.Learnt, find-below t, find.Post, in-seq-reads.Asked, in-seq-reads.Learnt, in-par-below t, in-par.Post, pass-list-reads.Asked, pass-list-reads.Learnt, in-scope-reads.Asked, in-scope-reads.Learnt, in-body-reads.Asked, in-body-reads.Learnt, pass-reads.Asked, pass-reads.Learnt) (node-at t) node.Post
 node-in-body-requires t c κs = search needs
 
-node-add-pass : (t : ℕ) → node-lts.Need-add-pass (wide-reads.Asked, wide-reads.Learnt, find-below t, find.Post, in-seq-reads.Asked, in-seq-reads.Learnt, in-par-below t, in-par.Post, pass-list-reads.Asked, pass-list-reads.Learnt, in-scope-reads.Asked, in-scope-reads.Learnt, in-body-reads.Asked, in-body-reads.Learnt, pass-reads.Asked, pass-reads.Learnt) (node-at t) node.Post
+node-add-pass : (t : ℕ) → node-lts.Need-add-pass (kind-of-reads.Asked, kind-of-reads.Learnt, find-below t, find.Post, in-seq-reads.Asked, in-seq-reads.Learnt, in-par-below t, in-par.Post, pass-list-reads.Asked, pass-list-reads.Learnt, in-scope-reads.Asked, in-scope-reads.Learnt, in-body-reads.Asked, in-body-reads.Learnt, pass-reads.Asked, pass-reads.Learnt) (node-at t) node.Post
 node-add-pass t c = search needs
 
-node-pass-requires : (t : ℕ) → node-lts.Need-pass-requires (wide-reads.Asked, wide-reads.Learnt, find-below t, find.Post, in-seq-reads.Asked, in-seq-reads.Learnt, in-par-below t, in-par.Post, pass-list-reads.Asked, pass-list-reads.Learnt, in-scope-reads.Asked, in-scope-reads.Learnt, in-body-reads.Asked, in-body-reads.Learnt, pass-reads.Asked, pass-reads.Learnt) (node-at t) node.Post
+node-pass-requires : (t : ℕ) → node-lts.Need-pass-requires (kind-of-reads.Asked, kind-of-reads.Learnt, find-below t, find.Post, in-seq-reads.Asked, in-seq-reads.Learnt, in-par-below t, in-par.Post, pass-list-reads.Asked, pass-list-reads.Learnt, in-scope-reads.Asked, in-scope-reads.Learnt, in-body-reads.Asked, in-body-reads.Learnt, pass-reads.Asked, pass-reads.Learnt) (node-at t) node.Post
 node-pass-requires t c κs = search needs
 
-node-returns : (t : ℕ) → node-lts.Need-returns (wide-reads.Asked, wide-reads.Learnt, find-below t, find.Post, in-seq-reads.Asked, in-seq-reads.Learnt, in-par-below t, in-par.Post, pass-list-reads.Asked, pass-list-reads.Learnt, in-scope-reads.Asked, in-scope-reads.Learnt, in-body-reads.Asked, in-body-reads.Learnt, pass-reads.Asked, pass-reads.Learnt) (node-at t) node.Post
+node-returns : (t : ℕ) → node-lts.Need-returns (kind-of-reads.Asked, kind-of-reads.Learnt, find-below t, find.Post, in-seq-reads.Asked, in-seq-reads.Learnt, in-par-below t, in-par.Post, pass-list-reads.Asked, pass-list-reads.Learnt, in-scope-reads.Asked, in-scope-reads.Learnt, in-body-reads.Asked, in-body-reads.Learnt, pass-reads.Asked, pass-reads.Learnt) (node-at t) node.Post
 unfolding nodeW
 node-returns t c =
     let f0 = c .before .before .match .keys1 in
-    simp (← (c .in-seq .ensures), ← (c .before .find .ensures), f0, ← (c .before .before .before .wide .ensures .0))
+    simp (← (c .in-seq .ensures), ← (c .before .find .ensures), f0, ← (c .before .before .before .kind-of .ensures .0))
 
-node-returns-2 : (t : ℕ) → node-lts.Need-returns-2 (wide-reads.Asked, wide-reads.Learnt, find-below t, find.Post, in-seq-reads.Asked, in-seq-reads.Learnt, in-par-below t, in-par.Post, pass-list-reads.Asked, pass-list-reads.Learnt, in-scope-reads.Asked, in-scope-reads.Learnt, in-body-reads.Asked, in-body-reads.Learnt, pass-reads.Asked, pass-reads.Learnt) (node-at t) node.Post
+node-returns-2 : (t : ℕ) → node-lts.Need-returns-2 (kind-of-reads.Asked, kind-of-reads.Learnt, find-below t, find.Post, in-seq-reads.Asked, in-seq-reads.Learnt, in-par-below t, in-par.Post, pass-list-reads.Asked, pass-list-reads.Learnt, in-scope-reads.Asked, in-scope-reads.Learnt, in-body-reads.Asked, in-body-reads.Learnt, pass-reads.Asked, pass-reads.Learnt) (node-at t) node.Post
 unfolding nodeW
 node-returns-2 t c =
     let f0 = c .before .match .keys2 in
-    simp (← (c .in-par .ensures), f0, ← (c .before .before .wide .ensures .0))
+    simp (← (c .in-par .ensures), f0, ← (c .before .before .kind-of .ensures .0))
 
-node-returns-3 : (t : ℕ) → node-lts.Need-returns-3 (wide-reads.Asked, wide-reads.Learnt, find-below t, find.Post, in-seq-reads.Asked, in-seq-reads.Learnt, in-par-below t, in-par.Post, pass-list-reads.Asked, pass-list-reads.Learnt, in-scope-reads.Asked, in-scope-reads.Learnt, in-body-reads.Asked, in-body-reads.Learnt, pass-reads.Asked, pass-reads.Learnt) (node-at t) node.Post
+node-returns-3 : (t : ℕ) → node-lts.Need-returns-3 (kind-of-reads.Asked, kind-of-reads.Learnt, find-below t, find.Post, in-seq-reads.Asked, in-seq-reads.Learnt, in-par-below t, in-par.Post, pass-list-reads.Asked, pass-list-reads.Learnt, in-scope-reads.Asked, in-scope-reads.Learnt, in-body-reads.Asked, in-body-reads.Learnt, pass-reads.Asked, pass-reads.Learnt) (node-at t) node.Post
 unfolding nodeW
 node-returns-3 t c =
     let f0 = c .before .before .before .match .keys3 in
-    simp (← (c .in-scope .ensures), ← (c .before .find2 .ensures), ← (c .before .before .pass-list .ensures), f0, ← (c .before .before .before .before .wide .ensures .0))
+    simp (← (c .in-scope .ensures), ← (c .before .find2 .ensures), ← (c .before .before .pass-list .ensures), f0, ← (c .before .before .before .before .kind-of .ensures .0))
 
-node-returns-4 : (t : ℕ) → node-lts.Need-returns-4 (wide-reads.Asked, wide-reads.Learnt, find-below t, find.Post, in-seq-reads.Asked, in-seq-reads.Learnt, in-par-below t, in-par.Post, pass-list-reads.Asked, pass-list-reads.Learnt, in-scope-reads.Asked, in-scope-reads.Learnt, in-body-reads.Asked, in-body-reads.Learnt, pass-reads.Asked, pass-reads.Learnt) (node-at t) node.Post
+node-returns-4 : (t : ℕ) → node-lts.Need-returns-4 (kind-of-reads.Asked, kind-of-reads.Learnt, find-below t, find.Post, in-seq-reads.Asked, in-seq-reads.Learnt, in-par-below t, in-par.Post, pass-list-reads.Asked, pass-list-reads.Learnt, in-scope-reads.Asked, in-scope-reads.Learnt, in-body-reads.Asked, in-body-reads.Learnt, pass-reads.Asked, pass-reads.Learnt) (node-at t) node.Post
 unfolding nodeW
 node-returns-4 t c =
     let f0 = c .before .before .match .keys4 in
-    simp (← (c .in-body .ensures), ← (c .before .find3 .ensures), f0, ← (c .before .before .before .wide .ensures .0))
+    simp (← (c .in-body .ensures), ← (c .before .find3 .ensures), f0, ← (c .before .before .before .kind-of .ensures .0))
 
-node-returns-5 : (t : ℕ) → node-lts.Need-returns-5 (wide-reads.Asked, wide-reads.Learnt, find-below t, find.Post, in-seq-reads.Asked, in-seq-reads.Learnt, in-par-below t, in-par.Post, pass-list-reads.Asked, pass-list-reads.Learnt, in-scope-reads.Asked, in-scope-reads.Learnt, in-body-reads.Asked, in-body-reads.Learnt, pass-reads.Asked, pass-reads.Learnt) (node-at t) node.Post
+node-returns-5 : (t : ℕ) → node-lts.Need-returns-5 (kind-of-reads.Asked, kind-of-reads.Learnt, find-below t, find.Post, in-seq-reads.Asked, in-seq-reads.Learnt, in-par-below t, in-par.Post, pass-list-reads.Asked, pass-list-reads.Learnt, in-scope-reads.Asked, in-scope-reads.Learnt, in-body-reads.Asked, in-body-reads.Learnt, pass-reads.Asked, pass-reads.Learnt) (node-at t) node.Post
 node-returns-5 t c = search node-other
 
 pub +find+in-par+node-spec : {M : Type 1} → statement M
@@ -253,8 +254,8 @@ pub +find+in-par+node-spec : {M : Type 1} → statement M
     (in-par-returns t)
     (in-par-returns-2 t))
     λ t. node-lts.spec (
-      wide-reads.Asked,
-      wide-reads.Learnt,
+      kind-of-reads.Asked,
+      kind-of-reads.Learnt,
       find-below t,
       find.Post,
       in-seq-reads.Asked,
@@ -272,9 +273,9 @@ pub +find+in-par+node-spec : {M : Type 1} → statement M
     )
     (node-at t)
     node.Post
-    (node-mul-wide t)
-    (node-shared-slice-read-wide t)
-    (node-wide-requires t)
+    (node-mul-kind-of t)
+    (node-shared-slice-read-kind-of t)
+    (node-kind-of-requires t)
     (node-add-find t)
     (node-add-find-2 t)
     (node-find-requires t)

@@ -4,12 +4,13 @@ use Prim.Native.Nat.{ℕ, _+_, _*_, _<_}
 use mathlib.Core.Path.{_≡_, refl, sym, _∙_}
 use borrow.Author.Needs.{needs}
 use lib.ListN.{length, List·getD-eq-default}
-use Rattle.handling.proofs.Others.{beyond-16}
+use Rattle.reading.proofs.Others.{beyond}
 use Rattle.sock.proofs.Tests.{tests}
 use Rattle.handling.proofs.Replacements.{replace-step, parts-step, parts-end, par-both, par-first, parts-turn}
 use Rattle.handling.specs.Replacing.{replaceW, nodeW, seqW, afterFirst, parW, parAfter, closePar, conditionW, keptW, partsW, nilW}
-use borrow.Fn.Kinds.{In}
 use borrow.Fn.PlainCycle.{Measures, is, falls, and}
+use Prim.Native.Nat.{ℕ, _<_}
+use borrow.Fn.Kinds.{In}
 use Rattle.handling.proofs.replace.condition.Reads as condition
 use Rattle.handling.proofs.replace.condition.Kinds as condition-kinds
 use Rattle.handling.proofs.replace.+condition+in_par+in_seq+kept+replace.Lts-condition as condition-lts
@@ -28,13 +29,14 @@ use Rattle.handling.proofs.replace.+condition+in_par+in_seq+kept+replac
 use Rattle.handling.proofs.measure.expression_levels.Reads as expression-levels-reads
 use Rattle.handling.proofs.measure.larger.Reads as larger-reads
 use Rattle.handling.proofs.replace.in_place.Reads as in-place-reads
-use Rattle.layout.proofs.number.less_one.Reads as less-one-reads
 use Rattle.handling.proofs.replace.other.Reads as other-reads
+use Rattle.layout.proofs.field.count_of.Reads as count-of-reads
+use Rattle.layout.proofs.field.kind_of.Reads as kind-of-reads
+use Rattle.layout.proofs.number.further.Reads as further-reads
+use Rattle.layout.proofs.number.less_one.Reads as less-one-reads
 use Rattle.writers.proofs.write.copy.Reads as copy-reads
 use Rattle.writers.proofs.write.down.Reads as down-reads
-use Rattle.layout.proofs.number.further.Reads as further-reads
 use Rattle.writers.proofs.write.put.Reads as put-reads
-use Rattle.layout.proofs.number.wide.Reads as wide-reads
 use Rattle.handling.proofs.replace.+condition+in_par+in_seq+kept+replace.{statement}
 use Rattle.handling.proofs.replace.+condition+in_par+in_seq+kept+replace.Tie.{close}
 
@@ -102,7 +104,7 @@ condition-same-length t c = search needs
 condition-returns : (t : ℕ) → condition-lts.Need-returns (further-reads.Asked, further-reads.Learnt, expression-levels-reads.Asked, expression-levels-reads.Learnt, kept-below t, kept.Post) (condition-at t) condition.Post
 unfolding seqW afterFirst parW parAfter closePar conditionW keptW
 condition-returns t c =
-    (simp (tests, replace-step, parts-step, parts-end, ← (c .before .before .kept .ensures .0), ← (c .before .before .kept .ensures .1), ← (c .before .before .before .before .further2 .ensures), ← (c .before .before .before .before .before .expression-levels .ensures), ← (c .before .before .before .before .before .before .further .ensures)), simp (tests, replace-step, parts-step, parts-end, ← (c .before .before .kept .ensures .0), ← (c .before .before .kept .ensures .1), ← (c .before .before .before .before .further2 .ensures), ← (c .before .before .before .before .before .expression-levels .ensures), ← (c .before .before .before .before .before .before .further .ensures)))
+    (simp (← (c .before .before .kept .ensures .0), ← (c .before .before .before .before .further2 .ensures), ← (c .before .before .before .before .before .expression-levels .ensures), ← (c .before .before .before .before .before .before .further .ensures)), simp (← (c .before .before .kept .ensures .1), ← (c .before .before .before .before .further2 .ensures), ← (c .before .before .before .before .before .expression-levels .ensures), ← (c .before .before .before .before .before .before .further .ensures)))
 
 in-par-put-requires : (t : ℕ) → in-par-lts.Need-put-requires (put-reads.Asked, put-reads.Learnt, further-reads.Asked, further-reads.Learnt, replace-below t, replace.Post, down-reads.Asked, down-reads.Learnt, less-one-reads.Asked, less-one-reads.Learnt, larger-reads.Asked, larger-reads.Learnt) (in-par-at t) in-par.Post
 in-par-put-requires t c κs = search needs
@@ -123,7 +125,7 @@ in-par-returns : (t : ℕ) → in-par-lts.Need-returns (put-reads.Asked, put-rea
 unfolding seqW afterFirst parW parAfter closePar conditionW keptW
 in-par-returns t c =
     let f0 = c .before .before .before .before .if1 .taken in
-    (simp (tests, replace-step, parts-step, parts-end, ← (c .before .before .replace2 .ensures .0), ← (c .before .before .replace2 .ensures .1), f0, ← (c .before .before .before .before .before .before .before .replace .ensures .0), ← (c .before .before .before .before .before .before .before .replace .ensures .1), ← (c .before .before .before .before .before .before .before .before .before .further .ensures), ← (c .before .before .before .before .before .before .before .before .before .before .before .before .put .ensures .0), ← (c .before .before .before .before .before .before .before .before .before .before .before .before .put .ensures .1)), simp (tests, replace-step, parts-step, parts-end, ← (c .before .before .replace2 .ensures .0), ← (c .before .before .replace2 .ensures .1), f0, ← (c .before .before .before .before .before .before .before .replace .ensures .0), ← (c .before .before .before .before .before .before .before .replace .ensures .1), ← (c .before .before .before .before .before .before .before .before .before .further .ensures), ← (c .before .before .before .before .before .before .before .before .before .before .before .before .put .ensures .0), ← (c .before .before .before .before .before .before .before .before .before .before .before .before .put .ensures .1)))
+    (simp (← (c .before .before .replace2 .ensures .0), f0, ← (c .before .before .before .before .before .before .before .replace .ensures .0), ← (c .before .before .before .before .before .before .before .replace .ensures .1), ← (c .before .before .before .before .before .before .before .before .before .further .ensures), ← (c .before .before .before .before .before .before .before .before .before .before .before .before .put .ensures .0), ← (c .before .before .before .before .before .before .before .before .before .before .before .before .put .ensures .1)), simp (← (c .before .before .replace2 .ensures .1), f0, ← (c .before .before .before .before .before .before .before .replace .ensures .0), ← (c .before .before .before .before .before .before .before .replace .ensures .1), ← (c .before .before .before .before .before .before .before .before .before .further .ensures), ← (c .before .before .before .before .before .before .before .before .before .before .before .before .put .ensures .0), ← (c .before .before .before .before .before .before .before .before .before .before .before .before .put .ensures .1)))
 
 in-par-replace-requires-3 : (t : ℕ) → in-par-lts.Need-replace-requires-3 (put-reads.Asked, put-reads.Learnt, further-reads.Asked, further-reads.Learnt, replace-below t, replace.Post, down-reads.Asked, down-reads.Learnt, less-one-reads.Asked, less-one-reads.Learnt, larger-reads.Asked, larger-reads.Learnt) (in-par-at t) in-par.Post
 in-par-replace-requires-3 t c κs = search needs
@@ -139,7 +141,8 @@ in-par-same-length-2 t c = search needs
 
 in-par-returns-2 : (t : ℕ) → in-par-lts.Need-returns-2 (put-reads.Asked, put-reads.Learnt, further-reads.Asked, further-reads.Learnt, replace-below t, replace.Post, down-reads.Asked, down-reads.Learnt, less-one-reads.Asked, less-one-reads.Learnt, larger-reads.Asked, larger-reads.Learnt) (in-par-at t) in-par.Post
 in-par-returns-2 t c =
-    let e = par-first (replaceW (c .before .before .before .before .before .before .before .before .before .before .before .before .before .before .before .before .before .before .before .before .before .before .args .depth) (c .before .before .before .before .before .before .before .before .before .before .before .before .before .before .before .before .before .before .before .before .before .before .args .ws .now) (c .before .before .before .before .before .before .before .before .before .before .before .before .before .before .before .before .before .before .before .before .before .before .args .old)) (c .before .before .before .before .before .before .before .before .before .before .before .before .before .before .before .before .before .before .before .before .before .before .args .at) (c .before .before .before .before .before .before .before .before .before .before .before .before .before .before .before .before .before .before .before .before .before .before .args .to) (c .before .before .before .before .before .before .before .before .before .before .before .before .before .before .before .before .before .before .before .before .before .before .args .out .now) (c .before .before .before .before .before .before .before .before .before .before .before .before .before .before .before .before .before .before .put .result) (c .before .before .before .before .before .before .before .before .before .before .before .before .before .before .before .further .result) _ (c .before .before .before .before .before .before .before .before .before .before .before .before .before .replace .result) (c .before .before .before .before .before .before .before .before .replace3 .result) _ _ (c .before .before .before .before .before .before .before .before .before .before .before .before .before .before .before .before .before .before .put .ensures .0) (c .before .before .before .before .before .before .before .before .before .before .before .before .before .before .before .before .before .before .put .ensures .1) (c .before .before .before .before .before .before .before .before .before .before .before .before .before .before .before .further .ensures) (c .before .before .before .before .before .before .before .before .before .before .before .before .before .replace .ensures .0) (c .before .before .before .before .before .before .before .before .before .before .before .before .before .replace .ensures .1) (c .before .before .before .before .before .before .before .before .before .before .if1 .left) (c .before .before .before .before .before .before .before .before .replace3 .ensures .0) (c .before .before .before .before .before .before .before .before .replace3 .ensures .1) (c .before .before .before .before .before .if2 .taken) in
+    let a = c .before .before .before .before .before .before .before .before .before .before .before .before .before .before .before .before .before .before .before .before .before .before .args in
+    let e = par-first (replaceW (a .depth) (a .ws .now) (a .old)) (a .at) (a .to) (a .out .now) (c .before .before .before .before .before .before .before .before .before .before .before .before .before .before .before .before .before .before .put .result) (c .before .before .before .before .before .before .before .before .before .before .before .before .before .before .before .further .result) _ (c .before .before .before .before .before .before .before .before .before .before .before .before .before .replace .result) (c .before .before .before .before .before .before .before .before .replace3 .result) _ _ (c .before .before .before .before .before .before .before .before .before .before .before .before .before .before .before .before .before .before .put .ensures .0) (c .before .before .before .before .before .before .before .before .before .before .before .before .before .before .before .before .before .before .put .ensures .1) (c .before .before .before .before .before .before .before .before .before .before .before .before .before .before .before .further .ensures) (c .before .before .before .before .before .before .before .before .before .before .before .before .before .replace .ensures .0) (c .before .before .before .before .before .before .before .before .before .before .before .before .before .replace .ensures .1) (c .before .before .before .before .before .before .before .before .before .before .if1 .left) (c .before .before .before .before .before .before .before .before .replace3 .ensures .0) (c .before .before .before .before .before .before .before .before .replace3 .ensures .1) (c .before .before .before .before .before .if2 .taken) in
     (rw e (simp (c .less-one .ensures)), rw e (c .before .before .before .down .ensures .1))
 
 in-par-larger-requires : (t : ℕ) → in-par-lts.Need-larger-requires (put-reads.Asked, put-reads.Learnt, further-reads.Asked, further-reads.Learnt, replace-below t, replace.Post, down-reads.Asked, down-reads.Learnt, less-one-reads.Asked, less-one-reads.Learnt, larger-reads.Asked, larger-reads.Learnt) (in-par-at t) in-par.Post
@@ -153,7 +156,8 @@ in-par-same-length-3 t c = search needs
 
 in-par-returns-3 : (t : ℕ) → in-par-lts.Need-returns-3 (put-reads.Asked, put-reads.Learnt, further-reads.Asked, further-reads.Learnt, replace-below t, replace.Post, down-reads.Asked, down-reads.Learnt, less-one-reads.Asked, less-one-reads.Learnt, larger-reads.Asked, larger-reads.Learnt) (in-par-at t) in-par.Post
 in-par-returns-3 t c =
-    let e = par-both (replaceW (c .before .before .before .before .before .before .before .before .before .before .before .before .before .before .before .before .before .before .before .args .depth) (c .before .before .before .before .before .before .before .before .before .before .before .before .before .before .before .before .before .before .before .args .ws .now) (c .before .before .before .before .before .before .before .before .before .before .before .before .before .before .before .before .before .before .before .args .old)) (c .before .before .before .before .before .before .before .before .before .before .before .before .before .before .before .before .before .before .before .args .at) (c .before .before .before .before .before .before .before .before .before .before .before .before .before .before .before .before .before .before .before .args .to) (c .before .before .before .before .before .before .before .before .before .before .before .before .before .before .before .before .before .before .before .args .out .now) (c .before .before .before .before .before .before .before .before .before .before .before .before .before .before .before .put .result) (c .before .before .before .before .before .before .before .before .before .before .before .before .further .result) _ (c .before .before .before .before .before .before .before .before .before .before .replace .result) (c .before .before .before .before .before .replace3 .result) _ _ (c .before .before .before .before .before .before .before .before .before .before .before .before .before .before .before .put .ensures .0) (c .before .before .before .before .before .before .before .before .before .before .before .before .before .before .before .put .ensures .1) (c .before .before .before .before .before .before .before .before .before .before .before .before .further .ensures) (c .before .before .before .before .before .before .before .before .before .before .replace .ensures .0) (c .before .before .before .before .before .before .before .before .before .before .replace .ensures .1) (c .before .before .before .before .before .before .before .if1 .left) (c .before .before .before .before .before .replace3 .ensures .0) (c .before .before .before .before .before .replace3 .ensures .1) (c .before .before .if2 .left) in
+    let a = c .before .before .before .before .before .before .before .before .before .before .before .before .before .before .before .before .before .before .before .args in
+    let e = par-both (replaceW (a .depth) (a .ws .now) (a .old)) (a .at) (a .to) (a .out .now) (c .before .before .before .before .before .before .before .before .before .before .before .before .before .before .before .put .result) (c .before .before .before .before .before .before .before .before .before .before .before .before .further .result) _ (c .before .before .before .before .before .before .before .before .before .before .replace .result) (c .before .before .before .before .before .replace3 .result) _ _ (c .before .before .before .before .before .before .before .before .before .before .before .before .before .before .before .put .ensures .0) (c .before .before .before .before .before .before .before .before .before .before .before .before .before .before .before .put .ensures .1) (c .before .before .before .before .before .before .before .before .before .before .before .before .further .ensures) (c .before .before .before .before .before .before .before .before .before .before .replace .ensures .0) (c .before .before .before .before .before .before .before .before .before .before .replace .ensures .1) (c .before .before .before .before .before .before .before .if1 .left) (c .before .before .before .before .before .replace3 .ensures .0) (c .before .before .before .before .before .replace3 .ensures .1) (c .before .before .if2 .left) in
     (rw e (simp (c .further2 .ensures, c .before .larger .ensures)), rw e refl)
 
 in-seq-put-requires : (t : ℕ) → in-seq-lts.Need-put-requires (put-reads.Asked, put-reads.Learnt, further-reads.Asked, further-reads.Learnt, replace-below t, replace.Post, larger-reads.Asked, larger-reads.Learnt) (in-seq-at t) in-seq.Post
@@ -175,7 +179,7 @@ in-seq-returns : (t : ℕ) → in-seq-lts.Need-returns (put-reads.Asked, put-rea
 unfolding seqW afterFirst parW parAfter closePar conditionW keptW
 in-seq-returns t c =
     let f0 = c .before .before .before .before .if1 .taken in
-    (simp (tests, replace-step, parts-step, parts-end, ← (c .before .before .replace2 .ensures .0), ← (c .before .before .replace2 .ensures .1), f0, ← (c .before .before .before .before .before .before .before .replace .ensures .0), ← (c .before .before .before .before .before .before .before .replace .ensures .1), ← (c .before .before .before .before .before .before .before .before .before .further .ensures), ← (c .before .before .before .before .before .before .before .before .before .before .before .before .put .ensures .0), ← (c .before .before .before .before .before .before .before .before .before .before .before .before .put .ensures .1)), simp (tests, replace-step, parts-step, parts-end, ← (c .before .before .replace2 .ensures .0), ← (c .before .before .replace2 .ensures .1), f0, ← (c .before .before .before .before .before .before .before .replace .ensures .0), ← (c .before .before .before .before .before .before .before .replace .ensures .1), ← (c .before .before .before .before .before .before .before .before .before .further .ensures), ← (c .before .before .before .before .before .before .before .before .before .before .before .before .put .ensures .0), ← (c .before .before .before .before .before .before .before .before .before .before .before .before .put .ensures .1)))
+    (simp (← (c .before .before .replace2 .ensures .0), f0, ← (c .before .before .before .before .before .before .before .replace .ensures .0), ← (c .before .before .before .before .before .before .before .replace .ensures .1), ← (c .before .before .before .before .before .before .before .before .before .further .ensures), ← (c .before .before .before .before .before .before .before .before .before .before .before .before .put .ensures .0), ← (c .before .before .before .before .before .before .before .before .before .before .before .before .put .ensures .1)), simp (← (c .before .before .replace2 .ensures .1), f0, ← (c .before .before .before .before .before .before .before .replace .ensures .0), ← (c .before .before .before .before .before .before .before .replace .ensures .1), ← (c .before .before .before .before .before .before .before .before .before .further .ensures), ← (c .before .before .before .before .before .before .before .before .before .before .before .before .put .ensures .0), ← (c .before .before .before .before .before .before .before .before .before .before .before .before .put .ensures .1)))
 
 in-seq-replace-requires-3 : (t : ℕ) → in-seq-lts.Need-replace-requires-3 (put-reads.Asked, put-reads.Learnt, further-reads.Asked, further-reads.Learnt, replace-below t, replace.Post, larger-reads.Asked, larger-reads.Learnt) (in-seq-at t) in-seq.Post
 in-seq-replace-requires-3 t c κs = search needs
@@ -193,7 +197,7 @@ in-seq-returns-2 : (t : ℕ) → in-seq-lts.Need-returns-2 (put-reads.Asked, put
 unfolding seqW afterFirst parW parAfter closePar conditionW keptW
 in-seq-returns-2 t c =
     let f0 = c .before .before .before .before .before .before .if1 .left in
-    (simp (tests, replace-step, parts-step, parts-end, ← (c .further2 .ensures), ← (c .before .larger .ensures), ← (c .before .before .before .before .replace3 .ensures .0), ← (c .before .before .before .before .replace3 .ensures .1), f0, ← (c .before .before .before .before .before .before .before .before .before .replace .ensures .0), ← (c .before .before .before .before .before .before .before .before .before .replace .ensures .1), ← (c .before .before .before .before .before .before .before .before .before .before .before .further .ensures), ← (c .before .before .before .before .before .before .before .before .before .before .before .before .before .before .put .ensures .0), ← (c .before .before .before .before .before .before .before .before .before .before .before .before .before .before .put .ensures .1)), simp (tests, replace-step, parts-step, parts-end, ← (c .further2 .ensures), ← (c .before .larger .ensures), ← (c .before .before .before .before .replace3 .ensures .0), ← (c .before .before .before .before .replace3 .ensures .1), f0, ← (c .before .before .before .before .before .before .before .before .before .replace .ensures .0), ← (c .before .before .before .before .before .before .before .before .before .replace .ensures .1), ← (c .before .before .before .before .before .before .before .before .before .before .before .further .ensures), ← (c .before .before .before .before .before .before .before .before .before .before .before .before .before .before .put .ensures .0), ← (c .before .before .before .before .before .before .before .before .before .before .before .before .before .before .put .ensures .1)))
+    (simp (← (c .further2 .ensures), ← (c .before .larger .ensures), ← (c .before .before .before .before .replace3 .ensures .0), ← (c .before .before .before .before .replace3 .ensures .1), f0, ← (c .before .before .before .before .before .before .before .before .before .replace .ensures .0), ← (c .before .before .before .before .before .before .before .before .before .replace .ensures .1), ← (c .before .before .before .before .before .before .before .before .before .before .before .further .ensures), ← (c .before .before .before .before .before .before .before .before .before .before .before .before .before .before .put .ensures .0), ← (c .before .before .before .before .before .before .before .before .before .before .before .before .before .before .put .ensures .1)), simp (← (c .before .before .before .before .replace3 .ensures .0), ← (c .before .before .before .before .replace3 .ensures .1), f0, ← (c .before .before .before .before .before .before .before .before .before .replace .ensures .0), ← (c .before .before .before .before .before .before .before .before .before .replace .ensures .1), ← (c .before .before .before .before .before .before .before .before .before .before .before .further .ensures), ← (c .before .before .before .before .before .before .before .before .before .before .before .before .before .before .put .ensures .0), ← (c .before .before .before .before .before .before .before .before .before .before .before .before .before .before .put .ensures .1)))
 
 abbrev kept-Inv-loop : kept-lts.InvT-loop
 kept-Inv-loop ws at from levels count old depth out₀ to a₀ t₀ deepest₀ left₀ out a t deepest left =
@@ -239,301 +243,310 @@ kept-returns t c =
     let y = c .before .before .before .before .copy .ensures .1 in
     (simp (← x, ← y, e), simp (← x, ← y, e))
 
-replace-returns : (t : ℕ) → replace-lts.Need-returns (wide-reads.Asked, wide-reads.Learnt, further-reads.Asked, further-reads.Learnt, put-reads.Asked, put-reads.Learnt, other-reads.Asked, other-reads.Learnt, in-seq-below t, in-seq.Post, in-par-below t, in-par.Post, condition-below t, condition.Post, kept-below t, kept.Post, in-place-reads.Asked, in-place-reads.Learnt) (replace-at t) replace.Post
+replace-returns : (t : ℕ) → replace-lts.Need-returns (kind-of-reads.Asked, kind-of-reads.Learnt, further-reads.Asked, further-reads.Learnt, put-reads.Asked, put-reads.Learnt, other-reads.Asked, other-reads.Learnt, in-seq-below t, in-seq.Post, in-par-below t, in-par.Post, condition-below t, condition.Post, count-of-reads.Asked, count-of-reads.Learnt, kept-below t, kept.Post, in-place-reads.Asked, in-place-reads.Learnt) (replace-at t) replace.Post
 unfolding replaceW nodeW seqW afterFirst parW parAfter closePar conditionW keptW nilW
 replace-returns t c =
     let f0 = c .if1 .taken in
-    (simp (tests, replace-step, parts-step, parts-end, f0), simp (tests, replace-step, parts-step, parts-end, f0))
+    (simp f0, simp f0)
 
-replace-returns-2 : (t : ℕ) → replace-lts.Need-returns-2 (wide-reads.Asked, wide-reads.Learnt, further-reads.Asked, further-reads.Learnt, put-reads.Asked, put-reads.Learnt, other-reads.Asked, other-reads.Learnt, in-seq-below t, in-seq.Post, in-par-below t, in-par.Post, condition-below t, condition.Post, kept-below t, kept.Post, in-place-reads.Asked, in-place-reads.Learnt) (replace-at t) replace.Post
+replace-returns-2 : (t : ℕ) → replace-lts.Need-returns-2 (kind-of-reads.Asked, kind-of-reads.Learnt, further-reads.Asked, further-reads.Learnt, put-reads.Asked, put-reads.Learnt, other-reads.Asked, other-reads.Learnt, in-seq-below t, in-seq.Post, in-par-below t, in-par.Post, condition-below t, condition.Post, count-of-reads.Asked, count-of-reads.Learnt, kept-below t, kept.Post, in-place-reads.Asked, in-place-reads.Learnt) (replace-at t) replace.Post
 unfolding nodeW seqW afterFirst parW parAfter closePar conditionW keptW nilW
 replace-returns-2 t c =
     let f0 = c .if2 .taken in
     let f1 = c .before .if1 .left in
-    (simp (tests, replace-step, parts-step, parts-end, f0, f1), simp (tests, replace-step, parts-step, parts-end, f0, f1))
+    (simp (tests, replace-step, f0, f1), simp (tests, replace-step, f0, f1))
 
-replace-mul-wide : (t : ℕ) → replace-lts.Need-mul-wide (wide-reads.Asked, wide-reads.Learnt, further-reads.Asked, further-reads.Learnt, put-reads.Asked, put-reads.Learnt, other-reads.Asked, other-reads.Learnt, in-seq-below t, in-seq.Post, in-par-below t, in-par.Post, condition-below t, condition.Post, kept-below t, kept.Post, in-place-reads.Asked, in-place-reads.Learnt) (replace-at t) replace.Post
-replace-mul-wide t c = search needs
+replace-mul-kind-of : (t : ℕ) → replace-lts.Need-mul-kind-of (kind-of-reads.Asked, kind-of-reads.Learnt, further-reads.Asked, further-reads.Learnt, put-reads.Asked, put-reads.Learnt, other-reads.Asked, other-reads.Learnt, in-seq-below t, in-seq.Post, in-par-below t, in-par.Post, condition-below t, condition.Post, count-of-reads.Asked, count-of-reads.Learnt, kept-below t, kept.Post, in-place-reads.Asked, in-place-reads.Learnt) (replace-at t) replace.Post
+replace-mul-kind-of t c = search needs
 
-replace-shared-slice-read-wide : (t : ℕ) → replace-lts.Need-shared-slice-read-wide (wide-reads.Asked, wide-reads.Learnt, further-reads.Asked, further-reads.Learnt, put-reads.Asked, put-reads.Learnt, other-reads.Asked, other-reads.Learnt, in-seq-below t, in-seq.Post, in-par-below t, in-par.Post, condition-below t, condition.Post, kept-below t, kept.Post, in-place-reads.Asked, in-place-reads.Learnt) (replace-at t) replace.Post
-replace-shared-slice-read-wide t c = search needs
+replace-shared-slice-read-kind-of : (t : ℕ) → replace-lts.Need-shared-slice-read-kind-of (kind-of-reads.Asked, kind-of-reads.Learnt, further-reads.Asked, further-reads.Learnt, put-reads.Asked, put-reads.Learnt, other-reads.Asked, other-reads.Learnt, in-seq-below t, in-seq.Post, in-par-below t, in-par.Post, condition-below t, condition.Post, count-of-reads.Asked, count-of-reads.Learnt, kept-below t, kept.Post, in-place-reads.Asked, in-place-reads.Learnt) (replace-at t) replace.Post
+replace-shared-slice-read-kind-of t c = search needs
 
-replace-wide-requires : (t : ℕ) → replace-lts.Need-wide-requires (wide-reads.Asked, wide-reads.Learnt, further-reads.Asked, further-reads.Learnt, put-reads.Asked, put-reads.Learnt, other-reads.Asked, other-reads.Learnt, in-seq-below t, in-seq.Post, in-par-below t, in-par.Post, condition-below t, condition.Post, kept-below t, kept.Post, in-place-reads.Asked, in-place-reads.Learnt) (replace-at t) replace.Post
-replace-wide-requires t c κs = search needs
+replace-kind-of-requires : (t : ℕ) → replace-lts.Need-kind-of-requires (kind-of-reads.Asked, kind-of-reads.Learnt, further-reads.Asked, further-reads.Learnt, put-reads.Asked, put-reads.Learnt, other-reads.Asked, other-reads.Learnt, in-seq-below t, in-seq.Post, in-par-below t, in-par.Post, condition-below t, condition.Post, count-of-reads.Asked, count-of-reads.Learnt, kept-below t, kept.Post, in-place-reads.Asked, in-place-reads.Learnt) (replace-at t) replace.Post
+replace-kind-of-requires t c κs = search needs
 
-replace-further-requires : (t : ℕ) → replace-lts.Need-further-requires (wide-reads.Asked, wide-reads.Learnt, further-reads.Asked, further-reads.Learnt, put-reads.Asked, put-reads.Learnt, other-reads.Asked, other-reads.Learnt, in-seq-below t, in-seq.Post, in-par-below t, in-par.Post, condition-below t, condition.Post, kept-below t, kept.Post, in-place-reads.Asked, in-place-reads.Learnt) (replace-at t) replace.Post
+replace-further-requires : (t : ℕ) → replace-lts.Need-further-requires (kind-of-reads.Asked, kind-of-reads.Learnt, further-reads.Asked, further-reads.Learnt, put-reads.Asked, put-reads.Learnt, other-reads.Asked, other-reads.Learnt, in-seq-below t, in-seq.Post, in-par-below t, in-par.Post, condition-below t, condition.Post, count-of-reads.Asked, count-of-reads.Learnt, kept-below t, kept.Post, in-place-reads.Asked, in-place-reads.Learnt) (replace-at t) replace.Post
 replace-further-requires t c κs = search needs
 
-replace-put-requires : (t : ℕ) → replace-lts.Need-put-requires (wide-reads.Asked, wide-reads.Learnt, further-reads.Asked, further-reads.Learnt, put-reads.Asked, put-reads.Learnt, other-reads.Asked, other-reads.Learnt, in-seq-below t, in-seq.Post, in-par-below t, in-par.Post, condition-below t, condition.Post, kept-below t, kept.Post, in-place-reads.Asked, in-place-reads.Learnt) (replace-at t) replace.Post
+replace-put-requires : (t : ℕ) → replace-lts.Need-put-requires (kind-of-reads.Asked, kind-of-reads.Learnt, further-reads.Asked, further-reads.Learnt, put-reads.Asked, put-reads.Learnt, other-reads.Asked, other-reads.Learnt, in-seq-below t, in-seq.Post, in-par-below t, in-par.Post, condition-below t, condition.Post, count-of-reads.Asked, count-of-reads.Learnt, kept-below t, kept.Post, in-place-reads.Asked, in-place-reads.Learnt) (replace-at t) replace.Post
 replace-put-requires t c κs = search needs
 
-replace-other-requires : (t : ℕ) → replace-lts.Need-other-requires (wide-reads.Asked, wide-reads.Learnt, further-reads.Asked, further-reads.Learnt, put-reads.Asked, put-reads.Learnt, other-reads.Asked, other-reads.Learnt, in-seq-below t, in-seq.Post, in-par-below t, in-par.Post, condition-below t, condition.Post, kept-below t, kept.Post, in-place-reads.Asked, in-place-reads.Learnt) (replace-at t) replace.Post
+replace-other-requires : (t : ℕ) → replace-lts.Need-other-requires (kind-of-reads.Asked, kind-of-reads.Learnt, further-reads.Asked, further-reads.Learnt, put-reads.Asked, put-reads.Learnt, other-reads.Asked, other-reads.Learnt, in-seq-below t, in-seq.Post, in-par-below t, in-par.Post, condition-below t, condition.Post, count-of-reads.Asked, count-of-reads.Learnt, kept-below t, kept.Post, in-place-reads.Asked, in-place-reads.Learnt) (replace-at t) replace.Post
 replace-other-requires t c κs = search needs
 
-replace-sub-in-seq : (t : ℕ) → replace-lts.Need-sub-in-seq (wide-reads.Asked, wide-reads.Learnt, further-reads.Asked, further-reads.Learnt, put-reads.Asked, put-reads.Learnt, other-reads.Asked, other-reads.Learnt, in-seq-below t, in-seq.Post, in-par-below t, in-par.Post, condition-below t, condition.Post, kept-below t, kept.Post, in-place-reads.Asked, in-place-reads.Learnt) (replace-at t) replace.Post
+replace-sub-in-seq : (t : ℕ) → replace-lts.Need-sub-in-seq (kind-of-reads.Asked, kind-of-reads.Learnt, further-reads.Asked, further-reads.Learnt, put-reads.Asked, put-reads.Learnt, other-reads.Asked, other-reads.Learnt, in-seq-below t, in-seq.Post, in-par-below t, in-par.Post, condition-below t, condition.Post, count-of-reads.Asked, count-of-reads.Learnt, kept-below t, kept.Post, in-place-reads.Asked, in-place-reads.Learnt) (replace-at t) replace.Post
 replace-sub-in-seq t c = search needs
 
-replace-in-seq-requires : (t : ℕ) → replace-lts.Need-in-seq-requires (wide-reads.Asked, wide-reads.Learnt, further-reads.Asked, further-reads.Learnt, put-reads.Asked, put-reads.Learnt, other-reads.Asked, other-reads.Learnt, in-seq-below t, in-seq.Post, in-par-below t, in-par.Post, condition-below t, condition.Post, kept-below t, kept.Post, in-place-reads.Asked, in-place-reads.Learnt) (replace-at t) replace.Post
+replace-in-seq-requires : (t : ℕ) → replace-lts.Need-in-seq-requires (kind-of-reads.Asked, kind-of-reads.Learnt, further-reads.Asked, further-reads.Learnt, put-reads.Asked, put-reads.Learnt, other-reads.Asked, other-reads.Learnt, in-seq-below t, in-seq.Post, in-par-below t, in-par.Post, condition-below t, condition.Post, count-of-reads.Asked, count-of-reads.Learnt, kept-below t, kept.Post, in-place-reads.Asked, in-place-reads.Learnt) (replace-at t) replace.Post
 replace-in-seq-requires t c κs = search needs
 
-replace-sub-in-par : (t : ℕ) → replace-lts.Need-sub-in-par (wide-reads.Asked, wide-reads.Learnt, further-reads.Asked, further-reads.Learnt, put-reads.Asked, put-reads.Learnt, other-reads.Asked, other-reads.Learnt, in-seq-below t, in-seq.Post, in-par-below t, in-par.Post, condition-below t, condition.Post, kept-below t, kept.Post, in-place-reads.Asked, in-place-reads.Learnt) (replace-at t) replace.Post
+replace-sub-in-par : (t : ℕ) → replace-lts.Need-sub-in-par (kind-of-reads.Asked, kind-of-reads.Learnt, further-reads.Asked, further-reads.Learnt, put-reads.Asked, put-reads.Learnt, other-reads.Asked, other-reads.Learnt, in-seq-below t, in-seq.Post, in-par-below t, in-par.Post, condition-below t, condition.Post, count-of-reads.Asked, count-of-reads.Learnt, kept-below t, kept.Post, in-place-reads.Asked, in-place-reads.Learnt) (replace-at t) replace.Post
 replace-sub-in-par t c = search needs
 
-replace-in-par-requires : (t : ℕ) → replace-lts.Need-in-par-requires (wide-reads.Asked, wide-reads.Learnt, further-reads.Asked, further-reads.Learnt, put-reads.Asked, put-reads.Learnt, other-reads.Asked, other-reads.Learnt, in-seq-below t, in-seq.Post, in-par-below t, in-par.Post, condition-below t, condition.Post, kept-below t, kept.Post, in-place-reads.Asked, in-place-reads.Learnt) (replace-at t) replace.Post
+replace-in-par-requires : (t : ℕ) → replace-lts.Need-in-par-requires (kind-of-reads.Asked, kind-of-reads.Learnt, further-reads.Asked, further-reads.Learnt, put-reads.Asked, put-reads.Learnt, other-reads.Asked, other-reads.Learnt, in-seq-below t, in-seq.Post, in-par-below t, in-par.Post, condition-below t, condition.Post, count-of-reads.Asked, count-of-reads.Learnt, kept-below t, kept.Post, in-place-reads.Asked, in-place-reads.Learnt) (replace-at t) replace.Post
 replace-in-par-requires t c κs = search needs
 
-replace-sub-condition : (t : ℕ) → replace-lts.Need-sub-condition (wide-reads.Asked, wide-reads.Learnt, further-reads.Asked, further-reads.Learnt, put-reads.Asked, put-reads.Learnt, other-reads.Asked, other-reads.Learnt, in-seq-below t, in-seq.Post, in-par-below t, in-par.Post, condition-below t, condition.Post, kept-below t, kept.Post, in-place-reads.Asked, in-place-reads.Learnt) (replace-at t) replace.Post
+replace-sub-condition : (t : ℕ) → replace-lts.Need-sub-condition (kind-of-reads.Asked, kind-of-reads.Learnt, further-reads.Asked, further-reads.Learnt, put-reads.Asked, put-reads.Learnt, other-reads.Asked, other-reads.Learnt, in-seq-below t, in-seq.Post, in-par-below t, in-par.Post, condition-below t, condition.Post, count-of-reads.Asked, count-of-reads.Learnt, kept-below t, kept.Post, in-place-reads.Asked, in-place-reads.Learnt) (replace-at t) replace.Post
 replace-sub-condition t c = search needs
 
-replace-condition-requires : (t : ℕ) → replace-lts.Need-condition-requires (wide-reads.Asked, wide-reads.Learnt, further-reads.Asked, further-reads.Learnt, put-reads.Asked, put-reads.Learnt, other-reads.Asked, other-reads.Learnt, in-seq-below t, in-seq.Post, in-par-below t, in-par.Post, condition-below t, condition.Post, kept-below t, kept.Post, in-place-reads.Asked, in-place-reads.Learnt) (replace-at t) replace.Post
+replace-condition-requires : (t : ℕ) → replace-lts.Need-condition-requires (kind-of-reads.Asked, kind-of-reads.Learnt, further-reads.Asked, further-reads.Learnt, put-reads.Asked, put-reads.Learnt, other-reads.Asked, other-reads.Learnt, in-seq-below t, in-seq.Post, in-par-below t, in-par.Post, condition-below t, condition.Post, count-of-reads.Asked, count-of-reads.Learnt, kept-below t, kept.Post, in-place-reads.Asked, in-place-reads.Learnt) (replace-at t) replace.Post
 replace-condition-requires t c κs = search needs
 
-replace-sub-condition-2 : (t : ℕ) → replace-lts.Need-sub-condition-2 (wide-reads.Asked, wide-reads.Learnt, further-reads.Asked, further-reads.Learnt, put-reads.Asked, put-reads.Learnt, other-reads.Asked, other-reads.Learnt, in-seq-below t, in-seq.Post, in-par-below t, in-par.Post, condition-below t, condition.Post, kept-below t, kept.Post, in-place-reads.Asked, in-place-reads.Learnt) (replace-at t) replace.Post
+replace-sub-condition-2 : (t : ℕ) → replace-lts.Need-sub-condition-2 (kind-of-reads.Asked, kind-of-reads.Learnt, further-reads.Asked, further-reads.Learnt, put-reads.Asked, put-reads.Learnt, other-reads.Asked, other-reads.Learnt, in-seq-below t, in-seq.Post, in-par-below t, in-par.Post, condition-below t, condition.Post, count-of-reads.Asked, count-of-reads.Learnt, kept-below t, kept.Post, in-place-reads.Asked, in-place-reads.Learnt) (replace-at t) replace.Post
 replace-sub-condition-2 t c = search needs
 
-replace-condition-requires-2 : (t : ℕ) → replace-lts.Need-condition-requires-2 (wide-reads.Asked, wide-reads.Learnt, further-reads.Asked, further-reads.Learnt, put-reads.Asked, put-reads.Learnt, other-reads.Asked, other-reads.Learnt, in-seq-below t, in-seq.Post, in-par-below t, in-par.Post, condition-below t, condition.Post, kept-below t, kept.Post, in-place-reads.Asked, in-place-reads.Learnt) (replace-at t) replace.Post
+replace-condition-requires-2 : (t : ℕ) → replace-lts.Need-condition-requires-2 (kind-of-reads.Asked, kind-of-reads.Learnt, further-reads.Asked, further-reads.Learnt, put-reads.Asked, put-reads.Learnt, other-reads.Asked, other-reads.Learnt, in-seq-below t, in-seq.Post, in-par-below t, in-par.Post, condition-below t, condition.Post, count-of-reads.Asked, count-of-reads.Learnt, kept-below t, kept.Post, in-place-reads.Asked, in-place-reads.Learnt) (replace-at t) replace.Post
 replace-condition-requires-2 t c κs = search needs
 
-replace-further-requires-2 : (t : ℕ) → replace-lts.Need-further-requires-2 (wide-reads.Asked, wide-reads.Learnt, further-reads.Asked, further-reads.Learnt, put-reads.Asked, put-reads.Learnt, other-reads.Asked, other-reads.Learnt, in-seq-below t, in-seq.Post, in-par-below t, in-par.Post, condition-below t, condition.Post, kept-below t, kept.Post, in-place-reads.Asked, in-place-reads.Learnt) (replace-at t) replace.Post
+replace-further-requires-2 : (t : ℕ) → replace-lts.Need-further-requires-2 (kind-of-reads.Asked, kind-of-reads.Learnt, further-reads.Asked, further-reads.Learnt, put-reads.Asked, put-reads.Learnt, other-reads.Asked, other-reads.Learnt, in-seq-below t, in-seq.Post, in-par-below t, in-par.Post, condition-below t, condition.Post, count-of-reads.Asked, count-of-reads.Learnt, kept-below t, kept.Post, in-place-reads.Asked, in-place-reads.Learnt) (replace-at t) replace.Post
 replace-further-requires-2 t c κs = search needs
 
-replace-mul-kept : (t : ℕ) → replace-lts.Need-mul-kept (wide-reads.Asked, wide-reads.Learnt, further-reads.Asked, further-reads.Learnt, put-reads.Asked, put-reads.Learnt, other-reads.Asked, other-reads.Learnt, in-seq-below t, in-seq.Post, in-par-below t, in-par.Post, condition-below t, condition.Post, kept-below t, kept.Post, in-place-reads.Asked, in-place-reads.Learnt) (replace-at t) replace.Post
+replace-mul-count-of : (t : ℕ) → replace-lts.Need-mul-count-of (kind-of-reads.Asked, kind-of-reads.Learnt, further-reads.Asked, further-reads.Learnt, put-reads.Asked, put-reads.Learnt, other-reads.Asked, other-reads.Learnt, in-seq-below t, in-seq.Post, in-par-below t, in-par.Post, condition-below t, condition.Post, count-of-reads.Asked, count-of-reads.Learnt, kept-below t, kept.Post, in-place-reads.Asked, in-place-reads.Learnt) (replace-at t) replace.Post
+replace-mul-count-of t c = search needs
+
+replace-shared-slice-read-count-of : (t : ℕ) → replace-lts.Need-shared-slice-read-count-of (kind-of-reads.Asked, kind-of-reads.Learnt, further-reads.Asked, further-reads.Learnt, put-reads.Asked, put-reads.Learnt, other-reads.Asked, other-reads.Learnt, in-seq-below t, in-seq.Post, in-par-below t, in-par.Post, condition-below t, condition.Post, count-of-reads.Asked, count-of-reads.Learnt, kept-below t, kept.Post, in-place-reads.Asked, in-place-reads.Learnt) (replace-at t) replace.Post
+replace-shared-slice-read-count-of t c = search needs
+
+replace-count-of-requires : (t : ℕ) → replace-lts.Need-count-of-requires (kind-of-reads.Asked, kind-of-reads.Learnt, further-reads.Asked, further-reads.Learnt, put-reads.Asked, put-reads.Learnt, other-reads.Asked, other-reads.Learnt, in-seq-below t, in-seq.Post, in-par-below t, in-par.Post, condition-below t, condition.Post, count-of-reads.Asked, count-of-reads.Learnt, kept-below t, kept.Post, in-place-reads.Asked, in-place-reads.Learnt) (replace-at t) replace.Post
+replace-count-of-requires t c κs = search needs
+
+replace-mul-kept : (t : ℕ) → replace-lts.Need-mul-kept (kind-of-reads.Asked, kind-of-reads.Learnt, further-reads.Asked, further-reads.Learnt, put-reads.Asked, put-reads.Learnt, other-reads.Asked, other-reads.Learnt, in-seq-below t, in-seq.Post, in-par-below t, in-par.Post, condition-below t, condition.Post, count-of-reads.Asked, count-of-reads.Learnt, kept-below t, kept.Post, in-place-reads.Asked, in-place-reads.Learnt) (replace-at t) replace.Post
 replace-mul-kept t c = search needs
 
-replace-sub-kept : (t : ℕ) → replace-lts.Need-sub-kept (wide-reads.Asked, wide-reads.Learnt, further-reads.Asked, further-reads.Learnt, put-reads.Asked, put-reads.Learnt, other-reads.Asked, other-reads.Learnt, in-seq-below t, in-seq.Post, in-par-below t, in-par.Post, condition-below t, condition.Post, kept-below t, kept.Post, in-place-reads.Asked, in-place-reads.Learnt) (replace-at t) replace.Post
+replace-sub-kept : (t : ℕ) → replace-lts.Need-sub-kept (kind-of-reads.Asked, kind-of-reads.Learnt, further-reads.Asked, further-reads.Learnt, put-reads.Asked, put-reads.Learnt, other-reads.Asked, other-reads.Learnt, in-seq-below t, in-seq.Post, in-par-below t, in-par.Post, condition-below t, condition.Post, count-of-reads.Asked, count-of-reads.Learnt, kept-below t, kept.Post, in-place-reads.Asked, in-place-reads.Learnt) (replace-at t) replace.Post
 replace-sub-kept t c = search needs
 
-replace-kept-requires : (t : ℕ) → replace-lts.Need-kept-requires (wide-reads.Asked, wide-reads.Learnt, further-reads.Asked, further-reads.Learnt, put-reads.Asked, put-reads.Learnt, other-reads.Asked, other-reads.Learnt, in-seq-below t, in-seq.Post, in-par-below t, in-par.Post, condition-below t, condition.Post, kept-below t, kept.Post, in-place-reads.Asked, in-place-reads.Learnt) (replace-at t) replace.Post
+replace-kept-requires : (t : ℕ) → replace-lts.Need-kept-requires (kind-of-reads.Asked, kind-of-reads.Learnt, further-reads.Asked, further-reads.Learnt, put-reads.Asked, put-reads.Learnt, other-reads.Asked, other-reads.Learnt, in-seq-below t, in-seq.Post, in-par-below t, in-par.Post, condition-below t, condition.Post, count-of-reads.Asked, count-of-reads.Learnt, kept-below t, kept.Post, in-place-reads.Asked, in-place-reads.Learnt) (replace-at t) replace.Post
 replace-kept-requires t c κs = search needs
 
-replace-other-requires-2 : (t : ℕ) → replace-lts.Need-other-requires-2 (wide-reads.Asked, wide-reads.Learnt, further-reads.Asked, further-reads.Learnt, put-reads.Asked, put-reads.Learnt, other-reads.Asked, other-reads.Learnt, in-seq-below t, in-seq.Post, in-par-below t, in-par.Post, condition-below t, condition.Post, kept-below t, kept.Post, in-place-reads.Asked, in-place-reads.Learnt) (replace-at t) replace.Post
+replace-other-requires-2 : (t : ℕ) → replace-lts.Need-other-requires-2 (kind-of-reads.Asked, kind-of-reads.Learnt, further-reads.Asked, further-reads.Learnt, put-reads.Asked, put-reads.Learnt, other-reads.Asked, other-reads.Learnt, in-seq-below t, in-seq.Post, in-par-below t, in-par.Post, condition-below t, condition.Post, count-of-reads.Asked, count-of-reads.Learnt, kept-below t, kept.Post, in-place-reads.Asked, in-place-reads.Learnt) (replace-at t) replace.Post
 replace-other-requires-2 t c κs = search needs
 
-replace-further-requires-3 : (t : ℕ) → replace-lts.Need-further-requires-3 (wide-reads.Asked, wide-reads.Learnt, further-reads.Asked, further-reads.Learnt, put-reads.Asked, put-reads.Learnt, other-reads.Asked, other-reads.Learnt, in-seq-below t, in-seq.Post, in-par-below t, in-par.Post, condition-below t, condition.Post, kept-below t, kept.Post, in-place-reads.Asked, in-place-reads.Learnt) (replace-at t) replace.Post
+replace-further-requires-3 : (t : ℕ) → replace-lts.Need-further-requires-3 (kind-of-reads.Asked, kind-of-reads.Learnt, further-reads.Asked, further-reads.Learnt, put-reads.Asked, put-reads.Learnt, other-reads.Asked, other-reads.Learnt, in-seq-below t, in-seq.Post, in-par-below t, in-par.Post, condition-below t, condition.Post, count-of-reads.Asked, count-of-reads.Learnt, kept-below t, kept.Post, in-place-reads.Asked, in-place-reads.Learnt) (replace-at t) replace.Post
 replace-further-requires-3 t c κs = search needs
 
-replace-sub-kept-2 : (t : ℕ) → replace-lts.Need-sub-kept-2 (wide-reads.Asked, wide-reads.Learnt, further-reads.Asked, further-reads.Learnt, put-reads.Asked, put-reads.Learnt, other-reads.Asked, other-reads.Learnt, in-seq-below t, in-seq.Post, in-par-below t, in-par.Post, condition-below t, condition.Post, kept-below t, kept.Post, in-place-reads.Asked, in-place-reads.Learnt) (replace-at t) replace.Post
+replace-sub-kept-2 : (t : ℕ) → replace-lts.Need-sub-kept-2 (kind-of-reads.Asked, kind-of-reads.Learnt, further-reads.Asked, further-reads.Learnt, put-reads.Asked, put-reads.Learnt, other-reads.Asked, other-reads.Learnt, in-seq-below t, in-seq.Post, in-par-below t, in-par.Post, condition-below t, condition.Post, count-of-reads.Asked, count-of-reads.Learnt, kept-below t, kept.Post, in-place-reads.Asked, in-place-reads.Learnt) (replace-at t) replace.Post
 replace-sub-kept-2 t c = search needs
 
-replace-kept-requires-2 : (t : ℕ) → replace-lts.Need-kept-requires-2 (wide-reads.Asked, wide-reads.Learnt, further-reads.Asked, further-reads.Learnt, put-reads.Asked, put-reads.Learnt, other-reads.Asked, other-reads.Learnt, in-seq-below t, in-seq.Post, in-par-below t, in-par.Post, condition-below t, condition.Post, kept-below t, kept.Post, in-place-reads.Asked, in-place-reads.Learnt) (replace-at t) replace.Post
+replace-kept-requires-2 : (t : ℕ) → replace-lts.Need-kept-requires-2 (kind-of-reads.Asked, kind-of-reads.Learnt, further-reads.Asked, further-reads.Learnt, put-reads.Asked, put-reads.Learnt, other-reads.Asked, other-reads.Learnt, in-seq-below t, in-seq.Post, in-par-below t, in-par.Post, condition-below t, condition.Post, count-of-reads.Asked, count-of-reads.Learnt, kept-below t, kept.Post, in-place-reads.Asked, in-place-reads.Learnt) (replace-at t) replace.Post
 replace-kept-requires-2 t c κs = search needs
 
-replace-other-requires-3 : (t : ℕ) → replace-lts.Need-other-requires-3 (wide-reads.Asked, wide-reads.Learnt, further-reads.Asked, further-reads.Learnt, put-reads.Asked, put-reads.Learnt, other-reads.Asked, other-reads.Learnt, in-seq-below t, in-seq.Post, in-par-below t, in-par.Post, condition-below t, condition.Post, kept-below t, kept.Post, in-place-reads.Asked, in-place-reads.Learnt) (replace-at t) replace.Post
+replace-other-requires-3 : (t : ℕ) → replace-lts.Need-other-requires-3 (kind-of-reads.Asked, kind-of-reads.Learnt, further-reads.Asked, further-reads.Learnt, put-reads.Asked, put-reads.Learnt, other-reads.Asked, other-reads.Learnt, in-seq-below t, in-seq.Post, in-par-below t, in-par.Post, condition-below t, condition.Post, count-of-reads.Asked, count-of-reads.Learnt, kept-below t, kept.Post, in-place-reads.Asked, in-place-reads.Learnt) (replace-at t) replace.Post
 replace-other-requires-3 t c κs = search needs
 
-replace-other-requires-4 : (t : ℕ) → replace-lts.Need-other-requires-4 (wide-reads.Asked, wide-reads.Learnt, further-reads.Asked, further-reads.Learnt, put-reads.Asked, put-reads.Learnt, other-reads.Asked, other-reads.Learnt, in-seq-below t, in-seq.Post, in-par-below t, in-par.Post, condition-below t, condition.Post, kept-below t, kept.Post, in-place-reads.Asked, in-place-reads.Learnt) (replace-at t) replace.Post
+replace-other-requires-4 : (t : ℕ) → replace-lts.Need-other-requires-4 (kind-of-reads.Asked, kind-of-reads.Learnt, further-reads.Asked, further-reads.Learnt, put-reads.Asked, put-reads.Learnt, other-reads.Asked, other-reads.Learnt, in-seq-below t, in-seq.Post, in-par-below t, in-par.Post, condition-below t, condition.Post, count-of-reads.Asked, count-of-reads.Learnt, kept-below t, kept.Post, in-place-reads.Asked, in-place-reads.Learnt) (replace-at t) replace.Post
 replace-other-requires-4 t c κs = search needs
 
-replace-further-requires-4 : (t : ℕ) → replace-lts.Need-further-requires-4 (wide-reads.Asked, wide-reads.Learnt, further-reads.Asked, further-reads.Learnt, put-reads.Asked, put-reads.Learnt, other-reads.Asked, other-reads.Learnt, in-seq-below t, in-seq.Post, in-par-below t, in-par.Post, condition-below t, condition.Post, kept-below t, kept.Post, in-place-reads.Asked, in-place-reads.Learnt) (replace-at t) replace.Post
+replace-further-requires-4 : (t : ℕ) → replace-lts.Need-further-requires-4 (kind-of-reads.Asked, kind-of-reads.Learnt, further-reads.Asked, further-reads.Learnt, put-reads.Asked, put-reads.Learnt, other-reads.Asked, other-reads.Learnt, in-seq-below t, in-seq.Post, in-par-below t, in-par.Post, condition-below t, condition.Post, count-of-reads.Asked, count-of-reads.Learnt, kept-below t, kept.Post, in-place-reads.Asked, in-place-reads.Learnt) (replace-at t) replace.Post
 replace-further-requires-4 t c κs = search needs
 
-replace-sub-kept-3 : (t : ℕ) → replace-lts.Need-sub-kept-3 (wide-reads.Asked, wide-reads.Learnt, further-reads.Asked, further-reads.Learnt, put-reads.Asked, put-reads.Learnt, other-reads.Asked, other-reads.Learnt, in-seq-below t, in-seq.Post, in-par-below t, in-par.Post, condition-below t, condition.Post, kept-below t, kept.Post, in-place-reads.Asked, in-place-reads.Learnt) (replace-at t) replace.Post
+replace-sub-kept-3 : (t : ℕ) → replace-lts.Need-sub-kept-3 (kind-of-reads.Asked, kind-of-reads.Learnt, further-reads.Asked, further-reads.Learnt, put-reads.Asked, put-reads.Learnt, other-reads.Asked, other-reads.Learnt, in-seq-below t, in-seq.Post, in-par-below t, in-par.Post, condition-below t, condition.Post, count-of-reads.Asked, count-of-reads.Learnt, kept-below t, kept.Post, in-place-reads.Asked, in-place-reads.Learnt) (replace-at t) replace.Post
 replace-sub-kept-3 t c = search needs
 
-replace-kept-requires-3 : (t : ℕ) → replace-lts.Need-kept-requires-3 (wide-reads.Asked, wide-reads.Learnt, further-reads.Asked, further-reads.Learnt, put-reads.Asked, put-reads.Learnt, other-reads.Asked, other-reads.Learnt, in-seq-below t, in-seq.Post, in-par-below t, in-par.Post, condition-below t, condition.Post, kept-below t, kept.Post, in-place-reads.Asked, in-place-reads.Learnt) (replace-at t) replace.Post
+replace-kept-requires-3 : (t : ℕ) → replace-lts.Need-kept-requires-3 (kind-of-reads.Asked, kind-of-reads.Learnt, further-reads.Asked, further-reads.Learnt, put-reads.Asked, put-reads.Learnt, other-reads.Asked, other-reads.Learnt, in-seq-below t, in-seq.Post, in-par-below t, in-par.Post, condition-below t, condition.Post, count-of-reads.Asked, count-of-reads.Learnt, kept-below t, kept.Post, in-place-reads.Asked, in-place-reads.Learnt) (replace-at t) replace.Post
 replace-kept-requires-3 t c κs = search needs
 
-replace-other-requires-5 : (t : ℕ) → replace-lts.Need-other-requires-5 (wide-reads.Asked, wide-reads.Learnt, further-reads.Asked, further-reads.Learnt, put-reads.Asked, put-reads.Learnt, other-reads.Asked, other-reads.Learnt, in-seq-below t, in-seq.Post, in-par-below t, in-par.Post, condition-below t, condition.Post, kept-below t, kept.Post, in-place-reads.Asked, in-place-reads.Learnt) (replace-at t) replace.Post
+replace-other-requires-5 : (t : ℕ) → replace-lts.Need-other-requires-5 (kind-of-reads.Asked, kind-of-reads.Learnt, further-reads.Asked, further-reads.Learnt, put-reads.Asked, put-reads.Learnt, other-reads.Asked, other-reads.Learnt, in-seq-below t, in-seq.Post, in-par-below t, in-par.Post, condition-below t, condition.Post, count-of-reads.Asked, count-of-reads.Learnt, kept-below t, kept.Post, in-place-reads.Asked, in-place-reads.Learnt) (replace-at t) replace.Post
 replace-other-requires-5 t c κs = search needs
 
-replace-other-requires-6 : (t : ℕ) → replace-lts.Need-other-requires-6 (wide-reads.Asked, wide-reads.Learnt, further-reads.Asked, further-reads.Learnt, put-reads.Asked, put-reads.Learnt, other-reads.Asked, other-reads.Learnt, in-seq-below t, in-seq.Post, in-par-below t, in-par.Post, condition-below t, condition.Post, kept-below t, kept.Post, in-place-reads.Asked, in-place-reads.Learnt) (replace-at t) replace.Post
+replace-other-requires-6 : (t : ℕ) → replace-lts.Need-other-requires-6 (kind-of-reads.Asked, kind-of-reads.Learnt, further-reads.Asked, further-reads.Learnt, put-reads.Asked, put-reads.Learnt, other-reads.Asked, other-reads.Learnt, in-seq-below t, in-seq.Post, in-par-below t, in-par.Post, condition-below t, condition.Post, count-of-reads.Asked, count-of-reads.Learnt, kept-below t, kept.Post, in-place-reads.Asked, in-place-reads.Learnt) (replace-at t) replace.Post
 replace-other-requires-6 t c κs = search needs
 
-replace-other-requires-7 : (t : ℕ) → replace-lts.Need-other-requires-7 (wide-reads.Asked, wide-reads.Learnt, further-reads.Asked, further-reads.Learnt, put-reads.Asked, put-reads.Learnt, other-reads.Asked, other-reads.Learnt, in-seq-below t, in-seq.Post, in-par-below t, in-par.Post, condition-below t, condition.Post, kept-below t, kept.Post, in-place-reads.Asked, in-place-reads.Learnt) (replace-at t) replace.Post
+replace-other-requires-7 : (t : ℕ) → replace-lts.Need-other-requires-7 (kind-of-reads.Asked, kind-of-reads.Learnt, further-reads.Asked, further-reads.Learnt, put-reads.Asked, put-reads.Learnt, other-reads.Asked, other-reads.Learnt, in-seq-below t, in-seq.Post, in-par-below t, in-par.Post, condition-below t, condition.Post, count-of-reads.Asked, count-of-reads.Learnt, kept-below t, kept.Post, in-place-reads.Asked, in-place-reads.Learnt) (replace-at t) replace.Post
 replace-other-requires-7 t c κs = search needs
 
-replace-in-place-requires : (t : ℕ) → replace-lts.Need-in-place-requires (wide-reads.Asked, wide-reads.Learnt, further-reads.Asked, further-reads.Learnt, put-reads.Asked, put-reads.Learnt, other-reads.Asked, other-reads.Learnt, in-seq-below t, in-seq.Post, in-par-below t, in-par.Post, condition-below t, condition.Post, kept-below t, kept.Post, in-place-reads.Asked, in-place-reads.Learnt) (replace-at t) replace.Post
+replace-in-place-requires : (t : ℕ) → replace-lts.Need-in-place-requires (kind-of-reads.Asked, kind-of-reads.Learnt, further-reads.Asked, further-reads.Learnt, put-reads.Asked, put-reads.Learnt, other-reads.Asked, other-reads.Learnt, in-seq-below t, in-seq.Post, in-par-below t, in-par.Post, condition-below t, condition.Post, count-of-reads.Asked, count-of-reads.Learnt, kept-below t, kept.Post, in-place-reads.Asked, in-place-reads.Learnt) (replace-at t) replace.Post
 replace-in-place-requires t c κs = search needs
 
-replace-other-requires-8 : (t : ℕ) → replace-lts.Need-other-requires-8 (wide-reads.Asked, wide-reads.Learnt, further-reads.Asked, further-reads.Learnt, put-reads.Asked, put-reads.Learnt, other-reads.Asked, other-reads.Learnt, in-seq-below t, in-seq.Post, in-par-below t, in-par.Post, condition-below t, condition.Post, kept-below t, kept.Post, in-place-reads.Asked, in-place-reads.Learnt) (replace-at t) replace.Post
+replace-other-requires-8 : (t : ℕ) → replace-lts.Need-other-requires-8 (kind-of-reads.Asked, kind-of-reads.Learnt, further-reads.Asked, further-reads.Learnt, put-reads.Asked, put-reads.Learnt, other-reads.Asked, other-reads.Learnt, in-seq-below t, in-seq.Post, in-par-below t, in-par.Post, condition-below t, condition.Post, count-of-reads.Asked, count-of-reads.Learnt, kept-below t, kept.Post, in-place-reads.Asked, in-place-reads.Learnt) (replace-at t) replace.Post
 replace-other-requires-8 t c κs = search needs
 
-replace-same-length : (t : ℕ) → replace-lts.Need-same-length (wide-reads.Asked, wide-reads.Learnt, further-reads.Asked, further-reads.Learnt, put-reads.Asked, put-reads.Learnt, other-reads.Asked, other-reads.Learnt, in-seq-below t, in-seq.Post, in-par-below t, in-par.Post, condition-below t, condition.Post, kept-below t, kept.Post, in-place-reads.Asked, in-place-reads.Learnt) (replace-at t) replace.Post
+replace-same-length : (t : ℕ) → replace-lts.Need-same-length (kind-of-reads.Asked, kind-of-reads.Learnt, further-reads.Asked, further-reads.Learnt, put-reads.Asked, put-reads.Learnt, other-reads.Asked, other-reads.Learnt, in-seq-below t, in-seq.Post, in-par-below t, in-par.Post, condition-below t, condition.Post, count-of-reads.Asked, count-of-reads.Learnt, kept-below t, kept.Post, in-place-reads.Asked, in-place-reads.Learnt) (replace-at t) replace.Post
 replace-same-length t c = search needs
 
-replace-returns-3 : (t : ℕ) → replace-lts.Need-returns-3 (wide-reads.Asked, wide-reads.Learnt, further-reads.Asked, further-reads.Learnt, put-reads.Asked, put-reads.Learnt, other-reads.Asked, other-reads.Learnt, in-seq-below t, in-seq.Post, in-par-below t, in-par.Post, condition-below t, condition.Post, kept-below t, kept.Post, in-place-reads.Asked, in-place-reads.Learnt) (replace-at t) replace.Post
+replace-returns-3 : (t : ℕ) → replace-lts.Need-returns-3 (kind-of-reads.Asked, kind-of-reads.Learnt, further-reads.Asked, further-reads.Learnt, put-reads.Asked, put-reads.Learnt, other-reads.Asked, other-reads.Learnt, in-seq-below t, in-seq.Post, in-par-below t, in-par.Post, condition-below t, condition.Post, count-of-reads.Asked, count-of-reads.Learnt, kept-below t, kept.Post, in-place-reads.Asked, in-place-reads.Learnt) (replace-at t) replace.Post
 unfolding nodeW seqW afterFirst parW parAfter closePar conditionW keptW nilW
 replace-returns-3 t c =
     let f0 = c .before .before .before .before .before .match .keys1 in
     let f1 = c .before .before .before .before .before .before .before .before .if2 .left in
     let f2 = c .before .before .before .before .before .before .before .before .before .if1 .left in
-    (simp (tests, replace-step, parts-step, parts-end, ← (c .before .before .put .ensures .0), ← (c .before .before .put .ensures .1), ← (c .before .before .before .before .further .ensures), f0, ← (c .before .before .before .before .before .before .wide .ensures .0), f1, f2), simp (tests, replace-step, parts-step, parts-end, ← (c .before .before .put .ensures .0), ← (c .before .before .put .ensures .1), ← (c .before .before .before .before .further .ensures), f0, ← (c .before .before .before .before .before .before .wide .ensures .0), f1, f2))
+    (simp (tests, replace-step, ← (c .before .before .put .ensures .0), ← (c .before .before .put .ensures .1), ← (c .before .before .before .before .further .ensures), f0, ← (c .before .before .before .before .before .before .kind-of .ensures .0), f1, f2), simp (tests, replace-step, ← (c .before .before .put .ensures .0), ← (c .before .before .put .ensures .1), ← (c .before .before .before .before .further .ensures), f0, ← (c .before .before .before .before .before .before .kind-of .ensures .0), f1, f2))
 
-replace-same-length-2 : (t : ℕ) → replace-lts.Need-same-length-2 (wide-reads.Asked, wide-reads.Learnt, further-reads.Asked, further-reads.Learnt, put-reads.Asked, put-reads.Learnt, other-reads.Asked, other-reads.Learnt, in-seq-below t, in-seq.Post, in-par-below t, in-par.Post, condition-below t, condition.Post, kept-below t, kept.Post, in-place-reads.Asked, in-place-reads.Learnt) (replace-at t) replace.Post
+replace-same-length-2 : (t : ℕ) → replace-lts.Need-same-length-2 (kind-of-reads.Asked, kind-of-reads.Learnt, further-reads.Asked, further-reads.Learnt, put-reads.Asked, put-reads.Learnt, other-reads.Asked, other-reads.Learnt, in-seq-below t, in-seq.Post, in-par-below t, in-par.Post, condition-below t, condition.Post, count-of-reads.Asked, count-of-reads.Learnt, kept-below t, kept.Post, in-place-reads.Asked, in-place-reads.Learnt) (replace-at t) replace.Post
 replace-same-length-2 t c = search needs
 
-replace-returns-4 : (t : ℕ) → replace-lts.Need-returns-4 (wide-reads.Asked, wide-reads.Learnt, further-reads.Asked, further-reads.Learnt, put-reads.Asked, put-reads.Learnt, other-reads.Asked, other-reads.Learnt, in-seq-below t, in-seq.Post, in-par-below t, in-par.Post, condition-below t, condition.Post, kept-below t, kept.Post, in-place-reads.Asked, in-place-reads.Learnt) (replace-at t) replace.Post
+replace-returns-4 : (t : ℕ) → replace-lts.Need-returns-4 (kind-of-reads.Asked, kind-of-reads.Learnt, further-reads.Asked, further-reads.Learnt, put-reads.Asked, put-reads.Learnt, other-reads.Asked, other-reads.Learnt, in-seq-below t, in-seq.Post, in-par-below t, in-par.Post, condition-below t, condition.Post, count-of-reads.Asked, count-of-reads.Learnt, kept-below t, kept.Post, in-place-reads.Asked, in-place-reads.Learnt) (replace-at t) replace.Post
 unfolding nodeW seqW afterFirst parW parAfter closePar conditionW keptW nilW
 replace-returns-4 t c =
     let f0 = c .before .before .before .before .match .keys2 in
     let f1 = c .before .before .before .before .before .before .before .if2 .left in
     let f2 = c .before .before .before .before .before .before .before .before .if1 .left in
-    (simp (tests, replace-step, parts-step, parts-end, ← (c .before .before .other .ensures .0), ← (c .before .before .other .ensures .1), f0, ← (c .before .before .before .before .before .wide .ensures .0), f1, f2), simp (tests, replace-step, parts-step, parts-end, ← (c .before .before .other .ensures .0), ← (c .before .before .other .ensures .1), f0, ← (c .before .before .before .before .before .wide .ensures .0), f1, f2))
+    (simp (tests, replace-step, ← (c .before .before .other .ensures .0), f0, ← (c .before .before .before .before .before .kind-of .ensures .0), f1, f2), simp (tests, replace-step, ← (c .before .before .other .ensures .1), f0, ← (c .before .before .before .before .before .kind-of .ensures .0), f1, f2))
 
-replace-same-length-3 : (t : ℕ) → replace-lts.Need-same-length-3 (wide-reads.Asked, wide-reads.Learnt, further-reads.Asked, further-reads.Learnt, put-reads.Asked, put-reads.Learnt, other-reads.Asked, other-reads.Learnt, in-seq-below t, in-seq.Post, in-par-below t, in-par.Post, condition-below t, condition.Post, kept-below t, kept.Post, in-place-reads.Asked, in-place-reads.Learnt) (replace-at t) replace.Post
+replace-same-length-3 : (t : ℕ) → replace-lts.Need-same-length-3 (kind-of-reads.Asked, kind-of-reads.Learnt, further-reads.Asked, further-reads.Learnt, put-reads.Asked, put-reads.Learnt, other-reads.Asked, other-reads.Learnt, in-seq-below t, in-seq.Post, in-par-below t, in-par.Post, condition-below t, condition.Post, count-of-reads.Asked, count-of-reads.Learnt, kept-below t, kept.Post, in-place-reads.Asked, in-place-reads.Learnt) (replace-at t) replace.Post
 replace-same-length-3 t c = search needs
 
-replace-returns-5 : (t : ℕ) → replace-lts.Need-returns-5 (wide-reads.Asked, wide-reads.Learnt, further-reads.Asked, further-reads.Learnt, put-reads.Asked, put-reads.Learnt, other-reads.Asked, other-reads.Learnt, in-seq-below t, in-seq.Post, in-par-below t, in-par.Post, condition-below t, condition.Post, kept-below t, kept.Post, in-place-reads.Asked, in-place-reads.Learnt) (replace-at t) replace.Post
+replace-returns-5 : (t : ℕ) → replace-lts.Need-returns-5 (kind-of-reads.Asked, kind-of-reads.Learnt, further-reads.Asked, further-reads.Learnt, put-reads.Asked, put-reads.Learnt, other-reads.Asked, other-reads.Learnt, in-seq-below t, in-seq.Post, in-par-below t, in-par.Post, condition-below t, condition.Post, count-of-reads.Asked, count-of-reads.Learnt, kept-below t, kept.Post, in-place-reads.Asked, in-place-reads.Learnt) (replace-at t) replace.Post
 unfolding nodeW seqW afterFirst parW parAfter closePar conditionW keptW nilW
 replace-returns-5 t c =
     let f0 = c .before .before .before .before .match .keys3 in
     let f1 = c .before .before .before .before .before .before .before .if2 .left in
     let f2 = c .before .before .before .before .before .before .before .before .if1 .left in
-    (simp (tests, replace-step, parts-step, parts-end, ← (c .before .before .in-seq .ensures .0), ← (c .before .before .in-seq .ensures .1), f0, ← (c .before .before .before .before .before .wide .ensures .0), f1, f2), simp (tests, replace-step, parts-step, parts-end, ← (c .before .before .in-seq .ensures .0), ← (c .before .before .in-seq .ensures .1), f0, ← (c .before .before .before .before .before .wide .ensures .0), f1, f2))
+    (simp (tests, replace-step, ← (c .before .before .in-seq .ensures .0), f0, ← (c .before .before .before .before .before .kind-of .ensures .0), f1, f2), simp (tests, replace-step, ← (c .before .before .in-seq .ensures .1), f0, ← (c .before .before .before .before .before .kind-of .ensures .0), f1, f2))
 
-replace-same-length-4 : (t : ℕ) → replace-lts.Need-same-length-4 (wide-reads.Asked, wide-reads.Learnt, further-reads.Asked, further-reads.Learnt, put-reads.Asked, put-reads.Learnt, other-reads.Asked, other-reads.Learnt, in-seq-below t, in-seq.Post, in-par-below t, in-par.Post, condition-below t, condition.Post, kept-below t, kept.Post, in-place-reads.Asked, in-place-reads.Learnt) (replace-at t) replace.Post
+replace-same-length-4 : (t : ℕ) → replace-lts.Need-same-length-4 (kind-of-reads.Asked, kind-of-reads.Learnt, further-reads.Asked, further-reads.Learnt, put-reads.Asked, put-reads.Learnt, other-reads.Asked, other-reads.Learnt, in-seq-below t, in-seq.Post, in-par-below t, in-par.Post, condition-below t, condition.Post, count-of-reads.Asked, count-of-reads.Learnt, kept-below t, kept.Post, in-place-reads.Asked, in-place-reads.Learnt) (replace-at t) replace.Post
 replace-same-length-4 t c = search needs
 
-replace-returns-6 : (t : ℕ) → replace-lts.Need-returns-6 (wide-reads.Asked, wide-reads.Learnt, further-reads.Asked, further-reads.Learnt, put-reads.Asked, put-reads.Learnt, other-reads.Asked, other-reads.Learnt, in-seq-below t, in-seq.Post, in-par-below t, in-par.Post, condition-below t, condition.Post, kept-below t, kept.Post, in-place-reads.Asked, in-place-reads.Learnt) (replace-at t) replace.Post
+replace-returns-6 : (t : ℕ) → replace-lts.Need-returns-6 (kind-of-reads.Asked, kind-of-reads.Learnt, further-reads.Asked, further-reads.Learnt, put-reads.Asked, put-reads.Learnt, other-reads.Asked, other-reads.Learnt, in-seq-below t, in-seq.Post, in-par-below t, in-par.Post, condition-below t, condition.Post, count-of-reads.Asked, count-of-reads.Learnt, kept-below t, kept.Post, in-place-reads.Asked, in-place-reads.Learnt) (replace-at t) replace.Post
 unfolding nodeW seqW afterFirst parW parAfter closePar conditionW keptW nilW
 replace-returns-6 t c =
     let f0 = c .before .before .before .before .match .keys4 in
     let f1 = c .before .before .before .before .before .before .before .if2 .left in
     let f2 = c .before .before .before .before .before .before .before .before .if1 .left in
-    (simp (tests, replace-step, parts-step, parts-end, ← (c .before .before .in-par .ensures .0), ← (c .before .before .in-par .ensures .1), f0, ← (c .before .before .before .before .before .wide .ensures .0), f1, f2), simp (tests, replace-step, parts-step, parts-end, ← (c .before .before .in-par .ensures .0), ← (c .before .before .in-par .ensures .1), f0, ← (c .before .before .before .before .before .wide .ensures .0), f1, f2))
+    (simp (tests, replace-step, ← (c .before .before .in-par .ensures .0), f0, ← (c .before .before .before .before .before .kind-of .ensures .0), f1, f2), simp (tests, replace-step, ← (c .before .before .in-par .ensures .1), f0, ← (c .before .before .before .before .before .kind-of .ensures .0), f1, f2))
 
-replace-same-length-5 : (t : ℕ) → replace-lts.Need-same-length-5 (wide-reads.Asked, wide-reads.Learnt, further-reads.Asked, further-reads.Learnt, put-reads.Asked, put-reads.Learnt, other-reads.Asked, other-reads.Learnt, in-seq-below t, in-seq.Post, in-par-below t, in-par.Post, condition-below t, condition.Post, kept-below t, kept.Post, in-place-reads.Asked, in-place-reads.Learnt) (replace-at t) replace.Post
+replace-same-length-5 : (t : ℕ) → replace-lts.Need-same-length-5 (kind-of-reads.Asked, kind-of-reads.Learnt, further-reads.Asked, further-reads.Learnt, put-reads.Asked, put-reads.Learnt, other-reads.Asked, other-reads.Learnt, in-seq-below t, in-seq.Post, in-par-below t, in-par.Post, condition-below t, condition.Post, count-of-reads.Asked, count-of-reads.Learnt, kept-below t, kept.Post, in-place-reads.Asked, in-place-reads.Learnt) (replace-at t) replace.Post
 replace-same-length-5 t c = search needs
 
-replace-returns-7 : (t : ℕ) → replace-lts.Need-returns-7 (wide-reads.Asked, wide-reads.Learnt, further-reads.Asked, further-reads.Learnt, put-reads.Asked, put-reads.Learnt, other-reads.Asked, other-reads.Learnt, in-seq-below t, in-seq.Post, in-par-below t, in-par.Post, condition-below t, condition.Post, kept-below t, kept.Post, in-place-reads.Asked, in-place-reads.Learnt) (replace-at t) replace.Post
+replace-returns-7 : (t : ℕ) → replace-lts.Need-returns-7 (kind-of-reads.Asked, kind-of-reads.Learnt, further-reads.Asked, further-reads.Learnt, put-reads.Asked, put-reads.Learnt, other-reads.Asked, other-reads.Learnt, in-seq-below t, in-seq.Post, in-par-below t, in-par.Post, condition-below t, condition.Post, count-of-reads.Asked, count-of-reads.Learnt, kept-below t, kept.Post, in-place-reads.Asked, in-place-reads.Learnt) (replace-at t) replace.Post
 unfolding nodeW seqW afterFirst parW parAfter closePar conditionW keptW nilW
 replace-returns-7 t c =
     let f0 = c .before .before .before .before .match .keys5 in
     let f1 = c .before .before .before .before .before .before .before .if2 .left in
     let f2 = c .before .before .before .before .before .before .before .before .if1 .left in
-    (simp (tests, replace-step, parts-step, parts-end, ← (c .before .before .condition .ensures .0), ← (c .before .before .condition .ensures .1), f0, ← (c .before .before .before .before .before .wide .ensures .0), f1, f2), simp (tests, replace-step, parts-step, parts-end, ← (c .before .before .condition .ensures .0), ← (c .before .before .condition .ensures .1), f0, ← (c .before .before .before .before .before .wide .ensures .0), f1, f2))
+    (simp (tests, replace-step, ← (c .before .before .condition .ensures .0), f0, ← (c .before .before .before .before .before .kind-of .ensures .0), f1, f2), simp (tests, replace-step, ← (c .before .before .condition .ensures .1), f0, ← (c .before .before .before .before .before .kind-of .ensures .0), f1, f2))
 
-replace-same-length-6 : (t : ℕ) → replace-lts.Need-same-length-6 (wide-reads.Asked, wide-reads.Learnt, further-reads.Asked, further-reads.Learnt, put-reads.Asked, put-reads.Learnt, other-reads.Asked, other-reads.Learnt, in-seq-below t, in-seq.Post, in-par-below t, in-par.Post, condition-below t, condition.Post, kept-below t, kept.Post, in-place-reads.Asked, in-place-reads.Learnt) (replace-at t) replace.Post
+replace-same-length-6 : (t : ℕ) → replace-lts.Need-same-length-6 (kind-of-reads.Asked, kind-of-reads.Learnt, further-reads.Asked, further-reads.Learnt, put-reads.Asked, put-reads.Learnt, other-reads.Asked, other-reads.Learnt, in-seq-below t, in-seq.Post, in-par-below t, in-par.Post, condition-below t, condition.Post, count-of-reads.Asked, count-of-reads.Learnt, kept-below t, kept.Post, in-place-reads.Asked, in-place-reads.Learnt) (replace-at t) replace.Post
 replace-same-length-6 t c = search needs
 
-replace-returns-8 : (t : ℕ) → replace-lts.Need-returns-8 (wide-reads.Asked, wide-reads.Learnt, further-reads.Asked, further-reads.Learnt, put-reads.Asked, put-reads.Learnt, other-reads.Asked, other-reads.Learnt, in-seq-below t, in-seq.Post, in-par-below t, in-par.Post, condition-below t, condition.Post, kept-below t, kept.Post, in-place-reads.Asked, in-place-reads.Learnt) (replace-at t) replace.Post
+replace-returns-8 : (t : ℕ) → replace-lts.Need-returns-8 (kind-of-reads.Asked, kind-of-reads.Learnt, further-reads.Asked, further-reads.Learnt, put-reads.Asked, put-reads.Learnt, other-reads.Asked, other-reads.Learnt, in-seq-below t, in-seq.Post, in-par-below t, in-par.Post, condition-below t, condition.Post, count-of-reads.Asked, count-of-reads.Learnt, kept-below t, kept.Post, in-place-reads.Asked, in-place-reads.Learnt) (replace-at t) replace.Post
 unfolding nodeW seqW afterFirst parW parAfter closePar conditionW keptW nilW
 replace-returns-8 t c =
     let f0 = c .before .before .before .before .match .keys6 in
     let f1 = c .before .before .before .before .before .before .before .if2 .left in
     let f2 = c .before .before .before .before .before .before .before .before .if1 .left in
-    (simp (tests, replace-step, parts-step, parts-end, ← (c .before .before .condition2 .ensures .0), ← (c .before .before .condition2 .ensures .1), f0, ← (c .before .before .before .before .before .wide .ensures .0), f1, f2), simp (tests, replace-step, parts-step, parts-end, ← (c .before .before .condition2 .ensures .0), ← (c .before .before .condition2 .ensures .1), f0, ← (c .before .before .before .before .before .wide .ensures .0), f1, f2))
+    (simp (tests, replace-step, ← (c .before .before .condition2 .ensures .0), f0, ← (c .before .before .before .before .before .kind-of .ensures .0), f1, f2), simp (tests, replace-step, ← (c .before .before .condition2 .ensures .1), f0, ← (c .before .before .before .before .before .kind-of .ensures .0), f1, f2))
 
-replace-same-length-7 : (t : ℕ) → replace-lts.Need-same-length-7 (wide-reads.Asked, wide-reads.Learnt, further-reads.Asked, further-reads.Learnt, put-reads.Asked, put-reads.Learnt, other-reads.Asked, other-reads.Learnt, in-seq-below t, in-seq.Post, in-par-below t, in-par.Post, condition-below t, condition.Post, kept-below t, kept.Post, in-place-reads.Asked, in-place-reads.Learnt) (replace-at t) replace.Post
+replace-same-length-7 : (t : ℕ) → replace-lts.Need-same-length-7 (kind-of-reads.Asked, kind-of-reads.Learnt, further-reads.Asked, further-reads.Learnt, put-reads.Asked, put-reads.Learnt, other-reads.Asked, other-reads.Learnt, in-seq-below t, in-seq.Post, in-par-below t, in-par.Post, condition-below t, condition.Post, count-of-reads.Asked, count-of-reads.Learnt, kept-below t, kept.Post, in-place-reads.Asked, in-place-reads.Learnt) (replace-at t) replace.Post
 replace-same-length-7 t c = search needs
 
-replace-returns-9 : (t : ℕ) → replace-lts.Need-returns-9 (wide-reads.Asked, wide-reads.Learnt, further-reads.Asked, further-reads.Learnt, put-reads.Asked, put-reads.Learnt, other-reads.Asked, other-reads.Learnt, in-seq-below t, in-seq.Post, in-par-below t, in-par.Post, condition-below t, condition.Post, kept-below t, kept.Post, in-place-reads.Asked, in-place-reads.Learnt) (replace-at t) replace.Post
+replace-returns-9 : (t : ℕ) → replace-lts.Need-returns-9 (kind-of-reads.Asked, kind-of-reads.Learnt, further-reads.Asked, further-reads.Learnt, put-reads.Asked, put-reads.Learnt, other-reads.Asked, other-reads.Learnt, in-seq-below t, in-seq.Post, in-par-below t, in-par.Post, condition-below t, condition.Post, count-of-reads.Asked, count-of-reads.Learnt, kept-below t, kept.Post, in-place-reads.Asked, in-place-reads.Learnt) (replace-at t) replace.Post
 unfolding nodeW seqW afterFirst parW parAfter closePar conditionW keptW nilW
 replace-returns-9 t c =
-    let f0 = c .before .before .before .before .before .match .keys7 in
-    let f1 = c .before .before .before .before .before .before .before .before .if2 .left in
-    let f2 = c .before .before .before .before .before .before .before .before .before .if1 .left in
-    (simp (tests, replace-step, parts-step, parts-end, ← (c .before .before .kept .ensures .0), ← (c .before .before .kept .ensures .1), ← (c .before .before .before .before .further2 .ensures), f0, ← (c .before .before .before .before .before .before .wide .ensures .0), f1, f2), simp (tests, replace-step, parts-step, parts-end, ← (c .before .before .kept .ensures .0), ← (c .before .before .kept .ensures .1), ← (c .before .before .before .before .further2 .ensures), f0, ← (c .before .before .before .before .before .before .wide .ensures .0), f1, f2))
+    let f0 = c .before .before .before .before .before .before .before .match .keys7 in
+    let f1 = c .before .before .before .before .before .before .before .before .before .before .if2 .left in
+    let f2 = c .before .before .before .before .before .before .before .before .before .before .before .if1 .left in
+    (simp (tests, replace-step, ← (c .before .before .kept .ensures .0), ← (c .before .before .before .before .before .before .further2 .ensures), ← (c .before .before .before .before .count-of .ensures .0), f0, ← (c .before .before .before .before .before .before .before .before .kind-of .ensures .0), f1, f2), simp (tests, replace-step, ← (c .before .before .kept .ensures .1), ← (c .before .before .before .before .before .before .further2 .ensures), ← (c .before .before .before .before .count-of .ensures .0), f0, ← (c .before .before .before .before .before .before .before .before .kind-of .ensures .0), f1, f2))
 
-replace-same-length-8 : (t : ℕ) → replace-lts.Need-same-length-8 (wide-reads.Asked, wide-reads.Learnt, further-reads.Asked, further-reads.Learnt, put-reads.Asked, put-reads.Learnt, other-reads.Asked, other-reads.Learnt, in-seq-below t, in-seq.Post, in-par-below t, in-par.Post, condition-below t, condition.Post, kept-below t, kept.Post, in-place-reads.Asked, in-place-reads.Learnt) (replace-at t) replace.Post
+replace-same-length-8 : (t : ℕ) → replace-lts.Need-same-length-8 (kind-of-reads.Asked, kind-of-reads.Learnt, further-reads.Asked, further-reads.Learnt, put-reads.Asked, put-reads.Learnt, other-reads.Asked, other-reads.Learnt, in-seq-below t, in-seq.Post, in-par-below t, in-par.Post, condition-below t, condition.Post, count-of-reads.Asked, count-of-reads.Learnt, kept-below t, kept.Post, in-place-reads.Asked, in-place-reads.Learnt) (replace-at t) replace.Post
 replace-same-length-8 t c = search needs
 
-replace-returns-10 : (t : ℕ) → replace-lts.Need-returns-10 (wide-reads.Asked, wide-reads.Learnt, further-reads.Asked, further-reads.Learnt, put-reads.Asked, put-reads.Learnt, other-reads.Asked, other-reads.Learnt, in-seq-below t, in-seq.Post, in-par-below t, in-par.Post, condition-below t, condition.Post, kept-below t, kept.Post, in-place-reads.Asked, in-place-reads.Learnt) (replace-at t) replace.Post
+replace-returns-10 : (t : ℕ) → replace-lts.Need-returns-10 (kind-of-reads.Asked, kind-of-reads.Learnt, further-reads.Asked, further-reads.Learnt, put-reads.Asked, put-reads.Learnt, other-reads.Asked, other-reads.Learnt, in-seq-below t, in-seq.Post, in-par-below t, in-par.Post, condition-below t, condition.Post, count-of-reads.Asked, count-of-reads.Learnt, kept-below t, kept.Post, in-place-reads.Asked, in-place-reads.Learnt) (replace-at t) replace.Post
 unfolding nodeW seqW afterFirst parW parAfter closePar conditionW keptW nilW
 replace-returns-10 t c =
     let f0 = c .before .before .before .before .match .keys8 in
     let f1 = c .before .before .before .before .before .before .before .if2 .left in
     let f2 = c .before .before .before .before .before .before .before .before .if1 .left in
-    (simp (tests, replace-step, parts-step, parts-end, ← (c .before .before .other2 .ensures .0), ← (c .before .before .other2 .ensures .1), f0, ← (c .before .before .before .before .before .wide .ensures .0), f1, f2), simp (tests, replace-step, parts-step, parts-end, ← (c .before .before .other2 .ensures .0), ← (c .before .before .other2 .ensures .1), f0, ← (c .before .before .before .before .before .wide .ensures .0), f1, f2))
+    (simp (tests, replace-step, ← (c .before .before .other2 .ensures .0), f0, ← (c .before .before .before .before .before .kind-of .ensures .0), f1, f2), simp (tests, replace-step, ← (c .before .before .other2 .ensures .1), f0, ← (c .before .before .before .before .before .kind-of .ensures .0), f1, f2))
 
-replace-same-length-9 : (t : ℕ) → replace-lts.Need-same-length-9 (wide-reads.Asked, wide-reads.Learnt, further-reads.Asked, further-reads.Learnt, put-reads.Asked, put-reads.Learnt, other-reads.Asked, other-reads.Learnt, in-seq-below t, in-seq.Post, in-par-below t, in-par.Post, condition-below t, condition.Post, kept-below t, kept.Post, in-place-reads.Asked, in-place-reads.Learnt) (replace-at t) replace.Post
+replace-same-length-9 : (t : ℕ) → replace-lts.Need-same-length-9 (kind-of-reads.Asked, kind-of-reads.Learnt, further-reads.Asked, further-reads.Learnt, put-reads.Asked, put-reads.Learnt, other-reads.Asked, other-reads.Learnt, in-seq-below t, in-seq.Post, in-par-below t, in-par.Post, condition-below t, condition.Post, count-of-reads.Asked, count-of-reads.Learnt, kept-below t, kept.Post, in-place-reads.Asked, in-place-reads.Learnt) (replace-at t) replace.Post
 replace-same-length-9 t c = search needs
 
-replace-returns-11 : (t : ℕ) → replace-lts.Need-returns-11 (wide-reads.Asked, wide-reads.Learnt, further-reads.Asked, further-reads.Learnt, put-reads.Asked, put-reads.Learnt, other-reads.Asked, other-reads.Learnt, in-seq-below t, in-seq.Post, in-par-below t, in-par.Post, condition-below t, condition.Post, kept-below t, kept.Post, in-place-reads.Asked, in-place-reads.Learnt) (replace-at t) replace.Post
+replace-returns-11 : (t : ℕ) → replace-lts.Need-returns-11 (kind-of-reads.Asked, kind-of-reads.Learnt, further-reads.Asked, further-reads.Learnt, put-reads.Asked, put-reads.Learnt, other-reads.Asked, other-reads.Learnt, in-seq-below t, in-seq.Post, in-par-below t, in-par.Post, condition-below t, condition.Post, count-of-reads.Asked, count-of-reads.Learnt, kept-below t, kept.Post, in-place-reads.Asked, in-place-reads.Learnt) (replace-at t) replace.Post
 unfolding nodeW seqW afterFirst parW parAfter closePar conditionW keptW nilW
 replace-returns-11 t c =
     let f0 = c .before .before .before .before .before .match .keys9 in
     let f1 = c .before .before .before .before .before .before .before .before .if2 .left in
     let f2 = c .before .before .before .before .before .before .before .before .before .if1 .left in
-    (simp (tests, replace-step, parts-step, parts-end, ← (c .before .before .kept2 .ensures .0), ← (c .before .before .kept2 .ensures .1), ← (c .before .before .before .before .further3 .ensures), f0, ← (c .before .before .before .before .before .before .wide .ensures .0), f1, f2), simp (tests, replace-step, parts-step, parts-end, ← (c .before .before .kept2 .ensures .0), ← (c .before .before .kept2 .ensures .1), ← (c .before .before .before .before .further3 .ensures), f0, ← (c .before .before .before .before .before .before .wide .ensures .0), f1, f2))
+    (simp (tests, replace-step, ← (c .before .before .kept2 .ensures .0), ← (c .before .before .before .before .further3 .ensures), f0, ← (c .before .before .before .before .before .before .kind-of .ensures .0), f1, f2), simp (tests, replace-step, ← (c .before .before .kept2 .ensures .1), ← (c .before .before .before .before .further3 .ensures), f0, ← (c .before .before .before .before .before .before .kind-of .ensures .0), f1, f2))
 
-replace-same-length-10 : (t : ℕ) → replace-lts.Need-same-length-10 (wide-reads.Asked, wide-reads.Learnt, further-reads.Asked, further-reads.Learnt, put-reads.Asked, put-reads.Learnt, other-reads.Asked, other-reads.Learnt, in-seq-below t, in-seq.Post, in-par-below t, in-par.Post, condition-below t, condition.Post, kept-below t, kept.Post, in-place-reads.Asked, in-place-reads.Learnt) (replace-at t) replace.Post
+replace-same-length-10 : (t : ℕ) → replace-lts.Need-same-length-10 (kind-of-reads.Asked, kind-of-reads.Learnt, further-reads.Asked, further-reads.Learnt, put-reads.Asked, put-reads.Learnt, other-reads.Asked, other-reads.Learnt, in-seq-below t, in-seq.Post, in-par-below t, in-par.Post, condition-below t, condition.Post, count-of-reads.Asked, count-of-reads.Learnt, kept-below t, kept.Post, in-place-reads.Asked, in-place-reads.Learnt) (replace-at t) replace.Post
 replace-same-length-10 t c = search needs
 
-replace-returns-12 : (t : ℕ) → replace-lts.Need-returns-12 (wide-reads.Asked, wide-reads.Learnt, further-reads.Asked, further-reads.Learnt, put-reads.Asked, put-reads.Learnt, other-reads.Asked, other-reads.Learnt, in-seq-below t, in-seq.Post, in-par-below t, in-par.Post, condition-below t, condition.Post, kept-below t, kept.Post, in-place-reads.Asked, in-place-reads.Learnt) (replace-at t) replace.Post
+replace-returns-12 : (t : ℕ) → replace-lts.Need-returns-12 (kind-of-reads.Asked, kind-of-reads.Learnt, further-reads.Asked, further-reads.Learnt, put-reads.Asked, put-reads.Learnt, other-reads.Asked, other-reads.Learnt, in-seq-below t, in-seq.Post, in-par-below t, in-par.Post, condition-below t, condition.Post, count-of-reads.Asked, count-of-reads.Learnt, kept-below t, kept.Post, in-place-reads.Asked, in-place-reads.Learnt) (replace-at t) replace.Post
 unfolding nodeW seqW afterFirst parW parAfter closePar conditionW keptW nilW
 replace-returns-12 t c =
     let f0 = c .before .before .before .before .match .keys10 in
     let f1 = c .before .before .before .before .before .before .before .if2 .left in
     let f2 = c .before .before .before .before .before .before .before .before .if1 .left in
-    (simp (tests, replace-step, parts-step, parts-end, ← (c .before .before .other3 .ensures .0), ← (c .before .before .other3 .ensures .1), f0, ← (c .before .before .before .before .before .wide .ensures .0), f1, f2), simp (tests, replace-step, parts-step, parts-end, ← (c .before .before .other3 .ensures .0), ← (c .before .before .other3 .ensures .1), f0, ← (c .before .before .before .before .before .wide .ensures .0), f1, f2))
+    (simp (tests, replace-step, ← (c .before .before .other3 .ensures .0), f0, ← (c .before .before .before .before .before .kind-of .ensures .0), f1, f2), simp (tests, replace-step, ← (c .before .before .other3 .ensures .1), f0, ← (c .before .before .before .before .before .kind-of .ensures .0), f1, f2))
 
-replace-same-length-11 : (t : ℕ) → replace-lts.Need-same-length-11 (wide-reads.Asked, wide-reads.Learnt, further-reads.Asked, further-reads.Learnt, put-reads.Asked, put-reads.Learnt, other-reads.Asked, other-reads.Learnt, in-seq-below t, in-seq.Post, in-par-below t, in-par.Post, condition-below t, condition.Post, kept-below t, kept.Post, in-place-reads.Asked, in-place-reads.Learnt) (replace-at t) replace.Post
+replace-same-length-11 : (t : ℕ) → replace-lts.Need-same-length-11 (kind-of-reads.Asked, kind-of-reads.Learnt, further-reads.Asked, further-reads.Learnt, put-reads.Asked, put-reads.Learnt, other-reads.Asked, other-reads.Learnt, in-seq-below t, in-seq.Post, in-par-below t, in-par.Post, condition-below t, condition.Post, count-of-reads.Asked, count-of-reads.Learnt, kept-below t, kept.Post, in-place-reads.Asked, in-place-reads.Learnt) (replace-at t) replace.Post
 replace-same-length-11 t c = search needs
 
-replace-returns-13 : (t : ℕ) → replace-lts.Need-returns-13 (wide-reads.Asked, wide-reads.Learnt, further-reads.Asked, further-reads.Learnt, put-reads.Asked, put-reads.Learnt, other-reads.Asked, other-reads.Learnt, in-seq-below t, in-seq.Post, in-par-below t, in-par.Post, condition-below t, condition.Post, kept-below t, kept.Post, in-place-reads.Asked, in-place-reads.Learnt) (replace-at t) replace.Post
+replace-returns-13 : (t : ℕ) → replace-lts.Need-returns-13 (kind-of-reads.Asked, kind-of-reads.Learnt, further-reads.Asked, further-reads.Learnt, put-reads.Asked, put-reads.Learnt, other-reads.Asked, other-reads.Learnt, in-seq-below t, in-seq.Post, in-par-below t, in-par.Post, condition-below t, condition.Post, count-of-reads.Asked, count-of-reads.Learnt, kept-below t, kept.Post, in-place-reads.Asked, in-place-reads.Learnt) (replace-at t) replace.Post
 unfolding nodeW seqW afterFirst parW parAfter closePar conditionW keptW nilW
 replace-returns-13 t c =
     let f0 = c .before .before .before .before .match .keys11 in
     let f1 = c .before .before .before .before .before .before .before .if2 .left in
     let f2 = c .before .before .before .before .before .before .before .before .if1 .left in
-    (simp (tests, replace-step, parts-step, parts-end, ← (c .before .before .other4 .ensures .0), ← (c .before .before .other4 .ensures .1), f0, ← (c .before .before .before .before .before .wide .ensures .0), f1, f2), simp (tests, replace-step, parts-step, parts-end, ← (c .before .before .other4 .ensures .0), ← (c .before .before .other4 .ensures .1), f0, ← (c .before .before .before .before .before .wide .ensures .0), f1, f2))
+    (simp (tests, replace-step, ← (c .before .before .other4 .ensures .0), f0, ← (c .before .before .before .before .before .kind-of .ensures .0), f1, f2), simp (tests, replace-step, ← (c .before .before .other4 .ensures .1), f0, ← (c .before .before .before .before .before .kind-of .ensures .0), f1, f2))
 
-replace-same-length-12 : (t : ℕ) → replace-lts.Need-same-length-12 (wide-reads.Asked, wide-reads.Learnt, further-reads.Asked, further-reads.Learnt, put-reads.Asked, put-reads.Learnt, other-reads.Asked, other-reads.Learnt, in-seq-below t, in-seq.Post, in-par-below t, in-par.Post, condition-below t, condition.Post, kept-below t, kept.Post, in-place-reads.Asked, in-place-reads.Learnt) (replace-at t) replace.Post
+replace-same-length-12 : (t : ℕ) → replace-lts.Need-same-length-12 (kind-of-reads.Asked, kind-of-reads.Learnt, further-reads.Asked, further-reads.Learnt, put-reads.Asked, put-reads.Learnt, other-reads.Asked, other-reads.Learnt, in-seq-below t, in-seq.Post, in-par-below t, in-par.Post, condition-below t, condition.Post, count-of-reads.Asked, count-of-reads.Learnt, kept-below t, kept.Post, in-place-reads.Asked, in-place-reads.Learnt) (replace-at t) replace.Post
 replace-same-length-12 t c = search needs
 
-replace-returns-14 : (t : ℕ) → replace-lts.Need-returns-14 (wide-reads.Asked, wide-reads.Learnt, further-reads.Asked, further-reads.Learnt, put-reads.Asked, put-reads.Learnt, other-reads.Asked, other-reads.Learnt, in-seq-below t, in-seq.Post, in-par-below t, in-par.Post, condition-below t, condition.Post, kept-below t, kept.Post, in-place-reads.Asked, in-place-reads.Learnt) (replace-at t) replace.Post
+replace-returns-14 : (t : ℕ) → replace-lts.Need-returns-14 (kind-of-reads.Asked, kind-of-reads.Learnt, further-reads.Asked, further-reads.Learnt, put-reads.Asked, put-reads.Learnt, other-reads.Asked, other-reads.Learnt, in-seq-below t, in-seq.Post, in-par-below t, in-par.Post, condition-below t, condition.Post, count-of-reads.Asked, count-of-reads.Learnt, kept-below t, kept.Post, in-place-reads.Asked, in-place-reads.Learnt) (replace-at t) replace.Post
 unfolding nodeW seqW afterFirst parW parAfter closePar conditionW keptW nilW
 replace-returns-14 t c =
     let f0 = c .before .before .before .before .before .match .keys12 in
     let f1 = c .before .before .before .before .before .before .before .before .if2 .left in
     let f2 = c .before .before .before .before .before .before .before .before .before .if1 .left in
-    (simp (tests, replace-step, parts-step, parts-end, ← (c .before .before .kept3 .ensures .0), ← (c .before .before .kept3 .ensures .1), ← (c .before .before .before .before .further4 .ensures), f0, ← (c .before .before .before .before .before .before .wide .ensures .0), f1, f2), simp (tests, replace-step, parts-step, parts-end, ← (c .before .before .kept3 .ensures .0), ← (c .before .before .kept3 .ensures .1), ← (c .before .before .before .before .further4 .ensures), f0, ← (c .before .before .before .before .before .before .wide .ensures .0), f1, f2))
+    (simp (tests, replace-step, ← (c .before .before .kept3 .ensures .0), ← (c .before .before .before .before .further4 .ensures), f0, ← (c .before .before .before .before .before .before .kind-of .ensures .0), f1, f2), simp (tests, replace-step, ← (c .before .before .kept3 .ensures .1), ← (c .before .before .before .before .further4 .ensures), f0, ← (c .before .before .before .before .before .before .kind-of .ensures .0), f1, f2))
 
-replace-same-length-13 : (t : ℕ) → replace-lts.Need-same-length-13 (wide-reads.Asked, wide-reads.Learnt, further-reads.Asked, further-reads.Learnt, put-reads.Asked, put-reads.Learnt, other-reads.Asked, other-reads.Learnt, in-seq-below t, in-seq.Post, in-par-below t, in-par.Post, condition-below t, condition.Post, kept-below t, kept.Post, in-place-reads.Asked, in-place-reads.Learnt) (replace-at t) replace.Post
+replace-same-length-13 : (t : ℕ) → replace-lts.Need-same-length-13 (kind-of-reads.Asked, kind-of-reads.Learnt, further-reads.Asked, further-reads.Learnt, put-reads.Asked, put-reads.Learnt, other-reads.Asked, other-reads.Learnt, in-seq-below t, in-seq.Post, in-par-below t, in-par.Post, condition-below t, condition.Post, count-of-reads.Asked, count-of-reads.Learnt, kept-below t, kept.Post, in-place-reads.Asked, in-place-reads.Learnt) (replace-at t) replace.Post
 replace-same-length-13 t c = search needs
 
-replace-returns-15 : (t : ℕ) → replace-lts.Need-returns-15 (wide-reads.Asked, wide-reads.Learnt, further-reads.Asked, further-reads.Learnt, put-reads.Asked, put-reads.Learnt, other-reads.Asked, other-reads.Learnt, in-seq-below t, in-seq.Post, in-par-below t, in-par.Post, condition-below t, condition.Post, kept-below t, kept.Post, in-place-reads.Asked, in-place-reads.Learnt) (replace-at t) replace.Post
+replace-returns-15 : (t : ℕ) → replace-lts.Need-returns-15 (kind-of-reads.Asked, kind-of-reads.Learnt, further-reads.Asked, further-reads.Learnt, put-reads.Asked, put-reads.Learnt, other-reads.Asked, other-reads.Learnt, in-seq-below t, in-seq.Post, in-par-below t, in-par.Post, condition-below t, condition.Post, count-of-reads.Asked, count-of-reads.Learnt, kept-below t, kept.Post, in-place-reads.Asked, in-place-reads.Learnt) (replace-at t) replace.Post
 unfolding nodeW seqW afterFirst parW parAfter closePar conditionW keptW nilW
 replace-returns-15 t c =
     let f0 = c .before .before .before .before .match .keys13 in
     let f1 = c .before .before .before .before .before .before .before .if2 .left in
     let f2 = c .before .before .before .before .before .before .before .before .if1 .left in
-    (simp (tests, replace-step, parts-step, parts-end, ← (c .before .before .other5 .ensures .0), ← (c .before .before .other5 .ensures .1), f0, ← (c .before .before .before .before .before .wide .ensures .0), f1, f2), simp (tests, replace-step, parts-step, parts-end, ← (c .before .before .other5 .ensures .0), ← (c .before .before .other5 .ensures .1), f0, ← (c .before .before .before .before .before .wide .ensures .0), f1, f2))
+    (simp (tests, replace-step, ← (c .before .before .other5 .ensures .0), f0, ← (c .before .before .before .before .before .kind-of .ensures .0), f1, f2), simp (tests, replace-step, ← (c .before .before .other5 .ensures .1), f0, ← (c .before .before .before .before .before .kind-of .ensures .0), f1, f2))
 
-replace-same-length-14 : (t : ℕ) → replace-lts.Need-same-length-14 (wide-reads.Asked, wide-reads.Learnt, further-reads.Asked, further-reads.Learnt, put-reads.Asked, put-reads.Learnt, other-reads.Asked, other-reads.Learnt, in-seq-below t, in-seq.Post, in-par-below t, in-par.Post, condition-below t, condition.Post, kept-below t, kept.Post, in-place-reads.Asked, in-place-reads.Learnt) (replace-at t) replace.Post
+replace-same-length-14 : (t : ℕ) → replace-lts.Need-same-length-14 (kind-of-reads.Asked, kind-of-reads.Learnt, further-reads.Asked, further-reads.Learnt, put-reads.Asked, put-reads.Learnt, other-reads.Asked, other-reads.Learnt, in-seq-below t, in-seq.Post, in-par-below t, in-par.Post, condition-below t, condition.Post, count-of-reads.Asked, count-of-reads.Learnt, kept-below t, kept.Post, in-place-reads.Asked, in-place-reads.Learnt) (replace-at t) replace.Post
 replace-same-length-14 t c = search needs
 
-replace-returns-16 : (t : ℕ) → replace-lts.Need-returns-16 (wide-reads.Asked, wide-reads.Learnt, further-reads.Asked, further-reads.Learnt, put-reads.Asked, put-reads.Learnt, other-reads.Asked, other-reads.Learnt, in-seq-below t, in-seq.Post, in-par-below t, in-par.Post, condition-below t, condition.Post, kept-below t, kept.Post, in-place-reads.Asked, in-place-reads.Learnt) (replace-at t) replace.Post
+replace-returns-16 : (t : ℕ) → replace-lts.Need-returns-16 (kind-of-reads.Asked, kind-of-reads.Learnt, further-reads.Asked, further-reads.Learnt, put-reads.Asked, put-reads.Learnt, other-reads.Asked, other-reads.Learnt, in-seq-below t, in-seq.Post, in-par-below t, in-par.Post, condition-below t, condition.Post, count-of-reads.Asked, count-of-reads.Learnt, kept-below t, kept.Post, in-place-reads.Asked, in-place-reads.Learnt) (replace-at t) replace.Post
 unfolding nodeW seqW afterFirst parW parAfter closePar conditionW keptW nilW
 replace-returns-16 t c =
     let f0 = c .before .before .before .before .match .keys14 in
     let f1 = c .before .before .before .before .before .before .before .if2 .left in
     let f2 = c .before .before .before .before .before .before .before .before .if1 .left in
-    (simp (tests, replace-step, parts-step, parts-end, ← (c .before .before .other6 .ensures .0), ← (c .before .before .other6 .ensures .1), f0, ← (c .before .before .before .before .before .wide .ensures .0), f1, f2), simp (tests, replace-step, parts-step, parts-end, ← (c .before .before .other6 .ensures .0), ← (c .before .before .other6 .ensures .1), f0, ← (c .before .before .before .before .before .wide .ensures .0), f1, f2))
+    (simp (tests, replace-step, ← (c .before .before .other6 .ensures .0), f0, ← (c .before .before .before .before .before .kind-of .ensures .0), f1, f2), simp (tests, replace-step, ← (c .before .before .other6 .ensures .1), f0, ← (c .before .before .before .before .before .kind-of .ensures .0), f1, f2))
 
-replace-same-length-15 : (t : ℕ) → replace-lts.Need-same-length-15 (wide-reads.Asked, wide-reads.Learnt, further-reads.Asked, further-reads.Learnt, put-reads.Asked, put-reads.Learnt, other-reads.Asked, other-reads.Learnt, in-seq-below t, in-seq.Post, in-par-below t, in-par.Post, condition-below t, condition.Post, kept-below t, kept.Post, in-place-reads.Asked, in-place-reads.Learnt) (replace-at t) replace.Post
+replace-same-length-15 : (t : ℕ) → replace-lts.Need-same-length-15 (kind-of-reads.Asked, kind-of-reads.Learnt, further-reads.Asked, further-reads.Learnt, put-reads.Asked, put-reads.Learnt, other-reads.Asked, other-reads.Learnt, in-seq-below t, in-seq.Post, in-par-below t, in-par.Post, condition-below t, condition.Post, count-of-reads.Asked, count-of-reads.Learnt, kept-below t, kept.Post, in-place-reads.Asked, in-place-reads.Learnt) (replace-at t) replace.Post
 replace-same-length-15 t c = search needs
 
-replace-returns-17 : (t : ℕ) → replace-lts.Need-returns-17 (wide-reads.Asked, wide-reads.Learnt, further-reads.Asked, further-reads.Learnt, put-reads.Asked, put-reads.Learnt, other-reads.Asked, other-reads.Learnt, in-seq-below t, in-seq.Post, in-par-below t, in-par.Post, condition-below t, condition.Post, kept-below t, kept.Post, in-place-reads.Asked, in-place-reads.Learnt) (replace-at t) replace.Post
+replace-returns-17 : (t : ℕ) → replace-lts.Need-returns-17 (kind-of-reads.Asked, kind-of-reads.Learnt, further-reads.Asked, further-reads.Learnt, put-reads.Asked, put-reads.Learnt, other-reads.Asked, other-reads.Learnt, in-seq-below t, in-seq.Post, in-par-below t, in-par.Post, condition-below t, condition.Post, count-of-reads.Asked, count-of-reads.Learnt, kept-below t, kept.Post, in-place-reads.Asked, in-place-reads.Learnt) (replace-at t) replace.Post
 unfolding nodeW seqW afterFirst parW parAfter closePar conditionW keptW nilW
 replace-returns-17 t c =
     let f0 = c .before .before .before .before .match .keys15 in
     let f1 = c .before .before .before .before .before .before .before .if2 .left in
     let f2 = c .before .before .before .before .before .before .before .before .if1 .left in
-    (simp (tests, replace-step, parts-step, parts-end, ← (c .before .before .other7 .ensures .0), ← (c .before .before .other7 .ensures .1), f0, ← (c .before .before .before .before .before .wide .ensures .0), f1, f2), simp (tests, replace-step, parts-step, parts-end, ← (c .before .before .other7 .ensures .0), ← (c .before .before .other7 .ensures .1), f0, ← (c .before .before .before .before .before .wide .ensures .0), f1, f2))
+    (simp (tests, replace-step, ← (c .before .before .other7 .ensures .0), f0, ← (c .before .before .before .before .before .kind-of .ensures .0), f1, f2), simp (tests, replace-step, ← (c .before .before .other7 .ensures .1), f0, ← (c .before .before .before .before .before .kind-of .ensures .0), f1, f2))
 
-replace-same-length-16 : (t : ℕ) → replace-lts.Need-same-length-16 (wide-reads.Asked, wide-reads.Learnt, further-reads.Asked, further-reads.Learnt, put-reads.Asked, put-reads.Learnt, other-reads.Asked, other-reads.Learnt, in-seq-below t, in-seq.Post, in-par-below t, in-par.Post, condition-below t, condition.Post, kept-below t, kept.Post, in-place-reads.Asked, in-place-reads.Learnt) (replace-at t) replace.Post
+replace-same-length-16 : (t : ℕ) → replace-lts.Need-same-length-16 (kind-of-reads.Asked, kind-of-reads.Learnt, further-reads.Asked, further-reads.Learnt, put-reads.Asked, put-reads.Learnt, other-reads.Asked, other-reads.Learnt, in-seq-below t, in-seq.Post, in-par-below t, in-par.Post, condition-below t, condition.Post, count-of-reads.Asked, count-of-reads.Learnt, kept-below t, kept.Post, in-place-reads.Asked, in-place-reads.Learnt) (replace-at t) replace.Post
 replace-same-length-16 t c = search needs
 
-replace-returns-18 : (t : ℕ) → replace-lts.Need-returns-18 (wide-reads.Asked, wide-reads.Learnt, further-reads.Asked, further-reads.Learnt, put-reads.Asked, put-reads.Learnt, other-reads.Asked, other-reads.Learnt, in-seq-below t, in-seq.Post, in-par-below t, in-par.Post, condition-below t, condition.Post, kept-below t, kept.Post, in-place-reads.Asked, in-place-reads.Learnt) (replace-at t) replace.Post
+replace-returns-18 : (t : ℕ) → replace-lts.Need-returns-18 (kind-of-reads.Asked, kind-of-reads.Learnt, further-reads.Asked, further-reads.Learnt, put-reads.Asked, put-reads.Learnt, other-reads.Asked, other-reads.Learnt, in-seq-below t, in-seq.Post, in-par-below t, in-par.Post, condition-below t, condition.Post, count-of-reads.Asked, count-of-reads.Learnt, kept-below t, kept.Post, in-place-reads.Asked, in-place-reads.Learnt) (replace-at t) replace.Post
 unfolding nodeW seqW afterFirst parW parAfter closePar conditionW keptW nilW
 replace-returns-18 t c =
     let f0 = c .before .before .before .before .match .keys16 in
     let f1 = c .before .before .before .before .before .before .before .if2 .left in
     let f2 = c .before .before .before .before .before .before .before .before .if1 .left in
-    (simp (tests, replace-step, parts-step, parts-end, ← (c .before .before .in-place .ensures .0), ← (c .before .before .in-place .ensures .1), f0, ← (c .before .before .before .before .before .wide .ensures .0), f1, f2), simp (tests, replace-step, parts-step, parts-end, ← (c .before .before .in-place .ensures .0), ← (c .before .before .in-place .ensures .1), f0, ← (c .before .before .before .before .before .wide .ensures .0), f1, f2))
+    (simp (tests, replace-step, ← (c .before .before .in-place .ensures .0), f0, ← (c .before .before .before .before .before .kind-of .ensures .0), f1, f2), simp (tests, replace-step, ← (c .before .before .in-place .ensures .1), f0, ← (c .before .before .before .before .before .kind-of .ensures .0), f1, f2))
 
-replace-same-length-17 : (t : ℕ) → replace-lts.Need-same-length-17 (wide-reads.Asked, wide-reads.Learnt, further-reads.Asked, further-reads.Learnt, put-reads.Asked, put-reads.Learnt, other-reads.Asked, other-reads.Learnt, in-seq-below t, in-seq.Post, in-par-below t, in-par.Post, condition-below t, condition.Post, kept-below t, kept.Post, in-place-reads.Asked, in-place-reads.Learnt) (replace-at t) replace.Post
+replace-same-length-17 : (t : ℕ) → replace-lts.Need-same-length-17 (kind-of-reads.Asked, kind-of-reads.Learnt, further-reads.Asked, further-reads.Learnt, put-reads.Asked, put-reads.Learnt, other-reads.Asked, other-reads.Learnt, in-seq-below t, in-seq.Post, in-par-below t, in-par.Post, condition-below t, condition.Post, count-of-reads.Asked, count-of-reads.Learnt, kept-below t, kept.Post, in-place-reads.Asked, in-place-reads.Learnt) (replace-at t) replace.Post
 replace-same-length-17 t c = search needs
 
-replace-returns-19 : (t : ℕ) → replace-lts.Need-returns-19 (wide-reads.Asked, wide-reads.Learnt, further-reads.Asked, further-reads.Learnt, put-reads.Asked, put-reads.Learnt, other-reads.Asked, other-reads.Learnt, in-seq-below t, in-seq.Post, in-par-below t, in-par.Post, condition-below t, condition.Post, kept-below t, kept.Post, in-place-reads.Asked, in-place-reads.Learnt) (replace-at t) replace.Post
+replace-returns-19 : (t : ℕ) → replace-lts.Need-returns-19 (kind-of-reads.Asked, kind-of-reads.Learnt, further-reads.Asked, further-reads.Learnt, put-reads.Asked, put-reads.Learnt, other-reads.Asked, other-reads.Learnt, in-seq-below t, in-seq.Post, in-par-below t, in-par.Post, condition-below t, condition.Post, count-of-reads.Asked, count-of-reads.Learnt, kept-below t, kept.Post, in-place-reads.Asked, in-place-reads.Learnt) (replace-at t) replace.Post
 unfolding nodeW
 replace-returns-19 t c =
     let f0 = c .before .before .before .before .before .before .before .if2 .left in
     let f1 = c .before .before .before .before .before .before .before .before .if1 .left in
-    let g = beyond-16 _ (c .before .before .before .before .match .rest) in
-    (simp (tests, replace-step, List·getD-eq-default, ← (c .before .before .other8 .ensures .0), ← (c .before .before .other8 .ensures .1), ← (c .before .before .before .before .before .wide .ensures .0), f0, f1, g), simp (tests, replace-step, List·getD-eq-default, ← (c .before .before .other8 .ensures .0), ← (c .before .before .other8 .ensures .1), ← (c .before .before .before .before .before .wide .ensures .0), f0, f1, g))
+    let g = beyond 16 _ (c .before .before .before .before .match .rest) in
+    (simp (tests, replace-step, List·getD-eq-default, ← (c .before .before .other8 .ensures .0), ← (c .before .before .before .before .before .kind-of .ensures .0), f0, f1, g), simp (tests, replace-step, List·getD-eq-default, ← (c .before .before .other8 .ensures .1), ← (c .before .before .before .before .before .kind-of .ensures .0), f0, f1, g))
 
 pub +condition+in-par+in-seq+kept+replace-spec : {M : Type 1} → statement M
 +condition+in-par+in-seq+kept+replace-spec =
@@ -632,8 +645,8 @@ pub +condition+in-par+in-seq+kept+replace-spec : {M : Type 1} → statement M
     (kept-same-length t)
     (kept-returns t))
     λ t. replace-lts.spec (
-      wide-reads.Asked,
-      wide-reads.Learnt,
+      kind-of-reads.Asked,
+      kind-of-reads.Learnt,
       further-reads.Asked,
       further-reads.Learnt,
       put-reads.Asked,
@@ -646,6 +659,8 @@ pub +condition+in-par+in-seq+kept+replace-spec : {M : Type 1} → statement M
       in-par.Post,
       condition-below t,
       condition.Post,
+      count-of-reads.Asked,
+      count-of-reads.Learnt,
       kept-below t,
       kept.Post,
       in-place-reads.Asked,
@@ -655,9 +670,9 @@ pub +condition+in-par+in-seq+kept+replace-spec : {M : Type 1} → statement M
     replace.Post
     (replace-returns t)
     (replace-returns-2 t)
-    (replace-mul-wide t)
-    (replace-shared-slice-read-wide t)
-    (replace-wide-requires t)
+    (replace-mul-kind-of t)
+    (replace-shared-slice-read-kind-of t)
+    (replace-kind-of-requires t)
     (replace-further-requires t)
     (replace-put-requires t)
     (replace-other-requires t)
@@ -670,6 +685,9 @@ pub +condition+in-par+in-seq+kept+replace-spec : {M : Type 1} → statement M
     (replace-sub-condition-2 t)
     (replace-condition-requires-2 t)
     (replace-further-requires-2 t)
+    (replace-mul-count-of t)
+    (replace-shared-slice-read-count-of t)
+    (replace-count-of-requires t)
     (replace-mul-kept t)
     (replace-sub-kept t)
     (replace-kept-requires t)

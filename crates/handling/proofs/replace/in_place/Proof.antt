@@ -18,7 +18,7 @@ same-length c = search needs
 returns : tie.Need-returns
 unfolding cHW
 returns c =
-    (simp (tests, ← (c .before .before .put-old .ensures .0), ← (c .before .before .put-old .ensures .1), ← (c .before .before .before .before .further .ensures)), simp (tests, ← (c .before .before .put-old .ensures .0), ← (c .before .before .put-old .ensures .1), ← (c .before .before .before .before .further .ensures)))
+    (simp (← (c .before .before .put-old .ensures .0), ← (c .before .before .before .before .further .ensures)), simp (← (c .before .before .put-old .ensures .1)))
 
 pub in-place-spec : {M : Type 1} → statement M
 in-place-spec = tie.close (tie.spec further-requires put-old-requires same-length returns)

@@ -18,7 +18,7 @@ same-length c = search needs
 returns : tie.Need-returns
 unfolding otherW
 returns c =
-    (simp (tests, ← (c .before .before .copy .ensures .0), ← (c .before .before .copy .ensures .1), ← (c .before .before .before .before .code-levels .ensures)), simp (tests, ← (c .before .before .copy .ensures .0), ← (c .before .before .copy .ensures .1), ← (c .before .before .before .before .code-levels .ensures)))
+    (simp (← (c .before .before .copy .ensures .0), ← (c .before .before .before .before .code-levels .ensures)), simp (← (c .before .before .copy .ensures .1), ← (c .before .before .before .before .code-levels .ensures)))
 
 pub other-spec : {M : Type 1} → statement M
 other-spec = tie.close (tie.spec code-levels-requires copy-requires same-length returns)

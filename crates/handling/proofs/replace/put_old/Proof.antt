@@ -16,7 +16,7 @@ returns : tie.Need-returns
 unfolding oldEnd oldOut
 returns c =
     let f0 = c .before .before .before .before .if1 .taken in
-    (simp (tests, ← (c .before .before .put .ensures .0), ← (c .before .before .put .ensures .1), f0), simp (tests, ← (c .before .before .put .ensures .0), ← (c .before .before .put .ensures .1), f0))
+    (simp (← (c .before .before .put .ensures .0), f0), simp (← (c .before .before .put .ensures .1), f0))
 
 copy-requires : tie.Need-copy-requires
 copy-requires c κs = search needs
@@ -28,7 +28,7 @@ returns-2 : tie.Need-returns-2
 unfolding oldEnd oldOut
 returns-2 c =
     let f0 = c .before .before .before .before .if1 .left in
-    (simp (tests, ← (c .before .before .copy .ensures .0), ← (c .before .before .copy .ensures .1), f0), simp (tests, ← (c .before .before .copy .ensures .0), ← (c .before .before .copy .ensures .1), f0))
+    (simp (← (c .before .before .copy .ensures .0), f0), simp (← (c .before .before .copy .ensures .1), f0))
 
 pub put-old-spec : {M : Type 1} → statement M
 put-old-spec =

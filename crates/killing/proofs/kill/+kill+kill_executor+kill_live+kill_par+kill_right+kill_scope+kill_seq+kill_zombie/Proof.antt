@@ -8,8 +8,9 @@ use Rattle.killing.proofs.Kills.{kill-step, executor-alone, executor-be
 use Rattle.killing.specs.declared.kill.Moved.{Moved}
 use Rattle.sock.proofs.Tests.{tests}
 use Prim.Native.Nat.{ℕ, _+_, _*_, _<_}
-use borrow.Fn.Kinds.{In}
 use borrow.Fn.PlainCycle.{Measures, is, falls, and}
+use Prim.Native.Nat.{ℕ, _<_}
+use borrow.Fn.Kinds.{In}
 use Rattle.killing.proofs.kill.kill.Reads as kill
 use Rattle.killing.proofs.kill.kill.Kinds as kill-kinds
 use Rattle.killing.proofs.kill.+kill+kill_executor+kill_live+kill_par+kill_right+kill_scope+kill_seq+kill_zombie.Lts-kill as kill-lts
@@ -37,17 +38,18 @@ use Rattle.killing.proofs.kill.+kill+kill_executor+kill_live+kill_par+k
 use Rattle.killing.proofs.kill.gone.Reads as gone-reads
 use Rattle.killing.proofs.kill.keep.Reads as keep-reads
 use Rattle.killing.proofs.kill.kill_waiter.Reads as kill-waiter-reads
-use Rattle.layout.proofs.number.less_one.Reads as less-one-reads
 use Rattle.killing.proofs.kill.notice.Reads as notice-reads
 use Rattle.killing.proofs.kill.stuck.Reads as stuck-reads
 use Rattle.killing.proofs.kill.vanish.Reads as vanish-reads
 use Rattle.killing.proofs.kill.zombie_head.Reads as zombie-head-reads
+use Rattle.layout.proofs.field.kind_of.Reads as kind-of-reads
+use Rattle.layout.proofs.field.zombie_of.Reads as zombie-of-reads
+use Rattle.layout.proofs.number.less_one.Reads as less-one-reads
+use Rattle.skipping.proofs.pass.pass.Reads as pass-reads
+use Rattle.skipping.proofs.pass.pass_list.Reads as pass-list-reads
 use Rattle.writers.proofs.write.copy.Reads as copy-reads
 use Rattle.writers.proofs.write.down.Reads as down-reads
 use Rattle.writers.proofs.write.put.Reads as put-reads
-use Rattle.skipping.proofs.pass.pass_list.Reads as pass-list-reads
-use Rattle.skipping.proofs.pass.pass.Reads as pass-reads
-use Rattle.layout.proofs.number.wide.Reads as wide-reads
 use Rattle.killing.proofs.kill.+kill+kill_executor+kill_live+kill_par+kill_right+kill_scope+kill_seq+kill_zombie.{statement}
 use Rattle.killing.proofs.kill.+kill+kill_executor+kill_live+kill_par+kill_right+kill_scope+kill_seq+kill_zombie.Tie.{close}
 
@@ -144,154 +146,154 @@ abbrev kill-zombie-below : ℕ → In 3 kill-zombie-kinds.ps
 kill-zombie-below t =
     and 3 kill-zombie-kinds.ps (falls 3 kill-zombie-kinds.ps _<_ μ-kill-zombie t) kill-zombie.Pre
 
-kill-stuck-requires : (t : ℕ) → kill-lts.Need-stuck-requires (stuck-reads.Asked, stuck-reads.Learnt, wide-reads.Asked, wide-reads.Learnt, kill-seq-below t, kill-seq.Post, kill-par-below t, kill-par.Post, kill-scope-below t, kill-scope.Post, kill-executor-below t, kill-executor.Post, kill-waiter-reads.Asked, kill-waiter-reads.Learnt, keep-reads.Asked, keep-reads.Learnt, vanish-reads.Asked, vanish-reads.Learnt) (kill-at t) kill.Post
+kill-stuck-requires : (t : ℕ) → kill-lts.Need-stuck-requires (stuck-reads.Asked, stuck-reads.Learnt, kind-of-reads.Asked, kind-of-reads.Learnt, kill-seq-below t, kill-seq.Post, kill-par-below t, kill-par.Post, kill-scope-below t, kill-scope.Post, kill-executor-below t, kill-executor.Post, kill-waiter-reads.Asked, kill-waiter-reads.Learnt, keep-reads.Asked, keep-reads.Learnt, vanish-reads.Asked, vanish-reads.Learnt) (kill-at t) kill.Post
 kill-stuck-requires t c κs = search needs
 
-kill-returns : (t : ℕ) → kill-lts.Need-returns (stuck-reads.Asked, stuck-reads.Learnt, wide-reads.Asked, wide-reads.Learnt, kill-seq-below t, kill-seq.Post, kill-par-below t, kill-par.Post, kill-scope-below t, kill-scope.Post, kill-executor-below t, kill-executor.Post, kill-waiter-reads.Asked, kill-waiter-reads.Learnt, keep-reads.Asked, keep-reads.Learnt, vanish-reads.Asked, vanish-reads.Learnt) (kill-at t) kill.Post
+kill-returns : (t : ℕ) → kill-lts.Need-returns (stuck-reads.Asked, stuck-reads.Learnt, kind-of-reads.Asked, kind-of-reads.Learnt, kill-seq-below t, kill-seq.Post, kill-par-below t, kill-par.Post, kill-scope-below t, kill-scope.Post, kill-executor-below t, kill-executor.Post, kill-waiter-reads.Asked, kill-waiter-reads.Learnt, keep-reads.Asked, keep-reads.Learnt, vanish-reads.Asked, vanish-reads.Learnt) (kill-at t) kill.Post
 unfolding killW
 kill-returns t c =
     let f0 = c .before .if1 .taken in
-    (simp (tests, kill-step, ← (c .stuck .ensures), f0), simp (tests, kill-step, ← (c .stuck .ensures), f0))
+    (simp (← (c .stuck .ensures), f0), simp f0)
 
-kill-stuck-requires-2 : (t : ℕ) → kill-lts.Need-stuck-requires-2 (stuck-reads.Asked, stuck-reads.Learnt, wide-reads.Asked, wide-reads.Learnt, kill-seq-below t, kill-seq.Post, kill-par-below t, kill-par.Post, kill-scope-below t, kill-scope.Post, kill-executor-below t, kill-executor.Post, kill-waiter-reads.Asked, kill-waiter-reads.Learnt, keep-reads.Asked, keep-reads.Learnt, vanish-reads.Asked, vanish-reads.Learnt) (kill-at t) kill.Post
+kill-stuck-requires-2 : (t : ℕ) → kill-lts.Need-stuck-requires-2 (stuck-reads.Asked, stuck-reads.Learnt, kind-of-reads.Asked, kind-of-reads.Learnt, kill-seq-below t, kill-seq.Post, kill-par-below t, kill-par.Post, kill-scope-below t, kill-scope.Post, kill-executor-below t, kill-executor.Post, kill-waiter-reads.Asked, kill-waiter-reads.Learnt, keep-reads.Asked, keep-reads.Learnt, vanish-reads.Asked, vanish-reads.Learnt) (kill-at t) kill.Post
 kill-stuck-requires-2 t c κs = search needs
 
-kill-returns-2 : (t : ℕ) → kill-lts.Need-returns-2 (stuck-reads.Asked, stuck-reads.Learnt, wide-reads.Asked, wide-reads.Learnt, kill-seq-below t, kill-seq.Post, kill-par-below t, kill-par.Post, kill-scope-below t, kill-scope.Post, kill-executor-below t, kill-executor.Post, kill-waiter-reads.Asked, kill-waiter-reads.Learnt, keep-reads.Asked, keep-reads.Learnt, vanish-reads.Asked, vanish-reads.Learnt) (kill-at t) kill.Post
+kill-returns-2 : (t : ℕ) → kill-lts.Need-returns-2 (stuck-reads.Asked, stuck-reads.Learnt, kind-of-reads.Asked, kind-of-reads.Learnt, kill-seq-below t, kill-seq.Post, kill-par-below t, kill-par.Post, kill-scope-below t, kill-scope.Post, kill-executor-below t, kill-executor.Post, kill-waiter-reads.Asked, kill-waiter-reads.Learnt, keep-reads.Asked, keep-reads.Learnt, vanish-reads.Asked, vanish-reads.Learnt) (kill-at t) kill.Post
 unfolding kindW
 kill-returns-2 t c =
     let f0 = c .before .if2 .taken in
     let f1 = c .before .before .if1 .left in
     (simp (tests, kill-step, ← (c .stuck2 .ensures), f0, f1), simp (tests, kill-step, ← (c .stuck2 .ensures), f0, f1))
 
-kill-mul-wide : (t : ℕ) → kill-lts.Need-mul-wide (stuck-reads.Asked, stuck-reads.Learnt, wide-reads.Asked, wide-reads.Learnt, kill-seq-below t, kill-seq.Post, kill-par-below t, kill-par.Post, kill-scope-below t, kill-scope.Post, kill-executor-below t, kill-executor.Post, kill-waiter-reads.Asked, kill-waiter-reads.Learnt, keep-reads.Asked, keep-reads.Learnt, vanish-reads.Asked, vanish-reads.Learnt) (kill-at t) kill.Post
-kill-mul-wide t c = search needs
+kill-mul-kind-of : (t : ℕ) → kill-lts.Need-mul-kind-of (stuck-reads.Asked, stuck-reads.Learnt, kind-of-reads.Asked, kind-of-reads.Learnt, kill-seq-below t, kill-seq.Post, kill-par-below t, kill-par.Post, kill-scope-below t, kill-scope.Post, kill-executor-below t, kill-executor.Post, kill-waiter-reads.Asked, kill-waiter-reads.Learnt, keep-reads.Asked, keep-reads.Learnt, vanish-reads.Asked, vanish-reads.Learnt) (kill-at t) kill.Post
+kill-mul-kind-of t c = search needs
 
-kill-shared-slice-read-wide : (t : ℕ) → kill-lts.Need-shared-slice-read-wide (stuck-reads.Asked, stuck-reads.Learnt, wide-reads.Asked, wide-reads.Learnt, kill-seq-below t, kill-seq.Post, kill-par-below t, kill-par.Post, kill-scope-below t, kill-scope.Post, kill-executor-below t, kill-executor.Post, kill-waiter-reads.Asked, kill-waiter-reads.Learnt, keep-reads.Asked, keep-reads.Learnt, vanish-reads.Asked, vanish-reads.Learnt) (kill-at t) kill.Post
-kill-shared-slice-read-wide t c = search needs
+kill-shared-slice-read-kind-of : (t : ℕ) → kill-lts.Need-shared-slice-read-kind-of (stuck-reads.Asked, stuck-reads.Learnt, kind-of-reads.Asked, kind-of-reads.Learnt, kill-seq-below t, kill-seq.Post, kill-par-below t, kill-par.Post, kill-scope-below t, kill-scope.Post, kill-executor-below t, kill-executor.Post, kill-waiter-reads.Asked, kill-waiter-reads.Learnt, keep-reads.Asked, keep-reads.Learnt, vanish-reads.Asked, vanish-reads.Learnt) (kill-at t) kill.Post
+kill-shared-slice-read-kind-of t c = search needs
 
-kill-wide-requires : (t : ℕ) → kill-lts.Need-wide-requires (stuck-reads.Asked, stuck-reads.Learnt, wide-reads.Asked, wide-reads.Learnt, kill-seq-below t, kill-seq.Post, kill-par-below t, kill-par.Post, kill-scope-below t, kill-scope.Post, kill-executor-below t, kill-executor.Post, kill-waiter-reads.Asked, kill-waiter-reads.Learnt, keep-reads.Asked, keep-reads.Learnt, vanish-reads.Asked, vanish-reads.Learnt) (kill-at t) kill.Post
-kill-wide-requires t c κs = search needs
+kill-kind-of-requires : (t : ℕ) → kill-lts.Need-kind-of-requires (stuck-reads.Asked, stuck-reads.Learnt, kind-of-reads.Asked, kind-of-reads.Learnt, kill-seq-below t, kill-seq.Post, kill-par-below t, kill-par.Post, kill-scope-below t, kill-scope.Post, kill-executor-below t, kill-executor.Post, kill-waiter-reads.Asked, kill-waiter-reads.Learnt, keep-reads.Asked, keep-reads.Learnt, vanish-reads.Asked, vanish-reads.Learnt) (kill-at t) kill.Post
+kill-kind-of-requires t c κs = search needs
 
-kill-add-kill-seq : (t : ℕ) → kill-lts.Need-add-kill-seq (stuck-reads.Asked, stuck-reads.Learnt, wide-reads.Asked, wide-reads.Learnt, kill-seq-below t, kill-seq.Post, kill-par-below t, kill-par.Post, kill-scope-below t, kill-scope.Post, kill-executor-below t, kill-executor.Post, kill-waiter-reads.Asked, kill-waiter-reads.Learnt, keep-reads.Asked, keep-reads.Learnt, vanish-reads.Asked, vanish-reads.Learnt) (kill-at t) kill.Post
+kill-add-kill-seq : (t : ℕ) → kill-lts.Need-add-kill-seq (stuck-reads.Asked, stuck-reads.Learnt, kind-of-reads.Asked, kind-of-reads.Learnt, kill-seq-below t, kill-seq.Post, kill-par-below t, kill-par.Post, kill-scope-below t, kill-scope.Post, kill-executor-below t, kill-executor.Post, kill-waiter-reads.Asked, kill-waiter-reads.Learnt, keep-reads.Asked, keep-reads.Learnt, vanish-reads.Asked, vanish-reads.Learnt) (kill-at t) kill.Post
 kill-add-kill-seq t c = search needs
 
-kill-sub-kill-seq : (t : ℕ) → kill-lts.Need-sub-kill-seq (stuck-reads.Asked, stuck-reads.Learnt, wide-reads.Asked, wide-reads.Learnt, kill-seq-below t, kill-seq.Post, kill-par-below t, kill-par.Post, kill-scope-below t, kill-scope.Post, kill-executor-below t, kill-executor.Post, kill-waiter-reads.Asked, kill-waiter-reads.Learnt, keep-reads.Asked, keep-reads.Learnt, vanish-reads.Asked, vanish-reads.Learnt) (kill-at t) kill.Post
+kill-sub-kill-seq : (t : ℕ) → kill-lts.Need-sub-kill-seq (stuck-reads.Asked, stuck-reads.Learnt, kind-of-reads.Asked, kind-of-reads.Learnt, kill-seq-below t, kill-seq.Post, kill-par-below t, kill-par.Post, kill-scope-below t, kill-scope.Post, kill-executor-below t, kill-executor.Post, kill-waiter-reads.Asked, kill-waiter-reads.Learnt, keep-reads.Asked, keep-reads.Learnt, vanish-reads.Asked, vanish-reads.Learnt) (kill-at t) kill.Post
 kill-sub-kill-seq t c = search needs
 
-kill-kill-seq-requires : (t : ℕ) → kill-lts.Need-kill-seq-requires (stuck-reads.Asked, stuck-reads.Learnt, wide-reads.Asked, wide-reads.Learnt, kill-seq-below t, kill-seq.Post, kill-par-below t, kill-par.Post, kill-scope-below t, kill-scope.Post, kill-executor-below t, kill-executor.Post, kill-waiter-reads.Asked, kill-waiter-reads.Learnt, keep-reads.Asked, keep-reads.Learnt, vanish-reads.Asked, vanish-reads.Learnt) (kill-at t) kill.Post
+kill-kill-seq-requires : (t : ℕ) → kill-lts.Need-kill-seq-requires (stuck-reads.Asked, stuck-reads.Learnt, kind-of-reads.Asked, kind-of-reads.Learnt, kill-seq-below t, kill-seq.Post, kill-par-below t, kill-par.Post, kill-scope-below t, kill-scope.Post, kill-executor-below t, kill-executor.Post, kill-waiter-reads.Asked, kill-waiter-reads.Learnt, keep-reads.Asked, keep-reads.Learnt, vanish-reads.Asked, vanish-reads.Learnt) (kill-at t) kill.Post
 kill-kill-seq-requires t c κs = search needs
 
-kill-add-kill-par : (t : ℕ) → kill-lts.Need-add-kill-par (stuck-reads.Asked, stuck-reads.Learnt, wide-reads.Asked, wide-reads.Learnt, kill-seq-below t, kill-seq.Post, kill-par-below t, kill-par.Post, kill-scope-below t, kill-scope.Post, kill-executor-below t, kill-executor.Post, kill-waiter-reads.Asked, kill-waiter-reads.Learnt, keep-reads.Asked, keep-reads.Learnt, vanish-reads.Asked, vanish-reads.Learnt) (kill-at t) kill.Post
+kill-add-kill-par : (t : ℕ) → kill-lts.Need-add-kill-par (stuck-reads.Asked, stuck-reads.Learnt, kind-of-reads.Asked, kind-of-reads.Learnt, kill-seq-below t, kill-seq.Post, kill-par-below t, kill-par.Post, kill-scope-below t, kill-scope.Post, kill-executor-below t, kill-executor.Post, kill-waiter-reads.Asked, kill-waiter-reads.Learnt, keep-reads.Asked, keep-reads.Learnt, vanish-reads.Asked, vanish-reads.Learnt) (kill-at t) kill.Post
 kill-add-kill-par t c = search needs
 
-kill-sub-kill-par : (t : ℕ) → kill-lts.Need-sub-kill-par (stuck-reads.Asked, stuck-reads.Learnt, wide-reads.Asked, wide-reads.Learnt, kill-seq-below t, kill-seq.Post, kill-par-below t, kill-par.Post, kill-scope-below t, kill-scope.Post, kill-executor-below t, kill-executor.Post, kill-waiter-reads.Asked, kill-waiter-reads.Learnt, keep-reads.Asked, keep-reads.Learnt, vanish-reads.Asked, vanish-reads.Learnt) (kill-at t) kill.Post
+kill-sub-kill-par : (t : ℕ) → kill-lts.Need-sub-kill-par (stuck-reads.Asked, stuck-reads.Learnt, kind-of-reads.Asked, kind-of-reads.Learnt, kill-seq-below t, kill-seq.Post, kill-par-below t, kill-par.Post, kill-scope-below t, kill-scope.Post, kill-executor-below t, kill-executor.Post, kill-waiter-reads.Asked, kill-waiter-reads.Learnt, keep-reads.Asked, keep-reads.Learnt, vanish-reads.Asked, vanish-reads.Learnt) (kill-at t) kill.Post
 kill-sub-kill-par t c = search needs
 
-kill-kill-par-requires : (t : ℕ) → kill-lts.Need-kill-par-requires (stuck-reads.Asked, stuck-reads.Learnt, wide-reads.Asked, wide-reads.Learnt, kill-seq-below t, kill-seq.Post, kill-par-below t, kill-par.Post, kill-scope-below t, kill-scope.Post, kill-executor-below t, kill-executor.Post, kill-waiter-reads.Asked, kill-waiter-reads.Learnt, keep-reads.Asked, keep-reads.Learnt, vanish-reads.Asked, vanish-reads.Learnt) (kill-at t) kill.Post
+kill-kill-par-requires : (t : ℕ) → kill-lts.Need-kill-par-requires (stuck-reads.Asked, stuck-reads.Learnt, kind-of-reads.Asked, kind-of-reads.Learnt, kill-seq-below t, kill-seq.Post, kill-par-below t, kill-par.Post, kill-scope-below t, kill-scope.Post, kill-executor-below t, kill-executor.Post, kill-waiter-reads.Asked, kill-waiter-reads.Learnt, keep-reads.Asked, keep-reads.Learnt, vanish-reads.Asked, vanish-reads.Learnt) (kill-at t) kill.Post
 kill-kill-par-requires t c κs = search needs
 
-kill-sub-kill-scope : (t : ℕ) → kill-lts.Need-sub-kill-scope (stuck-reads.Asked, stuck-reads.Learnt, wide-reads.Asked, wide-reads.Learnt, kill-seq-below t, kill-seq.Post, kill-par-below t, kill-par.Post, kill-scope-below t, kill-scope.Post, kill-executor-below t, kill-executor.Post, kill-waiter-reads.Asked, kill-waiter-reads.Learnt, keep-reads.Asked, keep-reads.Learnt, vanish-reads.Asked, vanish-reads.Learnt) (kill-at t) kill.Post
+kill-sub-kill-scope : (t : ℕ) → kill-lts.Need-sub-kill-scope (stuck-reads.Asked, stuck-reads.Learnt, kind-of-reads.Asked, kind-of-reads.Learnt, kill-seq-below t, kill-seq.Post, kill-par-below t, kill-par.Post, kill-scope-below t, kill-scope.Post, kill-executor-below t, kill-executor.Post, kill-waiter-reads.Asked, kill-waiter-reads.Learnt, keep-reads.Asked, keep-reads.Learnt, vanish-reads.Asked, vanish-reads.Learnt) (kill-at t) kill.Post
 kill-sub-kill-scope t c = search needs
 
-kill-kill-scope-requires : (t : ℕ) → kill-lts.Need-kill-scope-requires (stuck-reads.Asked, stuck-reads.Learnt, wide-reads.Asked, wide-reads.Learnt, kill-seq-below t, kill-seq.Post, kill-par-below t, kill-par.Post, kill-scope-below t, kill-scope.Post, kill-executor-below t, kill-executor.Post, kill-waiter-reads.Asked, kill-waiter-reads.Learnt, keep-reads.Asked, keep-reads.Learnt, vanish-reads.Asked, vanish-reads.Learnt) (kill-at t) kill.Post
+kill-kill-scope-requires : (t : ℕ) → kill-lts.Need-kill-scope-requires (stuck-reads.Asked, stuck-reads.Learnt, kind-of-reads.Asked, kind-of-reads.Learnt, kill-seq-below t, kill-seq.Post, kill-par-below t, kill-par.Post, kill-scope-below t, kill-scope.Post, kill-executor-below t, kill-executor.Post, kill-waiter-reads.Asked, kill-waiter-reads.Learnt, keep-reads.Asked, keep-reads.Learnt, vanish-reads.Asked, vanish-reads.Learnt) (kill-at t) kill.Post
 kill-kill-scope-requires t c κs = search needs
 
-kill-stuck-requires-3 : (t : ℕ) → kill-lts.Need-stuck-requires-3 (stuck-reads.Asked, stuck-reads.Learnt, wide-reads.Asked, wide-reads.Learnt, kill-seq-below t, kill-seq.Post, kill-par-below t, kill-par.Post, kill-scope-below t, kill-scope.Post, kill-executor-below t, kill-executor.Post, kill-waiter-reads.Asked, kill-waiter-reads.Learnt, keep-reads.Asked, keep-reads.Learnt, vanish-reads.Asked, vanish-reads.Learnt) (kill-at t) kill.Post
+kill-stuck-requires-3 : (t : ℕ) → kill-lts.Need-stuck-requires-3 (stuck-reads.Asked, stuck-reads.Learnt, kind-of-reads.Asked, kind-of-reads.Learnt, kill-seq-below t, kill-seq.Post, kill-par-below t, kill-par.Post, kill-scope-below t, kill-scope.Post, kill-executor-below t, kill-executor.Post, kill-waiter-reads.Asked, kill-waiter-reads.Learnt, keep-reads.Asked, keep-reads.Learnt, vanish-reads.Asked, vanish-reads.Learnt) (kill-at t) kill.Post
 kill-stuck-requires-3 t c κs = search needs
 
-kill-sub-kill-executor : (t : ℕ) → kill-lts.Need-sub-kill-executor (stuck-reads.Asked, stuck-reads.Learnt, wide-reads.Asked, wide-reads.Learnt, kill-seq-below t, kill-seq.Post, kill-par-below t, kill-par.Post, kill-scope-below t, kill-scope.Post, kill-executor-below t, kill-executor.Post, kill-waiter-reads.Asked, kill-waiter-reads.Learnt, keep-reads.Asked, keep-reads.Learnt, vanish-reads.Asked, vanish-reads.Learnt) (kill-at t) kill.Post
+kill-sub-kill-executor : (t : ℕ) → kill-lts.Need-sub-kill-executor (stuck-reads.Asked, stuck-reads.Learnt, kind-of-reads.Asked, kind-of-reads.Learnt, kill-seq-below t, kill-seq.Post, kill-par-below t, kill-par.Post, kill-scope-below t, kill-scope.Post, kill-executor-below t, kill-executor.Post, kill-waiter-reads.Asked, kill-waiter-reads.Learnt, keep-reads.Asked, keep-reads.Learnt, vanish-reads.Asked, vanish-reads.Learnt) (kill-at t) kill.Post
 kill-sub-kill-executor t c = search needs
 
-kill-kill-executor-requires : (t : ℕ) → kill-lts.Need-kill-executor-requires (stuck-reads.Asked, stuck-reads.Learnt, wide-reads.Asked, wide-reads.Learnt, kill-seq-below t, kill-seq.Post, kill-par-below t, kill-par.Post, kill-scope-below t, kill-scope.Post, kill-executor-below t, kill-executor.Post, kill-waiter-reads.Asked, kill-waiter-reads.Learnt, keep-reads.Asked, keep-reads.Learnt, vanish-reads.Asked, vanish-reads.Learnt) (kill-at t) kill.Post
+kill-kill-executor-requires : (t : ℕ) → kill-lts.Need-kill-executor-requires (stuck-reads.Asked, stuck-reads.Learnt, kind-of-reads.Asked, kind-of-reads.Learnt, kill-seq-below t, kill-seq.Post, kill-par-below t, kill-par.Post, kill-scope-below t, kill-scope.Post, kill-executor-below t, kill-executor.Post, kill-waiter-reads.Asked, kill-waiter-reads.Learnt, keep-reads.Asked, keep-reads.Learnt, vanish-reads.Asked, vanish-reads.Learnt) (kill-at t) kill.Post
 kill-kill-executor-requires t c κs = search needs
 
-kill-kill-waiter-requires : (t : ℕ) → kill-lts.Need-kill-waiter-requires (stuck-reads.Asked, stuck-reads.Learnt, wide-reads.Asked, wide-reads.Learnt, kill-seq-below t, kill-seq.Post, kill-par-below t, kill-par.Post, kill-scope-below t, kill-scope.Post, kill-executor-below t, kill-executor.Post, kill-waiter-reads.Asked, kill-waiter-reads.Learnt, keep-reads.Asked, keep-reads.Learnt, vanish-reads.Asked, vanish-reads.Learnt) (kill-at t) kill.Post
+kill-kill-waiter-requires : (t : ℕ) → kill-lts.Need-kill-waiter-requires (stuck-reads.Asked, stuck-reads.Learnt, kind-of-reads.Asked, kind-of-reads.Learnt, kill-seq-below t, kill-seq.Post, kill-par-below t, kill-par.Post, kill-scope-below t, kill-scope.Post, kill-executor-below t, kill-executor.Post, kill-waiter-reads.Asked, kill-waiter-reads.Learnt, keep-reads.Asked, keep-reads.Learnt, vanish-reads.Asked, vanish-reads.Learnt) (kill-at t) kill.Post
 kill-kill-waiter-requires t c κs = search needs
 
-kill-keep-requires : (t : ℕ) → kill-lts.Need-keep-requires (stuck-reads.Asked, stuck-reads.Learnt, wide-reads.Asked, wide-reads.Learnt, kill-seq-below t, kill-seq.Post, kill-par-below t, kill-par.Post, kill-scope-below t, kill-scope.Post, kill-executor-below t, kill-executor.Post, kill-waiter-reads.Asked, kill-waiter-reads.Learnt, keep-reads.Asked, keep-reads.Learnt, vanish-reads.Asked, vanish-reads.Learnt) (kill-at t) kill.Post
+kill-keep-requires : (t : ℕ) → kill-lts.Need-keep-requires (stuck-reads.Asked, stuck-reads.Learnt, kind-of-reads.Asked, kind-of-reads.Learnt, kill-seq-below t, kill-seq.Post, kill-par-below t, kill-par.Post, kill-scope-below t, kill-scope.Post, kill-executor-below t, kill-executor.Post, kill-waiter-reads.Asked, kill-waiter-reads.Learnt, keep-reads.Asked, keep-reads.Learnt, vanish-reads.Asked, vanish-reads.Learnt) (kill-at t) kill.Post
 kill-keep-requires t c κs = search needs
 
-kill-vanish-requires : (t : ℕ) → kill-lts.Need-vanish-requires (stuck-reads.Asked, stuck-reads.Learnt, wide-reads.Asked, wide-reads.Learnt, kill-seq-below t, kill-seq.Post, kill-par-below t, kill-par.Post, kill-scope-below t, kill-scope.Post, kill-executor-below t, kill-executor.Post, kill-waiter-reads.Asked, kill-waiter-reads.Learnt, keep-reads.Asked, keep-reads.Learnt, vanish-reads.Asked, vanish-reads.Learnt) (kill-at t) kill.Post
+kill-vanish-requires : (t : ℕ) → kill-lts.Need-vanish-requires (stuck-reads.Asked, stuck-reads.Learnt, kind-of-reads.Asked, kind-of-reads.Learnt, kill-seq-below t, kill-seq.Post, kill-par-below t, kill-par.Post, kill-scope-below t, kill-scope.Post, kill-executor-below t, kill-executor.Post, kill-waiter-reads.Asked, kill-waiter-reads.Learnt, keep-reads.Asked, keep-reads.Learnt, vanish-reads.Asked, vanish-reads.Learnt) (kill-at t) kill.Post
 kill-vanish-requires t c κs = search needs
 
-kill-same-length : (t : ℕ) → kill-lts.Need-same-length (stuck-reads.Asked, stuck-reads.Learnt, wide-reads.Asked, wide-reads.Learnt, kill-seq-below t, kill-seq.Post, kill-par-below t, kill-par.Post, kill-scope-below t, kill-scope.Post, kill-executor-below t, kill-executor.Post, kill-waiter-reads.Asked, kill-waiter-reads.Learnt, keep-reads.Asked, keep-reads.Learnt, vanish-reads.Asked, vanish-reads.Learnt) (kill-at t) kill.Post
+kill-same-length : (t : ℕ) → kill-lts.Need-same-length (stuck-reads.Asked, stuck-reads.Learnt, kind-of-reads.Asked, kind-of-reads.Learnt, kill-seq-below t, kill-seq.Post, kill-par-below t, kill-par.Post, kill-scope-below t, kill-scope.Post, kill-executor-below t, kill-executor.Post, kill-waiter-reads.Asked, kill-waiter-reads.Learnt, keep-reads.Asked, keep-reads.Learnt, vanish-reads.Asked, vanish-reads.Learnt) (kill-at t) kill.Post
 kill-same-length t c = search needs
 
-kill-returns-3 : (t : ℕ) → kill-lts.Need-returns-3 (stuck-reads.Asked, stuck-reads.Learnt, wide-reads.Asked, wide-reads.Learnt, kill-seq-below t, kill-seq.Post, kill-par-below t, kill-par.Post, kill-scope-below t, kill-scope.Post, kill-executor-below t, kill-executor.Post, kill-waiter-reads.Asked, kill-waiter-reads.Learnt, keep-reads.Asked, keep-reads.Learnt, vanish-reads.Asked, vanish-reads.Learnt) (kill-at t) kill.Post
+kill-returns-3 : (t : ℕ) → kill-lts.Need-returns-3 (stuck-reads.Asked, stuck-reads.Learnt, kind-of-reads.Asked, kind-of-reads.Learnt, kill-seq-below t, kill-seq.Post, kill-par-below t, kill-par.Post, kill-scope-below t, kill-scope.Post, kill-executor-below t, kill-executor.Post, kill-waiter-reads.Asked, kill-waiter-reads.Learnt, keep-reads.Asked, keep-reads.Learnt, vanish-reads.Asked, vanish-reads.Learnt) (kill-at t) kill.Post
 unfolding kindW
 kill-returns-3 t c =
     let f0 = c .before .before .before .before .match .keys1 in
     let f1 = c .before .before .before .before .before .before .before .if2 .left in
     let f2 = c .before .before .before .before .before .before .before .before .if1 .left in
-    (simp (tests, kill-step, ← (c .before .before .kill-seq .ensures .0), ← (c .before .before .kill-seq .ensures .1), f0, ← (c .before .before .before .before .before .wide .ensures .0), f1, f2), simp (tests, kill-step, ← (c .before .before .kill-seq .ensures .0), ← (c .before .before .kill-seq .ensures .1), f0, ← (c .before .before .before .before .before .wide .ensures .0), f1, f2))
+    (simp (tests, kill-step, ← (c .before .before .kill-seq .ensures .0), f0, ← (c .before .before .before .before .before .kind-of .ensures .0), f1, f2), simp (tests, kill-step, ← (c .before .before .kill-seq .ensures .1), f0, ← (c .before .before .before .before .before .kind-of .ensures .0), f1, f2))
 
-kill-same-length-2 : (t : ℕ) → kill-lts.Need-same-length-2 (stuck-reads.Asked, stuck-reads.Learnt, wide-reads.Asked, wide-reads.Learnt, kill-seq-below t, kill-seq.Post, kill-par-below t, kill-par.Post, kill-scope-below t, kill-scope.Post, kill-executor-below t, kill-executor.Post, kill-waiter-reads.Asked, kill-waiter-reads.Learnt, keep-reads.Asked, keep-reads.Learnt, vanish-reads.Asked, vanish-reads.Learnt) (kill-at t) kill.Post
+kill-same-length-2 : (t : ℕ) → kill-lts.Need-same-length-2 (stuck-reads.Asked, stuck-reads.Learnt, kind-of-reads.Asked, kind-of-reads.Learnt, kill-seq-below t, kill-seq.Post, kill-par-below t, kill-par.Post, kill-scope-below t, kill-scope.Post, kill-executor-below t, kill-executor.Post, kill-waiter-reads.Asked, kill-waiter-reads.Learnt, keep-reads.Asked, keep-reads.Learnt, vanish-reads.Asked, vanish-reads.Learnt) (kill-at t) kill.Post
 kill-same-length-2 t c = search needs
 
-kill-returns-4 : (t : ℕ) → kill-lts.Need-returns-4 (stuck-reads.Asked, stuck-reads.Learnt, wide-reads.Asked, wide-reads.Learnt, kill-seq-below t, kill-seq.Post, kill-par-below t, kill-par.Post, kill-scope-below t, kill-scope.Post, kill-executor-below t, kill-executor.Post, kill-waiter-reads.Asked, kill-waiter-reads.Learnt, keep-reads.Asked, keep-reads.Learnt, vanish-reads.Asked, vanish-reads.Learnt) (kill-at t) kill.Post
+kill-returns-4 : (t : ℕ) → kill-lts.Need-returns-4 (stuck-reads.Asked, stuck-reads.Learnt, kind-of-reads.Asked, kind-of-reads.Learnt, kill-seq-below t, kill-seq.Post, kill-par-below t, kill-par.Post, kill-scope-below t, kill-scope.Post, kill-executor-below t, kill-executor.Post, kill-waiter-reads.Asked, kill-waiter-reads.Learnt, keep-reads.Asked, keep-reads.Learnt, vanish-reads.Asked, vanish-reads.Learnt) (kill-at t) kill.Post
 unfolding kindW
 kill-returns-4 t c =
     let f0 = c .before .before .before .before .match .keys2 in
     let f1 = c .before .before .before .before .before .before .before .if2 .left in
     let f2 = c .before .before .before .before .before .before .before .before .if1 .left in
-    (simp (tests, kill-step, ← (c .before .before .kill-par .ensures .0), ← (c .before .before .kill-par .ensures .1), f0, ← (c .before .before .before .before .before .wide .ensures .0), f1, f2), simp (tests, kill-step, ← (c .before .before .kill-par .ensures .0), ← (c .before .before .kill-par .ensures .1), f0, ← (c .before .before .before .before .before .wide .ensures .0), f1, f2))
+    (simp (tests, kill-step, ← (c .before .before .kill-par .ensures .0), f0, ← (c .before .before .before .before .before .kind-of .ensures .0), f1, f2), simp (tests, kill-step, ← (c .before .before .kill-par .ensures .1), f0, ← (c .before .before .before .before .before .kind-of .ensures .0), f1, f2))
 
-kill-same-length-3 : (t : ℕ) → kill-lts.Need-same-length-3 (stuck-reads.Asked, stuck-reads.Learnt, wide-reads.Asked, wide-reads.Learnt, kill-seq-below t, kill-seq.Post, kill-par-below t, kill-par.Post, kill-scope-below t, kill-scope.Post, kill-executor-below t, kill-executor.Post, kill-waiter-reads.Asked, kill-waiter-reads.Learnt, keep-reads.Asked, keep-reads.Learnt, vanish-reads.Asked, vanish-reads.Learnt) (kill-at t) kill.Post
+kill-same-length-3 : (t : ℕ) → kill-lts.Need-same-length-3 (stuck-reads.Asked, stuck-reads.Learnt, kind-of-reads.Asked, kind-of-reads.Learnt, kill-seq-below t, kill-seq.Post, kill-par-below t, kill-par.Post, kill-scope-below t, kill-scope.Post, kill-executor-below t, kill-executor.Post, kill-waiter-reads.Asked, kill-waiter-reads.Learnt, keep-reads.Asked, keep-reads.Learnt, vanish-reads.Asked, vanish-reads.Learnt) (kill-at t) kill.Post
 kill-same-length-3 t c = search needs
 
-kill-returns-5 : (t : ℕ) → kill-lts.Need-returns-5 (stuck-reads.Asked, stuck-reads.Learnt, wide-reads.Asked, wide-reads.Learnt, kill-seq-below t, kill-seq.Post, kill-par-below t, kill-par.Post, kill-scope-below t, kill-scope.Post, kill-executor-below t, kill-executor.Post, kill-waiter-reads.Asked, kill-waiter-reads.Learnt, keep-reads.Asked, keep-reads.Learnt, vanish-reads.Asked, vanish-reads.Learnt) (kill-at t) kill.Post
+kill-returns-5 : (t : ℕ) → kill-lts.Need-returns-5 (stuck-reads.Asked, stuck-reads.Learnt, kind-of-reads.Asked, kind-of-reads.Learnt, kill-seq-below t, kill-seq.Post, kill-par-below t, kill-par.Post, kill-scope-below t, kill-scope.Post, kill-executor-below t, kill-executor.Post, kill-waiter-reads.Asked, kill-waiter-reads.Learnt, keep-reads.Asked, keep-reads.Learnt, vanish-reads.Asked, vanish-reads.Learnt) (kill-at t) kill.Post
 unfolding kindW
 kill-returns-5 t c =
     let f0 = c .before .before .before .before .match .keys3 in
     let f1 = c .before .before .before .before .before .before .before .if2 .left in
     let f2 = c .before .before .before .before .before .before .before .before .if1 .left in
-    (simp (tests, kill-step, ← (c .before .before .kill-scope .ensures .0), ← (c .before .before .kill-scope .ensures .1), f0, ← (c .before .before .before .before .before .wide .ensures .0), f1, f2), simp (tests, kill-step, ← (c .before .before .kill-scope .ensures .0), ← (c .before .before .kill-scope .ensures .1), f0, ← (c .before .before .before .before .before .wide .ensures .0), f1, f2))
+    (simp (tests, kill-step, ← (c .before .before .kill-scope .ensures .0), f0, ← (c .before .before .before .before .before .kind-of .ensures .0), f1, f2), simp (tests, kill-step, ← (c .before .before .kill-scope .ensures .1), f0, ← (c .before .before .before .before .before .kind-of .ensures .0), f1, f2))
 
-kill-returns-6 : (t : ℕ) → kill-lts.Need-returns-6 (stuck-reads.Asked, stuck-reads.Learnt, wide-reads.Asked, wide-reads.Learnt, kill-seq-below t, kill-seq.Post, kill-par-below t, kill-par.Post, kill-scope-below t, kill-scope.Post, kill-executor-below t, kill-executor.Post, kill-waiter-reads.Asked, kill-waiter-reads.Learnt, keep-reads.Asked, keep-reads.Learnt, vanish-reads.Asked, vanish-reads.Learnt) (kill-at t) kill.Post
+kill-returns-6 : (t : ℕ) → kill-lts.Need-returns-6 (stuck-reads.Asked, stuck-reads.Learnt, kind-of-reads.Asked, kind-of-reads.Learnt, kill-seq-below t, kill-seq.Post, kill-par-below t, kill-par.Post, kill-scope-below t, kill-scope.Post, kill-executor-below t, kill-executor.Post, kill-waiter-reads.Asked, kill-waiter-reads.Learnt, keep-reads.Asked, keep-reads.Learnt, vanish-reads.Asked, vanish-reads.Learnt) (kill-at t) kill.Post
 unfolding kindW
 kill-returns-6 t c =
     let f0 = c .before .match .keys4 in
     let f1 = c .before .before .before .before .if2 .left in
     let f2 = c .before .before .before .before .before .if1 .left in
-    (simp (tests, kill-step, ← (c .stuck3 .ensures), f0, ← (c .before .before .wide .ensures .0), f1, f2), simp (tests, kill-step, ← (c .stuck3 .ensures), f0, ← (c .before .before .wide .ensures .0), f1, f2))
+    (simp (tests, kill-step, ← (c .stuck3 .ensures), f0, ← (c .before .before .kind-of .ensures .0), f1, f2), simp (tests, kill-step, ← (c .stuck3 .ensures), f0, ← (c .before .before .kind-of .ensures .0), f1, f2))
 
-kill-same-length-4 : (t : ℕ) → kill-lts.Need-same-length-4 (stuck-reads.Asked, stuck-reads.Learnt, wide-reads.Asked, wide-reads.Learnt, kill-seq-below t, kill-seq.Post, kill-par-below t, kill-par.Post, kill-scope-below t, kill-scope.Post, kill-executor-below t, kill-executor.Post, kill-waiter-reads.Asked, kill-waiter-reads.Learnt, keep-reads.Asked, keep-reads.Learnt, vanish-reads.Asked, vanish-reads.Learnt) (kill-at t) kill.Post
+kill-same-length-4 : (t : ℕ) → kill-lts.Need-same-length-4 (stuck-reads.Asked, stuck-reads.Learnt, kind-of-reads.Asked, kind-of-reads.Learnt, kill-seq-below t, kill-seq.Post, kill-par-below t, kill-par.Post, kill-scope-below t, kill-scope.Post, kill-executor-below t, kill-executor.Post, kill-waiter-reads.Asked, kill-waiter-reads.Learnt, keep-reads.Asked, keep-reads.Learnt, vanish-reads.Asked, vanish-reads.Learnt) (kill-at t) kill.Post
 kill-same-length-4 t c = search needs
 
-kill-returns-7 : (t : ℕ) → kill-lts.Need-returns-7 (stuck-reads.Asked, stuck-reads.Learnt, wide-reads.Asked, wide-reads.Learnt, kill-seq-below t, kill-seq.Post, kill-par-below t, kill-par.Post, kill-scope-below t, kill-scope.Post, kill-executor-below t, kill-executor.Post, kill-waiter-reads.Asked, kill-waiter-reads.Learnt, keep-reads.Asked, keep-reads.Learnt, vanish-reads.Asked, vanish-reads.Learnt) (kill-at t) kill.Post
+kill-returns-7 : (t : ℕ) → kill-lts.Need-returns-7 (stuck-reads.Asked, stuck-reads.Learnt, kind-of-reads.Asked, kind-of-reads.Learnt, kill-seq-below t, kill-seq.Post, kill-par-below t, kill-par.Post, kill-scope-below t, kill-scope.Post, kill-executor-below t, kill-executor.Post, kill-waiter-reads.Asked, kill-waiter-reads.Learnt, keep-reads.Asked, keep-reads.Learnt, vanish-reads.Asked, vanish-reads.Learnt) (kill-at t) kill.Post
 unfolding kindW
 kill-returns-7 t c =
     let f0 = c .before .before .before .before .match .keys5 in
     let f1 = c .before .before .before .before .before .before .before .if2 .left in
     let f2 = c .before .before .before .before .before .before .before .before .if1 .left in
-    (simp (tests, kill-step, ← (c .before .before .kill-executor .ensures .0), ← (c .before .before .kill-executor .ensures .1), f0, ← (c .before .before .before .before .before .wide .ensures .0), f1, f2), simp (tests, kill-step, ← (c .before .before .kill-executor .ensures .0), ← (c .before .before .kill-executor .ensures .1), f0, ← (c .before .before .before .before .before .wide .ensures .0), f1, f2))
+    (simp (tests, kill-step, ← (c .before .before .kill-executor .ensures .0), f0, ← (c .before .before .before .before .before .kind-of .ensures .0), f1, f2), simp (tests, kill-step, ← (c .before .before .kill-executor .ensures .1), f0, ← (c .before .before .before .before .before .kind-of .ensures .0), f1, f2))
 
-kill-same-length-5 : (t : ℕ) → kill-lts.Need-same-length-5 (stuck-reads.Asked, stuck-reads.Learnt, wide-reads.Asked, wide-reads.Learnt, kill-seq-below t, kill-seq.Post, kill-par-below t, kill-par.Post, kill-scope-below t, kill-scope.Post, kill-executor-below t, kill-executor.Post, kill-waiter-reads.Asked, kill-waiter-reads.Learnt, keep-reads.Asked, keep-reads.Learnt, vanish-reads.Asked, vanish-reads.Learnt) (kill-at t) kill.Post
+kill-same-length-5 : (t : ℕ) → kill-lts.Need-same-length-5 (stuck-reads.Asked, stuck-reads.Learnt, kind-of-reads.Asked, kind-of-reads.Learnt, kill-seq-below t, kill-seq.Post, kill-par-below t, kill-par.Post, kill-scope-below t, kill-scope.Post, kill-executor-below t, kill-executor.Post, kill-waiter-reads.Asked, kill-waiter-reads.Learnt, keep-reads.Asked, keep-reads.Learnt, vanish-reads.Asked, vanish-reads.Learnt) (kill-at t) kill.Post
 kill-same-length-5 t c = search needs
 
-kill-returns-8 : (t : ℕ) → kill-lts.Need-returns-8 (stuck-reads.Asked, stuck-reads.Learnt, wide-reads.Asked, wide-reads.Learnt, kill-seq-below t, kill-seq.Post, kill-par-below t, kill-par.Post, kill-scope-below t, kill-scope.Post, kill-executor-below t, kill-executor.Post, kill-waiter-reads.Asked, kill-waiter-reads.Learnt, keep-reads.Asked, keep-reads.Learnt, vanish-reads.Asked, vanish-reads.Learnt) (kill-at t) kill.Post
+kill-returns-8 : (t : ℕ) → kill-lts.Need-returns-8 (stuck-reads.Asked, stuck-reads.Learnt, kind-of-reads.Asked, kind-of-reads.Learnt, kill-seq-below t, kill-seq.Post, kill-par-below t, kill-par.Post, kill-scope-below t, kill-scope.Post, kill-executor-below t, kill-executor.Post, kill-waiter-reads.Asked, kill-waiter-reads.Learnt, keep-reads.Asked, keep-reads.Learnt, vanish-reads.Asked, vanish-reads.Learnt) (kill-at t) kill.Post
 unfolding kindW
 kill-returns-8 t c =
     let f0 = c .before .before .before .before .match .keys6 in
     let f1 = c .before .before .before .before .before .before .before .if2 .left in
     let f2 = c .before .before .before .before .before .before .before .before .if1 .left in
-    (simp (tests, kill-step, ← (c .before .before .kill-waiter .ensures .0), ← (c .before .before .kill-waiter .ensures .1), f0, ← (c .before .before .before .before .before .wide .ensures .0), f1, f2), simp (tests, kill-step, ← (c .before .before .kill-waiter .ensures .0), ← (c .before .before .kill-waiter .ensures .1), f0, ← (c .before .before .before .before .before .wide .ensures .0), f1, f2))
+    (simp (tests, kill-step, ← (c .before .before .kill-waiter .ensures .0), f0, ← (c .before .before .before .before .before .kind-of .ensures .0), f1, f2), simp (tests, kill-step, ← (c .before .before .kill-waiter .ensures .1), f0, ← (c .before .before .before .before .before .kind-of .ensures .0), f1, f2))
 
-kill-same-length-6 : (t : ℕ) → kill-lts.Need-same-length-6 (stuck-reads.Asked, stuck-reads.Learnt, wide-reads.Asked, wide-reads.Learnt, kill-seq-below t, kill-seq.Post, kill-par-below t, kill-par.Post, kill-scope-below t, kill-scope.Post, kill-executor-below t, kill-executor.Post, kill-waiter-reads.Asked, kill-waiter-reads.Learnt, keep-reads.Asked, keep-reads.Learnt, vanish-reads.Asked, vanish-reads.Learnt) (kill-at t) kill.Post
+kill-same-length-6 : (t : ℕ) → kill-lts.Need-same-length-6 (stuck-reads.Asked, stuck-reads.Learnt, kind-of-reads.Asked, kind-of-reads.Learnt, kill-seq-below t, kill-seq.Post, kill-par-below t, kill-par.Post, kill-scope-below t, kill-scope.Post, kill-executor-below t, kill-executor.Post, kill-waiter-reads.Asked, kill-waiter-reads.Learnt, keep-reads.Asked, keep-reads.Learnt, vanish-reads.Asked, vanish-reads.Learnt) (kill-at t) kill.Post
 kill-same-length-6 t c = search needs
 
-kill-returns-9 : (t : ℕ) → kill-lts.Need-returns-9 (stuck-reads.Asked, stuck-reads.Learnt, wide-reads.Asked, wide-reads.Learnt, kill-seq-below t, kill-seq.Post, kill-par-below t, kill-par.Post, kill-scope-below t, kill-scope.Post, kill-executor-below t, kill-executor.Post, kill-waiter-reads.Asked, kill-waiter-reads.Learnt, keep-reads.Asked, keep-reads.Learnt, vanish-reads.Asked, vanish-reads.Learnt) (kill-at t) kill.Post
+kill-returns-9 : (t : ℕ) → kill-lts.Need-returns-9 (stuck-reads.Asked, stuck-reads.Learnt, kind-of-reads.Asked, kind-of-reads.Learnt, kill-seq-below t, kill-seq.Post, kill-par-below t, kill-par.Post, kill-scope-below t, kill-scope.Post, kill-executor-below t, kill-executor.Post, kill-waiter-reads.Asked, kill-waiter-reads.Learnt, keep-reads.Asked, keep-reads.Learnt, vanish-reads.Asked, vanish-reads.Learnt) (kill-at t) kill.Post
 unfolding kindW
 kill-returns-9 t c =
     let f0 = c .before .before .before .before .match .keys7 in
     let f1 = c .before .before .before .before .before .before .before .if2 .left in
     let f2 = c .before .before .before .before .before .before .before .before .if1 .left in
-    (simp (tests, kill-step, ← (c .before .before .keep .ensures .0), ← (c .before .before .keep .ensures .1), f0, ← (c .before .before .before .before .before .wide .ensures .0), f1, f2), simp (tests, kill-step, ← (c .before .before .keep .ensures .0), ← (c .before .before .keep .ensures .1), f0, ← (c .before .before .before .before .before .wide .ensures .0), f1, f2))
+    (simp (tests, kill-step, ← (c .before .before .keep .ensures .0), f0, ← (c .before .before .before .before .before .kind-of .ensures .0), f1, f2), simp (tests, kill-step, ← (c .before .before .keep .ensures .1), f0, ← (c .before .before .before .before .before .kind-of .ensures .0), f1, f2))
 
-kill-same-length-7 : (t : ℕ) → kill-lts.Need-same-length-7 (stuck-reads.Asked, stuck-reads.Learnt, wide-reads.Asked, wide-reads.Learnt, kill-seq-below t, kill-seq.Post, kill-par-below t, kill-par.Post, kill-scope-below t, kill-scope.Post, kill-executor-below t, kill-executor.Post, kill-waiter-reads.Asked, kill-waiter-reads.Learnt, keep-reads.Asked, keep-reads.Learnt, vanish-reads.Asked, vanish-reads.Learnt) (kill-at t) kill.Post
+kill-same-length-7 : (t : ℕ) → kill-lts.Need-same-length-7 (stuck-reads.Asked, stuck-reads.Learnt, kind-of-reads.Asked, kind-of-reads.Learnt, kill-seq-below t, kill-seq.Post, kill-par-below t, kill-par.Post, kill-scope-below t, kill-scope.Post, kill-executor-below t, kill-executor.Post, kill-waiter-reads.Asked, kill-waiter-reads.Learnt, keep-reads.Asked, keep-reads.Learnt, vanish-reads.Asked, vanish-reads.Learnt) (kill-at t) kill.Post
 kill-same-length-7 t c = search needs
 
-kill-returns-10 : (t : ℕ) → kill-lts.Need-returns-10 (stuck-reads.Asked, stuck-reads.Learnt, wide-reads.Asked, wide-reads.Learnt, kill-seq-below t, kill-seq.Post, kill-par-below t, kill-par.Post, kill-scope-below t, kill-scope.Post, kill-executor-below t, kill-executor.Post, kill-waiter-reads.Asked, kill-waiter-reads.Learnt, keep-reads.Asked, keep-reads.Learnt, vanish-reads.Asked, vanish-reads.Learnt) (kill-at t) kill.Post
+kill-returns-10 : (t : ℕ) → kill-lts.Need-returns-10 (stuck-reads.Asked, stuck-reads.Learnt, kind-of-reads.Asked, kind-of-reads.Learnt, kill-seq-below t, kill-seq.Post, kill-par-below t, kill-par.Post, kill-scope-below t, kill-scope.Post, kill-executor-below t, kill-executor.Post, kill-waiter-reads.Asked, kill-waiter-reads.Learnt, keep-reads.Asked, keep-reads.Learnt, vanish-reads.Asked, vanish-reads.Learnt) (kill-at t) kill.Post
 unfolding kindW
 kill-returns-10 t c =
     let f0 = c .before .before .before .before .match .rest .0 .0 .0 .0 .0 .0 .1 in
@@ -303,7 +305,7 @@ kill-returns-10 t c =
     let f6 = c .before .before .before .before .match .rest .1 in
     let f7 = c .before .before .before .before .before .before .before .if2 .left in
     let f8 = c .before .before .before .before .before .before .before .before .if1 .left in
-    (simp (tests, kill-step, ← (c .before .before .vanish .ensures .0), ← (c .before .before .vanish .ensures .1), f0, f1, f2, f3, f4, f5, f6, ← (c .before .before .before .before .before .wide .ensures .0), f7, f8), simp (tests, kill-step, ← (c .before .before .vanish .ensures .0), ← (c .before .before .vanish .ensures .1), f0, f1, f2, f3, f4, f5, f6, ← (c .before .before .before .before .before .wide .ensures .0), f7, f8))
+    (simp (tests, kill-step, ← (c .before .before .vanish .ensures .0), f0, f1, f2, f3, f4, f5, f6, ← (c .before .before .before .before .before .kind-of .ensures .0), f7, f8), simp (tests, kill-step, ← (c .before .before .vanish .ensures .1), f0, f1, f2, f3, f4, f5, f6, ← (c .before .before .before .before .before .kind-of .ensures .0), f7, f8))
 
 kill-executor-stuck-requires : (t : ℕ) → kill-executor-lts.Need-stuck-requires (stuck-reads.Asked, stuck-reads.Learnt, put-reads.Asked, put-reads.Learnt, kill-below t, kill.Post, notice-reads.Asked, notice-reads.Learnt) (kill-executor-at t) kill-executor.Post
 kill-executor-stuck-requires t c κs = search needs
@@ -312,7 +314,7 @@ kill-executor-returns : (t : ℕ) → kill-executor-lts.Need-returns (stuck-read
 unfolding goes executorOn executorW
 kill-executor-returns t c =
     let f0 = c .before .if1 .taken in
-    (simp (tests, kill-step, ← (c .stuck .ensures), f0), simp (tests, kill-step, ← (c .stuck .ensures), f0))
+    (simp (tests, ← (c .stuck .ensures), f0), simp (tests, f0))
 
 kill-executor-put-requires : (t : ℕ) → kill-executor-lts.Need-put-requires (stuck-reads.Asked, stuck-reads.Learnt, put-reads.Asked, put-reads.Learnt, kill-below t, kill.Post, notice-reads.Asked, notice-reads.Learnt) (kill-executor-at t) kill-executor.Post
 kill-executor-put-requires t c κs = search needs
@@ -334,7 +336,7 @@ unfolding goes executorOn executorW
 kill-executor-returns-2 t c =
     let f0 = c .before .if2 .taken in
     let f1 = c .before .before .before .before .before .before .before .before .before .before .before .if1 .left in
-    (simp (tests, kill-step, ← (c .stuck2 .ensures), f0, ← (c .before .before .before .before .before .kill .ensures .0), ← (c .before .before .before .before .before .kill .ensures .1), ← (c .before .before .before .before .before .before .before .before .before .put .ensures .0), ← (c .before .before .before .before .before .before .before .before .before .put .ensures .1), f1), simp (tests, kill-step, ← (c .stuck2 .ensures), f0, ← (c .before .before .before .before .before .kill .ensures .0), ← (c .before .before .before .before .before .kill .ensures .1), ← (c .before .before .before .before .before .before .before .before .before .put .ensures .0), ← (c .before .before .before .before .before .before .before .before .before .put .ensures .1), f1))
+    (simp (tests, ← (c .stuck2 .ensures), f0, ← (c .before .before .before .before .before .kill .ensures .0), ← (c .before .before .before .before .before .kill .ensures .1), ← (c .before .before .before .before .before .before .before .before .before .put .ensures .0), ← (c .before .before .before .before .before .before .before .before .before .put .ensures .1), f1), simp (tests, f0, ← (c .before .before .before .before .before .kill .ensures .0), ← (c .before .before .before .before .before .kill .ensures .1), ← (c .before .before .before .before .before .before .before .before .before .put .ensures .0), ← (c .before .before .before .before .before .before .before .before .before .put .ensures .1), f1))
 
 kill-executor-notice-requires : (t : ℕ) → kill-executor-lts.Need-notice-requires (stuck-reads.Asked, stuck-reads.Learnt, put-reads.Asked, put-reads.Learnt, kill-below t, kill.Post, notice-reads.Asked, notice-reads.Learnt) (kill-executor-at t) kill-executor.Post
 kill-executor-notice-requires t c κs = search needs
@@ -344,7 +346,8 @@ kill-executor-same-length-2 t c = search needs
 
 kill-executor-returns-3 : (t : ℕ) → kill-executor-lts.Need-returns-3 (stuck-reads.Asked, stuck-reads.Learnt, put-reads.Asked, put-reads.Learnt, kill-below t, kill.Post, notice-reads.Asked, notice-reads.Learnt) (kill-executor-at t) kill-executor.Post
 kill-executor-returns-3 t c =
-    let e = executor-alone (killW ((c .before .before .before .before .before .before .before .before .before .before .before .before .before .before .before .before .before .before .before .before .args .depth)) ((c .before .before .before .before .before .before .before .before .before .before .before .before .before .before .before .before .before .before .before .before .args .ws .now)) ((c .before .before .before .before .before .before .before .before .before .before .before .before .before .before .before .before .before .before .before .before .args .notes .now)) ((c .before .before .before .before .before .before .before .before .before .before .before .before .before .before .before .before .before .before .before .before .args .fault)) ((c .before .before .before .before .before .before .before .before .before .before .before .before .before .before .before .before .before .before .before .before .args .hole))) ((c .before .before .before .before .before .before .before .before .before .before .before .before .before .before .before .before .before .before .before .before .args .ws .now)) ((c .before .before .before .before .before .before .before .before .before .before .before .before .before .before .before .before .before .before .before .before .args .fault)) ((c .before .before .before .before .before .before .before .before .before .before .before .before .before .before .before .before .before .before .before .before .args .at)) ((c .before .before .before .before .before .before .before .before .before .before .before .before .before .before .before .before .before .before .before .before .args .out .now)) ((c .before .before .before .before .before .before .before .before .before .before .before .before .before .before .before .before .before .before .before .before .args .to)) _ _ _ _ _ _ (c .before .before .before .before .before .before .before .before .before .before .before .before .before .before .before .before .if1 .left) (c .before .before .before .before .before .before .before .before .before .before .before .before .before .before .put .ensures .0) (c .before .before .before .before .before .before .before .before .before .before .before .before .before .before .put .ensures .1) (c .before .before .before .before .before .before .before .before .before .before .kill .ensures .0) (c .before .before .before .before .before .before .before .before .before .before .kill .ensures .1) (c .before .before .before .before .before .before .if2 .left) (c .before .before .before .before .if3 .taken) (c .before .before .notice .ensures .0) (c .before .before .notice .ensures .1) in
+    let a = c .before .before .before .before .before .before .before .before .before .before .before .before .before .before .before .before .before .before .before .before .args in
+    let e = executor-alone (killW (a .depth) (a .ws .now) (a .notes .now) (a .fault) (a .hole)) (a .ws .now) (a .fault) (a .at) (a .out .now) (a .to) _ _ _ _ _ _ (c .before .before .before .before .before .before .before .before .before .before .before .before .before .before .before .before .if1 .left) (c .before .before .before .before .before .before .before .before .before .before .before .before .before .before .put .ensures .0) (c .before .before .before .before .before .before .before .before .before .before .before .before .before .before .put .ensures .1) (c .before .before .before .before .before .before .before .before .before .before .kill .ensures .0) (c .before .before .before .before .before .before .before .before .before .before .kill .ensures .1) (c .before .before .before .before .before .before .if2 .left) (c .before .before .before .before .if3 .taken) (c .before .before .notice .ensures .0) (c .before .before .notice .ensures .1) in
     (ap moved e, ap output e)
 
 kill-executor-notice-requires-2 : (t : ℕ) → kill-executor-lts.Need-notice-requires-2 (stuck-reads.Asked, stuck-reads.Learnt, put-reads.Asked, put-reads.Learnt, kill-below t, kill.Post, notice-reads.Asked, notice-reads.Learnt) (kill-executor-at t) kill-executor.Post
@@ -355,7 +358,8 @@ kill-executor-same-length-3 t c = search needs
 
 kill-executor-returns-4 : (t : ℕ) → kill-executor-lts.Need-returns-4 (stuck-reads.Asked, stuck-reads.Learnt, put-reads.Asked, put-reads.Learnt, kill-below t, kill.Post, notice-reads.Asked, notice-reads.Learnt) (kill-executor-at t) kill-executor.Post
 kill-executor-returns-4 t c =
-    let e = executor-beside (killW ((c .before .before .before .before .before .before .before .before .before .before .before .before .before .before .before .before .before .before .before .before .args .depth)) ((c .before .before .before .before .before .before .before .before .before .before .before .before .before .before .before .before .before .before .before .before .args .ws .now)) ((c .before .before .before .before .before .before .before .before .before .before .before .before .before .before .before .before .before .before .before .before .args .notes .now)) ((c .before .before .before .before .before .before .before .before .before .before .before .before .before .before .before .before .before .before .before .before .args .fault)) ((c .before .before .before .before .before .before .before .before .before .before .before .before .before .before .before .before .before .before .before .before .args .hole))) ((c .before .before .before .before .before .before .before .before .before .before .before .before .before .before .before .before .before .before .before .before .args .ws .now)) ((c .before .before .before .before .before .before .before .before .before .before .before .before .before .before .before .before .before .before .before .before .args .fault)) ((c .before .before .before .before .before .before .before .before .before .before .before .before .before .before .before .before .before .before .before .before .args .at)) ((c .before .before .before .before .before .before .before .before .before .before .before .before .before .before .before .before .before .before .before .before .args .out .now)) ((c .before .before .before .before .before .before .before .before .before .before .before .before .before .before .before .before .before .before .before .before .args .to)) _ _ _ _ _ _ (c .before .before .before .before .before .before .before .before .before .before .before .before .before .before .before .before .if1 .left) (c .before .before .before .before .before .before .before .before .before .before .before .before .before .before .put .ensures .0) (c .before .before .before .before .before .before .before .before .before .before .before .before .before .before .put .ensures .1) (c .before .before .before .before .before .before .before .before .before .before .kill .ensures .0) (c .before .before .before .before .before .before .before .before .before .before .kill .ensures .1) (c .before .before .before .before .before .before .if2 .left) (c .before .before .before .before .if3 .left) (c .before .before .notice2 .ensures .0) (c .before .before .notice2 .ensures .1) in
+    let a = c .before .before .before .before .before .before .before .before .before .before .before .before .before .before .before .before .before .before .before .before .args in
+    let e = executor-beside (killW (a .depth) (a .ws .now) (a .notes .now) (a .fault) (a .hole)) (a .ws .now) (a .fault) (a .at) (a .out .now) (a .to) _ _ _ _ _ _ (c .before .before .before .before .before .before .before .before .before .before .before .before .before .before .before .before .if1 .left) (c .before .before .before .before .before .before .before .before .before .before .before .before .before .before .put .ensures .0) (c .before .before .before .before .before .before .before .before .before .before .before .before .before .before .put .ensures .1) (c .before .before .before .before .before .before .before .before .before .before .kill .ensures .0) (c .before .before .before .before .before .before .before .before .before .before .kill .ensures .1) (c .before .before .before .before .before .before .if2 .left) (c .before .before .before .before .if3 .left) (c .before .before .notice2 .ensures .0) (c .before .before .notice2 .ensures .1) in
     (ap moved e, ap output e)
 
 kill-live-copy-requires : (t : ℕ) → kill-live-lts.Need-copy-requires (copy-reads.Asked, copy-reads.Learnt, kill-below t, kill.Post, stuck-reads.Asked, stuck-reads.Learnt, zombie-head-reads.Asked, zombie-head-reads.Learnt, put-reads.Asked, put-reads.Learnt) (kill-live-at t) kill-live.Post
@@ -374,7 +378,7 @@ kill-live-returns : (t : ℕ) → kill-live-lts.Need-returns (copy-reads.Asked, 
 unfolding goes liveOn liveW
 kill-live-returns t c =
     let f0 = c .before .if1 .taken in
-    (simp (tests, kill-step, ← (c .stuck .ensures), f0, ← (c .before .before .before .before .before .kill .ensures .0), ← (c .before .before .before .before .before .kill .ensures .1), ← (c .before .before .before .before .before .before .before .before .before .copy .ensures .0), ← (c .before .before .before .before .before .before .before .before .before .copy .ensures .1)), simp (tests, kill-step, ← (c .stuck .ensures), f0, ← (c .before .before .before .before .before .kill .ensures .0), ← (c .before .before .before .before .before .kill .ensures .1), ← (c .before .before .before .before .before .before .before .before .before .copy .ensures .0), ← (c .before .before .before .before .before .before .before .before .before .copy .ensures .1)))
+    (simp (tests, ← (c .stuck .ensures), f0, ← (c .before .before .before .before .before .kill .ensures .0), ← (c .before .before .before .before .before .kill .ensures .1), ← (c .before .before .before .before .before .before .before .before .before .copy .ensures .0), ← (c .before .before .before .before .before .before .before .before .before .copy .ensures .1)), simp (tests, f0, ← (c .before .before .before .before .before .kill .ensures .0), ← (c .before .before .before .before .before .kill .ensures .1), ← (c .before .before .before .before .before .before .before .before .before .copy .ensures .0), ← (c .before .before .before .before .before .before .before .before .before .copy .ensures .1)))
 
 kill-live-zombie-head-requires : (t : ℕ) → kill-live-lts.Need-zombie-head-requires (copy-reads.Asked, copy-reads.Learnt, kill-below t, kill.Post, stuck-reads.Asked, stuck-reads.Learnt, zombie-head-reads.Asked, zombie-head-reads.Learnt, put-reads.Asked, put-reads.Learnt) (kill-live-at t) kill-live.Post
 kill-live-zombie-head-requires t c κs = search needs
@@ -390,7 +394,8 @@ kill-live-same-length-2 t c = search needs
 
 kill-live-returns-2 : (t : ℕ) → kill-live-lts.Need-returns-2 (copy-reads.Asked, copy-reads.Learnt, kill-below t, kill.Post, stuck-reads.Asked, stuck-reads.Learnt, zombie-head-reads.Asked, zombie-head-reads.Learnt, put-reads.Asked, put-reads.Learnt) (kill-live-at t) kill-live.Post
 kill-live-returns-2 t c =
-    let e = live-made (killW ((c .before .before .before .before .before .before .before .before .before .before .before .before .before .before .before .before .before .before .before .before .before .before .args .depth)) ((c .before .before .before .before .before .before .before .before .before .before .before .before .before .before .before .before .before .before .before .before .before .before .args .ws .now)) ((c .before .before .before .before .before .before .before .before .before .before .before .before .before .before .before .before .before .before .before .before .before .before .args .notes .now)) ((c .before .before .before .before .before .before .before .before .before .before .before .before .before .before .before .before .before .before .before .before .before .before .args .fault)) ((c .before .before .before .before .before .before .before .before .before .before .before .before .before .before .before .before .before .before .before .before .before .before .args .hole))) ((c .before .before .before .before .before .before .before .before .before .before .before .before .before .before .before .before .before .before .before .before .before .before .args .ws .now)) ((c .before .before .before .before .before .before .before .before .before .before .before .before .before .before .before .before .before .before .before .before .before .before .args .hole)) ((c .before .before .before .before .before .before .before .before .before .before .before .before .before .before .before .before .before .before .before .before .before .before .args .at)) ((c .before .before .before .before .before .before .before .before .before .before .before .before .before .before .before .before .before .before .before .before .before .before .args .body)) ((c .before .before .before .before .before .before .before .before .before .before .before .before .before .before .before .before .before .before .before .before .before .before .args .out .now)) ((c .before .before .before .before .before .before .before .before .before .before .before .before .before .before .before .before .before .before .before .before .before .before .args .to)) _ _ _ _ _ _ _ _ (c .before .before .before .before .before .before .before .before .before .before .before .before .before .before .before .before .before .copy .ensures .0) (c .before .before .before .before .before .before .before .before .before .before .before .before .before .before .before .before .before .copy .ensures .1) (c .before .before .before .before .before .before .before .before .before .before .before .before .before .kill .ensures .0) (c .before .before .before .before .before .before .before .before .before .before .before .before .before .kill .ensures .1) (c .before .before .before .before .before .before .before .before .before .if1 .left) (c .before .before .before .before .before .before .before .zombie-head .ensures) (c .before .before .before .before .before .before .put .ensures .0) (c .before .before .before .before .before .before .put .ensures .1) (c .before .before .put2 .ensures .1) in
+    let a = c .before .before .before .before .before .before .before .before .before .before .before .before .before .before .before .before .before .before .before .before .before .before .args in
+    let e = live-made (killW (a .depth) (a .ws .now) (a .notes .now) (a .fault) (a .hole)) (a .ws .now) (a .hole) (a .at) (a .body) (a .out .now) (a .to) _ _ _ _ _ _ _ _ (c .before .before .before .before .before .before .before .before .before .before .before .before .before .before .before .before .before .copy .ensures .0) (c .before .before .before .before .before .before .before .before .before .before .before .before .before .before .before .before .before .copy .ensures .1) (c .before .before .before .before .before .before .before .before .before .before .before .before .before .kill .ensures .0) (c .before .before .before .before .before .before .before .before .before .before .before .before .before .kill .ensures .1) (c .before .before .before .before .before .before .before .before .before .if1 .left) (c .before .before .before .before .before .before .before .zombie-head .ensures) (c .before .before .before .before .before .before .put .ensures .0) (c .before .before .before .before .before .before .put .ensures .1) (c .before .before .put2 .ensures .1) in
     (ap moved e, ap output e)
 
 kill-par-gone-requires : (t : ℕ) → kill-par-lts.Need-gone-requires (gone-reads.Asked, gone-reads.Learnt, pass-reads.Asked, pass-reads.Learnt, kill-below t, kill.Post, put-reads.Asked, put-reads.Learnt, stuck-reads.Asked, stuck-reads.Learnt, kill-right-below t, kill-right.Post) (kill-par-at t) kill-par.Post
@@ -407,7 +412,8 @@ kill-par-same-length t c = search needs
 
 kill-par-returns : (t : ℕ) → kill-par-lts.Need-returns (gone-reads.Asked, gone-reads.Learnt, pass-reads.Asked, pass-reads.Learnt, kill-below t, kill.Post, put-reads.Asked, put-reads.Learnt, stuck-reads.Asked, stuck-reads.Learnt, kill-right-below t, kill-right.Post) (kill-par-at t) kill-par.Post
 kill-par-returns t c =
-    let e = par-gone (c .before .before .before .before .before .before .before .before .before .before .args .depth) (killW (c .before .before .before .before .before .before .before .before .before .before .args .depth) (c .before .before .before .before .before .before .before .before .before .before .args .ws .now) (c .before .before .before .before .before .before .before .before .before .before .args .notes .now) (c .before .before .before .before .before .before .before .before .before .before .args .fault) (c .before .before .before .before .before .before .before .before .before .before .args .hole)) (c .before .before .before .before .before .before .before .before .before .before .args .ws .now) (c .before .before .before .before .before .before .before .before .before .before .args .notes .now) (c .before .before .before .before .before .before .before .before .before .before .args .at) (c .before .before .before .before .before .before .before .before .before .before .args .out .now) (c .before .before .before .before .before .before .before .before .before .before .args .to) _ _ _ (sym (c .before .before .before .before .before .before .gone .ensures) ∙ (c .before .before .before .before .before .if1 .taken)) (c .before .before .before .before .pass .ensures) (c .before .before .kill .ensures .0) (c .before .before .kill .ensures .1) in
+    let a = c .before .before .before .before .before .before .before .before .before .before .args in
+    let e = par-gone (a .depth) (killW (a .depth) (a .ws .now) (a .notes .now) (a .fault) (a .hole)) (a .ws .now) (a .notes .now) (a .at) (a .out .now) (a .to) _ _ _ (sym (c .before .before .before .before .before .before .gone .ensures) ∙ (c .before .before .before .before .before .if1 .taken)) (c .before .before .before .before .pass .ensures) (c .before .before .kill .ensures .0) (c .before .before .kill .ensures .1) in
     (ap moved e, ap output e)
 
 kill-par-put-requires : (t : ℕ) → kill-par-lts.Need-put-requires (gone-reads.Asked, gone-reads.Learnt, pass-reads.Asked, pass-reads.Learnt, kill-below t, kill.Post, put-reads.Asked, put-reads.Learnt, stuck-reads.Asked, stuck-reads.Learnt, kill-right-below t, kill-right.Post) (kill-par-at t) kill-par.Post
@@ -427,7 +433,7 @@ unfolding goes leftOn parW
 kill-par-returns-2 t c =
     let f0 = c .before .if2 .taken in
     let f1 = c .before .before .before .before .before .before .before .before .before .before .before .if1 .left in
-    (simp (tests, kill-step, ← (c .stuck .ensures), f0, ← (c .before .before .before .before .before .kill2 .ensures .0), ← (c .before .before .before .before .before .kill2 .ensures .1), ← (c .before .before .before .before .before .before .before .before .before .put .ensures .0), ← (c .before .before .before .before .before .before .before .before .before .put .ensures .1), f1, ← (c .before .before .before .before .before .before .before .before .before .before .before .before .gone .ensures)), simp (tests, kill-step, ← (c .stuck .ensures), f0, ← (c .before .before .before .before .before .kill2 .ensures .0), ← (c .before .before .before .before .before .kill2 .ensures .1), ← (c .before .before .before .before .before .before .before .before .before .put .ensures .0), ← (c .before .before .before .before .before .before .before .before .before .put .ensures .1), f1, ← (c .before .before .before .before .before .before .before .before .before .before .before .before .gone .ensures)))
+    (simp (tests, ← (c .stuck .ensures), f0, ← (c .before .before .before .before .before .kill2 .ensures .0), ← (c .before .before .before .before .before .kill2 .ensures .1), ← (c .before .before .before .before .before .before .before .before .before .put .ensures .0), ← (c .before .before .before .before .before .before .before .before .before .put .ensures .1), f1, ← (c .before .before .before .before .before .before .before .before .before .before .before .before .gone .ensures)), simp (tests, ← (c .stuck .ensures), f0, ← (c .before .before .before .before .before .kill2 .ensures .0), ← (c .before .before .before .before .before .kill2 .ensures .1), ← (c .before .before .before .before .before .before .before .before .before .put .ensures .0), ← (c .before .before .before .before .before .before .before .before .before .put .ensures .1), f1, ← (c .before .before .before .before .before .before .before .before .before .before .before .before .gone .ensures)))
 
 kill-par-kill-requires-3 : (t : ℕ) → kill-par-lts.Need-kill-requires-3 (gone-reads.Asked, gone-reads.Learnt, pass-reads.Asked, pass-reads.Learnt, kill-below t, kill.Post, put-reads.Asked, put-reads.Learnt, stuck-reads.Asked, stuck-reads.Learnt, kill-right-below t, kill-right.Post) (kill-par-at t) kill-par.Post
 kill-par-kill-requires-3 t c κs = search needs
@@ -437,7 +443,8 @@ kill-par-same-length-3 t c = search needs
 
 kill-par-returns-3 : (t : ℕ) → kill-par-lts.Need-returns-3 (gone-reads.Asked, gone-reads.Learnt, pass-reads.Asked, pass-reads.Learnt, kill-below t, kill.Post, put-reads.Asked, put-reads.Learnt, stuck-reads.Asked, stuck-reads.Learnt, kill-right-below t, kill-right.Post) (kill-par-at t) kill-par.Post
 kill-par-returns-3 t c =
-    let e = par-right (c .before .before .before .before .before .before .before .before .before .before .before .before .before .before .before .before .before .before .before .before .before .args .depth) (killW (c .before .before .before .before .before .before .before .before .before .before .before .before .before .before .before .before .before .before .before .before .before .args .depth) (c .before .before .before .before .before .before .before .before .before .before .before .before .before .before .before .before .before .before .before .before .before .args .ws .now) (c .before .before .before .before .before .before .before .before .before .before .before .before .before .before .before .before .before .before .before .before .before .args .notes .now) (c .before .before .before .before .before .before .before .before .before .before .before .before .before .before .before .before .before .before .before .before .before .args .fault) (c .before .before .before .before .before .before .before .before .before .before .before .before .before .before .before .before .before .before .before .before .before .args .hole)) (c .before .before .before .before .before .before .before .before .before .before .before .before .before .before .before .before .before .before .before .before .before .args .ws .now) (c .before .before .before .before .before .before .before .before .before .before .before .before .before .before .before .before .before .before .before .before .before .args .notes .now) (c .before .before .before .before .before .before .before .before .before .before .before .before .before .before .before .before .before .before .before .before .before .args .at) (c .before .before .before .before .before .before .before .before .before .before .before .before .before .before .before .before .before .before .before .before .before .args .out .now) (c .before .before .before .before .before .before .before .before .before .before .before .before .before .before .before .before .before .before .before .before .before .args .to) _ _ _ _ _ _ (sym (c .before .before .before .before .before .before .before .before .before .before .before .before .before .before .before .before .before .gone .ensures) ∙ (c .before .before .before .before .before .before .before .before .before .before .before .before .before .before .before .before .if1 .left)) (c .before .before .before .before .before .before .before .before .before .before .before .before .before .before .put .ensures .0) (c .before .before .before .before .before .before .before .before .before .before .before .before .before .before .put .ensures .1) (c .before .before .before .before .before .before .before .before .before .before .kill2 .ensures .0) (c .before .before .before .before .before .before .before .before .before .before .kill2 .ensures .1) (c .before .before .before .before .before .before .if2 .left) (c .before .before .before .before .if3 .taken) (c .before .before .kill3 .ensures .0) (c .before .before .kill3 .ensures .1) in
+    let a = c .before .before .before .before .before .before .before .before .before .before .before .before .before .before .before .before .before .before .before .before .before .args in
+    let e = par-right (a .depth) (killW (a .depth) (a .ws .now) (a .notes .now) (a .fault) (a .hole)) (a .ws .now) (a .notes .now) (a .at) (a .out .now) (a .to) _ _ _ _ _ _ (sym (c .before .before .before .before .before .before .before .before .before .before .before .before .before .before .before .before .before .gone .ensures) ∙ (c .before .before .before .before .before .before .before .before .before .before .before .before .before .before .before .before .if1 .left)) (c .before .before .before .before .before .before .before .before .before .before .before .before .before .before .put .ensures .0) (c .before .before .before .before .before .before .before .before .before .before .before .before .before .before .put .ensures .1) (c .before .before .before .before .before .before .before .before .before .before .kill2 .ensures .0) (c .before .before .before .before .before .before .before .before .before .before .kill2 .ensures .1) (c .before .before .before .before .before .before .if2 .left) (c .before .before .before .before .if3 .taken) (c .before .before .kill3 .ensures .0) (c .before .before .kill3 .ensures .1) in
     (ap moved e, ap output e)
 
 kill-par-kill-right-requires : (t : ℕ) → kill-par-lts.Need-kill-right-requires (gone-reads.Asked, gone-reads.Learnt, pass-reads.Asked, pass-reads.Learnt, kill-below t, kill.Post, put-reads.Asked, put-reads.Learnt, stuck-reads.Asked, stuck-reads.Learnt, kill-right-below t, kill-right.Post) (kill-par-at t) kill-par.Post
@@ -448,7 +455,8 @@ kill-par-same-length-4 t c = search needs
 
 kill-par-returns-4 : (t : ℕ) → kill-par-lts.Need-returns-4 (gone-reads.Asked, gone-reads.Learnt, pass-reads.Asked, pass-reads.Learnt, kill-below t, kill.Post, put-reads.Asked, put-reads.Learnt, stuck-reads.Asked, stuck-reads.Learnt, kill-right-below t, kill-right.Post) (kill-par-at t) kill-par.Post
 kill-par-returns-4 t c =
-    let e = par-both (c .before .before .before .before .before .before .before .before .before .before .before .before .before .before .before .before .before .before .before .before .before .args .depth) (killW (c .before .before .before .before .before .before .before .before .before .before .before .before .before .before .before .before .before .before .before .before .before .args .depth) (c .before .before .before .before .before .before .before .before .before .before .before .before .before .before .before .before .before .before .before .before .before .args .ws .now) (c .before .before .before .before .before .before .before .before .before .before .before .before .before .before .before .before .before .before .before .before .before .args .notes .now) (c .before .before .before .before .before .before .before .before .before .before .before .before .before .before .before .before .before .before .before .before .before .args .fault) (c .before .before .before .before .before .before .before .before .before .before .before .before .before .before .before .before .before .before .before .before .before .args .hole)) (c .before .before .before .before .before .before .before .before .before .before .before .before .before .before .before .before .before .before .before .before .before .args .ws .now) (c .before .before .before .before .before .before .before .before .before .before .before .before .before .before .before .before .before .before .before .before .before .args .notes .now) (c .before .before .before .before .before .before .before .before .before .before .before .before .before .before .before .before .before .before .before .before .before .args .at) (c .before .before .before .before .before .before .before .before .before .before .before .before .before .before .before .before .before .before .before .before .before .args .out .now) (c .before .before .before .before .before .before .before .before .before .before .before .before .before .before .before .before .before .before .before .before .before .args .to) _ _ _ _ _ _ (sym (c .before .before .before .before .before .before .before .before .before .before .before .before .before .before .before .before .before .gone .ensures) ∙ (c .before .before .before .before .before .before .before .before .before .before .before .before .before .before .before .before .if1 .left)) (c .before .before .before .before .before .before .before .before .before .before .before .before .before .before .put .ensures .0) (c .before .before .before .before .before .before .before .before .before .before .before .before .before .before .put .ensures .1) (c .before .before .before .before .before .before .before .before .before .before .kill2 .ensures .0) (c .before .before .before .before .before .before .before .before .before .before .kill2 .ensures .1) (c .before .before .before .before .before .before .if2 .left) (c .before .before .before .before .if3 .left) (c .before .before .kill-right .ensures .0) (c .before .before .kill-right .ensures .1) in
+    let a = c .before .before .before .before .before .before .before .before .before .before .before .before .before .before .before .before .before .before .before .before .before .args in
+    let e = par-both (a .depth) (killW (a .depth) (a .ws .now) (a .notes .now) (a .fault) (a .hole)) (a .ws .now) (a .notes .now) (a .at) (a .out .now) (a .to) _ _ _ _ _ _ (sym (c .before .before .before .before .before .before .before .before .before .before .before .before .before .before .before .before .before .gone .ensures) ∙ (c .before .before .before .before .before .before .before .before .before .before .before .before .before .before .before .before .if1 .left)) (c .before .before .before .before .before .before .before .before .before .before .before .before .before .before .put .ensures .0) (c .before .before .before .before .before .before .before .before .before .before .before .before .before .before .put .ensures .1) (c .before .before .before .before .before .before .before .before .before .before .kill2 .ensures .0) (c .before .before .before .before .before .before .before .before .before .before .kill2 .ensures .1) (c .before .before .before .before .before .before .if2 .left) (c .before .before .before .before .if3 .left) (c .before .before .kill-right .ensures .0) (c .before .before .kill-right .ensures .1) in
     (ap moved e, ap output e)
 
 kill-right-gone-requires : (t : ℕ) → kill-right-lts.Need-gone-requires (gone-reads.Asked, gone-reads.Learnt, down-reads.Asked, down-reads.Learnt, pass-reads.Asked, pass-reads.Learnt, less-one-reads.Asked, less-one-reads.Learnt, kill-below t, kill.Post, stuck-reads.Asked, stuck-reads.Learnt) (kill-right-at t) kill-right.Post
@@ -468,7 +476,8 @@ kill-right-same-length t c = search needs
 
 kill-right-returns : (t : ℕ) → kill-right-lts.Need-returns (gone-reads.Asked, gone-reads.Learnt, down-reads.Asked, down-reads.Learnt, pass-reads.Asked, pass-reads.Learnt, less-one-reads.Asked, less-one-reads.Learnt, kill-below t, kill.Post, stuck-reads.Asked, stuck-reads.Learnt) (kill-right-at t) kill-right.Post
 kill-right-returns t c =
-    let e = right-gone (c .before .before .before .before .before .before .before .before .before .before .before .args .depth) (killW (c .before .before .before .before .before .before .before .before .before .before .before .args .depth) (c .before .before .before .before .before .before .before .before .before .before .before .args .ws .now) (c .before .before .before .before .before .before .before .before .before .before .before .args .notes .now) (c .before .before .before .before .before .before .before .before .before .before .before .args .fault) (c .before .before .before .before .before .before .before .before .before .before .before .args .hole)) (c .before .before .before .before .before .before .before .before .before .before .before .args .ws .now) (c .before .before .before .before .before .before .before .before .before .before .before .args .notes .now) (c .before .before .before .before .before .before .before .before .before .before .before .args .at) (c .before .before .before .before .before .before .before .before .before .before .before .args .out .now) (c .before .before .before .before .before .before .before .before .before .before .before .args .one) (c .before .before .before .before .before .before .before .before .before .before .before .args .to) _ _ _ (sym (c .before .before .before .before .before .before .before .gone .ensures) ∙ (c .before .before .before .before .before .before .if1 .taken)) (c .before .pass .ensures) (c .less-one .ensures) (c .before .before .before .before .down .ensures .1) in
+    let a = c .before .before .before .before .before .before .before .before .before .before .before .args in
+    let e = right-gone (a .depth) (killW (a .depth) (a .ws .now) (a .notes .now) (a .fault) (a .hole)) (a .ws .now) (a .notes .now) (a .at) (a .out .now) (a .one) (a .to) _ _ _ (sym (c .before .before .before .before .before .before .before .gone .ensures) ∙ (c .before .before .before .before .before .before .if1 .taken)) (c .before .pass .ensures) (c .less-one .ensures) (c .before .before .before .before .down .ensures .1) in
     (ap moved e, ap output e)
 
 kill-right-kill-requires : (t : ℕ) → kill-right-lts.Need-kill-requires (gone-reads.Asked, gone-reads.Learnt, down-reads.Asked, down-reads.Learnt, pass-reads.Asked, pass-reads.Learnt, less-one-reads.Asked, less-one-reads.Learnt, kill-below t, kill.Post, stuck-reads.Asked, stuck-reads.Learnt) (kill-right-at t) kill-right.Post
@@ -485,7 +494,7 @@ unfolding goes rightOn rightW
 kill-right-returns-2 t c =
     let f0 = c .before .if2 .taken in
     let f1 = c .before .before .before .before .before .before .before .if1 .left in
-    (simp (tests, kill-step, ← (c .stuck .ensures), f0, ← (c .before .before .before .before .before .kill .ensures .0), ← (c .before .before .before .before .before .kill .ensures .1), f1, ← (c .before .before .before .before .before .before .before .before .gone .ensures)), simp (tests, kill-step, ← (c .stuck .ensures), f0, ← (c .before .before .before .before .before .kill .ensures .0), ← (c .before .before .before .before .before .kill .ensures .1), f1, ← (c .before .before .before .before .before .before .before .before .gone .ensures)))
+    (simp (tests, ← (c .stuck .ensures), f0, ← (c .before .before .before .before .before .kill .ensures .0), ← (c .before .before .before .before .before .kill .ensures .1), f1, ← (c .before .before .before .before .before .before .before .before .gone .ensures)), simp (tests, ← (c .stuck .ensures), f0, ← (c .before .before .before .before .before .kill .ensures .0), ← (c .before .before .before .before .before .kill .ensures .1), f1, ← (c .before .before .before .before .before .before .before .before .gone .ensures)))
 
 kill-right-down-requires-2 : (t : ℕ) → kill-right-lts.Need-down-requires-2 (gone-reads.Asked, gone-reads.Learnt, down-reads.Asked, down-reads.Learnt, pass-reads.Asked, pass-reads.Learnt, less-one-reads.Asked, less-one-reads.Learnt, kill-below t, kill.Post, stuck-reads.Asked, stuck-reads.Learnt) (kill-right-at t) kill-right.Post
 kill-right-down-requires-2 t c κs = search needs
@@ -498,7 +507,8 @@ kill-right-same-length-3 t c = search needs
 
 kill-right-returns-3 : (t : ℕ) → kill-right-lts.Need-returns-3 (gone-reads.Asked, gone-reads.Learnt, down-reads.Asked, down-reads.Learnt, pass-reads.Asked, pass-reads.Learnt, less-one-reads.Asked, less-one-reads.Learnt, kill-below t, kill.Post, stuck-reads.Asked, stuck-reads.Learnt) (kill-right-at t) kill-right.Post
 kill-right-returns-3 t c =
-    let e = right-nil (c .before .before .before .before .before .before .before .before .before .before .before .before .before .before .before .before .before .before .args .depth) (killW (c .before .before .before .before .before .before .before .before .before .before .before .before .before .before .before .before .before .before .args .depth) (c .before .before .before .before .before .before .before .before .before .before .before .before .before .before .before .before .before .before .args .ws .now) (c .before .before .before .before .before .before .before .before .before .before .before .before .before .before .before .before .before .before .args .notes .now) (c .before .before .before .before .before .before .before .before .before .before .before .before .before .before .before .before .before .before .args .fault) (c .before .before .before .before .before .before .before .before .before .before .before .before .before .before .before .before .before .before .args .hole)) (c .before .before .before .before .before .before .before .before .before .before .before .before .before .before .before .before .before .before .args .ws .now) (c .before .before .before .before .before .before .before .before .before .before .before .before .before .before .before .before .before .before .args .notes .now) (c .before .before .before .before .before .before .before .before .before .before .before .before .before .before .before .before .before .before .args .at) (c .before .before .before .before .before .before .before .before .before .before .before .before .before .before .before .before .before .before .args .out .now) (c .before .before .before .before .before .before .before .before .before .before .before .before .before .before .before .before .before .before .args .one) (c .before .before .before .before .before .before .before .before .before .before .before .before .before .before .before .before .before .before .args .to) _ _ (sym (c .before .before .before .before .before .before .before .before .before .before .before .before .before .before .gone .ensures) ∙ (c .before .before .before .before .before .before .before .before .before .before .before .before .before .if1 .left)) (c .before .before .before .before .before .before .before .before .before .before .before .kill .ensures .0) (c .before .before .before .before .before .before .before .before .before .before .before .kill .ensures .1) (c .before .before .before .before .before .before .before .if2 .left) _ _ (c .before .before .before .before .before .if3 .taken) (c .less-one2 .ensures) (c .before .before .before .down2 .ensures .1) in
+    let a = c .before .before .before .before .before .before .before .before .before .before .before .before .before .before .before .before .before .before .args in
+    let e = right-nil (a .depth) (killW (a .depth) (a .ws .now) (a .notes .now) (a .fault) (a .hole)) (a .ws .now) (a .notes .now) (a .at) (a .out .now) (a .one) (a .to) _ _ (sym (c .before .before .before .before .before .before .before .before .before .before .before .before .before .before .gone .ensures) ∙ (c .before .before .before .before .before .before .before .before .before .before .before .before .before .if1 .left)) (c .before .before .before .before .before .before .before .before .before .before .before .kill .ensures .0) (c .before .before .before .before .before .before .before .before .before .before .before .kill .ensures .1) (c .before .before .before .before .before .before .before .if2 .left) _ _ (c .before .before .before .before .before .if3 .taken) (c .less-one2 .ensures) (c .before .before .before .down2 .ensures .1) in
     (ap moved e, ap output e)
 
 kill-right-same-length-4 : (t : ℕ) → kill-right-lts.Need-same-length-4 (gone-reads.Asked, gone-reads.Learnt, down-reads.Asked, down-reads.Learnt, pass-reads.Asked, pass-reads.Learnt, less-one-reads.Asked, less-one-reads.Learnt, kill-below t, kill.Post, stuck-reads.Asked, stuck-reads.Learnt) (kill-right-at t) kill-right.Post
@@ -506,101 +516,100 @@ kill-right-same-length-4 t c = search needs
 
 kill-right-returns-4 : (t : ℕ) → kill-right-lts.Need-returns-4 (gone-reads.Asked, gone-reads.Learnt, down-reads.Asked, down-reads.Learnt, pass-reads.Asked, pass-reads.Learnt, less-one-reads.Asked, less-one-reads.Learnt, kill-below t, kill.Post, stuck-reads.Asked, stuck-reads.Learnt) (kill-right-at t) kill-right.Post
 kill-right-returns-4 t c =
-    let e = right-stays (c .before .before .before .before .before .before .before .before .before .before .before .before .before .args .depth) (killW (c .before .before .before .before .before .before .before .before .before .before .before .before .before .args .depth) (c .before .before .before .before .before .before .before .before .before .before .before .before .before .args .ws .now) (c .before .before .before .before .before .before .before .before .before .before .before .before .before .args .notes .now) (c .before .before .before .before .before .before .before .before .before .before .before .before .before .args .fault) (c .before .before .before .before .before .before .before .before .before .before .before .before .before .args .hole)) (c .before .before .before .before .before .before .before .before .before .before .before .before .before .args .ws .now) (c .before .before .before .before .before .before .before .before .before .before .before .before .before .args .notes .now) (c .before .before .before .before .before .before .before .before .before .before .before .before .before .args .at) (c .before .before .before .before .before .before .before .before .before .before .before .before .before .args .out .now) (c .before .before .before .before .before .before .before .before .before .before .before .before .before .args .one) (c .before .before .before .before .before .before .before .before .before .before .before .before .before .args .to) _ _ (sym (c .before .before .before .before .before .before .before .before .before .gone .ensures) ∙ (c .before .before .before .before .before .before .before .before .if1 .left)) (c .before .before .before .before .before .before .kill .ensures .0) (c .before .before .before .before .before .before .kill .ensures .1) (c .before .before .if2 .left) (c .if3 .left) in
+    let a = c .before .before .before .before .before .before .before .before .before .before .before .before .before .args in
+    let e = right-stays (a .depth) (killW (a .depth) (a .ws .now) (a .notes .now) (a .fault) (a .hole)) (a .ws .now) (a .notes .now) (a .at) (a .out .now) (a .one) (a .to) _ _ (sym (c .before .before .before .before .before .before .before .before .before .gone .ensures) ∙ (c .before .before .before .before .before .before .before .before .if1 .left)) (c .before .before .before .before .before .before .kill .ensures .0) (c .before .before .before .before .before .before .kill .ensures .1) (c .before .before .if2 .left) (c .if3 .left) in
     (ap moved e, ap output e)
 
-kill-scope-stuck-requires : (t : ℕ) → kill-scope-lts.Need-stuck-requires (stuck-reads.Asked, stuck-reads.Learnt, pass-list-reads.Asked, pass-list-reads.Learnt, wide-reads.Asked, wide-reads.Learnt, kill-zombie-below t, kill-zombie.Post, kill-live-below t, kill-live.Post) (kill-scope-at t) kill-scope.Post
+kill-scope-stuck-requires : (t : ℕ) → kill-scope-lts.Need-stuck-requires (stuck-reads.Asked, stuck-reads.Learnt, pass-list-reads.Asked, pass-list-reads.Learnt, zombie-of-reads.Asked, zombie-of-reads.Learnt, kill-zombie-below t, kill-zombie.Post, kill-live-below t, kill-live.Post) (kill-scope-at t) kill-scope.Post
 kill-scope-stuck-requires t c κs = search needs
 
-kill-scope-returns : (t : ℕ) → kill-scope-lts.Need-returns (stuck-reads.Asked, stuck-reads.Learnt, pass-list-reads.Asked, pass-list-reads.Learnt, wide-reads.Asked, wide-reads.Learnt, kill-zombie-below t, kill-zombie.Post, kill-live-below t, kill-live.Post) (kill-scope-at t) kill-scope.Post
+kill-scope-returns : (t : ℕ) → kill-scope-lts.Need-returns (stuck-reads.Asked, stuck-reads.Learnt, pass-list-reads.Asked, pass-list-reads.Learnt, zombie-of-reads.Asked, zombie-of-reads.Learnt, kill-zombie-below t, kill-zombie.Post, kill-live-below t, kill-live.Post) (kill-scope-at t) kill-scope.Post
 unfolding scopeAt scopeW
 kill-scope-returns t c =
     let f0 = c .before .if1 .taken in
-    (simp (tests, kill-step, ← (c .stuck .ensures), f0), simp (tests, kill-step, ← (c .stuck .ensures), f0))
+    (simp (tests, ← (c .stuck .ensures), f0), simp (tests, f0))
 
-kill-scope-add-pass-list : (t : ℕ) → kill-scope-lts.Need-add-pass-list (stuck-reads.Asked, stuck-reads.Learnt, pass-list-reads.Asked, pass-list-reads.Learnt, wide-reads.Asked, wide-reads.Learnt, kill-zombie-below t, kill-zombie.Post, kill-live-below t, kill-live.Post) (kill-scope-at t) kill-scope.Post
+kill-scope-add-pass-list : (t : ℕ) → kill-scope-lts.Need-add-pass-list (stuck-reads.Asked, stuck-reads.Learnt, pass-list-reads.Asked, pass-list-reads.Learnt, zombie-of-reads.Asked, zombie-of-reads.Learnt, kill-zombie-below t, kill-zombie.Post, kill-live-below t, kill-live.Post) (kill-scope-at t) kill-scope.Post
 kill-scope-add-pass-list t c = search needs
 
-kill-scope-pass-list-requires : (t : ℕ) → kill-scope-lts.Need-pass-list-requires (stuck-reads.Asked, stuck-reads.Learnt, pass-list-reads.Asked, pass-list-reads.Learnt, wide-reads.Asked, wide-reads.Learnt, kill-zombie-below t, kill-zombie.Post, kill-live-below t, kill-live.Post) (kill-scope-at t) kill-scope.Post
+kill-scope-pass-list-requires : (t : ℕ) → kill-scope-lts.Need-pass-list-requires (stuck-reads.Asked, stuck-reads.Learnt, pass-list-reads.Asked, pass-list-reads.Learnt, zombie-of-reads.Asked, zombie-of-reads.Learnt, kill-zombie-below t, kill-zombie.Post, kill-live-below t, kill-live.Post) (kill-scope-at t) kill-scope.Post
 kill-scope-pass-list-requires t c κs = search needs
 
-kill-scope-stuck-requires-2 : (t : ℕ) → kill-scope-lts.Need-stuck-requires-2 (stuck-reads.Asked, stuck-reads.Learnt, pass-list-reads.Asked, pass-list-reads.Learnt, wide-reads.Asked, wide-reads.Learnt, kill-zombie-below t, kill-zombie.Post, kill-live-below t, kill-live.Post) (kill-scope-at t) kill-scope.Post
+kill-scope-stuck-requires-2 : (t : ℕ) → kill-scope-lts.Need-stuck-requires-2 (stuck-reads.Asked, stuck-reads.Learnt, pass-list-reads.Asked, pass-list-reads.Learnt, zombie-of-reads.Asked, zombie-of-reads.Learnt, kill-zombie-below t, kill-zombie.Post, kill-live-below t, kill-live.Post) (kill-scope-at t) kill-scope.Post
 kill-scope-stuck-requires-2 t c κs = search needs
 
-kill-scope-returns-2 : (t : ℕ) → kill-scope-lts.Need-returns-2 (stuck-reads.Asked, stuck-reads.Learnt, pass-list-reads.Asked, pass-list-reads.Learnt, wide-reads.Asked, wide-reads.Learnt, kill-zombie-below t, kill-zombie.Post, kill-live-below t, kill-live.Post) (kill-scope-at t) kill-scope.Post
+kill-scope-returns-2 : (t : ℕ) → kill-scope-lts.Need-returns-2 (stuck-reads.Asked, stuck-reads.Learnt, pass-list-reads.Asked, pass-list-reads.Learnt, zombie-of-reads.Asked, zombie-of-reads.Learnt, kill-zombie-below t, kill-zombie.Post, kill-live-below t, kill-live.Post) (kill-scope-at t) kill-scope.Post
 unfolding scopeAt scopeW
 kill-scope-returns-2 t c =
     let f0 = c .before .if2 .taken in
     let f1 = c .before .before .before .if1 .left in
-    (simp (tests, kill-step, ← (c .stuck2 .ensures), f0, ← (c .before .before .pass-list .ensures), f1), simp (tests, kill-step, ← (c .stuck2 .ensures), f0, ← (c .before .before .pass-list .ensures), f1))
+    (simp (tests, ← (c .stuck2 .ensures), f0, ← (c .before .before .pass-list .ensures), f1), simp (tests, f0, ← (c .before .before .pass-list .ensures), f1))
 
-kill-scope-stuck-requires-3 : (t : ℕ) → kill-scope-lts.Need-stuck-requires-3 (stuck-reads.Asked, stuck-reads.Learnt, pass-list-reads.Asked, pass-list-reads.Learnt, wide-reads.Asked, wide-reads.Learnt, kill-zombie-below t, kill-zombie.Post, kill-live-below t, kill-live.Post) (kill-scope-at t) kill-scope.Post
+kill-scope-stuck-requires-3 : (t : ℕ) → kill-scope-lts.Need-stuck-requires-3 (stuck-reads.Asked, stuck-reads.Learnt, pass-list-reads.Asked, pass-list-reads.Learnt, zombie-of-reads.Asked, zombie-of-reads.Learnt, kill-zombie-below t, kill-zombie.Post, kill-live-below t, kill-live.Post) (kill-scope-at t) kill-scope.Post
 kill-scope-stuck-requires-3 t c κs = search needs
 
-kill-scope-returns-3 : (t : ℕ) → kill-scope-lts.Need-returns-3 (stuck-reads.Asked, stuck-reads.Learnt, pass-list-reads.Asked, pass-list-reads.Learnt, wide-reads.Asked, wide-reads.Learnt, kill-zombie-below t, kill-zombie.Post, kill-live-below t, kill-live.Post) (kill-scope-at t) kill-scope.Post
+kill-scope-returns-3 : (t : ℕ) → kill-scope-lts.Need-returns-3 (stuck-reads.Asked, stuck-reads.Learnt, pass-list-reads.Asked, pass-list-reads.Learnt, zombie-of-reads.Asked, zombie-of-reads.Learnt, kill-zombie-below t, kill-zombie.Post, kill-live-below t, kill-live.Post) (kill-scope-at t) kill-scope.Post
 unfolding scopeAt scopeW
 kill-scope-returns-3 t c =
     let f0 = c .before .if3 .taken in
     let f1 = c .before .before .if2 .left in
     let f2 = c .before .before .before .before .if1 .left in
-    (simp (tests, kill-step, ← (c .stuck3 .ensures), f0, f1, ← (c .before .before .before .pass-list .ensures), f2), simp (tests, kill-step, ← (c .stuck3 .ensures), f0, f1, ← (c .before .before .before .pass-list .ensures), f2))
+    (simp (tests, ← (c .stuck3 .ensures), f0, f1, ← (c .before .before .before .pass-list .ensures), f2), simp (tests, ← (c .stuck3 .ensures), f0, f1, ← (c .before .before .before .pass-list .ensures), f2))
 
-kill-scope-mul-wide : (t : ℕ) → kill-scope-lts.Need-mul-wide (stuck-reads.Asked, stuck-reads.Learnt, pass-list-reads.Asked, pass-list-reads.Learnt, wide-reads.Asked, wide-reads.Learnt, kill-zombie-below t, kill-zombie.Post, kill-live-below t, kill-live.Post) (kill-scope-at t) kill-scope.Post
-kill-scope-mul-wide t c = search needs
+kill-scope-mul-zombie-of : (t : ℕ) → kill-scope-lts.Need-mul-zombie-of (stuck-reads.Asked, stuck-reads.Learnt, pass-list-reads.Asked, pass-list-reads.Learnt, zombie-of-reads.Asked, zombie-of-reads.Learnt, kill-zombie-below t, kill-zombie.Post, kill-live-below t, kill-live.Post) (kill-scope-at t) kill-scope.Post
+kill-scope-mul-zombie-of t c = search needs
 
-kill-scope-shared-slice-read-wide : (t : ℕ) → kill-scope-lts.Need-shared-slice-read-wide (stuck-reads.Asked, stuck-reads.Learnt, pass-list-reads.Asked, pass-list-reads.Learnt, wide-reads.Asked, wide-reads.Learnt, kill-zombie-below t, kill-zombie.Post, kill-live-below t, kill-live.Post) (kill-scope-at t) kill-scope.Post
-kill-scope-shared-slice-read-wide t c = search needs
+kill-scope-shared-slice-read-zombie-of : (t : ℕ) → kill-scope-lts.Need-shared-slice-read-zombie-of (stuck-reads.Asked, stuck-reads.Learnt, pass-list-reads.Asked, pass-list-reads.Learnt, zombie-of-reads.Asked, zombie-of-reads.Learnt, kill-zombie-below t, kill-zombie.Post, kill-live-below t, kill-live.Post) (kill-scope-at t) kill-scope.Post
+kill-scope-shared-slice-read-zombie-of t c = search needs
 
-kill-scope-wide-requires : (t : ℕ) → kill-scope-lts.Need-wide-requires (stuck-reads.Asked, stuck-reads.Learnt, pass-list-reads.Asked, pass-list-reads.Learnt, wide-reads.Asked, wide-reads.Learnt, kill-zombie-below t, kill-zombie.Post, kill-live-below t, kill-live.Post) (kill-scope-at t) kill-scope.Post
-kill-scope-wide-requires t c κs = search needs
+kill-scope-zombie-of-requires : (t : ℕ) → kill-scope-lts.Need-zombie-of-requires (stuck-reads.Asked, stuck-reads.Learnt, pass-list-reads.Asked, pass-list-reads.Learnt, zombie-of-reads.Asked, zombie-of-reads.Learnt, kill-zombie-below t, kill-zombie.Post, kill-live-below t, kill-live.Post) (kill-scope-at t) kill-scope.Post
+kill-scope-zombie-of-requires t c κs = search needs
 
-kill-scope-kill-zombie-requires : (t : ℕ) → kill-scope-lts.Need-kill-zombie-requires (stuck-reads.Asked, stuck-reads.Learnt, pass-list-reads.Asked, pass-list-reads.Learnt, wide-reads.Asked, wide-reads.Learnt, kill-zombie-below t, kill-zombie.Post, kill-live-below t, kill-live.Post) (kill-scope-at t) kill-scope.Post
+kill-scope-kill-zombie-requires : (t : ℕ) → kill-scope-lts.Need-kill-zombie-requires (stuck-reads.Asked, stuck-reads.Learnt, pass-list-reads.Asked, pass-list-reads.Learnt, zombie-of-reads.Asked, zombie-of-reads.Learnt, kill-zombie-below t, kill-zombie.Post, kill-live-below t, kill-live.Post) (kill-scope-at t) kill-scope.Post
 kill-scope-kill-zombie-requires t c κs = search needs
 
-kill-scope-same-length : (t : ℕ) → kill-scope-lts.Need-same-length (stuck-reads.Asked, stuck-reads.Learnt, pass-list-reads.Asked, pass-list-reads.Learnt, wide-reads.Asked, wide-reads.Learnt, kill-zombie-below t, kill-zombie.Post, kill-live-below t, kill-live.Post) (kill-scope-at t) kill-scope.Post
+kill-scope-same-length : (t : ℕ) → kill-scope-lts.Need-same-length (stuck-reads.Asked, stuck-reads.Learnt, pass-list-reads.Asked, pass-list-reads.Learnt, zombie-of-reads.Asked, zombie-of-reads.Learnt, kill-zombie-below t, kill-zombie.Post, kill-live-below t, kill-live.Post) (kill-scope-at t) kill-scope.Post
 kill-scope-same-length t c = search needs
 
-kill-scope-returns-4 : (t : ℕ) → kill-scope-lts.Need-returns-4 (stuck-reads.Asked, stuck-reads.Learnt, pass-list-reads.Asked, pass-list-reads.Learnt, wide-reads.Asked, wide-reads.Learnt, kill-zombie-below t, kill-zombie.Post, kill-live-below t, kill-live.Post) (kill-scope-at t) kill-scope.Post
+kill-scope-returns-4 : (t : ℕ) → kill-scope-lts.Need-returns-4 (stuck-reads.Asked, stuck-reads.Learnt, pass-list-reads.Asked, pass-list-reads.Learnt, zombie-of-reads.Asked, zombie-of-reads.Learnt, kill-zombie-below t, kill-zombie.Post, kill-live-below t, kill-live.Post) (kill-scope-at t) kill-scope.Post
 unfolding scopeAt scopeW
 kill-scope-returns-4 t c =
     let f0 = c .before .before .before .before .if4 .taken in
     let f1 = c .before .before .before .before .before .before .before .if3 .left in
     let f2 = c .before .before .before .before .before .before .before .before .if2 .left in
     let f3 = c .before .before .before .before .before .before .before .before .before .before .if1 .left in
-    (simp (tests, kill-step, ← (c .before .before .kill-zombie .ensures .0), ← (c .before .before .kill-zombie .ensures .1), f0, ← (c .before .before .before .before .before .wide .ensures .0), f1, f2, ← (c .before .before .before .before .before .before .before .before .before .pass-list .ensures), f3), simp (tests, kill-step, ← (c .before .before .kill-zombie .ensures .0), ← (c .before .before .kill-zombie .ensures .1), f0, ← (c .before .before .before .before .before .wide .ensures .0), f1, f2, ← (c .before .before .before .before .before .before .before .before .before .pass-list .ensures), f3))
+    (simp (tests, ← (c .before .before .kill-zombie .ensures .0), f0, ← (c .before .before .before .before .before .zombie-of .ensures .0), f1, f2, ← (c .before .before .before .before .before .before .before .before .before .pass-list .ensures), f3), simp (tests, ← (c .before .before .kill-zombie .ensures .1), f0, ← (c .before .before .before .before .before .zombie-of .ensures .0), f1, f2, ← (c .before .before .before .before .before .before .before .before .before .pass-list .ensures), f3))
 
-kill-scope-mul-wide-2 : (t : ℕ) → kill-scope-lts.Need-mul-wide-2 (stuck-reads.Asked, stuck-reads.Learnt, pass-list-reads.Asked, pass-list-reads.Learnt, wide-reads.Asked, wide-reads.Learnt, kill-zombie-below t, kill-zombie.Post, kill-live-below t, kill-live.Post) (kill-scope-at t) kill-scope.Post
-kill-scope-mul-wide-2 t c = search needs
+kill-scope-mul-if5 : (t : ℕ) → kill-scope-lts.Need-mul-if5 (stuck-reads.Asked, stuck-reads.Learnt, pass-list-reads.Asked, pass-list-reads.Learnt, zombie-of-reads.Asked, zombie-of-reads.Learnt, kill-zombie-below t, kill-zombie.Post, kill-live-below t, kill-live.Post) (kill-scope-at t) kill-scope.Post
+kill-scope-mul-if5 t c = search needs
 
-kill-scope-shared-slice-read-wide-2 : (t : ℕ) → kill-scope-lts.Need-shared-slice-read-wide-2 (stuck-reads.Asked, stuck-reads.Learnt, pass-list-reads.Asked, pass-list-reads.Learnt, wide-reads.Asked, wide-reads.Learnt, kill-zombie-below t, kill-zombie.Post, kill-live-below t, kill-live.Post) (kill-scope-at t) kill-scope.Post
-kill-scope-shared-slice-read-wide-2 t c = search needs
+kill-scope-shared-slice-read-if5 : (t : ℕ) → kill-scope-lts.Need-shared-slice-read-if5 (stuck-reads.Asked, stuck-reads.Learnt, pass-list-reads.Asked, pass-list-reads.Learnt, zombie-of-reads.Asked, zombie-of-reads.Learnt, kill-zombie-below t, kill-zombie.Post, kill-live-below t, kill-live.Post) (kill-scope-at t) kill-scope.Post
+kill-scope-shared-slice-read-if5 t c = search needs
 
-kill-scope-wide-requires-2 : (t : ℕ) → kill-scope-lts.Need-wide-requires-2 (stuck-reads.Asked, stuck-reads.Learnt, pass-list-reads.Asked, pass-list-reads.Learnt, wide-reads.Asked, wide-reads.Learnt, kill-zombie-below t, kill-zombie.Post, kill-live-below t, kill-live.Post) (kill-scope-at t) kill-scope.Post
-kill-scope-wide-requires-2 t c κs = search needs
-
-kill-scope-stuck-requires-4 : (t : ℕ) → kill-scope-lts.Need-stuck-requires-4 (stuck-reads.Asked, stuck-reads.Learnt, pass-list-reads.Asked, pass-list-reads.Learnt, wide-reads.Asked, wide-reads.Learnt, kill-zombie-below t, kill-zombie.Post, kill-live-below t, kill-live.Post) (kill-scope-at t) kill-scope.Post
+kill-scope-stuck-requires-4 : (t : ℕ) → kill-scope-lts.Need-stuck-requires-4 (stuck-reads.Asked, stuck-reads.Learnt, pass-list-reads.Asked, pass-list-reads.Learnt, zombie-of-reads.Asked, zombie-of-reads.Learnt, kill-zombie-below t, kill-zombie.Post, kill-live-below t, kill-live.Post) (kill-scope-at t) kill-scope.Post
 kill-scope-stuck-requires-4 t c κs = search needs
 
-kill-scope-returns-5 : (t : ℕ) → kill-scope-lts.Need-returns-5 (stuck-reads.Asked, stuck-reads.Learnt, pass-list-reads.Asked, pass-list-reads.Learnt, wide-reads.Asked, wide-reads.Learnt, kill-zombie-below t, kill-zombie.Post, kill-live-below t, kill-live.Post) (kill-scope-at t) kill-scope.Post
+kill-scope-returns-5 : (t : ℕ) → kill-scope-lts.Need-returns-5 (stuck-reads.Asked, stuck-reads.Learnt, pass-list-reads.Asked, pass-list-reads.Learnt, zombie-of-reads.Asked, zombie-of-reads.Learnt, kill-zombie-below t, kill-zombie.Post, kill-live-below t, kill-live.Post) (kill-scope-at t) kill-scope.Post
 kill-scope-returns-5 t c =
-    let e = scope-stuck ((c .before .before .before .before .before .before .before .before .before .before .before .before .before .before .args .depth)) (killW ((c .before .before .before .before .before .before .before .before .before .before .before .before .before .before .args .depth)) ((c .before .before .before .before .before .before .before .before .before .before .before .before .before .before .args .ws .now)) ((c .before .before .before .before .before .before .before .before .before .before .before .before .before .before .args .notes .now)) ((c .before .before .before .before .before .before .before .before .before .before .before .before .before .before .args .fault)) ((c .before .before .before .before .before .before .before .before .before .before .before .before .before .before .args .hole))) ((c .before .before .before .before .before .before .before .before .before .before .before .before .before .before .args .ws .now)) ((c .before .before .before .before .before .before .before .before .before .before .before .before .before .before .args .notes .now)) ((c .before .before .before .before .before .before .before .before .before .before .before .before .before .before .args .hole)) ((c .before .before .before .before .before .before .before .before .before .before .before .before .before .before .args .at)) ((c .before .before .before .before .before .before .before .before .before .before .before .before .before .before .args .out .now)) ((c .before .before .before .before .before .before .before .before .before .before .before .before .before .before .args .to)) _ _ _ (c .before .before .before .before .before .before .before .before .before .before .if1 .left) (c .before .before .before .before .before .before .before .before .before .pass-list .ensures) (c .before .before .before .before .before .before .before .before .if2 .left) (c .before .before .before .before .before .before .before .if3 .left) (c .before .before .before .before .before .wide .ensures .0) (c .before .before .before .before .if4 .left) (c .before .before .wide2 .ensures .0) (c .before .if5 .taken) in
+    let a = c .before .before .before .before .before .before .before .before .before .before .before .before .before .args in
+    let e = scope-stuck (a .depth) (killW (a .depth) (a .ws .now) (a .notes .now) (a .fault) (a .hole)) (a .ws .now) (a .notes .now) (a .hole) (a .at) (a .out .now) (a .to) _ _ (c .before .before .before .before .before .before .before .before .before .if1 .left) (c .before .before .before .before .before .before .before .before .pass-list .ensures) (c .before .before .before .before .before .before .before .if2 .left) (c .before .before .before .before .before .before .if3 .left) (c .before .before .before .before .zombie-of .ensures .0) (c .before .before .before .if4 .left) (c .before .if5 .taken) in
     ((c .stuck4 .ensures) ∙ ap moved e, ap output e)
 
-kill-scope-kill-live-requires : (t : ℕ) → kill-scope-lts.Need-kill-live-requires (stuck-reads.Asked, stuck-reads.Learnt, pass-list-reads.Asked, pass-list-reads.Learnt, wide-reads.Asked, wide-reads.Learnt, kill-zombie-below t, kill-zombie.Post, kill-live-below t, kill-live.Post) (kill-scope-at t) kill-scope.Post
+kill-scope-kill-live-requires : (t : ℕ) → kill-scope-lts.Need-kill-live-requires (stuck-reads.Asked, stuck-reads.Learnt, pass-list-reads.Asked, pass-list-reads.Learnt, zombie-of-reads.Asked, zombie-of-reads.Learnt, kill-zombie-below t, kill-zombie.Post, kill-live-below t, kill-live.Post) (kill-scope-at t) kill-scope.Post
 kill-scope-kill-live-requires t c κs = search needs
 
-kill-scope-same-length-2 : (t : ℕ) → kill-scope-lts.Need-same-length-2 (stuck-reads.Asked, stuck-reads.Learnt, pass-list-reads.Asked, pass-list-reads.Learnt, wide-reads.Asked, wide-reads.Learnt, kill-zombie-below t, kill-zombie.Post, kill-live-below t, kill-live.Post) (kill-scope-at t) kill-scope.Post
+kill-scope-same-length-2 : (t : ℕ) → kill-scope-lts.Need-same-length-2 (stuck-reads.Asked, stuck-reads.Learnt, pass-list-reads.Asked, pass-list-reads.Learnt, zombie-of-reads.Asked, zombie-of-reads.Learnt, kill-zombie-below t, kill-zombie.Post, kill-live-below t, kill-live.Post) (kill-scope-at t) kill-scope.Post
 kill-scope-same-length-2 t c = search needs
 
-kill-scope-returns-6 : (t : ℕ) → kill-scope-lts.Need-returns-6 (stuck-reads.Asked, stuck-reads.Learnt, pass-list-reads.Asked, pass-list-reads.Learnt, wide-reads.Asked, wide-reads.Learnt, kill-zombie-below t, kill-zombie.Post, kill-live-below t, kill-live.Post) (kill-scope-at t) kill-scope.Post
+kill-scope-returns-6 : (t : ℕ) → kill-scope-lts.Need-returns-6 (stuck-reads.Asked, stuck-reads.Learnt, pass-list-reads.Asked, pass-list-reads.Learnt, zombie-of-reads.Asked, zombie-of-reads.Learnt, kill-zombie-below t, kill-zombie.Post, kill-live-below t, kill-live.Post) (kill-scope-at t) kill-scope.Post
 unfolding scopeAt scopeW
 kill-scope-returns-6 t c =
     let f0 = c .before .before .before .before .if5 .left in
-    let f1 = c .before .before .before .before .before .before .before .if4 .left in
-    let f2 = c .before .before .before .before .before .before .before .before .before .before .if3 .left in
-    let f3 = c .before .before .before .before .before .before .before .before .before .before .before .if2 .left in
-    let f4 = c .before .before .before .before .before .before .before .before .before .before .before .before .before .if1 .left in
-    (simp (tests, kill-step, ← (c .before .before .kill-live .ensures .0), ← (c .before .before .kill-live .ensures .1), f0, ← (c .before .before .before .before .before .wide2 .ensures .0), f1, ← (c .before .before .before .before .before .before .before .before .wide .ensures .0), f2, f3, ← (c .before .before .before .before .before .before .before .before .before .before .before .before .pass-list .ensures), f4), simp (tests, kill-step, ← (c .before .before .kill-live .ensures .0), ← (c .before .before .kill-live .ensures .1), f0, ← (c .before .before .before .before .before .wide2 .ensures .0), f1, ← (c .before .before .before .before .before .before .before .before .wide .ensures .0), f2, f3, ← (c .before .before .before .before .before .before .before .before .before .before .before .before .pass-list .ensures), f4))
+    let f1 = c .before .before .before .before .before .before .if4 .left in
+    let f2 = c .before .before .before .before .before .before .before .before .before .if3 .left in
+    let f3 = c .before .before .before .before .before .before .before .before .before .before .if2 .left in
+    let f4 = c .before .before .before .before .before .before .before .before .before .before .before .before .if1 .left in
+    (simp (tests, ← (c .before .before .kill-live .ensures .0), f0, f1, ← (c .before .before .before .before .before .before .before .zombie-of .ensures .0), f2, f3, ← (c .before .before .before .before .before .before .before .before .before .before .before .pass-list .ensures), f4), simp (tests, ← (c .before .before .kill-live .ensures .1), f0, f1, ← (c .before .before .before .before .before .before .before .zombie-of .ensures .0), f2, f3, ← (c .before .before .before .before .before .before .before .before .before .before .before .pass-list .ensures), f4))
 
 kill-seq-kill-requires : (t : ℕ) → kill-seq-lts.Need-kill-requires (kill-below t, kill.Post, stuck-reads.Asked, stuck-reads.Learnt, pass-reads.Asked, pass-reads.Learnt) (kill-seq-at t) kill-seq.Post
 kill-seq-kill-requires t c κs = search needs
@@ -615,7 +624,7 @@ kill-seq-returns : (t : ℕ) → kill-seq-lts.Need-returns (kill-below t, kill.P
 unfolding goes seqOn seqW
 kill-seq-returns t c =
     let f0 = c .before .if1 .taken in
-    (simp (tests, kill-step, ← (c .stuck .ensures), f0, ← (c .before .before .before .before .before .kill .ensures .0), ← (c .before .before .before .before .before .kill .ensures .1)), simp (tests, kill-step, ← (c .stuck .ensures), f0, ← (c .before .before .before .before .before .kill .ensures .0), ← (c .before .before .before .before .before .kill .ensures .1)))
+    (simp (tests, ← (c .stuck .ensures), f0, ← (c .before .before .before .before .before .kill .ensures .0), ← (c .before .before .before .before .before .kill .ensures .1)), simp (tests, f0, ← (c .before .before .before .before .before .kill .ensures .0), ← (c .before .before .before .before .before .kill .ensures .1)))
 
 kill-seq-pass-requires : (t : ℕ) → kill-seq-lts.Need-pass-requires (kill-below t, kill.Post, stuck-reads.Asked, stuck-reads.Learnt, pass-reads.Asked, pass-reads.Learnt) (kill-seq-at t) kill-seq.Post
 kill-seq-pass-requires t c κs = search needs
@@ -627,7 +636,7 @@ kill-seq-returns-2 : (t : ℕ) → kill-seq-lts.Need-returns-2 (kill-below t, ki
 unfolding goes seqOn seqW
 kill-seq-returns-2 t c =
     let f0 = c .before .if1 .left in
-    (simp (tests, kill-step, ← (c .pass .ensures), f0, ← (c .before .before .before .before .before .kill .ensures .0), ← (c .before .before .before .before .before .kill .ensures .1)), simp (tests, kill-step, ← (c .pass .ensures), f0, ← (c .before .before .before .before .before .kill .ensures .0), ← (c .before .before .before .before .before .kill .ensures .1)))
+    (simp (tests, ← (c .pass .ensures), f0, ← (c .before .before .before .before .before .kill .ensures .0), ← (c .before .before .before .before .before .kill .ensures .1)), simp (tests, f0, ← (c .before .before .before .before .before .kill .ensures .0), ← (c .before .before .before .before .before .kill .ensures .1)))
 
 kill-zombie-kill-requires : (t : ℕ) → kill-zombie-lts.Need-kill-requires (kill-below t, kill.Post, stuck-reads.Asked, stuck-reads.Learnt, copy-reads.Asked, copy-reads.Learnt) (kill-zombie-at t) kill-zombie.Post
 kill-zombie-kill-requires t c κs = search needs
@@ -642,7 +651,7 @@ kill-zombie-returns : (t : ℕ) → kill-zombie-lts.Need-returns (kill-below t, 
 unfolding goes zombieOn zombieW
 kill-zombie-returns t c =
     let f0 = c .before .if1 .taken in
-    (simp (tests, kill-step, ← (c .stuck .ensures), f0, ← (c .before .before .before .before .before .kill .ensures .0), ← (c .before .before .before .before .before .kill .ensures .1)), simp (tests, kill-step, ← (c .stuck .ensures), f0, ← (c .before .before .before .before .before .kill .ensures .0), ← (c .before .before .before .before .before .kill .ensures .1)))
+    (simp (tests, ← (c .stuck .ensures), f0, ← (c .before .before .before .before .before .kill .ensures .0), ← (c .before .before .before .before .before .kill .ensures .1)), simp (tests, f0, ← (c .before .before .before .before .before .kill .ensures .0), ← (c .before .before .before .before .before .kill .ensures .1)))
 
 kill-zombie-copy-requires : (t : ℕ) → kill-zombie-lts.Need-copy-requires (kill-below t, kill.Post, stuck-reads.Asked, stuck-reads.Learnt, copy-reads.Asked, copy-reads.Learnt) (kill-zombie-at t) kill-zombie.Post
 kill-zombie-copy-requires t c κs = search needs
@@ -654,7 +663,7 @@ kill-zombie-returns-2 : (t : ℕ) → kill-zombie-lts.Need-returns-2 (kill-below
 unfolding goes zombieOn zombieW
 kill-zombie-returns-2 t c =
     let f0 = c .before .before .before .before .if1 .left in
-    (simp (tests, kill-step, ← (c .before .before .copy .ensures .0), ← (c .before .before .copy .ensures .1), f0, ← (c .before .before .before .before .before .before .before .before .kill .ensures .0), ← (c .before .before .before .before .before .before .before .before .kill .ensures .1)), simp (tests, kill-step, ← (c .before .before .copy .ensures .0), ← (c .before .before .copy .ensures .1), f0, ← (c .before .before .before .before .before .before .before .before .kill .ensures .0), ← (c .before .before .before .before .before .before .before .before .kill .ensures .1)))
+    (simp (tests, ← (c .before .before .copy .ensures .0), f0, ← (c .before .before .before .before .before .before .before .before .kill .ensures .0), ← (c .before .before .before .before .before .before .before .before .kill .ensures .1)), simp (tests, ← (c .before .before .copy .ensures .1), f0, ← (c .before .before .before .before .before .before .before .before .kill .ensures .0), ← (c .before .before .before .before .before .before .before .before .kill .ensures .1)))
 
 pub +kill+kill-executor+kill-live+kill-par+kill-right+kill-scope+kill-seq+kill-zombie-spec :
     {M : Type 1} → statement M
@@ -671,8 +680,8 @@ pub +kill+kill-executor+kill-live+kill-par+kill-right+kill-scope+kill-seq+kill-z
     (λ t. kill-lts.spec (
       stuck-reads.Asked,
       stuck-reads.Learnt,
-      wide-reads.Asked,
-      wide-reads.Learnt,
+      kind-of-reads.Asked,
+      kind-of-reads.Learnt,
       kill-seq-below t,
       kill-seq.Post,
       kill-par-below t,
@@ -694,9 +703,9 @@ pub +kill+kill-executor+kill-live+kill-par+kill-right+kill-scope+kill-seq+kill-z
     (kill-returns t)
     (kill-stuck-requires-2 t)
     (kill-returns-2 t)
-    (kill-mul-wide t)
-    (kill-shared-slice-read-wide t)
-    (kill-wide-requires t)
+    (kill-mul-kind-of t)
+    (kill-shared-slice-read-kind-of t)
+    (kill-kind-of-requires t)
     (kill-add-kill-seq t)
     (kill-sub-kill-seq t)
     (kill-kill-seq-requires t)
@@ -845,8 +854,8 @@ pub +kill+kill-executor+kill-live+kill-par+kill-right+kill-scope+kill-seq+kill-z
       stuck-reads.Learnt,
       pass-list-reads.Asked,
       pass-list-reads.Learnt,
-      wide-reads.Asked,
-      wide-reads.Learnt,
+      zombie-of-reads.Asked,
+      zombie-of-reads.Learnt,
       kill-zombie-below t,
       kill-zombie.Post,
       kill-live-below t,
@@ -862,15 +871,14 @@ pub +kill+kill-executor+kill-live+kill-par+kill-right+kill-scope+kill-seq+kill-z
     (kill-scope-returns-2 t)
     (kill-scope-stuck-requires-3 t)
     (kill-scope-returns-3 t)
-    (kill-scope-mul-wide t)
-    (kill-scope-shared-slice-read-wide t)
-    (kill-scope-wide-requires t)
+    (kill-scope-mul-zombie-of t)
+    (kill-scope-shared-slice-read-zombie-of t)
+    (kill-scope-zombie-of-requires t)
     (kill-scope-kill-zombie-requires t)
     (kill-scope-same-length t)
     (kill-scope-returns-4 t)
-    (kill-scope-mul-wide-2 t)
-    (kill-scope-shared-slice-read-wide-2 t)
-    (kill-scope-wide-requires-2 t)
+    (kill-scope-mul-if5 t)
+    (kill-scope-shared-slice-read-if5 t)
     (kill-scope-stuck-requires-4 t)
     (kill-scope-returns-5 t)
     (kill-scope-kill-live-requires t)

@@ -13,7 +13,7 @@ returns : tie.Need-returns
 unfolding keptW
 returns c =
     let f0 = c .before .if1 .taken in
-    (simp (tests, ← (c .stuck .ensures), f0), simp (tests, ← (c .stuck .ensures), f0))
+    (simp (tests, ← (c .stuck .ensures), f0), simp (tests, f0))
 
 add-t5 : tie.Need-add-t5
 add-t5 c = search needs
@@ -31,7 +31,7 @@ returns-2 : tie.Need-returns-2
 unfolding keptW
 returns-2 c =
     let f0 = c .before .before .before .before .if1 .left in
-    (simp (tests, ← (c .before .before .copy .ensures .0), ← (c .before .before .copy .ensures .1), f0), simp (tests, ← (c .before .before .copy .ensures .0), ← (c .before .before .copy .ensures .1), f0))
+    (simp (tests, ← (c .before .before .copy .ensures .0), f0), simp (tests, ← (c .before .before .copy .ensures .1), f0))
 
 pub keep-spec : {M : Type 1} → statement M
 keep-spec =

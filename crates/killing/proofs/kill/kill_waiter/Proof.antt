@@ -13,7 +13,7 @@ returns : tie.Need-returns
 unfolding waiterW
 returns c =
     let f0 = c .before .if1 .taken in
-    (simp (tests, ← (c .stuck .ensures), f0), simp (tests, ← (c .stuck .ensures), f0))
+    (simp (tests, ← (c .stuck .ensures), f0), simp (tests, f0))
 
 sub-if2 : tie.Need-sub-if2
 sub-if2 c = search needs
@@ -26,7 +26,7 @@ unfolding waiterW
 returns-2 c =
     let f0 = c .before .if2 .taken in
     let f1 = c .before .before .if1 .left in
-    (simp (tests, ← (c .stuck2 .ensures), f0, f1), simp (tests, ← (c .stuck2 .ensures), f0, f1))
+    (simp (tests, ← (c .stuck2 .ensures), f0, f1), simp (tests, f0, f1))
 
 pass-requires : tie.Need-pass-requires
 pass-requires c κs = search needs
@@ -40,7 +40,7 @@ returns-3 c =
     let f0 = c .before .if3 .taken in
     let f1 = c .before .before .before .if2 .left in
     let f2 = c .before .before .before .before .if1 .left in
-    (simp (tests, ← (c .stuck3 .ensures), f0, ← (c .before .before .pass .ensures), f1, f2), simp (tests, ← (c .stuck3 .ensures), f0, ← (c .before .before .pass .ensures), f1, f2))
+    (simp (tests, ← (c .stuck3 .ensures), f0, ← (c .before .before .pass .ensures), f1, f2), simp (tests, f0, ← (c .before .before .pass .ensures), f1, f2))
 
 copy-requires : tie.Need-copy-requires
 copy-requires c κs = search needs
@@ -72,7 +72,7 @@ returns-4 c =
     let f0 = c .before .before .before .before .before .before .before .before .before .before .before .if3 .left in
     let f1 = c .before .before .before .before .before .before .before .before .before .before .before .before .before .if2 .left in
     let f2 = c .before .before .before .before .before .before .before .before .before .before .before .before .before .before .if1 .left in
-    (simp (tests, ← (c .before .before .put .ensures .0), ← (c .before .before .put .ensures .1), ← (c .before .before .before .dead-word .ensures), ← (c .before .before .before .before .before .further .ensures), ← (c .before .before .before .before .before .before .before .before .before .copy .ensures .0), ← (c .before .before .before .before .before .before .before .before .before .copy .ensures .1), f0, ← (c .before .before .before .before .before .before .before .before .before .before .before .before .pass .ensures), f1, f2), simp (tests, ← (c .before .before .put .ensures .0), ← (c .before .before .put .ensures .1), ← (c .before .before .before .dead-word .ensures), ← (c .before .before .before .before .before .further .ensures), ← (c .before .before .before .before .before .before .before .before .before .copy .ensures .0), ← (c .before .before .before .before .before .before .before .before .before .copy .ensures .1), f0, ← (c .before .before .before .before .before .before .before .before .before .before .before .before .pass .ensures), f1, f2))
+    (simp (tests, ← (c .before .before .before .dead-word .ensures), ← (c .before .before .before .before .before .further .ensures), ← (c .before .before .before .before .before .before .before .before .before .copy .ensures .0), ← (c .before .before .before .before .before .before .before .before .before .copy .ensures .1), f0, ← (c .before .before .before .before .before .before .before .before .before .before .before .before .pass .ensures), f1, f2), simp (tests, ← (c .before .before .put .ensures .1), ← (c .before .before .before .dead-word .ensures), ← (c .before .before .before .before .before .further .ensures), ← (c .before .before .before .before .before .before .before .before .before .copy .ensures .0), ← (c .before .before .before .before .before .before .before .before .before .copy .ensures .1), f0, ← (c .before .before .before .before .before .before .before .before .before .before .before .before .pass .ensures), f1, f2))
 
 pub kill-waiter-spec : {M : Type 1} → statement M
 kill-waiter-spec =

@@ -15,7 +15,7 @@ returns : tie.Need-returns
 unfolding noticeW
 returns c =
     let f0 = c .before .if1 .taken in
-    (simp (tests, ← (c .stuck .ensures), f0), simp (tests, ← (c .stuck .ensures), f0))
+    (simp (tests, ← (c .stuck .ensures), f0), simp (tests, f0))
 
 sub-if2 : tie.Need-sub-if2
 sub-if2 c = search needs
@@ -28,16 +28,16 @@ unfolding noticeW
 returns-2 c =
     let f0 = c .before .if2 .taken in
     let f1 = c .before .before .if1 .left in
-    (simp (tests, ← (c .stuck2 .ensures), f0, f1), simp (tests, ← (c .stuck2 .ensures), f0, f1))
+    (simp (tests, ← (c .stuck2 .ensures), f0, f1), simp (tests, f0, f1))
 
-mul-notice-head : tie.Need-mul-notice-head
-mul-notice-head c = search needs
+mul-notice : tie.Need-mul-notice
+mul-notice c = search needs
 
-shared-slice-read-notice-head : tie.Need-shared-slice-read-notice-head
-shared-slice-read-notice-head c = search needs
+shared-slice-read-notice : tie.Need-shared-slice-read-notice
+shared-slice-read-notice c = search needs
 
-notice-head-requires : tie.Need-notice-head-requires
-notice-head-requires c κs = search needs
+notice-requires : tie.Need-notice-requires
+notice-requires c κs = search needs
 
 put-requires : tie.Need-put-requires
 put-requires c κs = search needs
@@ -78,7 +78,7 @@ returns-3 c =
     let e = notice-made (a .ws .now) (a .fault) (a .at) (a .end) (a .out .now) (a .to) _ _ _ _ _ _ _ _
     (c .before .before .before .before .before .before .before .before .before .before .before .before .before .before .before .before .before .before .if1 .left)
     (c .before .before .before .before .before .before .before .before .before .before .before .before .before .before .before .before .before .if2 .left)
-    (c .before .before .before .before .before .before .before .before .before .before .before .before .before .before .notice-head .ensures)
+    (c .before .before .before .before .before .before .before .before .before .before .before .before .before .before .notice .ensures)
     (c .before .before .before .before .before .before .before .before .notice-word .ensures)
     (c .before .before .before .before .before .before .before .before .before .before .before .before .before .put .ensures .0)
     (c .before .before .before .before .before .before .before .before .before .before .before .before .before .put .ensures .1)
@@ -97,9 +97,9 @@ notice-spec =
     sub-if2
     stuck-requires-2
     returns-2
-    mul-notice-head
-    shared-slice-read-notice-head
-    notice-head-requires
+    mul-notice
+    shared-slice-read-notice
+    notice-requires
     put-requires
     add-notice-word
     mul-notice-word

@@ -18,7 +18,7 @@ same-length c = search needs
 returns : tie.Need-returns
 unfolding vanishedW
 returns c =
-    (simp (tests, ← (c .before .before .put .ensures .0), ← (c .before .before .put .ensures .1), ← (c .before .before .before .before .pass .ensures)), simp (tests, ← (c .before .before .put .ensures .0), ← (c .before .before .put .ensures .1), ← (c .before .before .before .before .pass .ensures)))
+    (simp (← (c .before .before .put .ensures .0), ← (c .before .before .before .before .pass .ensures)), simp (← (c .before .before .put .ensures .1)))
 
 pub vanish-spec : {M : Type 1} → statement M
 vanish-spec = tie.close (tie.spec pass-requires put-requires same-length returns)

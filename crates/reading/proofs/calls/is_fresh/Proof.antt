@@ -2,7 +2,7 @@
 -- Assumes nothing.
 use Rattle.reading.proofs.Known.{code-known, known-length, few-engines, start-below}
 use Rattle.reading.proofs.Checks.{not-code, some-issued, none-issued}
-use Rattle.reading.specs.Answers.{within}
+use Rattle.layout.specs.Limits.{figures}
 use native.Mathlib.Omega.{arith}
 use borrow.Author.Needs.{needs}
 use Rattle.reading.proofs.calls.is_fresh.Statement.{statement}
@@ -12,23 +12,23 @@ survey-requires : tie.Need-survey-requires
 survey-requires c κs = search needs
 
 returns : tie.Need-returns
-returns c = not-code (within (c .before .before .before .args .deepest) (c .before .before .before .args .longest)) ((c .before .before .before .args .ws) .now) (λ i. (c .before .before .shared-slice-known .given) i .fits) (c .before .survey .result) (c .before .survey .ensures) (c .if1 .taken)
+returns c = not-code (figures (c .before .before .before .args .limits)) ((c .before .before .before .args .ws) .now) (λ i. (c .before .before .shared-slice-known .given) i .fits) (c .before .survey .result) (c .before .survey .ensures) (c .if1 .taken)
 
 shared-slice-read-if2 : tie.Need-shared-slice-read-if2
 shared-slice-read-if2 c =
-    let k = code-known (within (c .before .before .before .before .args .deepest) (c .before .before .before .before .args .longest)) ((c .before .before .before .before .args .ws) .now) (λ i. (c .before .before .before .shared-slice-known .given) i .fits) (c .before .before .survey .result) (c .before .before .survey .ensures) (c .before .if1 .left) .0 in
+    let k = code-known (figures (c .before .before .before .before .args .limits)) ((c .before .before .before .before .args .ws) .now) (λ i. (c .before .before .before .shared-slice-known .given) i .fits) (c .before .before .survey .result) (c .before .before .survey .ensures) (c .before .if1 .left) .0 in
     omega (arith, known-length k .0)
 
 returns-2 : tie.Need-returns-2
-returns-2 c = some-issued (within (c .before .before .before .before .before .args .deepest) (c .before .before .before .before .before .args .longest)) ((c .before .before .before .before .before .args .ws) .now) (λ i. (c .before .before .before .before .shared-slice-known .given) i .fits) (c .before .before .before .survey .result) (c .before .before .before .survey .ensures) (c .before .before .if1 .left) (c .if2 .taken)
+returns-2 c = some-issued (figures (c .before .before .before .before .before .args .limits)) ((c .before .before .before .before .before .args .ws) .now) (λ i. (c .before .before .before .before .shared-slice-known .given) i .fits) (c .before .before .before .survey .result) (c .before .before .before .survey .ensures) (c .before .before .if1 .left) (c .if2 .taken)
 
 none-nil-requires : tie.Need-none-nil-requires
 none-nil-requires c κs =
-    let k = code-known (within (c .before .before .before .before .before .before .args .deepest) (c .before .before .before .before .before .before .args .longest)) ((c .before .before .before .before .before .before .args .ws) .now) (λ i. (c .before .before .before .before .before .shared-slice-known .given) i .fits) (c .before .before .before .before .survey .result) (c .before .before .before .before .survey .ensures) (c .before .before .before .if1 .left) .0 in
+    let k = code-known (figures (c .before .before .before .before .before .before .args .limits)) ((c .before .before .before .before .before .before .args .ws) .now) (λ i. (c .before .before .before .before .before .shared-slice-known .given) i .fits) (c .before .before .before .before .survey .result) (c .before .before .before .before .survey .ensures) (c .before .before .before .if1 .left) .0 in
     (omega (arith, few-engines k), start-below k)
 
 returns-3 : tie.Need-returns-3
-returns-3 c = none-issued (within (c .before .before .before .before .before .before .before .args .deepest) (c .before .before .before .before .before .before .before .args .longest)) ((c .before .before .before .before .before .before .before .args .ws) .now) (λ i. (c .before .before .before .before .before .before .shared-slice-known .given) i .fits) (c .before .before .before .before .before .survey .result) (c .before .before .before .before .before .survey .ensures) _ (c .before .before .before .before .if1 .left) (c .before .before .if2 .left) (c .none-nil .ensures)
+returns-3 c = none-issued (figures (c .before .before .before .before .before .before .before .args .limits)) ((c .before .before .before .before .before .before .before .args .ws) .now) (λ i. (c .before .before .before .before .before .before .shared-slice-known .given) i .fits) (c .before .before .before .before .before .survey .result) (c .before .before .before .before .before .survey .ensures) _ (c .before .before .before .before .if1 .left) (c .before .before .if2 .left) (c .none-nil .ensures)
 
 pub is-fresh-spec : {M : Type 1} → statement M
 is-fresh-spec =

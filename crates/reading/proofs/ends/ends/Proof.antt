@@ -61,15 +61,15 @@ total-requires c κs =
     let k = survey-known standard ((c .before .before .before .before .before .before .before .before .before .before .args .ws) .now) (λ i. (c .before .before .before .before .before .before .before .before .before .shared-slice-known .given) i .fits) (c .before .before .before .before .before .before .before .before .survey .result) (c .before .before .before .before .before .before .before .before .survey .ensures) (c .before .before .before .before .before .before .before .if1 .left) in
     (omega (arith, few-engines k), omega (arith, known-length k .1))
 
-cast-t9 : tie.Need-cast-t9
-cast-t9 c =
+cast-t10 : tie.Need-cast-t10
+cast-t10 c =
     let k = survey-known standard ((c .before .before .before .before .before .before .before .before .before .before .before .before .args .ws) .now) (λ i. (c .before .before .before .before .before .before .before .before .before .before .before .shared-slice-known .given) i .fits) (c .before .before .before .before .before .before .before .before .before .before .survey .result) (c .before .before .before .before .before .before .before .before .before .before .survey .ensures) (c .before .before .before .before .before .before .before .before .before .if1 .left) in
     let t = rw (c .before .before .before .before .wide .ensures .0) at (c .before .total .ensures) in
     let b = total-below (λ i. (c .before .before .before .before .before .before .before .before .before .before .before .shared-slice-known .given) i .fits) k (c .before .before .before .before .before .before .before .before .before .before .before .before .args .serial) _ _ _ refl (c .before .before .wide2 .ensures .0) t .0 in
     omega (arith, b)
 
-cast-t15 : tie.Need-cast-t15
-cast-t15 c =
+cast-t16 : tie.Need-cast-t16
+cast-t16 c =
     let k = survey-known standard ((c .before .before .before .before .before .before .before .before .before .before .before .before .before .args .ws) .now) (λ i. (c .before .before .before .before .before .before .before .before .before .before .before .before .shared-slice-known .given) i .fits) (c .before .before .before .before .before .before .before .before .before .before .before .survey .result) (c .before .before .before .before .before .before .before .before .before .before .before .survey .ensures) (c .before .before .before .before .before .before .before .before .before .before .if1 .left) in
     let t = rw (c .before .before .before .before .before .wide .ensures .0) at (c .before .before .total .ensures) in
     let b = total-below (λ i. (c .before .before .before .before .before .before .before .before .before .before .before .before .shared-slice-known .given) i .fits) k (c .before .before .before .before .before .before .before .before .before .before .before .before .before .args .serial) _ _ _ refl (c .before .before .before .wide2 .ensures .0) t .1 in
@@ -98,6 +98,6 @@ ends-spec =
     wide-requires-2
     add-total
     total-requires
-    cast-t9
-    cast-t15
+    cast-t10
+    cast-t16
     returns-4)

@@ -1,66 +1,35 @@
--- `survey` of `reading::survey` meets its contract: the code is its mirror in specs/.
+-- `survey` of `reading::survey` meets its contract: words that do not begin and end as a configuration may are unreadable.
 -- Assumes nothing.
-use Rattle.reading.proofs.Surveys.{surveyed-all}
+use native.Mathlib.Omega.{arith}
 use mathlib.Core.Path.{_∙_}
-use Rattle.reading.specs.Survey.{surveyed}
-use Rattle.reading.proofs.Tests.{tests}
+use Rattle.layout.specs.Limits.{figures}
+use Rattle.reading.proofs.Surveys.{is-open, surveyed-all, surveyed-none}
 use borrow.Author.Needs.{needs}
 use Rattle.reading.proofs.survey.survey.Statement.{statement}
 use Rattle.reading.proofs.survey.survey.Tie as tie
 
-unreadable-requires : tie.Need-unreadable-requires
-unreadable-requires c κs = search needs
-
-returns : tie.Need-returns
-unfolding surveyed
-returns c =
-    let f0 = (c .before .if1 .taken) in
-    simp (tests, (c .unreadable .ensures), f0)
-
-unreadable-requires-2 : tie.Need-unreadable-requires-2
-unreadable-requires-2 c κs = search needs
-
-returns-2 : tie.Need-returns-2
-unfolding surveyed
-returns-2 c =
-    let f0 = (c .before .before .if1 .left) in
-    let f1 = (c .before .if2 .taken) in
-    simp (tests, (c .unreadable2 .ensures), f0, f1)
+opened-requires : tie.Need-opened-requires
+opened-requires c κs = search needs
 
 shared-slice-read-wide : tie.Need-shared-slice-read-wide
-shared-slice-read-wide c = search needs
+shared-slice-read-wide c =
+    let t = c .before in
+    let a = t .before .before .before .args in
+    let o = is-open (figures (a .limits)) (a .ws .now) _ (t .before .opened .ensures) (t .if1 .taken) in
+    omega (arith, o .long)
 
 wide-requires : tie.Need-wide-requires
 wide-requires c κs = search needs
-
-unreadable-requires-3 : tie.Need-unreadable-requires-3
-unreadable-requires-3 c κs = search needs
-
-returns-3 : tie.Need-returns-3
-unfolding surveyed
-returns-3 c =
-    let f0 = (c .before .before .before .before .before .if1 .left) in
-    let f1 = (c .before .before .before .before .if2 .left) in
-    let f2 = (c .before .if3 .taken) in
-    simp (tests, (c .unreadable3 .ensures), f0, f1, ← (c .before .before .wide .ensures .0), f2)
-
-unreadable-requires-4 : tie.Need-unreadable-requires-4
-unreadable-requires-4 c κs = search needs
-
-returns-4 : tie.Need-returns-4
-unfolding surveyed
-returns-4 c =
-    let f0 = (c .before .before .before .before .before .before .if1 .left) in
-    let f1 = (c .before .before .before .before .before .if2 .left) in
-    let f2 = (c .before .before .if3 .left) in
-    let f3 = (c .before .if4 .taken) in
-    simp (tests, (c .unreadable4 .ensures), f0, f1, ← (c .before .before .before .wide .ensures .0), f2, f3)
 
 mul-engines : tie.Need-mul-engines
 mul-engines c = search needs
 
 shared-slice-read-wide-2 : tie.Need-shared-slice-read-wide-2
-shared-slice-read-wide-2 c = search needs
+shared-slice-read-wide-2 c =
+    let t = c .before .before .before in
+    let a = t .before .before .before .args in
+    let o = is-open (figures (a .limits)) (a .ws .now) _ (t .before .opened .ensures) (t .if1 .taken) in
+    omega (arith, o .long)
 
 wide-requires-2 : tie.Need-wide-requires-2
 wide-requires-2 c κs = search needs
@@ -69,28 +38,39 @@ add-engines : tie.Need-add-engines
 add-engines c = search needs
 
 engines-requires : tie.Need-engines-requires
-engines-requires c κs = search needs
+engines-requires c κs =
+    let t = c .before .before .before .before in
+    let a = t .before .before .before .args in
+    let o = is-open (figures (a .limits)) (a .ws .now) _ (t .before .opened .ensures) (t .if1 .taken) in
+    (o .long, omega (arith, o .few, c .before .before .wide .ensures .0))
 
-returns-5 : tie.Need-returns-5
-returns-5 c = (c .engines .ensures) ∙ surveyed-all (c .before .before .before .before .before .before .before .before .before .before .args .deepest) (c .before .before .before .before .before .before .before .before .before .before .args .longest) (c .before .before .before .before .before .before .before .before .before .before .args .context) ((c .before .before .before .before .before .before .before .before .before .before .args .ws) .now) (c .before .before .before .before .before .wide .result) (c .before .wide2 .result) (c .before .before .before .before .before .before .before .before .if1 .left) (c .before .before .before .before .before .before .before .if2 .left) (c .before .before .before .before .before .wide .ensures .0) (c .before .wide2 .ensures .0) (c .before .before .before .before .if3 .left) (c .before .before .before .if4 .left)
+returns : tie.Need-returns
+returns c =
+    let t = c .before .before .before .before .before in
+    let a = t .before .before .before .args in
+    c .engines .ensures ∙ surveyed-all (figures (a .limits)) (a .ws .now) _ (t .before .opened .ensures) (a .context) _ _ (t .if1 .taken) (c .before .before .before .wide .ensures .0) (c .before .wide2 .ensures .0)
+
+unreadable-requires : tie.Need-unreadable-requires
+unreadable-requires c κs = search needs
+
+returns-2 : tie.Need-returns-2
+returns-2 c =
+    let t = c .before in
+    let a = t .before .before .before .args in
+    c .unreadable .ensures ∙ surveyed-none (figures (a .limits)) (a .ws .now) _ (t .before .opened .ensures) (a .context) (t .if1 .left)
 
 pub survey-spec : {M : Type 1} → statement M
 survey-spec =
     tie.close
     (tie.spec
-    unreadable-requires
-    returns
-    unreadable-requires-2
-    returns-2
+    opened-requires
     shared-slice-read-wide
     wide-requires
-    unreadable-requires-3
-    returns-3
-    unreadable-requires-4
-    returns-4
     mul-engines
     shared-slice-read-wide-2
     wide-requires-2
     add-engines
     engines-requires
-    returns-5)
+    returns
+    unreadable-requires
+    returns-2)

@@ -49,8 +49,8 @@ returns-2 c =
     let f1 = c .before .before .before .before .before .before .before .before .before .before .before .before .before .before .if1 .left in
     (simp (tests, ← (c .before .before .become-nil2 .ensures .0), ← (c .before .before .become-nil2 .ensures .1), ← (c .before .before .before .before .nothing2 .ensures), f0, ← (c .before .before .before .before .before .before .before .before .before .take .ensures .0), ← (c .before .before .before .before .before .before .before .before .before .take .ensures .1), ← (c .before .before .before .before .before .before .before .before .before .before .before .further .ensures), ← (c .before .before .before .before .before .before .before .before .before .before .before .before .scope-key .ensures .0), ← (c .before .before .before .before .before .before .before .before .before .before .before .before .before .word .ensures), f1), simp (tests, ← (c .before .before .become-nil2 .ensures .0), ← (c .before .before .become-nil2 .ensures .1), ← (c .before .before .before .before .nothing2 .ensures), f0, ← (c .before .before .before .before .before .before .before .before .before .take .ensures .0), ← (c .before .before .before .before .before .before .before .before .before .take .ensures .1), ← (c .before .before .before .before .before .before .before .before .before .before .before .further .ensures), ← (c .before .before .before .before .before .before .before .before .before .before .before .before .scope-key .ensures .0), ← (c .before .before .before .before .before .before .before .before .before .before .before .before .before .word .ensures), f1))
 
-add-less : tie.Need-add-less
-add-less c = search needs
+further-requires-2 : tie.Need-further-requires-2
+further-requires-2 c κs = search needs
 
 less-requires : tie.Need-less-requires
 less-requires c κs = search needs
@@ -68,9 +68,9 @@ returns-3 : tie.Need-returns-3
 unfolding compensatedW
 returns-3 c =
     let f0 = c .before .if3 .taken in
-    let f1 = c .before .before .before .before .if2 .left in
-    let f2 = c .before .before .before .before .before .before .before .before .before .before .before .before .before .if1 .left in
-    (simp (tests, ← (c .refuse .ensures), f0, ← (c .before .before .read .ensures), ← (c .before .before .before .less .ensures), f1, ← (c .before .before .before .before .before .before .before .before .take .ensures .0), ← (c .before .before .before .before .before .before .before .before .take .ensures .1), ← (c .before .before .before .before .before .before .before .before .before .before .further .ensures), ← (c .before .before .before .before .before .before .before .before .before .before .before .scope-key .ensures .0), ← (c .before .before .before .before .before .before .before .before .before .before .before .before .word .ensures), f2), simp (tests, ← (c .refuse .ensures), f0, ← (c .before .before .read .ensures), ← (c .before .before .before .less .ensures), f1, ← (c .before .before .before .before .before .before .before .before .take .ensures .0), ← (c .before .before .before .before .before .before .before .before .take .ensures .1), ← (c .before .before .before .before .before .before .before .before .before .before .further .ensures), ← (c .before .before .before .before .before .before .before .before .before .before .before .scope-key .ensures .0), ← (c .before .before .before .before .before .before .before .before .before .before .before .before .word .ensures), f2))
+    let f1 = c .before .before .before .before .before .if2 .left in
+    let f2 = c .before .before .before .before .before .before .before .before .before .before .before .before .before .before .if1 .left in
+    (simp (tests, ← (c .refuse .ensures), f0, ← (c .before .before .read .ensures), ← (c .before .before .before .less .ensures), ← (c .before .before .before .before .further2 .ensures), f1, ← (c .before .before .before .before .before .before .before .before .before .take .ensures .0), ← (c .before .before .before .before .before .before .before .before .before .take .ensures .1), ← (c .before .before .before .before .before .before .before .before .before .before .before .further .ensures), ← (c .before .before .before .before .before .before .before .before .before .before .before .before .scope-key .ensures .0), ← (c .before .before .before .before .before .before .before .before .before .before .before .before .before .word .ensures), f2), simp (tests, ← (c .refuse .ensures), f0, ← (c .before .before .read .ensures), ← (c .before .before .before .less .ensures), ← (c .before .before .before .before .further2 .ensures), f1, ← (c .before .before .before .before .before .before .before .before .before .take .ensures .0), ← (c .before .before .before .before .before .before .before .before .before .take .ensures .1), ← (c .before .before .before .before .before .before .before .before .before .before .before .further .ensures), ← (c .before .before .before .before .before .before .before .before .before .before .before .before .scope-key .ensures .0), ← (c .before .before .before .before .before .before .before .before .before .before .before .before .before .word .ensures), f2))
 
 moved-requires : tie.Need-moved-requires
 moved-requires c κs = search needs
@@ -82,9 +82,9 @@ returns-4 : tie.Need-returns-4
 unfolding compensatedW
 returns-4 c =
     let f0 = c .before .before .before .before .if3 .left in
-    let f1 = c .before .before .before .before .before .before .before .if2 .left in
-    let f2 = c .before .before .before .before .before .before .before .before .before .before .before .before .before .before .before .before .if1 .left in
-    (simp (tests, ← (c .before .before .moved .ensures .0), ← (c .before .before .moved .ensures .1), f0, ← (c .before .before .before .before .before .read .ensures), ← (c .before .before .before .before .before .before .less .ensures), f1, ← (c .before .before .before .before .before .before .before .before .before .before .before .take .ensures .0), ← (c .before .before .before .before .before .before .before .before .before .before .before .take .ensures .1), ← (c .before .before .before .before .before .before .before .before .before .before .before .before .before .further .ensures), ← (c .before .before .before .before .before .before .before .before .before .before .before .before .before .before .scope-key .ensures .0), ← (c .before .before .before .before .before .before .before .before .before .before .before .before .before .before .before .word .ensures), f2), simp (tests, ← (c .before .before .moved .ensures .0), ← (c .before .before .moved .ensures .1), f0, ← (c .before .before .before .before .before .read .ensures), ← (c .before .before .before .before .before .before .less .ensures), f1, ← (c .before .before .before .before .before .before .before .before .before .before .before .take .ensures .0), ← (c .before .before .before .before .before .before .before .before .before .before .before .take .ensures .1), ← (c .before .before .before .before .before .before .before .before .before .before .before .before .before .further .ensures), ← (c .before .before .before .before .before .before .before .before .before .before .before .before .before .before .scope-key .ensures .0), ← (c .before .before .before .before .before .before .before .before .before .before .before .before .before .before .before .word .ensures), f2))
+    let f1 = c .before .before .before .before .before .before .before .before .if2 .left in
+    let f2 = c .before .before .before .before .before .before .before .before .before .before .before .before .before .before .before .before .before .if1 .left in
+    (simp (tests, ← (c .before .before .moved .ensures .0), ← (c .before .before .moved .ensures .1), f0, ← (c .before .before .before .before .before .read .ensures), ← (c .before .before .before .before .before .before .less .ensures), ← (c .before .before .before .before .before .before .before .further2 .ensures), f1, ← (c .before .before .before .before .before .before .before .before .before .before .before .before .take .ensures .0), ← (c .before .before .before .before .before .before .before .before .before .before .before .before .take .ensures .1), ← (c .before .before .before .before .before .before .before .before .before .before .before .before .before .before .further .ensures), ← (c .before .before .before .before .before .before .before .before .before .before .before .before .before .before .before .scope-key .ensures .0), ← (c .before .before .before .before .before .before .before .before .before .before .before .before .before .before .before .before .word .ensures), f2), simp (tests, ← (c .before .before .moved .ensures .0), ← (c .before .before .moved .ensures .1), f0, ← (c .before .before .before .before .before .read .ensures), ← (c .before .before .before .before .before .before .less .ensures), ← (c .before .before .before .before .before .before .before .further2 .ensures), f1, ← (c .before .before .before .before .before .before .before .before .before .before .before .before .take .ensures .0), ← (c .before .before .before .before .before .before .before .before .before .before .before .before .take .ensures .1), ← (c .before .before .before .before .before .before .before .before .before .before .before .before .before .before .further .ensures), ← (c .before .before .before .before .before .before .before .before .before .before .before .before .before .before .before .scope-key .ensures .0), ← (c .before .before .before .before .before .before .before .before .before .before .before .before .before .before .before .before .word .ensures), f2))
 
 pub compensated-spec : {M : Type 1} → statement M
 compensated-spec =
@@ -102,7 +102,7 @@ compensated-spec =
     become-nil-requires-2
     same-length-2
     returns-2
-    add-less
+    further-requires-2
     less-requires
     read-requires
     refuse-requires

@@ -18,8 +18,13 @@ further-requires c κs = search needs
 returns-2 : tie.Need-returns-2
 unfolding tooDeepW
 returns-2 c =
-    let f0 = c .before .if1 .left in
-    simp (tests, ← (c .further .ensures), f0)
+    let f0 = c .before .before .if1 .left in
+    simp (tests, ← (c .before .further .ensures), f0)
 
 pub too-deep-spec : {M : Type 1} → statement M
-too-deep-spec = tie.close (tie.spec returns further-requires returns-2)
+too-deep-spec =
+    tie.close
+    (tie.spec
+    returns
+    further-requires
+    returns-2)

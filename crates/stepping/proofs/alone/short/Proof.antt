@@ -11,21 +11,22 @@ use Rattle.rules.specs.declared.edit.Edit.{Edit}
 use Rattle.stepping.specs.Answering.{oneW}
 use Rattle.stepping.specs.Alone.{ruleW, loneW, shortW, surely}
 use Rattle.sock.proofs.Tests.{tests}
+use Rattle.layout.specs.declared.limit.Limits.{Limits}
 use borrow.Author.Needs.{needs}
 use Rattle.stepping.proofs.alone.short.Statement.{statement}
 use Rattle.stepping.proofs.alone.short.Tie as tie
 
 -- the short scratch had room
 kept :
-    (ws notes : List ℕ) (start next : ℕ) (s : Site) (kind bound : ℕ) (fresh out : List ℕ) (p : Edit) (made : List ℕ) (end : ℕ) →
-    p ≡ ruleW ws notes start s kind bound fresh .edit →
-    made ≡ ruleW ws notes start s kind bound fresh .fresh →
+    (limits : Limits) (ws notes : List ℕ) (start next : ℕ) (s : Site) (kind bound : ℕ) (fresh out : List ℕ) (p : Edit) (made : List ℕ) (end : ℕ) →
+    p ≡ ruleW limits ws notes start s kind bound fresh .edit →
+    made ≡ ruleW limits ws notes start s kind bound fresh .fresh →
     end ≡ next - 64 →
     p .fresh ≤ surely →
-    oneW ws start end p (kind % 32) made out ≡ shortW ws notes start next s kind bound fresh out
+    oneW limits ws start end p (kind % 32) made out ≡ shortW limits ws notes start next s kind bound fresh out
 unfolding shortW loneW
-kept ws notes start next s kind bound fresh out p made end e f h low =
-    let z : ltb surely (ruleW ws notes start s kind bound fresh .edit .fresh) ≡ false = le-ltb _ _ (rw e at low) in
+kept limits ws notes start next s kind bound fresh out p made end e f h low =
+    let z : ltb surely (ruleW limits ws notes start s kind bound fresh .edit .fresh) ≡ false = le-ltb _ _ (rw e at low) in
     rw (z, e, f, h)
 
 rule-requires : tie.Need-rule-requires
@@ -63,7 +64,7 @@ same-length-4 c = search needs
 
 returns-2 : tie.Need-returns-2
 returns-2 c =
-    let e = kept _ _ _ _ _ _ _ _ _ _ _ _ (c .before .before .before .before .before .before .before .before .before .before .rule .ensures .0) (c .before .before .before .before .before .before .before .before .before .before .rule .ensures .1) (c .before .before .before .before .before .end-before .ensures) (c .before .before .before .before .before .before .if1 .left) in
+    let e = kept _ _ _ _ _ _ _ _ _ _ _ _ _ (c .before .before .before .before .before .before .before .before .before .before .rule .ensures .0) (c .before .before .before .before .before .before .before .before .before .before .rule .ensures .1) (c .before .before .before .before .before .end-before .ensures) (c .before .before .before .before .before .before .if1 .left) in
     (c .before .before .one .ensures .0 ∙ ap (λ u. u .answer) e, c .before .before .one .ensures .1 ∙ ap (λ u. u .out) e, c .before .before .before .before .before .before .before .before .before .before .rule .ensures .1)
 
 pub short-spec : {M : Type 1} → statement M

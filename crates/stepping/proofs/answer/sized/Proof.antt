@@ -6,17 +6,17 @@ use borrow.Author.Needs.{needs}
 use Rattle.stepping.proofs.answer.sized.Statement.{statement}
 use Rattle.stepping.proofs.answer.sized.Tie as tie
 
-add-result : tie.Need-add-result
-add-result c = search needs
+further-requires : tie.Need-further-requires
+further-requires c κs = search needs
 
 returns : tie.Need-returns
 unfolding sizedW
 returns c =
-    let f0 = c .if1 .taken in
-    simp (tests, f0)
+    let f0 = c .before .if1 .taken in
+    simp (tests, ← (c .further .ensures), f0)
 
-further-requires : tie.Need-further-requires
-further-requires c κs = search needs
+further-requires-2 : tie.Need-further-requires-2
+further-requires-2 c κs = search needs
 
 less-requires : tie.Need-less-requires
 less-requires c κs = search needs
@@ -40,15 +40,15 @@ returns-2 : tie.Need-returns-2
 unfolding sizedW
 returns-2 c =
     let f0 = c .before .before .before .before .before .before .before .if1 .left in
-    simp (tests, ← (c .less6 .ensures), ← (c .before .less5 .ensures), ← (c .before .before .less4 .ensures), ← (c .before .before .before .less3 .ensures), ← (c .before .before .before .before .less2 .ensures), ← (c .before .before .before .before .before .less .ensures), ← (c .before .before .before .before .before .before .further .ensures), f0)
+    simp (tests, ← (c .less6 .ensures), ← (c .before .less5 .ensures), ← (c .before .before .less4 .ensures), ← (c .before .before .before .less3 .ensures), ← (c .before .before .before .before .less2 .ensures), ← (c .before .before .before .before .before .less .ensures), ← (c .before .before .before .before .before .before .further2 .ensures), f0)
 
 pub sized-spec : {M : Type 1} → statement M
 sized-spec =
     tie.close
     (tie.spec
-    add-result
-    returns
     further-requires
+    returns
+    further-requires-2
     less-requires
     less-requires-2
     less-requires-3

@@ -119,7 +119,7 @@ returns-6 : tie.Need-returns-6
 returns-6 c =
     let a = c .before .before .before .before .before .before .before .before .before .before .before .before .before .before .before .args in
     let e =
-    between-made (a .ws .now) _ (a .engine) (a .second) (a .a) (a .b) (a .kind) (a .branch) (a .out .now) _
+    between-made _ (a .ws .now) _ (a .engine) (a .second) (a .a) (a .b) (a .kind) (a .branch) (a .out .now) _
     (c .before .before .before .before .before .before .before .before .before .before .before .before .wide .ensures .0) (c .before .before .before .before .before .before .before .before .before .before .before .if1 .left) (c .before .before .before .before .before .before .before .before .before .before .if2 .left) (c .before .before .before .before .before .before .before .before .before .if3 .left) (c .before .before .before .before .before .before .before .before .if4 .left) (c .before .before .before .before .before .before .before .if5 .left) in
     (c .before .before .meet .ensures .0 ∙ ap (λ (w : Answered). w .answer) e, c .before .before .meet .ensures .1 ∙ ap (λ (w : Answered). w .out) e)
 

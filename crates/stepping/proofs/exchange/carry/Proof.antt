@@ -76,7 +76,7 @@ returns : tie.Need-returns
 returns c =
     let a = c .before .before .before .before .before .before .before .before .before .before .before .before .before .before .before .before .before .before .before .before .before .before .before .before .before .args in
     let e =
-    carry-made (a .ws .now) (a .part .now) (a .values .now) (a .other .now) (a .o) _ (a .engine) (a .second) (a .a) (a .b) (a .kind) (a .out .now)
+    carry-made _ (a .ws .now) (a .part .now) (a .values .now) (a .other .now) (a .o) _ (a .engine) (a .second) (a .a) (a .b) (a .kind) (a .out .now)
     _ _ _ _ _ _ _ _ _ _ _ _
     (c .before .before .before .before .before .before .before .before .before .before .before .before .before .before .before .before .before .before .before .wide .ensures .0) (c .before .before .before .before .before .before .before .before .before .before .before .before .before .before .before .before .before .before .wide2 .ensures .0) (c .before .before .before .before .before .before .before .before .before .before .before .before .before .before .before .before .before .word .ensures) (c .before .before .before .before .before .before .before .before .before .before .before .before .before .before .before .before .next-of .ensures) (c .before .before .before .before .before .before .before .before .before .before .before .before .before .before .before .serial-of .ensures)
     (c .before .before .before .before .before .before .before .before .before .before .before .before .before .sender .ensures .0) (c .before .before .before .before .before .before .before .before .before .before .before .before .before .sender .ensures .1) (c .before .before .before .before .before .before .before .before .before .before .receiver .ensures .0) (c .before .before .before .before .before .before .before .before .before .before .receiver .ensures .1)

@@ -44,7 +44,7 @@ returns-2 : tie.Need-returns-2
 returns-2 c =
     let a = c .before .before .before .before .before .before .before .before .before .before .before .before .before .before .before .before .args in
     let e =
-    meet-made (a .ws .now) (a .part .now) (a .values .now) (a .other .now) _ (a .engine) (a .second) (a .a) (a .b) (a .kind) (a .branch) (a .out .now) _ _ _ _ _
+    meet-made _ (a .ws .now) (a .part .now) (a .values .now) (a .other .now) _ (a .engine) (a .second) (a .a) (a .b) (a .kind) (a .branch) (a .out .now) _ _ _ _ _
     (c .before .before .before .before .before .before .before .before .before .before .offered .ensures) (c .before .before .before .before .before .before .before .before .before .wide .ensures .0) (c .before .before .before .before .before .before .before .before .wide2 .ensures .0) (c .before .before .before .before .before .before .before .fit .ensures) (c .before .before .before .before .before .before .if1 .taken) (c .before .before .before .before .before .spent .ensures)
     (c .before .before .before .before .if2 .left) in
     (c .before .before .carry .ensures .0 ∙ ap (λ (w : Answered). w .answer) e, c .before .before .carry .ensures .1 ∙ ap (λ (w : Answered). w .out) e)

@@ -55,7 +55,7 @@ returns-2 : tie.Need-returns-2
 returns-2 c =
     let a = c .before .before .before .before .before .before .before .before .before .before .before .before .args in
     let e =
-    receiving-past (a .ws .now) (a .notes .now) _ (a .n) (a .engine) (a .a) (a .kind) (a .second) (a .place) (a .branch) (a .out .now) _ _ _ _ _
+    receiving-past _ (a .ws .now) (a .notes .now) _ (a .n) (a .engine) (a .a) (a .kind) (a .second) (a .place) (a .branch) (a .out .now) _ _ _ _ _
     (c .before .before .before .before .before .before .before .before .wide .ensures .0) (c .before .before .before .before .before .before .wide2 .ensures .0) refl (c .before .before .before .before .before .before .before .if1 .left) (c .before .before .before .before .before .further .ensures) (c .before .before .before .before .locate .ensures) _ (c .before .before .e .given .1) in
     (c .refuse2 .ensures ∙ ap (λ (w : Answered). w .answer) e, ap (λ (w : Answered). w .out) e)
 
@@ -66,7 +66,7 @@ returns-3 : tie.Need-returns-3
 returns-3 c =
     let a = c .before .before .before .before .before .before .before .before .before .before .before .before .before .before .before .before .args in
     let e =
-    receiving-hit (a .ws .now) (a .notes .now) _ (a .n) (a .engine) (a .a) (a .kind) (a .second) (a .place) (a .branch) (a .out .now) _ _ _ _ _
+    receiving-hit _ (a .ws .now) (a .notes .now) _ (a .n) (a .engine) (a .a) (a .kind) (a .second) (a .place) (a .branch) (a .out .now) _ _ _ _ _
     (c .before .before .before .before .before .before .before .before .before .before .before .before .wide .ensures .0) (c .before .before .before .before .before .before .before .before .before .before .wide2 .ensures .0) (c .before .before .before .before .wide3 .ensures .0) (c .before .before .before .before .before .before .before .before .before .before .before .if1 .left) (c .before .before .before .before .before .before .before .before .before .further .ensures) (c .before .before .before .before .before .before .before .before .locate .ensures) _
     (c .before .before .before .before .before .before .b .given .1) in
     (c .before .before .between .ensures .0 ∙ ap (λ (w : Answered). w .answer) e, c .before .before .between .ensures .1 ∙ ap (λ (w : Answered). w .out) e)

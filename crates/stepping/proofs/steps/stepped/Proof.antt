@@ -50,7 +50,7 @@ returns-3 : tie.Need-returns-3
 returns-3 c =
     let a = (c .before .before .before .before .before .before .before .before .before .before .before .before .args) in
     let e =
-    step-beyond (a .ws .now) (a .notes .now) (a .engine) (a .position) (a .second) (a .place) (a .branch) (a .out .now) _ ((c .before .before .before .before .before .before .before .survey .ensures .0)) _ ((c .before .before .before .before .before .before .before .survey .ensures .1)) ((c .before .before .before .if1 .left)) ((c .before .before .if2 .left)) _
+    step-beyond _ (a .ws .now) (a .notes .now) (a .engine) (a .position) (a .second) (a .place) (a .branch) (a .out .now) _ ((c .before .before .before .before .before .before .before .survey .ensures .0)) _ ((c .before .before .before .before .before .before .before .survey .ensures .1)) ((c .before .before .before .if1 .left)) ((c .before .before .if2 .left)) _
     ((c .before .before .before .before .wide .ensures .0)) ((c .before .if3 .taken)) in
     ((c .refuse3 .ensures) ∙ ap (λ (w : Answered). w .answer) e, ap (λ (w : Answered). w .out) e, c .before .before .before .before .before .before .before .survey .ensures .1)
 
@@ -100,7 +100,7 @@ returns-4 : tie.Need-returns-4
 returns-4 c =
     let a = (c .before .before .before .before .before .before .before .before .before .before .before .before .before .before .before .before .before .before .before .before .before .before .args) in
     let e =
-    step-past (a .ws .now) (a .notes .now) (a .engine) (a .position) (a .second) (a .place) (a .branch) (a .out .now) _ ((c .before .before .before .before .before .before .before .before .before .before .before .before .before .before .before .before .before .survey .ensures .0)) _ ((c .before .before .before .before .before .before .before .before .before .before .before .before .before .before .before .before .before .survey .ensures .1)) ((c .before .before .before .before .before .before .before .before .before .before .before .before .before .if1 .left)) ((c .before .before .before .before .before .before .before .before .before .before .before .before .if2 .left)) _
+    step-past _ (a .ws .now) (a .notes .now) (a .engine) (a .position) (a .second) (a .place) (a .branch) (a .out .now) _ ((c .before .before .before .before .before .before .before .before .before .before .before .before .before .before .before .before .before .survey .ensures .0)) _ ((c .before .before .before .before .before .before .before .before .before .before .before .before .before .before .before .before .before .survey .ensures .1)) ((c .before .before .before .before .before .before .before .before .before .before .before .before .before .if1 .left)) ((c .before .before .before .before .before .before .before .before .before .before .before .before .if2 .left)) _
     ((c .before .before .before .before .before .before .before .before .before .before .before .before .before .before .wide .ensures .0)) ((c .before .before .before .before .before .before .before .before .before .before .before .if3 .left)) _ _ _ _ _ ((c .before .before .before .before .before .before .before .before .before .word .ensures)) ((c .before .before .before .before .before .before .before .before .wide2 .ensures .0)) ((c .before .before .before .before .before .before .wide3 .ensures .0)) ((c .before .before .before .before .before .further .ensures))
     ((c .before .before .before .before .locate .ensures)) _ ((c .before .before .p .given .1)) in
     ((c .refuse4 .ensures) ∙ ap (λ (w : Answered). w .answer) e, ap (λ (w : Answered). w .out) e, c .before .before .before .before .before .before .before .before .before .before .before .before .before .before .before .before .before .survey .ensures .1)
@@ -115,7 +115,7 @@ returns-5 : tie.Need-returns-5
 returns-5 c =
     let a = (c .before .before .before .before .before .before .before .before .before .before .before .before .before .before .before .before .before .before .before .before .before .before .before .before .before .before .args) in
     let e =
-    step-hit (a .ws .now) (a .notes .now) (a .engine) (a .position) (a .second) (a .place) (a .branch) (a .out .now) _ ((c .before .before .before .before .before .before .before .before .before .before .before .before .before .before .before .before .before .before .before .before .before .survey .ensures .0)) _ ((c .before .before .before .before .before .before .before .before .before .before .before .before .before .before .before .before .before .before .before .before .before .survey .ensures .1)) ((c .before .before .before .before .before .before .before .before .before .before .before .before .before .before .before .before .before .if1 .left)) ((c .before .before .before .before .before .before .before .before .before .before .before .before .before .before .before .before .if2 .left)) _
+    step-hit _ (a .ws .now) (a .notes .now) (a .engine) (a .position) (a .second) (a .place) (a .branch) (a .out .now) _ ((c .before .before .before .before .before .before .before .before .before .before .before .before .before .before .before .before .before .before .before .before .before .survey .ensures .0)) _ ((c .before .before .before .before .before .before .before .before .before .before .before .before .before .before .before .before .before .before .before .before .before .survey .ensures .1)) ((c .before .before .before .before .before .before .before .before .before .before .before .before .before .before .before .before .before .if1 .left)) ((c .before .before .before .before .before .before .before .before .before .before .before .before .before .before .before .before .if2 .left)) _
     ((c .before .before .before .before .before .before .before .before .before .before .before .before .before .before .before .before .before .before .wide .ensures .0)) ((c .before .before .before .before .before .before .before .before .before .before .before .before .before .before .before .if3 .left)) _ _ _ _ _ ((c .before .before .before .before .before .before .before .before .before .before .before .before .before .word .ensures)) ((c .before .before .before .before .before .before .before .before .before .before .before .before .wide2 .ensures .0)) ((c .before .before .before .before .before .before .before .before .before .before .wide3 .ensures .0)) ((c .before .before .before .before .before .before .before .before .before .further .ensures))
     ((c .before .before .before .before .before .before .before .before .locate .ensures)) _ ((c .before .before .before .before .before .before .a .given .1)) in
     ((c .before .before .moving .ensures .0) ∙ ap (λ (w : Answered). w .answer) e, (c .before .before .moving .ensures .1) ∙ ap (λ (w : Answered). w .out) e, c .before .before .before .before .before .before .before .before .before .before .before .before .before .before .before .before .before .before .before .before .before .survey .ensures .1)
