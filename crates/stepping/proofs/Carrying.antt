@@ -40,13 +40,14 @@ meet-made limits ws part vs other starts e i a b kind branch out o e' i' fitting
     rw (x, y, e1)
 
 pub between-made :
-    (limits : Limits) (ws starts : List ℕ) (e i : ℕ) (a b : Site) (kind branch : ℕ) (out : List ℕ) (e' : ℕ) →
-    e' ≡ e → (e ≡ i → ⊥) → 64 ≤ getD starts e' 0 → getD starts e' 0 ≤ length ws → a .at ≤ length ws → b .at ≤ length ws →
-    meetW limits ws (lent (a .at) (length ws) ws) (lent (getD starts e' 0 - 64) (getD starts e' 0) ws) (lent (b .at) (length ws) ws) starts e i a b kind branch out
+    (limits : Limits) (ws starts : List ℕ) (e i : ℕ) (a b : Site) (kind branch : ℕ) (out : List ℕ) (e' branch' : ℕ) →
+    e' ≡ e → branch' ≡ branch → (e ≡ i → ⊥) → 64 ≤ getD starts e' 0 → getD starts e' 0 ≤ length ws → a .at ≤ length ws → b .at ≤ length ws →
+    meetW limits ws (lent (a .at) (length ws) ws) (lent (getD starts e' 0 - 64) (getD starts e' 0) ws) (lent (b .at) (length ws) ws) starts e i a b kind branch' out
     ≡ betweenW limits ws starts e i a b kind branch out
 unfolding betweenW
-between-made limits ws starts e i a b kind branch out e' e1 e2 e3 e4 e5 e6 =
+between-made limits ws starts e i a b kind branch out e' branch' e1 e0 e2 e3 e4 e5 e6 =
     rw (
+      e0,
       e1,
       ne-eqb e i e2,
       le-ltb (getD starts e 0) 64 (rw e1 at e3),

@@ -59,6 +59,7 @@ use Rattle.scopes.proofs.Scratch.{Roomy, Spacious}
 use Rattle.layout.specs.declared.limit.Limits.{Limits}
 use Rattle.layout.specs.Limits.{figures}
 use Rattle.rules.proofs.Depths.{Shallow}
+use Rattle.stepping.specs.declared.bundles.Side.{Side}
 use Rattle.stepping.proofs.Modest.{Modest}
 use Rattle.stepping.specs.Exchanging.{lent}
 use Rattle.stepping.specs.Alone.{rewrittenW, valuedW, scopedW, ruleW}
@@ -171,9 +172,12 @@ module _ (ws : List ℕ) (ok : Words ws) (n issued : ℕ) (few : n ≤ 8) (small
   abbrev bound : ℕ
   bound = n * 65536 + issued
 
-  module _ (vs : List ℕ) (below : AllBelow 4294967296 vs) (values : part (start - 64) start ws ≡ valuesWords vs)
+  module _ (end : ℕ) (vs : List ℕ) (below : AllBelow 4294967296 vs) (values : part (start - 64) start ws ≡ valuesWords vs)
       (notes : List ℕ) (right : Right ws notes) (fresh : List ℕ) (room : Roomy ws fresh)
-      (wide : Spacious (ruleW limits ws notes start s (kind (asNode (l .process))) bound fresh) fresh) (big : Near (length fresh)) where
+      (wide : Spacious (ruleW limits ws notes (record { start = start; end = end; site = s }) (kind (asNode (l .process))) bound fresh) fresh) (big : Near (length fresh)) where
+    abbrev side : Side
+    side = record { start = start; end = end; site = s }
+
     -- what the rule makes, if it moves alone
     abbrev Makes : Edited → Move → Type 0
     Makes u stuck = Unit {0}
@@ -188,7 +192,7 @@ module _ (ws : List ℕ) (ok : Words ws) (n issued : ℕ) (few : n ≤ 8) (small
 
     made-scope : (name : ℕ) (mark : Mark) (zombie : Bool) (h : Entries) (a : Run) → l .process ≡ scope name mark zombie h a →
         (b : Bool) → isDone a ≡ b →
-        Makes (ruleW limits ws notes start s 11 bound fresh) (cond b (alone vs (some (ending name mark zombie h (l .frames)))) stuck)
+        Makes (ruleW limits ws notes side 11 bound fresh) (cond b (alone vs (some (ending name mark zombie h (l .frames)))) stuck)
     unfolding ruleW scopedW
     made-scope name mark zombie h a is false e = tt
     made-scope name mark zombie h a is true e =
@@ -202,7 +206,7 @@ module _ (ws : List ℕ) (ok : Words ws) (n issued : ℕ) (few : n ≤ 8) (small
     -- assign, if and while
     plain-rule : (k : ℕ) → k ≤ 6 →
         (let t = rewrittenW limits (drop (s .at) ws) (valuesWords vs) (s .level) k bound fresh in
-        ruleW limits ws notes start s k bound fresh ≡ plainW s start (t .rewriting) (t .fresh))
+        ruleW limits ws notes side k bound fresh ≡ plainW s start (t .rewriting) (t .fresh))
     unfolding ruleW valuedW
     plain-rule k h =
         let fits = whole-inside (faultAt ws target) target r start l s ws words-at spotted near (standing .frames) deep in
@@ -231,7 +235,7 @@ module _ (ws : List ℕ) (ok : Words ws) (n issued : ℕ) (few : n ≤ 8) (small
     node-deep m is = omega (arith, process-deep, its-level, ap runDepth is ∙ depth-act m)
 
     made-assign : (h : ℕ) (e : Expr) → FitsExpr e → l .process ≡ act (node h [] (e ∷ []) absent noParts) →
-        Makes (ruleW limits ws notes start s 1 bound fresh) (alone (set vs (variableOf h) (evaluate vs e)) (some (plug (l .frames) nil)))
+        Makes (ruleW limits ws notes side 1 bound fresh) (alone (set vs (variableOf h) (evaluate vs e)) (some (plug (l .frames) nil)))
     unfolding rewrittenW
     made-assign h e g is =
         let m : Node = node h [] (e ∷ []) absent noParts in
@@ -247,7 +251,7 @@ module _ (ws : List ℕ) (ok : Words ws) (n issued : ℕ) (few : n ≤ 8) (small
 
     made-branch : (h : ℕ) (e : Expr) (p q : Node) → FitsExpr e → Fits (code false) anywhere p → Fits (code false) anywhere q →
         l .process ≡ act (node h [] (e ∷ []) absent (p & q & noParts)) →
-        Makes (ruleW limits ws notes start s 4 bound fresh) (alone vs (some (plug (l .frames) (enable (cond (isTrue (evaluate vs e)) p q)))))
+        Makes (ruleW limits ws notes side 4 bound fresh) (alone vs (some (plug (l .frames) (enable (cond (isTrue (evaluate vs e)) p q)))))
     unfolding rewrittenW depth
     made-branch h e p q g fp fq is =
         let m : Node = node h [] (e ∷ []) absent (p & q & noParts) in
@@ -265,7 +269,7 @@ module _ (ws : List ℕ) (ok : Words ws) (n issued : ℕ) (few : n ≤ 8) (small
     made-repeat : (h : ℕ) (e : Expr) (p : Node) → kindOf h ≡ 5 → FitsExpr e → Fits (code false) anywhere p →
         Fits (code false) anywhere (node h [] (e ∷ []) absent (p & noParts)) →
         l .process ≡ act (node h [] (e ∷ []) absent (p & noParts)) →
-        Makes (ruleW limits ws notes start s 5 bound fresh)
+        Makes (ruleW limits ws notes side 5 bound fresh)
         (alone vs
         (some (plug (l .frames) (cond (isTrue (evaluate vs e)) (seqOf (enable p) (node h [] (e ∷ []) absent (p & noParts))) nil))))
     unfolding rewrittenW
@@ -290,7 +294,7 @@ module _ (ws : List ℕ) (ok : Words ws) (n issued : ℕ) (few : n ≤ 8) (small
 
     -- inst, throw and comp
     made-install : (h : ℕ) (new : Entries) → kindOf h ≡ 12 → FitsEntries false zero new → l .process ≡ act (node h [] [] (list new) noParts) →
-        Makes (ruleW limits ws notes start s 12 bound fresh) (alone vs (some (plug (onNearest (λ x. update x new) (l .frames)) nil)))
+        Makes (ruleW limits ws notes side 12 bound fresh) (alone vs (some (plug (onNearest (λ x. update x new) (l .frames)) nil)))
     unfolding ruleW scopedW asNode
     made-install h new k fit is =
         still _ _ (Installs.installs (faultAt ws target) target r start l s ws notes right words-at spotted near (standing .frames) limits deep (omega arith)
@@ -298,14 +302,14 @@ module _ (ws : List ℕ) (ok : Words ws) (n issued : ℕ) (few : n ≤ 8) (small
         (let e : kind (asNode (l .process)) ≡ 12 = ap (λ p. kind (asNode p)) is ∙ k in rw e at wide))
 
     made-throw : (h : ℕ) → kindOf h ≡ 13 → l .process ≡ act (node h [] [] absent noParts) →
-        Makes (ruleW limits ws notes start s 13 bound fresh) (alone vs (climb (nameOf h) (l .frames) nil))
+        Makes (ruleW limits ws notes side 13 bound fresh) (alone vs (climb (nameOf h) (l .frames) nil))
     unfolding ruleW scopedW
     made-throw h k is =
         still _ _ (thrown-ruled ws notes right n issued few small sound start words-at (omega arith) deep short fresh room big target l s
         place spotted (node h [] [] absent noParts) is k)
 
     made-compensate : (h : ℕ) → l .process ≡ act (node h [] [] absent noParts) →
-        Makes (ruleW limits ws notes start s 14 bound fresh)
+        Makes (ruleW limits ws notes side 14 bound fresh)
         (alone vs
         (some (plug (onNearest (without (scopeKey (nameOf h))) (l .frames))
         (enable (handler (scopeKey (nameOf h)) (nearest (l .frames)))))))
@@ -316,7 +320,7 @@ module _ (ws : List ℕ) (ok : Words ws) (n issued : ℕ) (few : n ≤ 8) (small
         ok few small short fresh room big h is)
 
     made-act : (m : Node) → l .process ≡ act m → Fits (code false) anywhere m → Shape m →
-        Makes (ruleW limits ws notes start s (kind m) bound fresh) (acting vs (l .frames) m (action m))
+        Makes (ruleW limits ws notes side (kind m) bound fresh) (acting vs (l .frames) m (action m))
     unfolding action acting
     made-act m is f (assigns {h} {e} k g) = rw k (made-assign h e g is)
     made-act m is f (branches {h} {e} {p} {q} k g fp fq) = rw k (made-branch h e p q g fp fq is)
@@ -330,7 +334,7 @@ module _ (ws : List ℕ) (ok : Words ws) (n issued : ℕ) (few : n ≤ 8) (small
     made-act m is f (throws {h} k t) = rw k (made-throw h k is)
     made-act m is f (compensates {h} k t) = rw k (made-compensate h is)
 
-    made : (p : Run) → l .process ≡ p → Sound n issued p → Makes (ruleW limits ws notes start s (runKind p) bound fresh) (moveOf vs (l .frames) p)
+    made : (p : Run) → l .process ≡ p → Sound n issued p → Makes (ruleW limits ws notes side (runKind p) bound fresh) (moveOf vs (l .frames) p)
     unfolding moveOf onceDone
     made nil is g = tt
     made (seq a q) is g = tt
@@ -344,11 +348,11 @@ module _ (ws : List ℕ) (ok : Words ws) (n issued : ℕ) (few : n ≤ 8) (small
     -- the rule, whatever it is
     pub lone :
         (vs' : List ℕ) (q : Option Run) → moveOf vs (l .frames) (l .process) ≡ alone vs' q →
-        (let u = ruleW limits ws notes start s (kind (asNode (l .process))) bound fresh in
+        (let u = ruleW limits ws notes side (kind (asNode (l .process))) bound fresh in
         Ruled (limits .deepest) ws start (start + size r) (u .edit) (u .fresh) q × (u .edit .number ≡ 0 → vs' ≡ valued vs (u .edit .store .variable) (u .edit .store .value)))
     lone vs' q e =
         rw (kind-asNode (standing .process))
-        (subst (Makes (ruleW limits ws notes start s (runKind (l .process)) bound fresh)) e (made (l .process) refl (standing .process)))
+        (subst (Makes (ruleW limits ws notes side (runKind (l .process)) bound fresh)) e (made (l .process) refl (standing .process)))
 
 -- in a configuration that is known
 module _ (ws : List ℕ) (ok : Words ws) (starts : Starts) {limits : Limits} (modest : Modest limits) (known : Known (figures limits) ws starts) (e : ℕ)
@@ -382,15 +386,15 @@ module _ (ws : List ℕ) (ok : Words ws) (starts : Starts) {limits : Limits} (mo
         (startOf c e) run-stands (omega arith) limits run-deep run-short target l s place spotted
 
     pub known-lone :
-        (notes : List ℕ) → Right ws notes → (fresh : List ℕ) → Roomy ws fresh →
-        Spacious (ruleW limits ws notes (startOf c e) s (kind (asNode (l .process))) (length (c .engines) * 65536 + c .issued) fresh) fresh →
+        (end : ℕ) (notes : List ℕ) → Right ws notes → (fresh : List ℕ) → Roomy ws fresh →
+        Spacious (ruleW limits ws notes (record { start = startOf c e; end = end; site = s }) (kind (asNode (l .process))) (length (c .engines) * 65536 + c .issued) fresh) fresh →
         Near (length fresh) →
         (vs' : List ℕ) (q : Option Run) → moveOf (engineAt c e .values) (l .frames) (l .process) ≡ alone vs' q →
-        (let u = ruleW limits ws notes (startOf c e) s (kind (asNode (l .process))) (length (c .engines) * 65536 + c .issued) fresh in
+        (let u = ruleW limits ws notes (record { start = startOf c e; end = end; site = s }) (kind (asNode (l .process))) (length (c .engines) * 65536 + c .issued) fresh in
         Ruled (limits .deepest) ws (startOf c e) (startOf c e + size run) (u .edit) (u .fresh) q
         × (u .edit .number ≡ 0 → vs' ≡ valued (engineAt c e .values) (u .edit .store .variable) (u .edit .store .value)))
-    known-lone notes right fresh room wide big =
+    known-lone end notes right fresh room wide big =
         lone ws ok (length (c .engines)) (c .issued) (known .readable .fitting .few) (known .readable .fitting .word) run (fit .sound)
-        (startOf c e) run-stands (omega arith) limits run-deep run-short target l s place spotted (engineAt c e .values)
+        (startOf c e) run-stands (omega arith) limits run-deep run-short target l s place spotted end (engineAt c e .values)
         (fit .bounded) (one-values c (known .readable .fitting) e h ws (known .same))
         notes right fresh room wide big

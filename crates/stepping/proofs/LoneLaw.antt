@@ -28,6 +28,7 @@ use Rattle.rules.proofs.Outcomes.{Ruled, unkillable, tooDeep, ruled}
 use Rattle.scopes.proofs.Scratch.{Roomy, Spacious}
 use Rattle.layout.specs.declared.limit.Limits.{Limits}
 use Rattle.layout.specs.Limits.{figures}
+use Rattle.stepping.specs.declared.bundles.Side.{Side}
 use Rattle.stepping.proofs.Modest.{Modest}
 use Rattle.stepping.specs.Answering.{answered, refusing, oneW}
 use Rattle.stepping.specs.Alone.{ruleW, loneW, large, small, shortW, aloneW, surely}
@@ -63,6 +64,13 @@ module _ (ws : List ℕ) (ok : Words ws) (s : Starts) {limits : Limits} (modest 
   abbrev a : Place
   a = placed ws ok s modest known e l
 
+  -- the process found, where the survey says that its engine's process is, and where that is
+  abbrev side : Side
+  side = record { start = getD (s .starts) e 0; end = getD (s .starts) (e + 1) 0 - 64; site = sp }
+
+  abbrev own : Side
+  own = record { start = start; end = end; site = sp }
+
   short : length ws ≤ limits .longest
   short = known-length known .1
 
@@ -85,41 +93,43 @@ module _ (ws : List ℕ) (ok : Words ws) (s : Starts) {limits : Limits} (modest 
   -- the answer and the output of a step alone
   pub lone-law :
       (notes : List ℕ) → Right ws notes → (vs' : List ℕ) (q : Option Run) → moveOf (engineAt c e .values) (l .frames) (l .process) ≡ alone vs' q → k < 32 → (out : List ℕ) →
-      aloneW limits ws notes (getD (s .starts) e 0) (getD (s .starts) (e + 1) 0) sp k bound out ≡ given (loneOf limits c a vs' q (length out)) out
+      aloneW limits ws notes side k bound out ≡ given (loneOf limits c a vs' q (length out)) out
   unfolding aloneW shortW loneW
-  lone-law notes right vs' q m low out = by (ltb 512 (length ws)) (ltb surely (ruleW limits ws notes (getD (s .starts) e 0) sp k bound small .edit .fresh)) refl refl
+  lone-law notes right vs' q m low out = by (ltb 512 (length ws)) (ltb surely (ruleW limits ws notes side k bound small .edit .fresh)) refl refl
     where
       first : getD (s .starts) e 0 ≡ start
       first = known .starts e (omega (arith, seen .inside))
 
+      last : getD (s .starts) (e + 1) 0 - 64 ≡ end
+      last =
+          let y : getD (s .starts) (e + 1) 0 ≡ startOf c (e + 1) = known .starts (e + 1) (omega (arith, seen .inside)) in
+          let z = start-next c (known .readable .fitting) e (seen .inside) in
+          omega arith
+
       -- whatever the scratch is, if it has room
       scratched :
-          (fresh : List ℕ) → Roomy ws fresh → Spacious (ruleW limits ws notes start sp k bound fresh) fresh → Near (length fresh) →
-          loneW limits ws notes (getD (s .starts) e 0) (getD (s .starts) (e + 1) 0) sp k bound fresh out ≡ given (loneOf limits c a vs' q (length out)) out
+          (fresh : List ℕ) → Roomy ws fresh → Spacious (ruleW limits ws notes own k bound fresh) fresh → Near (length fresh) →
+          loneW limits ws notes side k bound fresh out ≡ given (loneOf limits c a vs' q (length out)) out
       scratched fresh room wide big =
-          let r = known-lone ws ok s modest known e (seen .inside) target l sp (seen .place) (seen .spotted) notes right fresh room wide big vs' q m in
-          let last : getD (s .starts) (e + 1) 0 - 64 ≡ end =
-          (let y : getD (s .starts) (e + 1) 0 ≡ startOf c (e + 1) = known .starts (e + 1) (omega (arith, seen .inside)) in
-          let z = start-next c (known .readable .fitting) e (seen .inside) in
-          omega arith) in
-          rw (first, last, kind-low low) (by-rule (ruleW limits ws notes start sp k bound fresh) vs' q (r .0) (r .1) out)
+          let r = known-lone ws ok s modest known e (seen .inside) target l sp (seen .place) (seen .spotted) _ notes right fresh room wide big vs' q m in
+          rw (first, last, kind-low low) (by-rule (ruleW limits ws notes own k bound fresh) vs' q (r .0) (r .1) out)
 
-      in-large : loneW limits ws notes (getD (s .starts) e 0) (getD (s .starts) (e + 1) 0) sp k bound large out ≡ given (loneOf limits c a vs' q (length out)) out
+      in-large : loneW limits ws notes side k bound large out ≡ given (loneOf limits c a vs' q (length out)) out
       in-large =
           scratched large (record { twice = omega (arith, large-length, short, modest .few); few = omega (arith, large-length) })
           (λ h. omega (arith, large-length)) (rw large-length (near-of 16384 (lit< tt)))
 
       by :
-          (b d : Bool) → ltb 512 (length ws) ≡ b → ltb surely (ruleW limits ws notes (getD (s .starts) e 0) sp k bound small .edit .fresh) ≡ d →
-          cond b (loneW limits ws notes (getD (s .starts) e 0) (getD (s .starts) (e + 1) 0) sp k bound large out)
-          (cond d (loneW limits ws notes (getD (s .starts) e 0) (getD (s .starts) (e + 1) 0) sp k bound large out)
-          (loneW limits ws notes (getD (s .starts) e 0) (getD (s .starts) (e + 1) 0) sp k bound small out))
+          (b d : Bool) → ltb 512 (length ws) ≡ b → ltb surely (ruleW limits ws notes side k bound small .edit .fresh) ≡ d →
+          cond b (loneW limits ws notes side k bound large out)
+          (cond d (loneW limits ws notes side k bound large out)
+          (loneW limits ws notes side k bound small out))
           ≡ given (loneOf limits c a vs' q (length out)) out
       by true d p r = in-large
       by false true p r = in-large
       by false false p r =
           let few : length ws ≤ 512 = ltb-false 512 (length ws) p in
-          let spare : ruleW limits ws notes start sp k bound small .edit .fresh ≤ surely =
-          rw first at (ltb-false surely (ruleW limits ws notes (getD (s .starts) e 0) sp k bound small .edit .fresh) r) in
+          let spare : ruleW limits ws notes own k bound small .edit .fresh ≤ surely =
+          rw (first, last) at (ltb-false surely (ruleW limits ws notes side k bound small .edit .fresh) r) in
           scratched small (record { twice = omega (arith, small-length, few); few = omega (arith, small-length) })
           (λ h. omega (arith, spare, small-length)) (rw small-length (near-of 1024 (lit< tt)))

@@ -13,6 +13,7 @@ use Rattle.scopes.specs.Ending.{endedW}
 use Rattle.scopes.specs.Installing.{installedW}
 use Rattle.scopes.specs.Throwing.{thrownW}
 use Rattle.layout.specs.declared.limit.Limits.{Limits}
+use Rattle.stepping.specs.declared.bundles.Side.{Side}
 use Rattle.stepping.specs.Answering.{Answered, oneW}
 use Rattle.stepping.specs.Exchanging.{lent}
 
@@ -34,15 +35,15 @@ scopedW limits ws notes start s kind bound fresh =
     (cond (eqb kind Kind.inst) (installedW limits ws notes start s fresh)
     (cond (eqb kind Kind.throw) (thrownW ws notes start s fresh) (compensatedW limits bound ws notes start s fresh)))
 
-unfoldable pub ruleW : Limits → List ℕ → List ℕ → ℕ → Site → ℕ → ℕ → List ℕ → Edited
-ruleW limits ws notes start s kind bound fresh =
-    let t = valuedW limits ws start s kind bound fresh in
-    cond (ltb Kind.choice kind) (scopedW limits ws notes start s kind bound fresh) (plainW s start (t .rewriting) (t .fresh))
+unfoldable pub ruleW : Limits → List ℕ → List ℕ → Side → ℕ → ℕ → List ℕ → Edited
+ruleW limits ws notes m kind bound fresh =
+    let t = valuedW limits ws (m .start) (m .site) kind bound fresh in
+    cond (ltb Kind.choice kind) (scopedW limits ws notes (m .start) (m .site) kind bound fresh) (plainW (m .site) (m .start) (t .rewriting) (t .fresh))
 
-unfoldable pub loneW : Limits → List ℕ → List ℕ → ℕ → ℕ → Site → ℕ → ℕ → List ℕ → List ℕ → Answered
-loneW limits ws notes start next s kind bound fresh out =
-    let p = ruleW limits ws notes start s kind bound fresh in
-    oneW limits ws start (next - 64) (p .edit) (kind % 32) (p .fresh) out
+unfoldable pub loneW : Limits → List ℕ → List ℕ → Side → ℕ → ℕ → List ℕ → List ℕ → Answered
+loneW limits ws notes m kind bound fresh out =
+    let p = ruleW limits ws notes m kind bound fresh in
+    oneW limits ws (m .start) (m .end) (p .edit) (kind % 32) (p .fresh) out
 
 -- scratch for all, and for short configurations
 abbrev pub large : List ℕ
@@ -60,11 +61,11 @@ abbrev pub surely : ℕ
 surely = 800
 
 -- again with the long scratch, if there may have been too little room
-unfoldable pub shortW : Limits → List ℕ → List ℕ → ℕ → ℕ → Site → ℕ → ℕ → List ℕ → List ℕ → Answered
-shortW limits ws notes start next s kind bound fresh out =
-    cond (ltb surely (ruleW limits ws notes start s kind bound fresh .edit .fresh)) (loneW limits ws notes start next s kind bound large out)
-    (loneW limits ws notes start next s kind bound fresh out)
+unfoldable pub shortW : Limits → List ℕ → List ℕ → Side → ℕ → ℕ → List ℕ → List ℕ → Answered
+shortW limits ws notes m kind bound fresh out =
+    cond (ltb surely (ruleW limits ws notes m kind bound fresh .edit .fresh)) (loneW limits ws notes m kind bound large out)
+    (loneW limits ws notes m kind bound fresh out)
 
-unfoldable pub aloneW : Limits → List ℕ → List ℕ → ℕ → ℕ → Site → ℕ → ℕ → List ℕ → Answered
-aloneW limits ws notes start next s kind bound out =
-    cond (ltb short (length ws)) (loneW limits ws notes start next s kind bound large out) (shortW limits ws notes start next s kind bound small out)
+unfoldable pub aloneW : Limits → List ℕ → List ℕ → Side → ℕ → ℕ → List ℕ → Answered
+aloneW limits ws notes m kind bound out =
+    cond (ltb short (length ws)) (loneW limits ws notes m kind bound large out) (shortW limits ws notes m kind bound small out)

@@ -1,7 +1,7 @@
 // A step of one engine alone.
 use crate::answer::Answer;
 use crate::answer::one;
-use crate::exchange::end_before;
+use crate::bundles::Side;
 use finding::find::Site;
 use layout::kind;
 use layout::limit::Limits;
@@ -114,15 +114,16 @@ fn scoped(
 fn rule(
     ws: &[u16],
     notes: &[u16],
-    start: usize,
-    s: Site,
+    m: Side,
     kind: usize,
     bound: usize,
     limits: Limits,
     fresh: &mut [u16],
 ) -> Edit
-    ensures { λ r. ⌜ (r ≡ ruleW limits (now (ws .entry)) (now (notes .entry)) start s kind bound (now (fresh .entry)) .edit) × (now (fresh .exit) ≡ ruleW limits (now (ws .entry)) (now (notes .entry)) start s kind bound (now (fresh .entry)) .fresh) ⌝ }
+    ensures { λ r. ⌜ (r ≡ ruleW limits (now (ws .entry)) (now (notes .entry)) m kind bound (now (fresh .entry)) .edit) × (now (fresh .exit) ≡ ruleW limits (now (ws .entry)) (now (notes .entry)) m kind bound (now (fresh .entry)) .fresh) ⌝ }
 {
+    let s = m.site;
+    let start = m.start;
     if kind::CHOICE < kind {
         return scoped(ws, notes, start, s, kind, bound, limits, fresh);
     }
@@ -130,61 +131,37 @@ fn rule(
     plain(s, start, t, fresh)
 }
 
-// The rule worked out in scratch, then the answer. The engine's process begins at `start`, the next one's at `next`.
+// The rule worked out in scratch, then the answer.
 fn lone(
     ws: &[u16],
     notes: &[u16],
-    start: usize,
-    next: usize,
-    s: Site,
+    m: Side,
     kind: usize,
     bound: usize,
     limits: Limits,
     fresh: &mut [u16],
     out: &mut [u16],
 ) -> Answer
-    ensures { λ r. ⌜ (r ≡ loneW limits (now (ws .entry)) (now (notes .entry)) start next s kind bound (now (fresh .entry)) (now (out .entry)) .answer) × (now (out .exit) ≡ loneW limits (now (ws .entry)) (now (notes .entry)) start next s kind bound (now (fresh .entry)) (now (out .entry)) .out) × (now (fresh .exit) ≡ ruleW limits (now (ws .entry)) (now (notes .entry)) start s kind bound (now (fresh .entry)) .fresh) ⌝ }
+    ensures { λ r. ⌜ (r ≡ loneW limits (now (ws .entry)) (now (notes .entry)) m kind bound (now (fresh .entry)) (now (out .entry)) .answer) × (now (out .exit) ≡ loneW limits (now (ws .entry)) (now (notes .entry)) m kind bound (now (fresh .entry)) (now (out .entry)) .out) × (now (fresh .exit) ≡ ruleW limits (now (ws .entry)) (now (notes .entry)) m kind bound (now (fresh .entry)) .fresh) ⌝ }
 {
-    let p = rule(ws, notes, start, s, kind, bound, limits, fresh);
-    one(
-        ws,
-        start,
-        end_before(next),
-        p,
-        (kind % 32) as u8,
-        limits,
-        fresh,
-        out,
-    )
+    let p = rule(ws, notes, m, kind, bound, limits, fresh);
+    one(ws, m.start, m.end, p, (kind % 32) as u8, limits, fresh, out)
 }
 
 // With scratch for every result.
 fn roomy(
     ws: &[u16],
     notes: &[u16],
-    start: usize,
-    next: usize,
-    s: Site,
+    m: Side,
     kind: usize,
     bound: usize,
     limits: Limits,
     out: &mut [u16],
 ) -> Answer
-    ensures { λ r. ⌜ (r ≡ loneW limits (now (ws .entry)) (now (notes .entry)) start next s kind bound large (now (out .entry)) .answer) × (now (out .exit) ≡ loneW limits (now (ws .entry)) (now (notes .entry)) start next s kind bound large (now (out .entry)) .out) ⌝ }
+    ensures { λ r. ⌜ (r ≡ loneW limits (now (ws .entry)) (now (notes .entry)) m kind bound large (now (out .entry)) .answer) × (now (out .exit) ≡ loneW limits (now (ws .entry)) (now (notes .entry)) m kind bound large (now (out .entry)) .out) ⌝ }
 {
     let mut fresh = [0u16; LARGE];
-    lone(
-        ws,
-        notes,
-        start,
-        next,
-        s,
-        kind,
-        bound,
-        limits,
-        &mut fresh,
-        out,
-    )
+    lone(ws, notes, m, kind, bound, limits, &mut fresh, out)
 }
 
 // With the short scratch. Inst can make more words than that holds, counts also those that find no room, and wants 130 places to spare:
@@ -192,61 +169,37 @@ fn roomy(
 fn short(
     ws: &[u16],
     notes: &[u16],
-    start: usize,
-    next: usize,
-    s: Site,
+    m: Side,
     kind: usize,
     bound: usize,
     limits: Limits,
     fresh: &mut [u16],
     out: &mut [u16],
 ) -> Answer
-    ensures { λ r. ⌜ (r ≡ shortW limits (now (ws .entry)) (now (notes .entry)) start next s kind bound (now (fresh .entry)) (now (out .entry)) .answer) × (now (out .exit) ≡ shortW limits (now (ws .entry)) (now (notes .entry)) start next s kind bound (now (fresh .entry)) (now (out .entry)) .out) × (now (fresh .exit) ≡ ruleW limits (now (ws .entry)) (now (notes .entry)) start s kind bound (now (fresh .entry)) .fresh) ⌝ }
+    ensures { λ r. ⌜ (r ≡ shortW limits (now (ws .entry)) (now (notes .entry)) m kind bound (now (fresh .entry)) (now (out .entry)) .answer) × (now (out .exit) ≡ shortW limits (now (ws .entry)) (now (notes .entry)) m kind bound (now (fresh .entry)) (now (out .entry)) .out) × (now (fresh .exit) ≡ ruleW limits (now (ws .entry)) (now (notes .entry)) m kind bound (now (fresh .entry)) .fresh) ⌝ }
 {
-    let p = rule(ws, notes, start, s, kind, bound, limits, fresh);
+    let p = rule(ws, notes, m, kind, bound, limits, fresh);
     if SURELY < p.fresh {
-        return roomy(ws, notes, start, next, s, kind, bound, limits, out);
+        return roomy(ws, notes, m, kind, bound, limits, out);
     }
-    one(
-        ws,
-        start,
-        end_before(next),
-        p,
-        (kind % 32) as u8,
-        limits,
-        fresh,
-        out,
-    )
+    one(ws, m.start, m.end, p, (kind % 32) as u8, limits, fresh, out)
 }
 
 // To clear the long scratch would take more time than the step of a short configuration.
 pub fn alone(
     ws: &[u16],
     notes: &[u16],
-    start: usize,
-    next: usize,
-    s: Site,
+    m: Side,
     kind: usize,
     bound: usize,
     limits: Limits,
     out: &mut [u16],
 ) -> Answer
-    ensures { λ r. ⌜ (r ≡ aloneW limits (now (ws .entry)) (now (notes .entry)) start next s kind bound (now (out .entry)) .answer) × (now (out .exit) ≡ aloneW limits (now (ws .entry)) (now (notes .entry)) start next s kind bound (now (out .entry)) .out) ⌝ }
+    ensures { λ r. ⌜ (r ≡ aloneW limits (now (ws .entry)) (now (notes .entry)) m kind bound (now (out .entry)) .answer) × (now (out .exit) ≡ aloneW limits (now (ws .entry)) (now (notes .entry)) m kind bound (now (out .entry)) .out) ⌝ }
 {
     if SHORT < ws.len() {
-        return roomy(ws, notes, start, next, s, kind, bound, limits, out);
+        return roomy(ws, notes, m, kind, bound, limits, out);
     }
     let mut fresh = [0u16; SMALL];
-    short(
-        ws,
-        notes,
-        start,
-        next,
-        s,
-        kind,
-        bound,
-        limits,
-        &mut fresh,
-        out,
-    )
+    short(ws, notes, m, kind, bound, limits, &mut fresh, out)
 }

@@ -3,6 +3,9 @@ use crate::answer::Answer;
 use crate::answer::accept;
 use crate::answer::refuse;
 use crate::answer::two;
+use crate::bundles::Engines;
+use crate::bundles::Numbers;
+use crate::bundles::end_before;
 use crate::meeting::fit;
 use crate::meeting::receive;
 use crate::meeting::send;
@@ -109,13 +112,6 @@ fn ordered(
         limits,
         out,
     )
-}
-
-// Where a process ends, if the next one begins at `start` behind its engine's values.
-pub fn end_before(start: usize) -> usize
-    ensures { λ r. ⌜ r ≡ start - 64 ⌝ }
-{
-    if start < VALUES { 0 } else { start - VALUES }
 }
 
 // The serial that a solicit takes.
@@ -255,23 +251,24 @@ fn meet(
     refuse(5)
 }
 
-// The sender a stands in `engine`, the receiver b in `second`. That the places are inside is known of all that was found.
+// The sender a stands in the first engine, the receiver b in the second. That the places are inside is known of all that was found.
 pub(crate) fn between(
     ws: &[u16],
-    starts: [usize; 9],
-    engine: u16,
-    second: u16,
+    g: Engines,
+    k: Numbers,
     a: Site,
     b: Site,
     kind: usize,
-    branch: usize,
     limits: Limits,
     out: &mut [u16],
 ) -> Answer
-    requires { ⌜ (engine < 8) × (second < 8) ⌝ }
-    ensures { λ r. ⌜ (r ≡ betweenW limits (now (ws .entry)) starts engine second a b kind branch (now (out .entry)) .answer) × (now (out .exit) ≡ betweenW limits (now (ws .entry)) starts engine second a b kind branch (now (out .entry)) .out) ⌝ }
+    requires { ⌜ (k .engine < 8) × (k .second < 8) ⌝ }
+    ensures { λ r. ⌜ (r ≡ betweenW limits (now (ws .entry)) (g .starts) (k .engine) (k .second) a b kind (k .branch) (now (out .entry)) .answer) × (now (out .exit) ≡ betweenW limits (now (ws .entry)) (g .starts) (k .engine) (k .second) a b kind (k .branch) (now (out .entry)) .out) ⌝ }
 {
+    let engine = k.engine;
+    let second = k.second;
     let e = wide(engine);
+    let starts = g.starts;
     let start = starts[e];
     let at = a.at;
     let to = b.at;
@@ -302,7 +299,7 @@ pub(crate) fn between(
         a,
         b,
         kind,
-        branch,
+        wide(k.branch),
         limits,
         out,
     )

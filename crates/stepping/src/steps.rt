@@ -2,6 +2,10 @@
 use crate::alone::alone;
 use crate::answer::Answer;
 use crate::answer::refuse;
+use crate::bundles::Engines;
+use crate::bundles::Numbers;
+use crate::bundles::bound;
+use crate::bundles::side_in;
 use crate::exchange::between;
 use finding::find::Found;
 use finding::find::Site;
@@ -92,39 +96,32 @@ fn moves(ws: &[u16], notes: &[u16], at: usize, kind: usize) -> usize
 fn receiving(
     ws: &[u16],
     notes: &[u16],
-    starts: [usize; 9],
-    n: usize,
-    engine: u16,
+    g: Engines,
+    k: Numbers,
     a: Site,
     kind: usize,
-    second: u16,
-    place: u16,
-    branch: u16,
     limits: Limits,
     out: &mut [u16],
 ) -> Answer
-    requires { ⌜ (n ≤ 8) × (engine < 8) ⌝ }
-    ensures { λ r. ⌜ (r ≡ receivingW limits (now (ws .entry)) (now (notes .entry)) starts n engine a kind second place branch (now (out .entry)) .answer) × (now (out .exit) ≡ receivingW limits (now (ws .entry)) (now (notes .entry)) starts n engine a kind second place branch (now (out .entry)) .out) ⌝ }
+    requires { ⌜ (g .count ≤ 8) × (k .engine < 8) ⌝ }
+    ensures { λ r. ⌜ (r ≡ receivingW limits (now (ws .entry)) (now (notes .entry)) g k a kind (now (out .entry)) .answer) × (now (out .exit) ≡ receivingW limits (now (ws .entry)) (now (notes .entry)) g k a kind (now (out .entry)) .out) ⌝ }
 {
-    let i = wide(second);
-    if n <= i {
+    let i = wide(k.second);
+    if g.count <= i {
         return refuse(4);
     }
+    let starts = g.starts;
     let start = starts[i];
-    match locate(ws, notes, start, further(start, wide(place)), FUEL, 1) {
+    match locate(
+        ws,
+        notes,
+        start,
+        further(start, wide(k.second_position)),
+        FUEL,
+        1,
+    ) {
         Found::Past(e) => refuse(4),
-        Found::Hit(b) => between(
-            ws,
-            starts,
-            engine,
-            second,
-            a,
-            b,
-            kind,
-            wide(branch),
-            limits,
-            out,
-        ),
+        Found::Hit(b) => between(ws, g, k, a, b, kind, limits, out),
     }
 }
 
@@ -141,23 +138,18 @@ fn none_else(second: u16, place: u16, branch: u16) -> bool
     branch == 0
 }
 
-// The process a was found in `engine`.
+// The process a was found in the first engine.
 fn moving(
     ws: &[u16],
     notes: &[u16],
-    starts: [usize; 9],
-    n: usize,
-    engine: u16,
+    g: Engines,
+    k: Numbers,
     a: Site,
-    second: u16,
-    place: u16,
-    branch: u16,
-    bound: usize,
     limits: Limits,
     out: &mut [u16],
 ) -> Answer
-    requires { ⌜ (n ≤ 8) × (engine < 8) ⌝ }
-    ensures { λ r. ⌜ (r ≡ movingW limits (now (ws .entry)) (now (notes .entry)) starts n engine a second place branch bound (now (out .entry)) .answer) × (now (out .exit) ≡ movingW limits (now (ws .entry)) (now (notes .entry)) starts n engine a second place branch bound (now (out .entry)) .out) ⌝ }
+    requires { ⌜ (g .count ≤ 8) × (k .engine < 8) ⌝ }
+    ensures { λ r. ⌜ (r ≡ movingW limits (now (ws .entry)) (now (notes .entry)) g k a (now (out .entry)) .answer) × (now (out .exit) ≡ movingW limits (now (ws .entry)) (now (notes .entry)) g k a (now (out .entry)) .out) ⌝ }
 {
     let kind = kind_of(word(ws, a.at));
     let m = moves(ws, notes, a.at, kind);
@@ -165,31 +157,15 @@ fn moving(
         return refuse(3);
     }
     if m == 2 {
-        return receiving(
-            ws,
-            notes,
-            starts,
-            n,
-            engine,
-            a,
-            kind,
-            second,
-            place,
-            branch,
-            limits,
-            out,
-        );
+        return receiving(ws, notes, g, k, a, kind, limits, out);
     }
-    if none_else(second, place, branch) {
-        let e = wide(engine);
+    if none_else(k.second, k.second_position, k.branch) {
         return alone(
             ws,
             notes,
-            starts[e],
-            starts[e + 1],
-            a,
+            side_in(g, k.engine, a),
             kind,
-            bound,
+            bound(g),
             limits,
             out,
         );
@@ -197,23 +173,13 @@ fn moving(
     refuse(3)
 }
 
-// The numbers: an engine, a position in its process, and a second engine, a position there and a branch. The notes are all 0 before.
-fn stepped(
-    ws: &[u16],
-    notes: &mut [u16],
-    engine: u16,
-    position: u16,
-    second: u16,
-    place: u16,
-    branch: u16,
-    limits: Limits,
-    out: &mut [u16],
-) -> Answer
-    ensures { λ r. ⌜ (r ≡ stepW limits (now (ws .entry)) (now (notes .entry)) engine position second place branch (now (out .entry)) .answer) × (now (out .exit) ≡ stepW limits (now (ws .entry)) (now (notes .entry)) engine position second place branch (now (out .entry)) .out) × (now (notes .exit) ≡ surveyNotes (figures limits) (now (ws .entry)) (now (notes .entry))) ⌝ }
+// The notes are all 0 before.
+fn stepped(ws: &[u16], notes: &mut [u16], k: Numbers, limits: Limits, out: &mut [u16]) -> Answer
+    ensures { λ r. ⌜ (r ≡ stepW limits (now (ws .entry)) (now (notes .entry)) k (now (out .entry)) .answer) × (now (out .exit) ≡ stepW limits (now (ws .entry)) (now (notes .entry)) k (now (out .entry)) .out) × (now (notes .exit) ≡ surveyNotes (figures limits) (now (ws .entry)) (now (notes .entry))) ⌝ }
 {
     let s = survey(ws, limits, notes);
     let n = s.engines;
-    let e = wide(engine);
+    let e = wide(k.engine);
     if n == 0 {
         return refuse(1);
     }
@@ -225,51 +191,23 @@ fn stepped(
     }
     let starts = s.starts;
     let start = starts[e];
-    let bound = n * 65536 + wide(word(ws, 1));
-    match locate(ws, notes, start, further(start, wide(position)), FUEL, 1) {
+    let g = Engines {
+        count: n,
+        issued: word(ws, 1),
+        starts,
+    };
+    match locate(ws, notes, start, further(start, wide(k.position)), FUEL, 1) {
         Found::Past(p) => refuse(2),
-        Found::Hit(a) => moving(
-            ws,
-            notes,
-            starts,
-            n,
-            engine,
-            a,
-            second,
-            place,
-            branch,
-            bound,
-            limits,
-            out,
-        ),
+        Found::Hit(a) => moving(ws, notes, g, k, a, limits, out),
     }
 }
 
 // With room for the notes of any configuration.
-fn with_notes(
-    ws: &[u16],
-    engine: u16,
-    position: u16,
-    second: u16,
-    place: u16,
-    branch: u16,
-    limits: Limits,
-    out: &mut [u16],
-) -> Answer
-    ensures { λ r. ⌜ (r ≡ stepW limits (now (ws .entry)) manyNotes engine position second place branch (now (out .entry)) .answer) × (now (out .exit) ≡ stepW limits (now (ws .entry)) manyNotes engine position second place branch (now (out .entry)) .out) ⌝ }
+fn with_notes(ws: &[u16], k: Numbers, limits: Limits, out: &mut [u16]) -> Answer
+    ensures { λ r. ⌜ (r ≡ stepW limits (now (ws .entry)) manyNotes k (now (out .entry)) .answer) × (now (out .exit) ≡ stepW limits (now (ws .entry)) manyNotes k (now (out .entry)) .out) ⌝ }
 {
     let mut notes = [0u16; MANY];
-    stepped(
-        ws,
-        &mut notes,
-        engine,
-        position,
-        second,
-        place,
-        branch,
-        limits,
-        out,
-    )
+    stepped(ws, &mut notes, k, limits, out)
 }
 
 // The call step: from a configuration's words and the five numbers to the answer and, where it is accepted, the next configuration's
@@ -287,19 +225,16 @@ pub fn step(
     ensures { λ r. ⌜ (r ≡ answerAs (stepAnswer standard (now (ws .entry)) (numbers engine position second place branch) (now (out .entry)))) × (now (out .exit) ≡ stepOutput standard (now (ws .entry)) (numbers engine position second place branch) (now (out .entry))) ⌝ }
 {
     let limits = standard();
-    if SHORT < ws.len() {
-        return with_notes(ws, engine, position, second, place, branch, limits, out);
-    }
-    let mut notes = [0u16; FEW];
-    stepped(
-        ws,
-        &mut notes,
+    let k = Numbers {
         engine,
         position,
         second,
-        place,
+        second_position: place,
         branch,
-        limits,
-        out,
-    )
+    };
+    if SHORT < ws.len() {
+        return with_notes(ws, k, limits, out);
+    }
+    let mut notes = [0u16; FEW];
+    stepped(ws, &mut notes, k, limits, out)
 }

@@ -9,9 +9,6 @@ use Rattle.stepping.proofs.alone.lone.Tie as tie
 rule-requires : tie.Need-rule-requires
 rule-requires c κs = search needs
 
-end-before-requires : tie.Need-end-before-requires
-end-before-requires c κs = search needs
-
 cast-one : tie.Need-cast-one
 cast-one c = search needs
 
@@ -27,14 +24,13 @@ same-length-2 c = search needs
 returns : tie.Need-returns
 unfolding loneW
 returns c =
-    (simp (tests, ← (c .before .before .one .ensures .0), ← (c .before .before .one .ensures .1), ← (c .before .before .before .before .before .end-before .ensures), ← (c .before .before .before .before .before .before .before .before .rule .ensures .0), ← (c .before .before .before .before .before .before .before .before .rule .ensures .1)), simp (tests, ← (c .before .before .one .ensures .0), ← (c .before .before .one .ensures .1), ← (c .before .before .before .before .before .end-before .ensures), ← (c .before .before .before .before .before .before .before .before .rule .ensures .0), ← (c .before .before .before .before .before .before .before .before .rule .ensures .1)), c .before .before .before .before .before .before .before .before .rule .ensures .1)
+    (simp (tests, ← (c .before .before .one .ensures .0), ← (c .before .before .one .ensures .1), ← (c .before .before .before .before .before .before .before .rule .ensures .0), ← (c .before .before .before .before .before .before .before .rule .ensures .1)), simp (tests, ← (c .before .before .one .ensures .0), ← (c .before .before .one .ensures .1), ← (c .before .before .before .before .before .before .before .rule .ensures .0), ← (c .before .before .before .before .before .before .before .rule .ensures .1)), simp (tests, ← (c .before .before .one .ensures .0), ← (c .before .before .one .ensures .1), ← (c .before .before .before .before .before .before .before .rule .ensures .0), ← (c .before .before .before .before .before .before .before .rule .ensures .1)))
 
 pub lone-spec : {M : Type 1} → statement M
 lone-spec =
     tie.close
     (tie.spec
     rule-requires
-    end-before-requires
     cast-one
     one-requires
     same-length

@@ -25,7 +25,7 @@ returns : tie.Need-returns
 unfolding betweenW
 returns c =
     let f0 = c .before .if1 .taken in
-    (simp (tests, ← (c .refuse .ensures), f0, ← (c .before .before .wide .ensures .0)), simp (tests, ← (c .refuse .ensures), f0, ← (c .before .before .wide .ensures .0)))
+    (simp (tests, ← (c .refuse .ensures), f0, ← (c .before .before .before .wide .ensures .0)), simp (tests, ← (c .refuse .ensures), f0, ← (c .before .before .before .wide .ensures .0)))
 
 refuse-requires-2 : tie.Need-refuse-requires-2
 refuse-requires-2 c κs = search needs
@@ -35,7 +35,7 @@ unfolding betweenW
 returns-2 c =
     let f0 = c .before .if2 .taken in
     let f1 = c .before .before .if1 .left in
-    (simp (tests, ← (c .refuse2 .ensures), f0, f1, ← (c .before .before .before .wide .ensures .0)), simp (tests, ← (c .refuse2 .ensures), f0, f1, ← (c .before .before .before .wide .ensures .0)))
+    (simp (tests, ← (c .refuse2 .ensures), f0, f1, ← (c .before .before .before .before .wide .ensures .0)), simp (tests, ← (c .refuse2 .ensures), f0, f1, ← (c .before .before .before .before .wide .ensures .0)))
 
 refuse-requires-3 : tie.Need-refuse-requires-3
 refuse-requires-3 c κs = search needs
@@ -46,7 +46,7 @@ returns-3 c =
     let f0 = c .before .if3 .taken in
     let f1 = c .before .before .if2 .left in
     let f2 = c .before .before .before .if1 .left in
-    (simp (tests, ← (c .refuse3 .ensures), f0, f1, f2, ← (c .before .before .before .before .wide .ensures .0)), simp (tests, ← (c .refuse3 .ensures), f0, f1, f2, ← (c .before .before .before .before .wide .ensures .0)))
+    (simp (tests, ← (c .refuse3 .ensures), f0, f1, f2, ← (c .before .before .before .before .before .wide .ensures .0)), simp (tests, ← (c .refuse3 .ensures), f0, f1, f2, ← (c .before .before .before .before .before .wide .ensures .0)))
 
 refuse-requires-4 : tie.Need-refuse-requires-4
 refuse-requires-4 c κs = search needs
@@ -58,7 +58,7 @@ returns-4 c =
     let f1 = c .before .before .if3 .left in
     let f2 = c .before .before .before .if2 .left in
     let f3 = c .before .before .before .before .if1 .left in
-    (simp (tests, ← (c .refuse4 .ensures), f0, f1, f2, f3, ← (c .before .before .before .before .before .wide .ensures .0)), simp (tests, ← (c .refuse4 .ensures), f0, f1, f2, f3, ← (c .before .before .before .before .before .wide .ensures .0)))
+    (simp (tests, ← (c .refuse4 .ensures), f0, f1, f2, f3, ← (c .before .before .before .before .before .before .wide .ensures .0)), simp (tests, ← (c .refuse4 .ensures), f0, f1, f2, f3, ← (c .before .before .before .before .before .before .wide .ensures .0)))
 
 refuse-requires-5 : tie.Need-refuse-requires-5
 refuse-requires-5 c κs = search needs
@@ -71,7 +71,7 @@ returns-5 c =
     let f2 = c .before .before .before .if3 .left in
     let f3 = c .before .before .before .before .if2 .left in
     let f4 = c .before .before .before .before .before .if1 .left in
-    (simp (tests, ← (c .refuse5 .ensures), f0, f1, f2, f3, f4, ← (c .before .before .before .before .before .before .wide .ensures .0)), simp (tests, ← (c .refuse5 .ensures), f0, f1, f2, f3, f4, ← (c .before .before .before .before .before .before .wide .ensures .0)))
+    (simp (tests, ← (c .refuse5 .ensures), f0, f1, f2, f3, f4, ← (c .before .before .before .before .before .before .before .wide .ensures .0)), simp (tests, ← (c .refuse5 .ensures), f0, f1, f2, f3, f4, ← (c .before .before .before .before .before .before .before .wide .ensures .0)))
 
 mul-meet : tie.Need-mul-meet
 mul-meet c = search needs
@@ -109,6 +109,9 @@ part-meet-start-3 c = search needs
 part-meet-end-3 : tie.Need-part-meet-end-3
 part-meet-end-3 c = search needs
 
+wide-requires-2 : tie.Need-wide-requires-2
+wide-requires-2 c κs = search needs
+
 meet-requires : tie.Need-meet-requires
 meet-requires c κs = search needs
 
@@ -117,10 +120,10 @@ same-length c = search needs
 
 returns-6 : tie.Need-returns-6
 returns-6 c =
-    let a = c .before .before .before .before .before .before .before .before .before .before .before .before .before .before .before .args in
+    let a = c .before .before .before .before .before .before .before .before .before .before .before .before .before .before .before .before .before .args in
     let e =
-    between-made _ (a .ws .now) _ (a .engine) (a .second) (a .a) (a .b) (a .kind) (a .branch) (a .out .now) _
-    (c .before .before .before .before .before .before .before .before .before .before .before .before .wide .ensures .0) (c .before .before .before .before .before .before .before .before .before .before .before .if1 .left) (c .before .before .before .before .before .before .before .before .before .before .if2 .left) (c .before .before .before .before .before .before .before .before .before .if3 .left) (c .before .before .before .before .before .before .before .before .if4 .left) (c .before .before .before .before .before .before .before .if5 .left) in
+    between-made _ (a .ws .now) _ (a .k .engine) (a .k .second) (a .a) (a .b) (a .kind) (a .k .branch) (a .out .now) _ _
+    (c .before .before .before .before .before .before .before .before .before .before .before .before .before .before .wide .ensures .0) (c .before .before .before .before .wide2 .ensures .0) (c .before .before .before .before .before .before .before .before .before .before .before .before .if1 .left) (c .before .before .before .before .before .before .before .before .before .before .before .if2 .left) (c .before .before .before .before .before .before .before .before .before .before .if3 .left) (c .before .before .before .before .before .before .before .before .before .if4 .left) (c .before .before .before .before .before .before .before .before .if5 .left) in
     (c .before .before .meet .ensures .0 ∙ ap (λ (w : Answered). w .answer) e, c .before .before .meet .ensures .1 ∙ ap (λ (w : Answered). w .out) e)
 
 pub between-spec : {M : Type 1} → statement M
@@ -152,6 +155,7 @@ between-spec =
     sub-meet-3
     part-meet-start-3
     part-meet-end-3
+    wide-requires-2
     meet-requires
     same-length
     returns-6)

@@ -40,23 +40,11 @@ returns-2 c =
 none-else-requires : tie.Need-none-else-requires
 none-else-requires c κs = search needs
 
-wide-requires : tie.Need-wide-requires
-wide-requires c κs = search needs
+side-in-requires : tie.Need-side-in-requires
+side-in-requires c κs = search needs
 
-mul-alone : tie.Need-mul-alone
-mul-alone c = search needs
-
-array-read-alone : tie.Need-array-read-alone
-array-read-alone c = search needs
-
-add-alone : tie.Need-add-alone
-add-alone c = search needs
-
-mul-alone-2 : tie.Need-mul-alone-2
-mul-alone-2 c = search needs
-
-array-read-alone-2 : tie.Need-array-read-alone-2
-array-read-alone-2 c = search needs
+bound-requires : tie.Need-bound-requires
+bound-requires c κs = search needs
 
 alone-requires : tie.Need-alone-requires
 alone-requires c κs = search needs
@@ -67,10 +55,10 @@ same-length-2 c = search needs
 returns-3 : tie.Need-returns-3
 unfolding movingW
 returns-3 c =
-    let f0 = c .before .before .before .before .before .if3 .taken in
-    let f1 = c .before .before .before .before .before .before .before .if2 .left in
-    let f2 = c .before .before .before .before .before .before .before .before .if1 .left in
-    (simp (tests, ← (c .before .before .alone .ensures .0), ← (c .before .before .alone .ensures .1), ← (c .before .before .before .before .wide .ensures .0), f0, ← (c .before .before .before .before .before .before .none-else .ensures), f1, f2, ← (c .before .before .before .before .before .before .before .before .before .moves .ensures), ← (c .before .before .before .before .before .before .before .before .before .before .kind-of .ensures .0), ← (c .before .before .before .before .before .before .before .before .before .before .before .word .ensures)), simp (tests, ← (c .before .before .alone .ensures .0), ← (c .before .before .alone .ensures .1), ← (c .before .before .before .before .wide .ensures .0), f0, ← (c .before .before .before .before .before .before .none-else .ensures), f1, f2, ← (c .before .before .before .before .before .before .before .before .before .moves .ensures), ← (c .before .before .before .before .before .before .before .before .before .before .kind-of .ensures .0), ← (c .before .before .before .before .before .before .before .before .before .before .before .word .ensures)))
+    let f0 = c .before .before .before .before .before .before .if3 .taken in
+    let f1 = c .before .before .before .before .before .before .before .before .if2 .left in
+    let f2 = c .before .before .before .before .before .before .before .before .before .if1 .left in
+    (simp (tests, ← (c .before .before .alone .ensures .0), ← (c .before .before .alone .ensures .1), ← (c .before .before .before .before .bound .ensures), ← (c .before .before .before .before .before .side-in .ensures), f0, ← (c .before .before .before .before .before .before .before .none-else .ensures), f1, f2, ← (c .before .before .before .before .before .before .before .before .before .before .moves .ensures), ← (c .before .before .before .before .before .before .before .before .before .before .before .kind-of .ensures .0), ← (c .before .before .before .before .before .before .before .before .before .before .before .before .word .ensures)), simp (tests, ← (c .before .before .alone .ensures .0), ← (c .before .before .alone .ensures .1), ← (c .before .before .before .before .bound .ensures), ← (c .before .before .before .before .before .side-in .ensures), f0, ← (c .before .before .before .before .before .before .before .none-else .ensures), f1, f2, ← (c .before .before .before .before .before .before .before .before .before .before .moves .ensures), ← (c .before .before .before .before .before .before .before .before .before .before .before .kind-of .ensures .0), ← (c .before .before .before .before .before .before .before .before .before .before .before .before .word .ensures)))
 
 refuse-requires-2 : tie.Need-refuse-requires-2
 refuse-requires-2 c κs = search needs
@@ -96,12 +84,8 @@ moving-spec =
     same-length
     returns-2
     none-else-requires
-    wide-requires
-    mul-alone
-    array-read-alone
-    add-alone
-    mul-alone-2
-    array-read-alone-2
+    side-in-requires
+    bound-requires
     alone-requires
     same-length-2
     returns-3

@@ -19,7 +19,7 @@ returns : tie.Need-returns
 unfolding receivingW partnerW
 returns c =
     let f0 = c .before .if1 .taken in
-    (simp (tests, ← (c .refuse .ensures), f0, ← (c .before .before .wide .ensures .0)), simp (tests, ← (c .refuse .ensures), f0, ← (c .before .before .wide .ensures .0)))
+    (simp (tests, ← (c .refuse .ensures), f0, ← (c .before .before .before .wide .ensures .0)), simp (tests, ← (c .refuse .ensures), f0, ← (c .before .before .before .wide .ensures .0)))
 
 mul-start : tie.Need-mul-start
 mul-start c = search needs
@@ -45,18 +45,15 @@ refuse-requires-2 c κs = search needs
 enum-known-b : tie.Need-enum-known-b
 enum-known-b c = search needs
 
-wide-requires-3 : tie.Need-wide-requires-3
-wide-requires-3 c κs = search needs
-
 between-requires : tie.Need-between-requires
 between-requires c κs = search needs
 
 returns-2 : tie.Need-returns-2
 returns-2 c =
-    let a = c .before .before .before .before .before .before .before .before .before .before .before .before .args in
+    let a = c .before .before .before .before .before .before .before .before .before .before .before .before .before .before .args in
     let e =
-    receiving-past _ (a .ws .now) (a .notes .now) _ (a .n) (a .engine) (a .a) (a .kind) (a .second) (a .place) (a .branch) (a .out .now) _ _ _ _ _
-    (c .before .before .before .before .before .before .before .before .wide .ensures .0) (c .before .before .before .before .before .before .wide2 .ensures .0) refl (c .before .before .before .before .before .before .before .if1 .left) (c .before .before .before .before .before .further .ensures) (c .before .before .before .before .locate .ensures) _ (c .before .before .e .given .1) in
+    receiving-past _ (a .ws .now) (a .notes .now) (a .g) (a .k) (a .a) (a .kind) (a .out .now) _ _ _ _
+    (c .before .before .before .before .before .before .before .before .before .before .wide .ensures .0) (c .before .before .before .before .before .before .wide2 .ensures .0) (c .before .before .before .before .before .before .before .before .if1 .left) (c .before .before .before .before .before .further .ensures) (c .before .before .before .before .locate .ensures) _ (c .before .before .e .given .1) in
     (c .refuse2 .ensures ∙ ap (λ (w : Answered). w .answer) e, ap (λ (w : Answered). w .out) e)
 
 same-length : tie.Need-same-length
@@ -64,11 +61,10 @@ same-length c = search needs
 
 returns-3 : tie.Need-returns-3
 returns-3 c =
-    let a = c .before .before .before .before .before .before .before .before .before .before .before .before .before .before .before .before .args in
+    let a = c .before .before .before .before .before .before .before .before .before .before .before .before .before .before .before .before .before .args in
     let e =
-    receiving-hit _ (a .ws .now) (a .notes .now) _ (a .n) (a .engine) (a .a) (a .kind) (a .second) (a .place) (a .branch) (a .out .now) _ _ _ _ _
-    (c .before .before .before .before .before .before .before .before .before .before .before .before .wide .ensures .0) (c .before .before .before .before .before .before .before .before .before .before .wide2 .ensures .0) (c .before .before .before .before .wide3 .ensures .0) (c .before .before .before .before .before .before .before .before .before .before .before .if1 .left) (c .before .before .before .before .before .before .before .before .before .further .ensures) (c .before .before .before .before .before .before .before .before .locate .ensures) _
-    (c .before .before .before .before .before .before .b .given .1) in
+    receiving-hit _ (a .ws .now) (a .notes .now) (a .g) (a .k) (a .a) (a .kind) (a .out .now) _ _ _ _
+    (c .before .before .before .before .before .before .before .before .before .before .before .before .before .wide .ensures .0) (c .before .before .before .before .before .before .before .before .before .wide2 .ensures .0) (c .before .before .before .before .before .before .before .before .before .before .before .if1 .left) (c .before .before .before .before .before .before .before .before .further .ensures) (c .before .before .before .before .before .before .before .locate .ensures) _ (c .before .before .before .before .before .b .given .1) in
     (c .before .before .between .ensures .0 ∙ ap (λ (w : Answered). w .answer) e, c .before .before .between .ensures .1 ∙ ap (λ (w : Answered). w .out) e)
 
 pub receiving-spec : {M : Type 1} → statement M
@@ -86,7 +82,6 @@ receiving-spec =
     enum-known-e
     refuse-requires-2
     enum-known-b
-    wide-requires-3
     between-requires
     returns-2
     same-length

@@ -27,11 +27,11 @@ returns c =
     let f = (c .before .before .before .before .before .before .before .before) .fits in
     let m = modest-standard (c .before .before .before .before .before .standard .ensures) in (
       (c .before .before .with-notes .ensures .0)
-          ∙ answer-law m (a .ws .now) (λ i. ((c .before .before .before .before .before .before .before .shared-slice-known .given)) i .fits) (numbers (a .engine) (a .position) (a .second) (a .place) (a .branch))
+          ∙ answer-law m (a .ws .now) (λ i. ((c .before .before .before .before .before .before .before .shared-slice-known .given)) i .fits) (record { engine = a .engine; position = a .position; second = a .second; «second_position» = a .place; branch = a .branch })
           (f .position .fits) (f .place .fits) (a .out .now) manyNotes (blank-right (a .ws .now) 16384)
           ∙ ap (λ l. answerAs (stepAnswer l (a .ws .now) (numbers (a .engine) (a .position) (a .second) (a .place) (a .branch)) (a .out .now))) (c .before .before .before .before .before .standard .ensures),
       (c .before .before .with-notes .ensures .1)
-          ∙ output-law m (a .ws .now) (λ i. ((c .before .before .before .before .before .before .before .shared-slice-known .given)) i .fits) (numbers (a .engine) (a .position) (a .second) (a .place) (a .branch))
+          ∙ output-law m (a .ws .now) (λ i. ((c .before .before .before .before .before .before .before .shared-slice-known .given)) i .fits) (record { engine = a .engine; position = a .position; second = a .second; «second_position» = a .place; branch = a .branch })
           (f .position .fits) (f .place .fits) (a .out .now) manyNotes (blank-right (a .ws .now) 16384)
           ∙ ap (λ l. stepOutput l (a .ws .now) (numbers (a .engine) (a .position) (a .second) (a .place) (a .branch)) (a .out .now)) (c .before .before .before .before .before .standard .ensures),
     )
@@ -51,11 +51,11 @@ returns-2 c =
     let f = (c .before .before .before .before .before .before .before .before .before .before) .fits in
     let m = modest-standard (c .before .before .before .before .before .before .before .standard .ensures) in (
       (c .before .before .before .stepped .ensures .0)
-          ∙ answer-law m (a .ws .now) (λ i. ((c .before .before .before .before .before .before .before .before .before .shared-slice-known .given)) i .fits) (numbers (a .engine) (a .position) (a .second) (a .place) (a .branch))
+          ∙ answer-law m (a .ws .now) (λ i. ((c .before .before .before .before .before .before .before .before .before .shared-slice-known .given)) i .fits) (record { engine = a .engine; position = a .position; second = a .second; «second_position» = a .place; branch = a .branch })
           (f .position .fits) (f .place .fits) (a .out .now) fewNotes (blank-right (a .ws .now) 1024)
           ∙ ap (λ l. answerAs (stepAnswer l (a .ws .now) (numbers (a .engine) (a .position) (a .second) (a .place) (a .branch)) (a .out .now))) (c .before .before .before .before .before .before .before .standard .ensures),
       (c .before .before .before .stepped .ensures .1)
-          ∙ output-law m (a .ws .now) (λ i. ((c .before .before .before .before .before .before .before .before .before .shared-slice-known .given)) i .fits) (numbers (a .engine) (a .position) (a .second) (a .place) (a .branch))
+          ∙ output-law m (a .ws .now) (λ i. ((c .before .before .before .before .before .before .before .before .before .shared-slice-known .given)) i .fits) (record { engine = a .engine; position = a .position; second = a .second; «second_position» = a .place; branch = a .branch })
           (f .position .fits) (f .place .fits) (a .out .now) fewNotes (blank-right (a .ws .now) 1024)
           ∙ ap (λ l. stepOutput l (a .ws .now) (numbers (a .engine) (a .position) (a .second) (a .place) (a .branch)) (a .out .now)) (c .before .before .before .before .before .before .before .standard .ensures),
     )

@@ -48,11 +48,11 @@ same-length-3 c = search needs
 
 returns-3 : tie.Need-returns-3
 returns-3 c =
-    let a = (c .before .before .before .before .before .before .before .before .before .before .before .before .args) in
+    let a = c .before .before .before .before .before .before .before .before .before .before .before .before .args in
     let e =
-    step-beyond _ (a .ws .now) (a .notes .now) (a .engine) (a .position) (a .second) (a .place) (a .branch) (a .out .now) _ ((c .before .before .before .before .before .before .before .survey .ensures .0)) _ ((c .before .before .before .before .before .before .before .survey .ensures .1)) ((c .before .before .before .if1 .left)) ((c .before .before .if2 .left)) _
-    ((c .before .before .before .before .wide .ensures .0)) ((c .before .if3 .taken)) in
-    ((c .refuse3 .ensures) ∙ ap (λ (w : Answered). w .answer) e, ap (λ (w : Answered). w .out) e, c .before .before .before .before .before .before .before .survey .ensures .1)
+    step-beyond _ (a .ws .now) (a .notes .now) (a .k) (a .out .now) _ (c .before .before .before .before .before .before .before .survey .ensures .0) _ (c .before .before .before .before .before .before .before .survey .ensures .1) (c .before .before .before .if1 .left) (c .before .before .if2 .left) _
+    (c .before .before .before .before .wide .ensures .0) (c .before .if3 .taken) in
+    (c .refuse3 .ensures ∙ ap (λ (w : Answered). w .answer) e, ap (λ (w : Answered). w .out) e, c .before .before .before .before .before .before .before .survey .ensures .1)
 
 mul-start : tie.Need-mul-start
 mul-start c = search needs
@@ -60,20 +60,11 @@ mul-start c = search needs
 array-read-start : tie.Need-array-read-start
 array-read-start c = search needs
 
-mul-bound : tie.Need-mul-bound
-mul-bound c = search needs
-
 word-requires : tie.Need-word-requires
 word-requires c κs = search needs
 
 wide-requires-2 : tie.Need-wide-requires-2
 wide-requires-2 c κs = search needs
-
-add-bound : tie.Need-add-bound
-add-bound c = search needs
-
-wide-requires-3 : tie.Need-wide-requires-3
-wide-requires-3 c κs = search needs
 
 further-requires : tie.Need-further-requires
 further-requires c κs = search needs
@@ -98,27 +89,27 @@ same-length-4 c = search needs
 
 returns-4 : tie.Need-returns-4
 returns-4 c =
-    let a = (c .before .before .before .before .before .before .before .before .before .before .before .before .before .before .before .before .before .before .before .before .before .before .args) in
+    let a = c .before .before .before .before .before .before .before .before .before .before .before .before .before .before .before .before .before .before .before .before .before .args in
     let e =
-    step-past _ (a .ws .now) (a .notes .now) (a .engine) (a .position) (a .second) (a .place) (a .branch) (a .out .now) _ ((c .before .before .before .before .before .before .before .before .before .before .before .before .before .before .before .before .before .survey .ensures .0)) _ ((c .before .before .before .before .before .before .before .before .before .before .before .before .before .before .before .before .before .survey .ensures .1)) ((c .before .before .before .before .before .before .before .before .before .before .before .before .before .if1 .left)) ((c .before .before .before .before .before .before .before .before .before .before .before .before .if2 .left)) _
-    ((c .before .before .before .before .before .before .before .before .before .before .before .before .before .before .wide .ensures .0)) ((c .before .before .before .before .before .before .before .before .before .before .before .if3 .left)) _ _ _ _ _ ((c .before .before .before .before .before .before .before .before .before .word .ensures)) ((c .before .before .before .before .before .before .before .before .wide2 .ensures .0)) ((c .before .before .before .before .before .before .wide3 .ensures .0)) ((c .before .before .before .before .before .further .ensures))
-    ((c .before .before .before .before .locate .ensures)) _ ((c .before .before .p .given .1)) in
-    ((c .refuse4 .ensures) ∙ ap (λ (w : Answered). w .answer) e, ap (λ (w : Answered). w .out) e, c .before .before .before .before .before .before .before .before .before .before .before .before .before .before .before .before .before .survey .ensures .1)
+    step-past _ (a .ws .now) (a .notes .now) (a .k) (a .out .now) _ (c .before .before .before .before .before .before .before .before .before .before .before .before .before .before .before .before .survey .ensures .0) _ (c .before .before .before .before .before .before .before .before .before .before .before .before .before .before .before .before .survey .ensures .1) (c .before .before .before .before .before .before .before .before .before .before .before .before .if1 .left) (c .before .before .before .before .before .before .before .before .before .before .before .if2 .left) _
+    (c .before .before .before .before .before .before .before .before .before .before .before .before .before .wide .ensures .0) (c .before .before .before .before .before .before .before .before .before .before .if3 .left) _ _ _ _ (c .before .before .before .before .before .before .before .before .word .ensures) (c .before .before .before .before .before .before .wide2 .ensures .0) (c .before .before .before .before .before .further .ensures)
+    (c .before .before .before .before .locate .ensures) _ (c .before .before .p .given .1) in
+    (c .refuse4 .ensures ∙ ap (λ (w : Answered). w .answer) e, ap (λ (w : Answered). w .out) e, c .before .before .before .before .before .before .before .before .before .before .before .before .before .before .before .before .survey .ensures .1)
 
 same-length-5 : tie.Need-same-length-5
-same-length-5 c = (c .before .before .before .before .before .before .before .before .before .before .before .before .before .before .before .before .before .before .before .before .notes .given)
+same-length-5 c = (c .before .before .before .before .before .before .before .before .before .before .before .before .before .before .before .before .before .before .before .notes .given)
 
 same-length-6 : tie.Need-same-length-6
 same-length-6 c = search needs
 
 returns-5 : tie.Need-returns-5
 returns-5 c =
-    let a = (c .before .before .before .before .before .before .before .before .before .before .before .before .before .before .before .before .before .before .before .before .before .before .before .before .before .before .args) in
+    let a = c .before .before .before .before .before .before .before .before .before .before .before .before .before .before .before .before .before .before .before .before .before .before .before .before .before .args in
     let e =
-    step-hit _ (a .ws .now) (a .notes .now) (a .engine) (a .position) (a .second) (a .place) (a .branch) (a .out .now) _ ((c .before .before .before .before .before .before .before .before .before .before .before .before .before .before .before .before .before .before .before .before .before .survey .ensures .0)) _ ((c .before .before .before .before .before .before .before .before .before .before .before .before .before .before .before .before .before .before .before .before .before .survey .ensures .1)) ((c .before .before .before .before .before .before .before .before .before .before .before .before .before .before .before .before .before .if1 .left)) ((c .before .before .before .before .before .before .before .before .before .before .before .before .before .before .before .before .if2 .left)) _
-    ((c .before .before .before .before .before .before .before .before .before .before .before .before .before .before .before .before .before .before .wide .ensures .0)) ((c .before .before .before .before .before .before .before .before .before .before .before .before .before .before .before .if3 .left)) _ _ _ _ _ ((c .before .before .before .before .before .before .before .before .before .before .before .before .before .word .ensures)) ((c .before .before .before .before .before .before .before .before .before .before .before .before .wide2 .ensures .0)) ((c .before .before .before .before .before .before .before .before .before .before .wide3 .ensures .0)) ((c .before .before .before .before .before .before .before .before .before .further .ensures))
-    ((c .before .before .before .before .before .before .before .before .locate .ensures)) _ ((c .before .before .before .before .before .before .a .given .1)) in
-    ((c .before .before .moving .ensures .0) ∙ ap (λ (w : Answered). w .answer) e, (c .before .before .moving .ensures .1) ∙ ap (λ (w : Answered). w .out) e, c .before .before .before .before .before .before .before .before .before .before .before .before .before .before .before .before .before .before .before .before .before .survey .ensures .1)
+    step-hit _ (a .ws .now) (a .notes .now) (a .k) (a .out .now) _ (c .before .before .before .before .before .before .before .before .before .before .before .before .before .before .before .before .before .before .before .before .survey .ensures .0) _ (c .before .before .before .before .before .before .before .before .before .before .before .before .before .before .before .before .before .before .before .before .survey .ensures .1) (c .before .before .before .before .before .before .before .before .before .before .before .before .before .before .before .before .if1 .left) (c .before .before .before .before .before .before .before .before .before .before .before .before .before .before .before .if2 .left) _
+    (c .before .before .before .before .before .before .before .before .before .before .before .before .before .before .before .before .before .wide .ensures .0) (c .before .before .before .before .before .before .before .before .before .before .before .before .before .before .if3 .left) _ _ _ _ (c .before .before .before .before .before .before .before .before .before .before .before .before .word .ensures) (c .before .before .before .before .before .before .before .before .before .before .wide2 .ensures .0) (c .before .before .before .before .before .before .before .before .before .further .ensures)
+    (c .before .before .before .before .before .before .before .before .locate .ensures) _ (c .before .before .before .before .before .before .a .given .1) in
+    (c .before .before .moving .ensures .0 ∙ ap (λ (w : Answered). w .answer) e, c .before .before .moving .ensures .1 ∙ ap (λ (w : Answered). w .out) e, c .before .before .before .before .before .before .before .before .before .before .before .before .before .before .before .before .before .before .before .before .survey .ensures .1)
 
 pub stepped-spec : {M : Type 1} → statement M
 stepped-spec =
@@ -137,11 +128,8 @@ stepped-spec =
     returns-3
     mul-start
     array-read-start
-    mul-bound
     word-requires
     wide-requires-2
-    add-bound
-    wide-requires-3
     further-requires
     locate-requires
     enum-known-p
