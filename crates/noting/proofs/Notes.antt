@@ -17,7 +17,6 @@ use Rattle.sock.specs.Reading.{allowed, placed}
 use Rattle.reading.specs.Survey.{opens}
 use Rattle.reading.specs.Tables.{spareOf, headMask}
 use Rattle.reading.specs.Walk.{on, when, at, exprEnd, processEnd, twoEnd, restOf, entriesEnd, listEnd, markedEnd, scopeEnd, endAfter, executorEnd, nodeEnd}
-use Rattle.sock.proofs.Tests.{tests}
 use Rattle.reading.proofs.Walks.{process-node, process-refused}
 use Rattle.noting.specs.Noting.{Noting, noteW, noteListW, plainPar, seqNotes, parNotes, bodyNotes, scopeNotes, executorNotes, nodeNotes, enabledNotes, notesW, enginesNotes, surveyNotes}
 
@@ -128,67 +127,82 @@ unfolding processEnd when
 none-left zero ws bound c i m p q = absurd (p refl)
 none-left (suc d) ws bound c i m p q = (rw (le-ltb i (length ws) q), sym (enabled-step (suc d) ws bound c i m p ∙ rw (le-ltb i (length ws) q)))
 
-module _
-    (d : ℕ) (ws : List ℕ) (bound c i h x : ℕ) (m : List ℕ)
-    (p : d ≡ 0 → ⊥) (inside : i < length ws) (r : h ≡ at ws i) (s : x ≡ headMask c (h / 2048))
-  where
-    pub refused : (bitAnd (h + 65536) x ≡ 0 → ⊥) → (0 ≡ processEnd d ws bound c i) × (m ≡ enabledNotes d ws bound c i m)
-    refused t = (
-      process-refused d ws bound c i h x p inside r s t,
-      sym (enabled-step d ws bound c i m p ∙ simp (← r, ← s, ne-eqb (bitAnd (h + 65536) x) 0 t, lt-ltb i (length ws) inside)),
-    )
+pub refused :
+    (d : ℕ) (ws : List ℕ) (bound c i h x : ℕ) (m : List ℕ) →
+    (d ≡ 0 → ⊥) →
+    i < length ws →
+    h ≡ at ws i →
+    x ≡ headMask c (h / 2048) →
+    (bitAnd (h + 65536) x ≡ 0 → ⊥) →
+    (0 ≡ processEnd d ws bound c i) × (m ≡ enabledNotes d ws bound c i m)
+refused d ws bound c i h x m p inside r s t = (
+  process-refused d ws bound c i h x p inside r s t,
+  sym (enabled-step d ws bound c i m p ∙ simp (← r, ← s, ne-eqb (bitAnd (h + 65536) x) 0 t, lt-ltb i (length ws) inside)),
+)
 
-    module _ (t : bitAnd (h + 65536) x ≡ 0) (low : 8 ≤ c) (high : c < 12) where
-      ended : processEnd d ws bound c i ≡ nodeEnd (exprEnd (d - 1) ws) (processEnd (d - 1) ws bound) ws c bound h i
-      ended = process-node d ws bound c i h x p inside r s t
+-- an enabled process may stand where it does: h is its head, and x has the bits that have to be 0
+pub record Headed (d : ℕ) (ws : List ℕ) (c i h x : ℕ) : Type 0 where
+  pub deep : d ≡ 0 → ⊥
+  pub inside : i < length ws
+  pub word : h ≡ at ws i
+  pub mask : x ≡ headMask c (h / 2048)
+  pub clear : bitAnd (h + 65536) x ≡ 0
+  pub low : 8 ≤ c
+  pub high : c < 12
 
-      noted : enabledNotes d ws bound c i m ≡ nodeNotes (processEnd (d - 1) ws bound) (notesW (d - 1) ws bound) ws bound h i m
-      noted = enabled-step d ws bound c i m p ∙ simp (← r, ← s, t, lt-ltb i (length ws) inside)
+module _ (d : ℕ) (ws : List ℕ) (bound c i h x : ℕ) (m : List ℕ) (head : Headed d ws c i h x) where
+  ended : processEnd d ws bound c i ≡ nodeEnd (exprEnd (d - 1) ws) (processEnd (d - 1) ws bound) ws c bound h i
+  ended = process-node d ws bound c i h x (head .deep) (head .inside) (head .word) (head .mask) (head .clear)
 
-      -- contexts of what is enabled
-      over : c / 4 * 4 ≡ 8
-      over = omega arith
+  noted : enabledNotes d ws bound c i m ≡ nodeNotes (processEnd (d - 1) ws bound) (notesW (d - 1) ws bound) ws bound h i m
+  noted =
+      enabled-step d ws bound c i m (head .deep)
+      ∙ simp (← head .word, ← head .mask, head .clear, lt-ltb i (length ws) (head .inside))
 
-      pub others :
-          (k : ℕ) → h / 2048 ≡ k → (k ≡ 2 → ⊥) → (k ≡ 3 → ⊥) → (k ≡ 11 → ⊥) → (k ≡ 16 → ⊥) → m ≡ enabledNotes d ws bound c i m
-      unfolding nodeNotes
-      others k e k2 k3 k11 k16 = sym (noted ∙ simp (e, ne-eqb k 2 k2, ne-eqb k 3 k3, ne-eqb k 11 k11, ne-eqb k 16 k16))
+  -- contexts of what is enabled
+  over : c / 4 * 4 ≡ 8
+  over = let low = head .low in let high = head .high in omega arith
 
-      -- a kind of one word
-      pub one-word :
-          (k : ℕ) → h / 2048 ≡ k →
-          ((h : ℕ) → h / 2048 ≡ k → nodeEnd (exprEnd (d - 1) ws) (processEnd (d - 1) ws bound) ws c bound h i ≡ i + 1) →
-          (k ≡ 2 → ⊥) → (k ≡ 3 → ⊥) → (k ≡ 11 → ⊥) → (k ≡ 16 → ⊥) →
-          (i + 1 ≡ processEnd d ws bound c i) × (m ≡ enabledNotes d ws bound c i m)
-      one-word k e q k2 k3 k11 k16 = (sym (ended ∙ q h e), others k e k2 k3 k11 k16)
+  pub others :
+      (k : ℕ) → h / 2048 ≡ k → (k ≡ 2 → ⊥) → (k ≡ 3 → ⊥) → (k ≡ 11 → ⊥) → (k ≡ 16 → ⊥) → m ≡ enabledNotes d ws bound c i m
+  unfolding nodeNotes
+  others k e k2 k3 k11 k16 = sym (noted ∙ simp (e, ne-eqb k 2 k2, ne-eqb k 3 k3, ne-eqb k 11 k11, ne-eqb k 16 k16))
 
-      pub a-seq :
-          (e : ℕ) (y : List ℕ) → h / 2048 ≡ 2 → e ≡ twoEnd (processEnd (d - 1) ws bound) 9 0 (i + 1) →
-          y ≡ seqNotes (processEnd (d - 1) ws bound) (notesW (d - 1) ws bound) (i + 1) m →
-          (e ≡ processEnd d ws bound c i) × (y ≡ enabledNotes d ws bound c i m)
-      unfolding nodeEnd nodeNotes restOf
-      a-seq e y k q n = (q ∙ sym (ended ∙ rw (k, over, le-ltb c 8 low)), n ∙ sym (noted ∙ rw k))
+  -- a kind of one word
+  pub one-word :
+      (k : ℕ) → h / 2048 ≡ k →
+      ((h : ℕ) → h / 2048 ≡ k → nodeEnd (exprEnd (d - 1) ws) (processEnd (d - 1) ws bound) ws c bound h i ≡ i + 1) →
+      (k ≡ 2 → ⊥) → (k ≡ 3 → ⊥) → (k ≡ 11 → ⊥) → (k ≡ 16 → ⊥) →
+      (i + 1 ≡ processEnd d ws bound c i) × (m ≡ enabledNotes d ws bound c i m)
+  one-word k e q k2 k3 k11 k16 = (sym (ended ∙ q h e), others k e k2 k3 k11 k16)
 
-      pub a-par :
-          (e : ℕ) (y : List ℕ) → h / 2048 ≡ 3 → e ≡ twoEnd (processEnd (d - 1) ws bound) 9 9 (i + 1) →
-          y ≡ parNotes (processEnd (d - 1) ws bound) (notesW (d - 1) ws bound) (i + 1) m →
-          (e ≡ processEnd d ws bound c i) × (y ≡ enabledNotes d ws bound c i m)
-      unfolding nodeEnd nodeNotes
-      a-par e y k q n = (q ∙ sym (ended ∙ rw (k, over)), n ∙ sym (noted ∙ rw k))
+  pub a-seq :
+      (e : ℕ) (y : List ℕ) → h / 2048 ≡ 2 → e ≡ twoEnd (processEnd (d - 1) ws bound) 9 0 (i + 1) →
+      y ≡ seqNotes (processEnd (d - 1) ws bound) (notesW (d - 1) ws bound) (i + 1) m →
+      (e ≡ processEnd d ws bound c i) × (y ≡ enabledNotes d ws bound c i m)
+  unfolding nodeEnd nodeNotes restOf
+  a-seq e y k q n = (q ∙ sym (ended ∙ rw (k, over, le-ltb c 8 (head .low))), n ∙ sym (noted ∙ rw k))
 
-      pub a-scope :
-          (e : ℕ) (y : List ℕ) → h / 2048 ≡ 11 → e ≡ scopeEnd (processEnd (d - 1) ws bound) ws 8 h i →
-          y ≡ scopeNotes (processEnd (d - 1) ws bound) (notesW (d - 1) ws bound) ws h i m →
-          (e ≡ processEnd d ws bound c i) × (y ≡ enabledNotes d ws bound c i m)
-      unfolding nodeEnd nodeNotes scopeEnd
-      a-scope e y k q n = (q ∙ sym (ended ∙ rw (k, le-ltb c 8 low)), n ∙ sym (noted ∙ rw k))
+  pub a-par :
+      (e : ℕ) (y : List ℕ) → h / 2048 ≡ 3 → e ≡ twoEnd (processEnd (d - 1) ws bound) 9 9 (i + 1) →
+      y ≡ parNotes (processEnd (d - 1) ws bound) (notesW (d - 1) ws bound) (i + 1) m →
+      (e ≡ processEnd d ws bound c i) × (y ≡ enabledNotes d ws bound c i m)
+  unfolding nodeEnd nodeNotes
+  a-par e y k q n = (q ∙ sym (ended ∙ rw (k, over)), n ∙ sym (noted ∙ rw k))
 
-      pub an-executor :
-          (e : ℕ) (y : List ℕ) → h / 2048 ≡ 16 → e ≡ executorEnd (processEnd (d - 1) ws bound) ws bound i →
-          y ≡ executorNotes (notesW (d - 1) ws bound) ws bound i m →
-          (e ≡ processEnd d ws bound c i) × (y ≡ enabledNotes d ws bound c i m)
-      unfolding nodeEnd nodeNotes
-      an-executor e y k q n = (q ∙ sym (ended ∙ rw k), n ∙ sym (noted ∙ rw k))
+  pub a-scope :
+      (e : ℕ) (y : List ℕ) → h / 2048 ≡ 11 → e ≡ scopeEnd (processEnd (d - 1) ws bound) ws 8 h i →
+      y ≡ scopeNotes (processEnd (d - 1) ws bound) (notesW (d - 1) ws bound) ws h i m →
+      (e ≡ processEnd d ws bound c i) × (y ≡ enabledNotes d ws bound c i m)
+  unfolding nodeEnd nodeNotes scopeEnd
+  a-scope e y k q n = (q ∙ sym (ended ∙ rw (k, le-ltb c 8 (head .low))), n ∙ sym (noted ∙ rw k))
+
+  pub an-executor :
+      (e : ℕ) (y : List ℕ) → h / 2048 ≡ 16 → e ≡ executorEnd (processEnd (d - 1) ws bound) ws bound i →
+      y ≡ executorNotes (notesW (d - 1) ws bound) ws bound i m →
+      (e ≡ processEnd d ws bound c i) × (y ≡ enabledNotes d ws bound c i m)
+  unfolding nodeEnd nodeNotes
+  an-executor e y k q n = (q ∙ sym (ended ∙ rw k), n ∙ sym (noted ∙ rw k))
 
 -- ---- a par, without a look at the table
 
@@ -218,7 +232,9 @@ par-ends d ws bound c i h m some inside same low high is e y q n =
     let p = plain-is h c is in
     let three : h / 2048 ≡ 3 = rw (p .1) in
     let clear : bitAnd (h + 65536) (headMask c (h / 2048)) ≡ 0 = rw (p .1) (par-clear c low (p .0)) in
-    a-par d ws bound c i h (headMask c (h / 2048)) m some inside same refl clear low high e y three q n
+    let head : Headed d ws c i h (headMask c (h / 2048)) =
+    record { deep = some; inside = inside; word = same; mask = refl; clear = clear; low = low; high = high } in
+    a-par d ws bound c i h (headMask c (h / 2048)) m head e y three q n
 
 -- ---- engines
 

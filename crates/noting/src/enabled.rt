@@ -15,12 +15,14 @@ use reading::tables::head_mask;
 ghost use mathlib.Core.Path.{_≡_};
 ghost use Prim.Native.Nat.{_+_, _*_, _≤_, _<_};
 ghost use lib.ListN.{length, getD};
+ghost use Rattle.layout.specs.Contexts.{code, running, contexts};
 ghost use Rattle.reading.specs.Walk.{processEnd, twoEnd, markedEnd, scopeEnd, executorEnd};
-ghost use Rattle.noting.specs.Noting.{noteW, noteListW, plainPar, notesW, enabledNotes, seqNotes, parNotes, scopeNotes, executorNotes};
+ghost use Rattle.noting.specs.Noting.{enabled, noteW, noteListW, plainPar, notesW, enabledNotes, seqNotes, parNotes, scopeNotes, executorNotes};
 
 // The process at `at` ends at `e`.
 fn note(notes: &mut [u16], at: usize, e: usize) -> usize
-    ensures { λ r. ⌜ (r ≡ e) × (now (notes .exit) ≡ noteW (now (notes .entry)) at e) ⌝ }
+    ensures ended { λ r. ⌜ r ≡ e ⌝ }
+    ensures written { λ r. ⌜ now (notes .exit) ≡ noteW (now (notes .entry)) at e ⌝ }
 {
     if notes.len() <= at {
         return e;
@@ -35,7 +37,8 @@ fn note(notes: &mut [u16], at: usize, e: usize) -> usize
 
 // The list at `at` ends at `e`.
 fn note_list(notes: &mut [u16], at: usize, e: usize) -> usize
-    ensures { λ r. ⌜ (r ≡ e) × (now (notes .exit) ≡ noteListW (now (notes .entry)) at e) ⌝ }
+    ensures ended { λ r. ⌜ r ≡ e ⌝ }
+    ensures written { λ r. ⌜ now (notes .exit) ≡ noteListW (now (notes .entry)) at e ⌝ }
 {
     if notes.len() <= at {
         return e;
@@ -57,8 +60,9 @@ pub(crate) fn noted(
     bound: usize,
     notes: &mut [u16],
 ) -> usize
-    requires { ⌜ (8 ≤ context) × (context < 12) ⌝ }
-    ensures { λ r. ⌜ (r ≡ processEnd depth (now (ws .entry)) bound context at) × (now (notes .exit) ≡ notesW depth (now (ws .entry)) bound context at (now (notes .entry))) ⌝ }
+    requires { ⌜ (running ≤ context) × (context < contexts) ⌝ }
+    ensures ended { λ r. ⌜ r ≡ processEnd depth (now (ws .entry)) bound context at ⌝ }
+    ensures written { λ r. ⌜ now (notes .exit) ≡ notesW depth (now (ws .entry)) bound context at (now (notes .entry)) ⌝ }
 {
     let e = enabled(ws, at, depth, context, bound, notes);
     note(notes, at, e)
@@ -73,8 +77,9 @@ fn enabled(
     bound: usize,
     notes: &mut [u16],
 ) -> usize
-    requires { ⌜ (8 ≤ context) × (context < 12) ⌝ }
-    ensures { λ r. ⌜ (r ≡ processEnd depth (now (ws .entry)) bound context at) × (now (notes .exit) ≡ enabledNotes depth (now (ws .entry)) bound context at (now (notes .entry))) ⌝ }
+    requires { ⌜ (running ≤ context) × (context < contexts) ⌝ }
+    ensures ended { λ r. ⌜ r ≡ processEnd depth (now (ws .entry)) bound context at ⌝ }
+    ensures written { λ r. ⌜ now (notes .exit) ≡ enabledNotes depth (now (ws .entry)) bound context at (now (notes .entry)) ⌝ }
 {
     if depth == 0 {
         return 0;
@@ -124,7 +129,8 @@ fn plain_par(h: usize, context: usize) -> bool
 
 // The parts of a seq: the first is enabled.
 fn seq(ws: &[u16], at: usize, depth: usize, bound: usize, notes: &mut [u16]) -> usize
-    ensures { λ r. ⌜ (r ≡ twoEnd (processEnd depth (now (ws .entry)) bound) 9 0 at) × (now (notes .exit) ≡ seqNotes (processEnd depth (now (ws .entry)) bound) (notesW depth (now (ws .entry)) bound) at (now (notes .entry))) ⌝ }
+    ensures ended { λ r. ⌜ r ≡ twoEnd (processEnd depth (now (ws .entry)) bound) enabled code at ⌝ }
+    ensures written { λ r. ⌜ now (notes .exit) ≡ seqNotes (processEnd depth (now (ws .entry)) bound) (notesW depth (now (ws .entry)) bound) at (now (notes .entry)) ⌝ }
 {
     let a = noted(ws, at, depth, ENABLED, bound, notes);
     if a == 0 {
@@ -136,7 +142,8 @@ fn seq(ws: &[u16], at: usize, depth: usize, bound: usize, notes: &mut [u16]) -> 
 
 // The sides of a par.
 fn par(ws: &[u16], at: usize, depth: usize, bound: usize, notes: &mut [u16]) -> usize
-    ensures { λ r. ⌜ (r ≡ twoEnd (processEnd depth (now (ws .entry)) bound) 9 9 at) × (now (notes .exit) ≡ parNotes (processEnd depth (now (ws .entry)) bound) (notesW depth (now (ws .entry)) bound) at (now (notes .entry))) ⌝ }
+    ensures ended { λ r. ⌜ r ≡ twoEnd (processEnd depth (now (ws .entry)) bound) enabled enabled at ⌝ }
+    ensures written { λ r. ⌜ now (notes .exit) ≡ parNotes (processEnd depth (now (ws .entry)) bound) (notesW depth (now (ws .entry)) bound) at (now (notes .entry)) ⌝ }
 {
     let a = noted(ws, at, depth, ENABLED, bound, notes);
     if a == 0 {
@@ -160,7 +167,8 @@ fn listed(ws: &[u16], at: usize, depth: usize, h: usize, bound: usize) -> usize
 // A scope whose head is `h`.
 fn scope(ws: &[u16], at: usize, depth: usize, h: usize, bound: usize, notes: &mut [u16]) -> usize
     requires { ⌜ at < length (now ws) ⌝ }
-    ensures { λ r. ⌜ (r ≡ scopeEnd (processEnd depth (now (ws .entry)) bound) (now (ws .entry)) 8 h at) × (now (notes .exit) ≡ scopeNotes (processEnd depth (now (ws .entry)) bound) (notesW depth (now (ws .entry)) bound) (now (ws .entry)) h at (now (notes .entry))) ⌝ }
+    ensures ended { λ r. ⌜ r ≡ scopeEnd (processEnd depth (now (ws .entry)) bound) (now (ws .entry)) running h at ⌝ }
+    ensures written { λ r. ⌜ now (notes .exit) ≡ scopeNotes (processEnd depth (now (ws .entry)) bound) (notesW depth (now (ws .entry)) bound) (now (ws .entry)) h at (now (notes .entry)) ⌝ }
 {
     if ws.len() - at < 3 {
         return 0;
@@ -175,7 +183,8 @@ fn scope(ws: &[u16], at: usize, depth: usize, h: usize, bound: usize, notes: &mu
 
 fn executor(ws: &[u16], at: usize, depth: usize, bound: usize, notes: &mut [u16]) -> usize
     requires { ⌜ at < length (now ws) ⌝ }
-    ensures { λ r. ⌜ (r ≡ executorEnd (processEnd depth (now (ws .entry)) bound) (now (ws .entry)) bound at) × (now (notes .exit) ≡ executorNotes (notesW depth (now (ws .entry)) bound) (now (ws .entry)) bound at (now (notes .entry))) ⌝ }
+    ensures ended { λ r. ⌜ r ≡ executorEnd (processEnd depth (now (ws .entry)) bound) (now (ws .entry)) bound at ⌝ }
+    ensures written { λ r. ⌜ now (notes .exit) ≡ executorNotes (notesW depth (now (ws .entry)) bound) (now (ws .entry)) bound at (now (notes .entry)) ⌝ }
 {
     if executor_fixed(ws, at, bound) {
         noted(ws, at + 3, depth, RUNNING, bound, notes)

@@ -204,6 +204,16 @@ three-tests r d n f e t =
     let s = all-three (leb d 4095) (leb n 13) f (sym e ∙ t) in
     (leb-true d 4095 (s .0), leb-true n 13 (s .1), s .2)
 
+-- a node with shape t that is read by its parts, which there is room to keep
+pub record Ready (ws : List ℕ) (n a d c t : ℕ) : Type 0 where
+  pub words : Words ws
+  pub inside : a < length ws
+  pub deep : d ≡ 0 → ⊥
+  pub shape : t ≡ shapeOf (slotOf c (at ws a))
+  pub shallow : d ≤ 4095
+  pub room : n ≤ 13
+  pub fit : fitsAt ws a c t ≡ true
+
 module _
     (ws : List ℕ) (bound whole depth : ℕ) (later : List ℕ) (n a d c : ℕ) (going : Going ws bound whole depth later n a d c) where
   item-fails : itemEnd ws bound d c a ≡ 0 → 0 ≡ whole
@@ -244,17 +254,12 @@ module _
       )
 
   -- a node is read by its parts
-  module _
-      (ok : Words ws) (inside : a < length ws) (deep : d ≡ 0 → ⊥) (h t : ℕ) (eh : h ≡ at ws a) (et : t ≡ shapeOf (slotOf c h))
-      (fit : fitsAt ws a c t ≡ true) where
-    here : t ≡ shapeOf (slotOf c (at ws a))
-    here = et ∙ ap (λ x. shapeOf (slotOf c x)) eh
-
-    small : (partOf c (t / 16) < 13) × (partOf c (t / 4096) < 13) × (0 < t % 4)
-    small = slot-small c (at ws a) t (going .3) (ok a) here
+  module _ (t : ℕ) (ready : Ready ws n a d c t) where
+    pub small : (partOf c (t / 16) < 13) × (partOf c (t / 4096) < 13) × (0 < t % 4)
+    small = slot-small c (at ws a) t (going .3) (ready .words a) (ready .shape)
 
     parts : itemEnd ws bound d c a ≡ nextEnd ws bound (d - 1) c t a
-    parts = item-parts ws ok bound d a deep inside c t (going .3) here fit
+    parts = item-parts ws (ready .words) bound d a (ready .deep) (ready .inside) c t (going .3) (ready .shape) (ready .fit)
 
     no-parts : t / 4 % 4 ≡ 0 → a + t % 4 ≡ itemEnd ws bound d c a
     no-parts z = sym (parts ∙ ap (λ p. partsEnd (itemEnd ws bound (d - 1)) p (partOf c (t / 16)) (partOf c (t / 4096)) (a + t % 4)) z)
@@ -266,10 +271,12 @@ module _
     leaf-next z y = let s = small .2 in read-next (a + t % 4) (no-parts z) (λ q. absurd (omega arith)) y
 
     pub part-next :
-        (f l x : ℕ) → n ≤ 13 → (t / 4 % 4 ≡ 0 → ⊥) → f ≡ partOf c (t / 16) → l ≡ partOf c (t / 4096) → x ≡ (d - 1) * 16 + l →
+        (f l x : ℕ) → (t / 4 % 4 ≡ 0 → ⊥) → f ≡ partOf c (t / 16) → l ≡ partOf c (t / 4096) → x ≡ (d - 1) * 16 + l →
         Going ws bound whole depth (set (set later (n + 1) x) (n + 2) x) (n + t / 4 % 4 - 1) (a + t % 4) (d - 1) f
-    part-next f l x room some ef el ex =
+    part-next f l x some ef el ex =
         let s = small in
+        let room : n ≤ 13 = ready .room in
+        let positive : d ≡ 0 → ⊥ = ready .deep in
         let q : x ≡ (d - 1) * 16 + partOf c (t / 4096) = ex ∙ ap (λ y. (d - 1) * 16 + y) el in
         let len : length later ≡ 16 = going .4 in
         let deepest : d ≤ depth = going .2 in
@@ -292,7 +299,7 @@ module _
         )
 
     pub past-node : length ws - (a + t % 4) < length ws - a
-    past-node = let s = small .2 in omega arith
+    past-node = let s = small .2 in let inside = ready .inside in omega arith
 
   pub past-whole : Words ws → a < length ws → (e : ℕ) → e ≡ itemEnd ws bound d c a → (e ≡ 0 → ⊥) → length ws - e < length ws - a
   past-whole ok inside e q s =

@@ -27,6 +27,8 @@ ghost use Prim.Native.Nat.{_+_, _%_, _<_};
 ghost use mathlib.Core.Bool.{_&&_, _||_};
 ghost use lib.Dec.{leb, eqb};
 ghost use lib.ListN.{length};
+ghost use Rattle.layout.specs.Contexts.{running, receiver, contexts};
+ghost use Rattle.layout.specs.Units.{executorsClient};
 ghost use Rattle.reading.specs.Walk.{exprEnd, constantEnd, operationEnd, contextOf, restOf, processEnd, twoEnd, branchEnd, repeatEnd};
 ghost use Rattle.reading.specs.Walk.{choiceEnd, fixedAfter, requestEnd, notifyEnd, solicitEnd, listEnd, keyAt, entryContext};
 ghost use Rattle.reading.specs.Walk.{scopeEnd, restingEnd, markedEnd, endAfter, executorEnd, waiterEnd, noticeEnd};
@@ -94,7 +96,7 @@ fn same_context(context: usize) -> usize
 }
 
 fn rest_context(context: usize) -> usize
-    ensures { λ r. ⌜ (r ≡ restOf context) × (r < 8) ⌝ }
+    ensures { λ r. ⌜ (r ≡ restOf context) × (r < running) ⌝ }
 {
     if context < RUNNING {
         context / STRATUM * STRATUM
@@ -164,7 +166,7 @@ fn part(context: usize, how: usize) -> usize
 // A process in a context, node by node: the parts of a node that its shape tells are kept for later, the first is read next. Any other
 // node is read whole.
 pub(crate) fn process(ws: &[u16], at: usize, depth: usize, context: usize, bound: usize) -> usize
-    requires { ⌜ context < 12 ⌝ }
+    requires { ⌜ context < contexts ⌝ }
     ensures { λ r. ⌜ r ≡ processEnd depth (now (ws .entry)) bound context at ⌝ }
 {
     let mut later = [0usize; 16];
@@ -235,7 +237,7 @@ fn whole(ws: &[u16], at: usize, depth: usize, context: usize, bound: usize) -> u
 
 // A process in a context, by its kind.
 fn node(ws: &[u16], at: usize, depth: usize, context: usize, bound: usize) -> usize
-    requires { ⌜ context < 12 ⌝ }
+    requires { ⌜ context < contexts ⌝ }
     ensures { λ r. ⌜ r ≡ processEnd depth (now (ws .entry)) bound context at ⌝ }
 {
     if depth == 0 {
@@ -284,7 +286,7 @@ fn node(ws: &[u16], at: usize, depth: usize, context: usize, bound: usize) -> us
 
 // Two processes, one after the other.
 fn two(ws: &[u16], at: usize, depth: usize, first: usize, second: usize, bound: usize) -> usize
-    requires { ⌜ (first < 12) × (second < 12) ⌝ }
+    requires { ⌜ (first < contexts) × (second < contexts) ⌝ }
     ensures { λ r. ⌜ r ≡ twoEnd (processEnd depth (now (ws .entry)) bound) first second at ⌝ }
 {
     let a = process(ws, at, depth, first, bound);
@@ -296,7 +298,7 @@ fn two(ws: &[u16], at: usize, depth: usize, first: usize, second: usize, bound: 
 
 // What follows the head of an if, and of a while.
 fn branch(ws: &[u16], at: usize, depth: usize, context: usize, bound: usize) -> usize
-    requires { ⌜ context < 12 ⌝ }
+    requires { ⌜ context < contexts ⌝ }
     ensures { λ r. ⌜ r ≡ branchEnd (exprEnd depth (now (ws .entry))) (processEnd depth (now (ws .entry)) bound) context at ⌝ }
 {
     let e = expression(ws, at, depth);
@@ -307,7 +309,7 @@ fn branch(ws: &[u16], at: usize, depth: usize, context: usize, bound: usize) -> 
 }
 
 fn repeat(ws: &[u16], at: usize, depth: usize, context: usize, bound: usize) -> usize
-    requires { ⌜ context < 12 ⌝ }
+    requires { ⌜ context < contexts ⌝ }
     ensures { λ r. ⌜ r ≡ repeatEnd (exprEnd depth (now (ws .entry))) (processEnd depth (now (ws .entry)) bound) context at ⌝ }
 {
     let e = expression(ws, at, depth);
@@ -319,7 +321,7 @@ fn repeat(ws: &[u16], at: usize, depth: usize, context: usize, bound: usize) -> 
 
 // The branches of a choice, 1 to 8.
 fn choice(ws: &[u16], at: usize, depth: usize, context: usize, count: usize, bound: usize) -> usize
-    requires { ⌜ context < 10 ⌝ }
+    requires { ⌜ context < running + receiver ⌝ }
     ensures { λ r. ⌜ r ≡ choiceEnd (processEnd depth (now (ws .entry)) bound) context count at ⌝ }
 {
     if count == 0 {
@@ -352,7 +354,7 @@ fn fixed(ws: &[u16], at: usize, spare: usize) -> bool
 }
 
 fn request(ws: &[u16], at: usize, depth: usize, context: usize, bound: usize) -> usize
-    requires { ⌜ (at < length (now ws)) × (context < 12) ⌝ }
+    requires { ⌜ (at < length (now ws)) × (context < contexts) ⌝ }
     ensures { λ r. ⌜ r ≡ requestEnd (processEnd depth (now (ws .entry)) bound) (now (ws .entry)) context at ⌝ }
 {
     if fixed(ws, at, unit::FIRST_VARIABLE) {
@@ -393,7 +395,7 @@ pub(crate) fn list(
     wanted: usize,
     bound: usize,
 ) -> usize
-    requires { ⌜ context < 12 ⌝ }
+    requires { ⌜ context < contexts ⌝ }
     ensures { λ r. ⌜ r ≡ listEnd (processEnd depth (now (ws .entry)) bound) (now (ws .entry)) context wanted at ⌝ }
 {
     if ws.len() <= at {
@@ -447,8 +449,8 @@ pub fn met_by(met: bool, key: usize, wanted: usize) -> bool
 
 // Under a scope's key in a scope's list nil may not stand.
 fn entry_context(context: usize, key: usize) -> usize
-    requires { ⌜ context < 12 ⌝ }
-    ensures { λ r. ⌜ (r ≡ entryContext context key) × (r < 12) ⌝ }
+    requires { ⌜ context < contexts ⌝ }
+    ensures { λ r. ⌜ (r ≡ entryContext context key) × (r < contexts) ⌝ }
 {
     if context != CODE {
         return context;
@@ -458,7 +460,7 @@ fn entry_context(context: usize, key: usize) -> usize
 
 // A scope whose head is `h`.
 fn scope(ws: &[u16], at: usize, depth: usize, context: usize, h: usize, bound: usize) -> usize
-    requires { ⌜ (at < length (now ws)) × (context < 12) ⌝ }
+    requires { ⌜ (at < length (now ws)) × (context < contexts) ⌝ }
     ensures { λ r. ⌜ r ≡ scopeEnd (processEnd depth (now (ws .entry)) bound) (now (ws .entry)) context h at ⌝ }
 {
     if ws.len() - at < 3 {
@@ -477,7 +479,7 @@ fn scope(ws: &[u16], at: usize, depth: usize, context: usize, h: usize, bound: u
 
 // A scope that is code: no marked fault and an empty list.
 fn resting(ws: &[u16], at: usize, depth: usize, context: usize, fault: usize, bound: usize) -> usize
-    requires { ⌜ (at + 2 < length (now ws)) × (context < 12) ⌝ }
+    requires { ⌜ (at + 2 < length (now ws)) × (context < contexts) ⌝ }
     ensures { λ r. ⌜ r ≡ restingEnd (processEnd depth (now (ws .entry)) bound) (now (ws .entry)) context fault at ⌝ }
 {
     if fault != 0 {
@@ -549,7 +551,7 @@ fn end(ws: &[u16], at: usize, spare: usize, bound: usize) -> bool
 
 // The fixed words of the executor at `at`, wherever that is.
 pub fn executor_fixed(ws: &[u16], at: usize, bound: usize) -> bool
-    ensures { λ r. ⌜ r ≡ endAfter (now (ws .entry)) at 8192 bound ⌝ }
+    ensures { λ r. ⌜ r ≡ endAfter (now (ws .entry)) at executorsClient bound ⌝ }
 {
     if ws.len() <= at {
         return false;

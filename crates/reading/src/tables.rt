@@ -1,5 +1,6 @@
 // What the reader looks up: which heads may stand where. Matches and not constant arrays, which every call would lay out anew.
 use layout::context::RUNNING;
+use layout::kind;
 ghost use mathlib.Core.Path.{_≡_};
 ghost use Prim.Native.Nat.{_<_};
 ghost use Rattle.reading.specs.Tables.{placesOf, bitOf, headMask, shapeOf};
@@ -95,36 +96,36 @@ pub fn head_mask(context: usize, kind: usize) -> usize
     p % PLACES
 }
 
-// A shape's fields, by the worth of their lowest bits. From the lowest:
-// 2 bits: how many words of its own the node has, with the count of its list, which is empty;
-// 2 bits: how many parts, expressions and processes;
-// 8 bits: how the first part's context comes from the node's, and 8 bits for the others': 4 bits that are kept of it, 4 that are added;
-// 13 bits: those of the head that have to be 0; 16 bits: those of the word in the middle;
-// 1 bit: whether the last word has to be 0, the count of an empty list;
-// 13 bits: the contexts where the node may stand, one bit each.
+// The fields of a shape from the lowest bit on: the worth of each one's lowest bit, and how many values some have.
+// 2 bits: how many words of its own the node has, with the count of its list, which is empty.
 pub const WIDTHS: usize = 4;
 
+// 2 bits: how many parts, expressions and processes.
 pub const PARTS: usize = 4;
 
 pub const COUNTS: usize = 4;
 
+// 8 bits for how the first part's context comes from the node's, 8 bits for the others': 4 bits that are kept of it, then 4 that are added.
 pub const FIRST: usize = 16;
 
 pub const OTHERS: usize = 4096;
 
 pub const ADDED: usize = 16;
 
+// 13 bits: those of the head that have to be 0.
 pub const HEAD: usize = 1048576;
 
 pub const HEADS: usize = 8192;
 
+// 16 bits: those of the word in the middle that have to be 0.
 pub const MIDDLE: usize = 8589934592;
 
+// 1 bit: whether all bits of the last word, the count of a list, have to be 0.
 pub const LAST: usize = 562949953421312;
 
-// All bits of a word.
 pub const WHOLE: usize = 65535;
 
+// 13 bits: the contexts where the node may stand, one bit each.
 pub const STANDS: usize = 1125899906842624;
 
 // Behind the shapes of kinds stand those of expressions, by the first three bits.
@@ -136,25 +137,25 @@ pub fn shape(slot: usize) -> usize
     ensures { λ r. ⌜ r ≡ shapeOf slot ⌝ }
 {
     match slot {
-        0 => 2766336073258762241,
-        1 => 922112023770172421,
-        2 => 922112025850560969,
-        3 => 922112025850659273,
-        4 => 922112025850563597,
-        5 => 922112025850563593,
-        6 => 1,
-        7 => 2151594721976254465,
-        8 => 2151612305572364358,
-        9 => 922129607300218882,
-        10 => 922675514823409667,
-        11 => 211669173928984647,
-        12 => 922674967214030850,
-        13 => 922112023736614913,
-        14 => 922112023736614913,
-        15 => 54043197674881025,
-        16 => 1,
-        17 => 1,
-        18 => 1,
+        kind::NIL => 2766336073258762241,
+        kind::ASSIGN => 922112023770172421,
+        kind::SEQ => 922112025850560969,
+        kind::PAR => 922112025850659273,
+        kind::IF => 922112025850563597,
+        kind::WHILE => 922112025850563593,
+        kind::CHOICE => 1,
+        kind::ONE_WAY => 2151594721976254465,
+        kind::REQUEST => 2151612305572364358,
+        kind::NOTIFY => 922129607300218882,
+        kind::SOLICIT => 922675514823409667,
+        kind::SCOPE => 211669173928984647,
+        kind::INST => 922674967214030850,
+        kind::THROW => 922112023736614913,
+        kind::COMP => 922112023736614913,
+        kind::CH => 54043197674881025,
+        kind::EXECUTOR => 1,
+        kind::WAITER => 1,
+        kind::NOTICE => 1,
         19 => 4611686027016273923,
         20 => 4611686018694774785,
         21 => 4611686027017063433,

@@ -1,6 +1,7 @@
 // Passing over what the reader has accepted: where a process, a list or an expression ends. Nothing is tested but that words are left, so an
 // answer says something only of words that were read.
 use layout::key::NO_KEY;
+use layout::kind;
 use layout::number::wide;
 use layout::tag;
 use layout::unit;
@@ -28,25 +29,25 @@ fn form(kind: usize) -> usize
     ensures { λ r. ⌜ (r ≡ formOf kind) × (r < 258) ⌝ }
 {
     match kind {
-        0 => 1,
-        1 => 9,
-        2 => 65,
-        3 => 65,
-        4 => 73,
-        5 => 41,
-        6 => 257,
-        7 => 1,
-        8 => 34,
-        9 => 2,
-        10 => 18,
-        11 => 50,
-        12 => 17,
-        13 => 1,
-        14 => 1,
-        15 => 1,
-        16 => 35,
-        17 => 19,
-        18 => 3,
+        kind::NIL => 1,
+        kind::ASSIGN => 9,
+        kind::SEQ => 65,
+        kind::PAR => 65,
+        kind::IF => 73,
+        kind::WHILE => 41,
+        kind::CHOICE => 257,
+        kind::ONE_WAY => 1,
+        kind::REQUEST => 34,
+        kind::NOTIFY => 2,
+        kind::SOLICIT => 18,
+        kind::SCOPE => 50,
+        kind::INST => 17,
+        kind::THROW => 1,
+        kind::COMP => 1,
+        kind::CH => 1,
+        kind::EXECUTOR => 35,
+        kind::WAITER => 19,
+        kind::NOTICE => 3,
         _ => 1,
     }
 }

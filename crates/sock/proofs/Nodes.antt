@@ -2,19 +2,20 @@
 -- Assumes nothing.
 use Prim.Native.Nat.{ℕ, zero, suc, _≤_, _<_}
 use native.Mathlib.Omega.{arith}
-use native.Mathlib.Nat.{le-trans, le-refl}
-use mathlib.Core.Path.{_≡_, refl, subst, sym, ap}
-use mathlib.Core.Bool.{Bool, true, false, not, _&&_, _||_}
-use mathlib.Core.List.{List, [], _∷_}
-use lib.Dec.{T, leb, ltb, eqb, lit<, ltb→lt, lt→ltb, leb→le, le→leb}
+use native.Mathlib.Nat.{le-trans}
+use mathlib.Core.Path.{_≡_, refl, subst, ap}
+use mathlib.Core.Bool.{Bool, true, false}
+use mathlib.Core.List.{List}
+use lib.Dec.{T, lit<, ltb→lt, le→leb}
 use lib.ListN.{length}
 use Rattle.sock.specs.Kind
 use Rattle.sock.specs.Kind.{rowOf, rows}
 use Rattle.sock.specs.Words.{isWord, clear, kindOf}
-use Rattle.sock.specs.Term.{Expr, constant, Node, node, Block, absent, list, Entries, noEntries, entry, Nodes, noParts, _&_, kind, isNil, nilNode, partAt, firstExpr, entriesOf, processesOf}
+use Rattle.sock.specs.Term.{Expr, Node, node, Block, Entries, Nodes, nilNode, partAt, firstExpr, entriesOf, processesOf}
 use Rattle.sock.specs.Layout.{depth}
-use Rattle.sock.specs.Reading.{Stratum, running, code, Place, anywhere, notNil, guard, root, allowed, placed, branched, headFits, nodeFits, entryFits, entryStratum, partStratum, partPlace, fixedAt}
-use Rattle.sock.proofs.Logic.{and-left, and-right, and-both}
+use Rattle.sock.specs.Reading.{Stratum, code, Place, anywhere, allowed, placed, branched, headFits, nodeFits, partStratum, fixedAt}
+use Rattle.sock.proofs.Logic.{and-left}
+use Rattle.sock.proofs.Fields.{four, four-pass}
 use Rattle.sock.proofs.Fits.{FitsExpr, constantFits, FitsExprs, noExprs, oneExpr, FitsFixed, noFixed, oneFixed, Fits, fits, FitsBlock, noList, aList, FitsEntries, emptyFits, entryFitsOn, FitsParts, noPart, onePart}
 
 -- ---- a head's four tests
@@ -25,18 +26,6 @@ pub record Head (s : Stratum) (p : Place) (h : ℕ) : Type 0 where
   pub clears : T (clear (rowOf (kindOf h) .spare) h)
   pub branches : T (branched h)
 
-four : (a b c d : Bool) → T (a && b && c && d) → T a × T b × T c × T d
-four true true true d t = (tt, tt, tt, t)
-four true true false d t = absurd t
-four true false c d t = absurd t
-four false b c d t = absurd t
-
-four-back : (a b c d : Bool) → T a → T b → T c → T d → T (a && b && c && d)
-four-back true true true d t u v w = w
-four-back true true false d t u v w = v
-four-back true false c d t u v w = u
-four-back false b c d t u v w = t
-
 pub head-tests : {s : Stratum} {p : Place} {h : ℕ} → T (headFits s p h) → Head s p h
 unfolding headFits
 head-tests {s} {p} {h} t =
@@ -46,7 +35,7 @@ head-tests {s} {p} {h} t =
 pub head-fits : {s : Stratum} {p : Place} {h : ℕ} → Head s p h → T (headFits s p h)
 unfolding headFits
 head-fits {s} {p} {h} q =
-    four-back (allowed s (kindOf h)) (placed p (kindOf h)) (clear (rowOf (kindOf h) .spare) h) (branched h) (q .allows) (q .places) (q .clears) (q .branches)
+    four-pass (allowed s (kindOf h)) (placed p (kindOf h)) (clear (rowOf (kindOf h) .spare) h) (branched h) (q .allows, q .places, q .clears, q .branches)
 
 -- a head that fits in one stratum and place fits in another that allows it
 pub head-moves :

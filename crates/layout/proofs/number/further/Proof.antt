@@ -1,4 +1,4 @@
--- `layout::number::further` meets its contract.
+-- `further` of `layout::number` meets its contract: neither summand is beyond the figure, so the sum does not run over.
 -- Assumes nothing.
 use borrow.Author.Tests.{le-leb, lt-leb}
 use Rattle.layout.specs.Positions.{onward}

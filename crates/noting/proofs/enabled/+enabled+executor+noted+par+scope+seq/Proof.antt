@@ -1,5 +1,5 @@
--- `enabled`, `executor`, `noted`, `par`, `scope` and `seq` of `noting::enabled` meet their contracts: the code is its mirror in specs/. The
--- measure is the depth that is left, and for the same depth who calls whom.
+-- `enabled`, `executor`, `noted`, `par`, `scope` and `seq` of `noting::enabled` meet their contracts. The measure is three times
+-- the depth that is left, and for the same depth who calls whom.
 -- Assumes nothing.
 use Prim.Native.Nat.{ℕ, _+_, _*_, _<_}
 use native.Mathlib.Omega.{arith}
@@ -7,7 +7,7 @@ use mathlib.Core.Path.{refl, sym, _∙_}
 use borrow.Author.Needs.{needs}
 use Rattle.reading.specs.Walk.{nodeEnd}
 use Rattle.noting.specs.Noting.{noting, notesW}
-use Rattle.noting.proofs.Notes.{none-deep, none-left, refused, others, one-word, a-seq, a-par, a-scope, an-executor, par-ends, two-none, two-next, seq-none, seq-next, par-none, par-next, scope-short, scope-none, scope-next, executor-none, executor-next, same-note}
+use Rattle.noting.proofs.Notes.{Headed, none-deep, none-left, refused, others, one-word, a-seq, a-par, a-scope, an-executor, par-ends, two-none, two-next, seq-none, seq-next, par-none, par-next, scope-short, scope-none, scope-next, executor-none, executor-next, same-note}
 use borrow.Fn.Kinds.{In}
 use borrow.Fn.PlainCycle.{Measures, is, falls, and}
 use Rattle.noting.proofs.enabled.enabled.Reads as enabled
@@ -94,224 +94,257 @@ seq-at t = and 2 seq-kinds.ps (is 2 seq-kinds.ps μ-seq t) seq.Pre
 abbrev seq-below : ℕ → In 2 seq-kinds.ps
 seq-below t = and 2 seq-kinds.ps (falls 2 seq-kinds.ps _<_ μ-seq t) seq.Pre
 
-enabled-returns : (t : ℕ) → enabled-lts.Need-returns (wide-reads.Asked, wide-reads.Learnt, plain-par-reads.Asked, plain-par-reads.Learnt, par-below t, par.Post, head-mask-reads.Asked, head-mask-reads.Learnt, seq-below t, seq.Post, scope-below t, scope.Post, executor-below t, executor.Post, read-reads.Asked, read-reads.Learnt) (enabled-at t) enabled.Post
+abbrev enabled-claims : ℕ → enabled-lts.Claims
+enabled-claims t = (wide-reads.Asked, wide-reads.Learnt, plain-par-reads.Asked, plain-par-reads.Learnt, par-below t, par.Post, head-mask-reads.Asked, head-mask-reads.Learnt, seq-below t, seq.Post, scope-below t, scope.Post, executor-below t, executor.Post, read-reads.Asked, read-reads.Learnt)
+
+enabled-returns : (t : ℕ) → enabled-lts.Need-returns (enabled-claims t) (enabled-at t) enabled.Post
 enabled-returns t c = none-deep _ _ _ _ _ _ ((c .if1 .taken))
 
-enabled-returns-2 : (t : ℕ) → enabled-lts.Need-returns-2 (wide-reads.Asked, wide-reads.Learnt, plain-par-reads.Asked, plain-par-reads.Learnt, par-below t, par.Post, head-mask-reads.Asked, head-mask-reads.Learnt, seq-below t, seq.Post, scope-below t, scope.Post, executor-below t, executor.Post, read-reads.Asked, read-reads.Learnt) (enabled-at t) enabled.Post
+enabled-returns-2 : (t : ℕ) → enabled-lts.Need-returns-2 (enabled-claims t) (enabled-at t) enabled.Post
 enabled-returns-2 t c = none-left _ _ _ _ _ _ ((c .before .if1 .left)) ((c .if2 .taken))
 
-enabled-mul-wide : (t : ℕ) → enabled-lts.Need-mul-wide (wide-reads.Asked, wide-reads.Learnt, plain-par-reads.Asked, plain-par-reads.Learnt, par-below t, par.Post, head-mask-reads.Asked, head-mask-reads.Learnt, seq-below t, seq.Post, scope-below t, scope.Post, executor-below t, executor.Post, read-reads.Asked, read-reads.Learnt) (enabled-at t) enabled.Post
+enabled-mul-wide : (t : ℕ) → enabled-lts.Need-mul-wide (enabled-claims t) (enabled-at t) enabled.Post
 enabled-mul-wide t c = search needs
 
-enabled-shared-slice-read-wide : (t : ℕ) → enabled-lts.Need-shared-slice-read-wide (wide-reads.Asked, wide-reads.Learnt, plain-par-reads.Asked, plain-par-reads.Learnt, par-below t, par.Post, head-mask-reads.Asked, head-mask-reads.Learnt, seq-below t, seq.Post, scope-below t, scope.Post, executor-below t, executor.Post, read-reads.Asked, read-reads.Learnt) (enabled-at t) enabled.Post
+enabled-shared-slice-read-wide : (t : ℕ) → enabled-lts.Need-shared-slice-read-wide (enabled-claims t) (enabled-at t) enabled.Post
 enabled-shared-slice-read-wide t c = search needs
 
-enabled-wide-requires : (t : ℕ) → enabled-lts.Need-wide-requires (wide-reads.Asked, wide-reads.Learnt, plain-par-reads.Asked, plain-par-reads.Learnt, par-below t, par.Post, head-mask-reads.Asked, head-mask-reads.Learnt, seq-below t, seq.Post, scope-below t, scope.Post, executor-below t, executor.Post, read-reads.Asked, read-reads.Learnt) (enabled-at t) enabled.Post
+enabled-wide-requires : (t : ℕ) → enabled-lts.Need-wide-requires (enabled-claims t) (enabled-at t) enabled.Post
 enabled-wide-requires t c κs = search needs
 
-enabled-sub-d : (t : ℕ) → enabled-lts.Need-sub-d (wide-reads.Asked, wide-reads.Learnt, plain-par-reads.Asked, plain-par-reads.Learnt, par-below t, par.Post, head-mask-reads.Asked, head-mask-reads.Learnt, seq-below t, seq.Post, scope-below t, scope.Post, executor-below t, executor.Post, read-reads.Asked, read-reads.Learnt) (enabled-at t) enabled.Post
+enabled-sub-d : (t : ℕ) → enabled-lts.Need-sub-d (enabled-claims t) (enabled-at t) enabled.Post
 enabled-sub-d t c = search needs
 
-enabled-plain-par-requires : (t : ℕ) → enabled-lts.Need-plain-par-requires (wide-reads.Asked, wide-reads.Learnt, plain-par-reads.Asked, plain-par-reads.Learnt, par-below t, par.Post, head-mask-reads.Asked, head-mask-reads.Learnt, seq-below t, seq.Post, scope-below t, scope.Post, executor-below t, executor.Post, read-reads.Asked, read-reads.Learnt) (enabled-at t) enabled.Post
+enabled-plain-par-requires : (t : ℕ) → enabled-lts.Need-plain-par-requires (enabled-claims t) (enabled-at t) enabled.Post
 enabled-plain-par-requires t c κs = search needs
 
-enabled-add-par : (t : ℕ) → enabled-lts.Need-add-par (wide-reads.Asked, wide-reads.Learnt, plain-par-reads.Asked, plain-par-reads.Learnt, par-below t, par.Post, head-mask-reads.Asked, head-mask-reads.Learnt, seq-below t, seq.Post, scope-below t, scope.Post, executor-below t, executor.Post, read-reads.Asked, read-reads.Learnt) (enabled-at t) enabled.Post
+enabled-add-par : (t : ℕ) → enabled-lts.Need-add-par (enabled-claims t) (enabled-at t) enabled.Post
 enabled-add-par t c = search needs
 
-enabled-par-requires : (t : ℕ) → enabled-lts.Need-par-requires (wide-reads.Asked, wide-reads.Learnt, plain-par-reads.Asked, plain-par-reads.Learnt, par-below t, par.Post, head-mask-reads.Asked, head-mask-reads.Learnt, seq-below t, seq.Post, scope-below t, scope.Post, executor-below t, executor.Post, read-reads.Asked, read-reads.Learnt) (enabled-at t) enabled.Post
+enabled-par-requires : (t : ℕ) → enabled-lts.Need-par-requires (enabled-claims t) (enabled-at t) enabled.Post
 enabled-par-requires t c κs = search needs
 
-enabled-same-length : (t : ℕ) → enabled-lts.Need-same-length (wide-reads.Asked, wide-reads.Learnt, plain-par-reads.Asked, plain-par-reads.Learnt, par-below t, par.Post, head-mask-reads.Asked, head-mask-reads.Learnt, seq-below t, seq.Post, scope-below t, scope.Post, executor-below t, executor.Post, read-reads.Asked, read-reads.Learnt) (enabled-at t) enabled.Post
+enabled-same-length : (t : ℕ) → enabled-lts.Need-same-length (enabled-claims t) (enabled-at t) enabled.Post
 enabled-same-length t c = search needs
 
-enabled-returns-3 : (t : ℕ) → enabled-lts.Need-returns-3 (wide-reads.Asked, wide-reads.Learnt, plain-par-reads.Asked, plain-par-reads.Learnt, par-below t, par.Post, head-mask-reads.Asked, head-mask-reads.Learnt, seq-below t, seq.Post, scope-below t, scope.Post, executor-below t, executor.Post, read-reads.Asked, read-reads.Learnt) (enabled-at t) enabled.Post
+enabled-returns-3 : (t : ℕ) → enabled-lts.Need-returns-3 (enabled-claims t) (enabled-at t) enabled.Post
 enabled-returns-3 t c = par-ends _ _ _ _ _ _ _ ((c .before .before .before .before .before .before .before .before .before .if1 .left)) ((c .before .before .before .before .before .before .before .before .if2 .left)) ((c .before .before .before .before .before .before .wide .ensures .0)) ((c .before .before .before .before .before .before .before .before .before .before .before .before .pre .1 .0)) ((c .before .before .before .before .before .before .before .before .before .before .before .before .pre .1 .1)) (sym ((c .before .before .before .before .before .plain-par .ensures)) ∙ (c .before .before .before .before .if3 .taken)) _ _ ((c .before .before .par .ensures .0)) ((c .before .before .par .ensures .1))
 
-enabled-add-if4 : (t : ℕ) → enabled-lts.Need-add-if4 (wide-reads.Asked, wide-reads.Learnt, plain-par-reads.Asked, plain-par-reads.Learnt, par-below t, par.Post, head-mask-reads.Asked, head-mask-reads.Learnt, seq-below t, seq.Post, scope-below t, scope.Post, executor-below t, executor.Post, read-reads.Asked, read-reads.Learnt) (enabled-at t) enabled.Post
+enabled-add-if4 : (t : ℕ) → enabled-lts.Need-add-if4 (enabled-claims t) (enabled-at t) enabled.Post
 enabled-add-if4 t c = search needs
 
-enabled-head-mask-requires : (t : ℕ) → enabled-lts.Need-head-mask-requires (wide-reads.Asked, wide-reads.Learnt, plain-par-reads.Asked, plain-par-reads.Learnt, par-below t, par.Post, head-mask-reads.Asked, head-mask-reads.Learnt, seq-below t, seq.Post, scope-below t, scope.Post, executor-below t, executor.Post, read-reads.Asked, read-reads.Learnt) (enabled-at t) enabled.Post
+enabled-head-mask-requires : (t : ℕ) → enabled-lts.Need-head-mask-requires (enabled-claims t) (enabled-at t) enabled.Post
 enabled-head-mask-requires t c κs = search needs
 
-enabled-returns-4 : (t : ℕ) → enabled-lts.Need-returns-4 (wide-reads.Asked, wide-reads.Learnt, plain-par-reads.Asked, plain-par-reads.Learnt, par-below t, par.Post, head-mask-reads.Asked, head-mask-reads.Learnt, seq-below t, seq.Post, scope-below t, scope.Post, executor-below t, executor.Post, read-reads.Asked, read-reads.Learnt) (enabled-at t) enabled.Post
+enabled-returns-4 : (t : ℕ) → enabled-lts.Need-returns-4 (enabled-claims t) (enabled-at t) enabled.Post
 enabled-returns-4 t c = refused _ _ _ _ _ _ _ _ ((c .before .before .before .before .before .before .before .if1 .left)) ((c .before .before .before .before .before .before .if2 .left)) ((c .before .before .before .before .wide .ensures .0)) ((c .before .head-mask .ensures)) ((c .if4 .taken))
 
-enabled-add-result : (t : ℕ) → enabled-lts.Need-add-result (wide-reads.Asked, wide-reads.Learnt, plain-par-reads.Asked, plain-par-reads.Learnt, par-below t, par.Post, head-mask-reads.Asked, head-mask-reads.Learnt, seq-below t, seq.Post, scope-below t, scope.Post, executor-below t, executor.Post, read-reads.Asked, read-reads.Learnt) (enabled-at t) enabled.Post
+enabled-add-result : (t : ℕ) → enabled-lts.Need-add-result (enabled-claims t) (enabled-at t) enabled.Post
 enabled-add-result t c = search needs
 
-enabled-add-seq : (t : ℕ) → enabled-lts.Need-add-seq (wide-reads.Asked, wide-reads.Learnt, plain-par-reads.Asked, plain-par-reads.Learnt, par-below t, par.Post, head-mask-reads.Asked, head-mask-reads.Learnt, seq-below t, seq.Post, scope-below t, scope.Post, executor-below t, executor.Post, read-reads.Asked, read-reads.Learnt) (enabled-at t) enabled.Post
+enabled-add-seq : (t : ℕ) → enabled-lts.Need-add-seq (enabled-claims t) (enabled-at t) enabled.Post
 enabled-add-seq t c = search needs
 
-enabled-seq-requires : (t : ℕ) → enabled-lts.Need-seq-requires (wide-reads.Asked, wide-reads.Learnt, plain-par-reads.Asked, plain-par-reads.Learnt, par-below t, par.Post, head-mask-reads.Asked, head-mask-reads.Learnt, seq-below t, seq.Post, scope-below t, scope.Post, executor-below t, executor.Post, read-reads.Asked, read-reads.Learnt) (enabled-at t) enabled.Post
+enabled-seq-requires : (t : ℕ) → enabled-lts.Need-seq-requires (enabled-claims t) (enabled-at t) enabled.Post
 enabled-seq-requires t c κs = search needs
 
-enabled-add-par-2 : (t : ℕ) → enabled-lts.Need-add-par-2 (wide-reads.Asked, wide-reads.Learnt, plain-par-reads.Asked, plain-par-reads.Learnt, par-below t, par.Post, head-mask-reads.Asked, head-mask-reads.Learnt, seq-below t, seq.Post, scope-below t, scope.Post, executor-below t, executor.Post, read-reads.Asked, read-reads.Learnt) (enabled-at t) enabled.Post
+enabled-add-par-2 : (t : ℕ) → enabled-lts.Need-add-par-2 (enabled-claims t) (enabled-at t) enabled.Post
 enabled-add-par-2 t c = search needs
 
-enabled-par-requires-2 : (t : ℕ) → enabled-lts.Need-par-requires-2 (wide-reads.Asked, wide-reads.Learnt, plain-par-reads.Asked, plain-par-reads.Learnt, par-below t, par.Post, head-mask-reads.Asked, head-mask-reads.Learnt, seq-below t, seq.Post, scope-below t, scope.Post, executor-below t, executor.Post, read-reads.Asked, read-reads.Learnt) (enabled-at t) enabled.Post
+enabled-par-requires-2 : (t : ℕ) → enabled-lts.Need-par-requires-2 (enabled-claims t) (enabled-at t) enabled.Post
 enabled-par-requires-2 t c κs = search needs
 
-enabled-add-result-2 : (t : ℕ) → enabled-lts.Need-add-result-2 (wide-reads.Asked, wide-reads.Learnt, plain-par-reads.Asked, plain-par-reads.Learnt, par-below t, par.Post, head-mask-reads.Asked, head-mask-reads.Learnt, seq-below t, seq.Post, scope-below t, scope.Post, executor-below t, executor.Post, read-reads.Asked, read-reads.Learnt) (enabled-at t) enabled.Post
+enabled-add-result-2 : (t : ℕ) → enabled-lts.Need-add-result-2 (enabled-claims t) (enabled-at t) enabled.Post
 enabled-add-result-2 t c = search needs
 
-enabled-scope-requires : (t : ℕ) → enabled-lts.Need-scope-requires (wide-reads.Asked, wide-reads.Learnt, plain-par-reads.Asked, plain-par-reads.Learnt, par-below t, par.Post, head-mask-reads.Asked, head-mask-reads.Learnt, seq-below t, seq.Post, scope-below t, scope.Post, executor-below t, executor.Post, read-reads.Asked, read-reads.Learnt) (enabled-at t) enabled.Post
+enabled-scope-requires : (t : ℕ) → enabled-lts.Need-scope-requires (enabled-claims t) (enabled-at t) enabled.Post
 enabled-scope-requires t c κs = search needs
 
-enabled-add-result-3 : (t : ℕ) → enabled-lts.Need-add-result-3 (wide-reads.Asked, wide-reads.Learnt, plain-par-reads.Asked, plain-par-reads.Learnt, par-below t, par.Post, head-mask-reads.Asked, head-mask-reads.Learnt, seq-below t, seq.Post, scope-below t, scope.Post, executor-below t, executor.Post, read-reads.Asked, read-reads.Learnt) (enabled-at t) enabled.Post
+enabled-add-result-3 : (t : ℕ) → enabled-lts.Need-add-result-3 (enabled-claims t) (enabled-at t) enabled.Post
 enabled-add-result-3 t c = search needs
 
-enabled-add-result-4 : (t : ℕ) → enabled-lts.Need-add-result-4 (wide-reads.Asked, wide-reads.Learnt, plain-par-reads.Asked, plain-par-reads.Learnt, par-below t, par.Post, head-mask-reads.Asked, head-mask-reads.Learnt, seq-below t, seq.Post, scope-below t, scope.Post, executor-below t, executor.Post, read-reads.Asked, read-reads.Learnt) (enabled-at t) enabled.Post
+enabled-add-result-4 : (t : ℕ) → enabled-lts.Need-add-result-4 (enabled-claims t) (enabled-at t) enabled.Post
 enabled-add-result-4 t c = search needs
 
-enabled-executor-requires : (t : ℕ) → enabled-lts.Need-executor-requires (wide-reads.Asked, wide-reads.Learnt, plain-par-reads.Asked, plain-par-reads.Learnt, par-below t, par.Post, head-mask-reads.Asked, head-mask-reads.Learnt, seq-below t, seq.Post, scope-below t, scope.Post, executor-below t, executor.Post, read-reads.Asked, read-reads.Learnt) (enabled-at t) enabled.Post
+enabled-executor-requires : (t : ℕ) → enabled-lts.Need-executor-requires (enabled-claims t) (enabled-at t) enabled.Post
 enabled-executor-requires t c κs = search needs
 
-enabled-read-requires : (t : ℕ) → enabled-lts.Need-read-requires (wide-reads.Asked, wide-reads.Learnt, plain-par-reads.Asked, plain-par-reads.Learnt, par-below t, par.Post, head-mask-reads.Asked, head-mask-reads.Learnt, seq-below t, seq.Post, scope-below t, scope.Post, executor-below t, executor.Post, read-reads.Asked, read-reads.Learnt) (enabled-at t) enabled.Post
+enabled-read-requires : (t : ℕ) → enabled-lts.Need-read-requires (enabled-claims t) (enabled-at t) enabled.Post
 enabled-read-requires t c κs = search needs
 
-enabled-returns-5 : (t : ℕ) → enabled-lts.Need-returns-5 (wide-reads.Asked, wide-reads.Learnt, plain-par-reads.Asked, plain-par-reads.Learnt, par-below t, par.Post, head-mask-reads.Asked, head-mask-reads.Learnt, seq-below t, seq.Post, scope-below t, scope.Post, executor-below t, executor.Post, read-reads.Asked, read-reads.Learnt) (enabled-at t) enabled.Post
+-- what is known where a process is read by its kind
+enabled-head :
+    (t : ℕ) (k : enabled-lts.Else4 (enabled-claims t) (enabled-at t) enabled.Post) →
+    let a = k .before .before .before .before .before .before .before .before .before .before .args in
+    Headed (a .depth) (a .ws .now) (a .context) (a .at) (k .before .before .before .before .wide .result) (k .before .head-mask .result)
+enabled-head t k = record {
+  deep = k .before .before .before .before .before .before .before .if1 .left;
+  inside = k .before .before .before .before .before .before .if2 .left;
+  word = k .before .before .before .before .wide .ensures .0;
+  mask = k .before .head-mask .ensures;
+  clear = k .if4 .left;
+  low = k .before .before .before .before .before .before .before .before .before .before .pre .1 .0;
+  high = k .before .before .before .before .before .before .before .before .before .before .pre .1 .1;
+}
+
+enabled-returns-5 : (t : ℕ) → enabled-lts.Need-returns-5 (enabled-claims t) (enabled-at t) enabled.Post
 unfolding nodeEnd
 enabled-returns-5 t c =
-    one-word _ _ _ _ _ _ _ _ ((c .before .before .before .before .before .before .before .before .if1 .left)) ((c .before .before .before .before .before .before .before .if2 .left)) ((c .before .before .before .before .before .wide .ensures .0)) ((c .before .before .head-mask .ensures)) ((c .before .if4 .left)) ((c .before .before .before .before .before .before .before .before .before .before .before .pre .1 .0)) ((c .before .before .before .before .before .before .before .before .before .before .before .pre .1 .1)) 0 ((c .match .keys1)) (λ h e. rw e refl) (λ z. omega arith) (λ z. omega arith) (λ z. omega arith) (λ z. omega arith)
+    one-word _ _ _ _ _ _ _ _ (enabled-head t (c .before)) 0 ((c .match .keys1)) (λ h e. rw e refl) (λ z. omega arith) (λ z. omega arith) (λ z. omega arith) (λ z. omega arith)
 
-enabled-same-length-2 : (t : ℕ) → enabled-lts.Need-same-length-2 (wide-reads.Asked, wide-reads.Learnt, plain-par-reads.Asked, plain-par-reads.Learnt, par-below t, par.Post, head-mask-reads.Asked, head-mask-reads.Learnt, seq-below t, seq.Post, scope-below t, scope.Post, executor-below t, executor.Post, read-reads.Asked, read-reads.Learnt) (enabled-at t) enabled.Post
+enabled-same-length-2 : (t : ℕ) → enabled-lts.Need-same-length-2 (enabled-claims t) (enabled-at t) enabled.Post
 enabled-same-length-2 t c = search needs
 
-enabled-returns-6 : (t : ℕ) → enabled-lts.Need-returns-6 (wide-reads.Asked, wide-reads.Learnt, plain-par-reads.Asked, plain-par-reads.Learnt, par-below t, par.Post, head-mask-reads.Asked, head-mask-reads.Learnt, seq-below t, seq.Post, scope-below t, scope.Post, executor-below t, executor.Post, read-reads.Asked, read-reads.Learnt) (enabled-at t) enabled.Post
-enabled-returns-6 t c = a-seq _ _ _ _ _ _ _ _ ((c .before .before .before .before .before .before .before .before .before .before .before .before .if1 .left)) ((c .before .before .before .before .before .before .before .before .before .before .before .if2 .left)) ((c .before .before .before .before .before .before .before .before .before .wide .ensures .0)) ((c .before .before .before .before .before .before .head-mask .ensures)) ((c .before .before .before .before .before .if4 .left)) ((c .before .before .before .before .before .before .before .before .before .before .before .before .before .before .before .pre .1 .0)) ((c .before .before .before .before .before .before .before .before .before .before .before .before .before .before .before .pre .1 .1)) _ _ ((c .before .before .before .before .match .keys2)) ((c .before .before .seq .ensures .0)) ((c .before .before .seq .ensures .1))
+enabled-returns-6 : (t : ℕ) → enabled-lts.Need-returns-6 (enabled-claims t) (enabled-at t) enabled.Post
+enabled-returns-6 t c = a-seq _ _ _ _ _ _ _ _ (enabled-head t (c .before .before .before .before .before)) _ _ ((c .before .before .before .before .match .keys2)) ((c .before .before .seq .ensures .0)) ((c .before .before .seq .ensures .1))
 
-enabled-same-length-3 : (t : ℕ) → enabled-lts.Need-same-length-3 (wide-reads.Asked, wide-reads.Learnt, plain-par-reads.Asked, plain-par-reads.Learnt, par-below t, par.Post, head-mask-reads.Asked, head-mask-reads.Learnt, seq-below t, seq.Post, scope-below t, scope.Post, executor-below t, executor.Post, read-reads.Asked, read-reads.Learnt) (enabled-at t) enabled.Post
+enabled-same-length-3 : (t : ℕ) → enabled-lts.Need-same-length-3 (enabled-claims t) (enabled-at t) enabled.Post
 enabled-same-length-3 t c = search needs
 
-enabled-returns-7 : (t : ℕ) → enabled-lts.Need-returns-7 (wide-reads.Asked, wide-reads.Learnt, plain-par-reads.Asked, plain-par-reads.Learnt, par-below t, par.Post, head-mask-reads.Asked, head-mask-reads.Learnt, seq-below t, seq.Post, scope-below t, scope.Post, executor-below t, executor.Post, read-reads.Asked, read-reads.Learnt) (enabled-at t) enabled.Post
-enabled-returns-7 t c = a-par _ _ _ _ _ _ _ _ ((c .before .before .before .before .before .before .before .before .before .before .before .before .if1 .left)) ((c .before .before .before .before .before .before .before .before .before .before .before .if2 .left)) ((c .before .before .before .before .before .before .before .before .before .wide .ensures .0)) ((c .before .before .before .before .before .before .head-mask .ensures)) ((c .before .before .before .before .before .if4 .left)) ((c .before .before .before .before .before .before .before .before .before .before .before .before .before .before .before .pre .1 .0)) ((c .before .before .before .before .before .before .before .before .before .before .before .before .before .before .before .pre .1 .1)) _ _ ((c .before .before .before .before .match .keys3)) ((c .before .before .par2 .ensures .0)) ((c .before .before .par2 .ensures .1))
+enabled-returns-7 : (t : ℕ) → enabled-lts.Need-returns-7 (enabled-claims t) (enabled-at t) enabled.Post
+enabled-returns-7 t c = a-par _ _ _ _ _ _ _ _ (enabled-head t (c .before .before .before .before .before)) _ _ ((c .before .before .before .before .match .keys3)) ((c .before .before .par2 .ensures .0)) ((c .before .before .par2 .ensures .1))
 
-enabled-returns-8 : (t : ℕ) → enabled-lts.Need-returns-8 (wide-reads.Asked, wide-reads.Learnt, plain-par-reads.Asked, plain-par-reads.Learnt, par-below t, par.Post, head-mask-reads.Asked, head-mask-reads.Learnt, seq-below t, seq.Post, scope-below t, scope.Post, executor-below t, executor.Post, read-reads.Asked, read-reads.Learnt) (enabled-at t) enabled.Post
+enabled-returns-8 : (t : ℕ) → enabled-lts.Need-returns-8 (enabled-claims t) (enabled-at t) enabled.Post
 unfolding nodeEnd
 enabled-returns-8 t c =
-    one-word _ _ _ _ _ _ _ _ ((c .before .before .before .before .before .before .before .before .if1 .left)) ((c .before .before .before .before .before .before .before .if2 .left)) ((c .before .before .before .before .before .wide .ensures .0)) ((c .before .before .head-mask .ensures)) ((c .before .if4 .left)) ((c .before .before .before .before .before .before .before .before .before .before .before .pre .1 .0)) ((c .before .before .before .before .before .before .before .before .before .before .before .pre .1 .1)) 7 ((c .match .keys4)) (λ h e. rw e refl) (λ z. omega arith) (λ z. omega arith) (λ z. omega arith) (λ z. omega arith)
+    one-word _ _ _ _ _ _ _ _ (enabled-head t (c .before)) 7 ((c .match .keys4)) (λ h e. rw e refl) (λ z. omega arith) (λ z. omega arith) (λ z. omega arith) (λ z. omega arith)
 
-enabled-same-length-4 : (t : ℕ) → enabled-lts.Need-same-length-4 (wide-reads.Asked, wide-reads.Learnt, plain-par-reads.Asked, plain-par-reads.Learnt, par-below t, par.Post, head-mask-reads.Asked, head-mask-reads.Learnt, seq-below t, seq.Post, scope-below t, scope.Post, executor-below t, executor.Post, read-reads.Asked, read-reads.Learnt) (enabled-at t) enabled.Post
+enabled-same-length-4 : (t : ℕ) → enabled-lts.Need-same-length-4 (enabled-claims t) (enabled-at t) enabled.Post
 enabled-same-length-4 t c = search needs
 
-enabled-returns-9 : (t : ℕ) → enabled-lts.Need-returns-9 (wide-reads.Asked, wide-reads.Learnt, plain-par-reads.Asked, plain-par-reads.Learnt, par-below t, par.Post, head-mask-reads.Asked, head-mask-reads.Learnt, seq-below t, seq.Post, scope-below t, scope.Post, executor-below t, executor.Post, read-reads.Asked, read-reads.Learnt) (enabled-at t) enabled.Post
-enabled-returns-9 t c = a-scope _ _ _ _ _ _ _ _ ((c .before .before .before .before .before .before .before .before .before .before .before .before .if1 .left)) ((c .before .before .before .before .before .before .before .before .before .before .before .if2 .left)) ((c .before .before .before .before .before .before .before .before .before .wide .ensures .0)) ((c .before .before .before .before .before .before .head-mask .ensures)) ((c .before .before .before .before .before .if4 .left)) ((c .before .before .before .before .before .before .before .before .before .before .before .before .before .before .before .pre .1 .0)) ((c .before .before .before .before .before .before .before .before .before .before .before .before .before .before .before .pre .1 .1)) _ _ ((c .before .before .before .before .match .keys5)) ((c .before .before .scope .ensures .0)) ((c .before .before .scope .ensures .1))
+enabled-returns-9 : (t : ℕ) → enabled-lts.Need-returns-9 (enabled-claims t) (enabled-at t) enabled.Post
+enabled-returns-9 t c = a-scope _ _ _ _ _ _ _ _ (enabled-head t (c .before .before .before .before .before)) _ _ ((c .before .before .before .before .match .keys5)) ((c .before .before .scope .ensures .0)) ((c .before .before .scope .ensures .1))
 
-enabled-returns-10 : (t : ℕ) → enabled-lts.Need-returns-10 (wide-reads.Asked, wide-reads.Learnt, plain-par-reads.Asked, plain-par-reads.Learnt, par-below t, par.Post, head-mask-reads.Asked, head-mask-reads.Learnt, seq-below t, seq.Post, scope-below t, scope.Post, executor-below t, executor.Post, read-reads.Asked, read-reads.Learnt) (enabled-at t) enabled.Post
+enabled-returns-10 : (t : ℕ) → enabled-lts.Need-returns-10 (enabled-claims t) (enabled-at t) enabled.Post
 unfolding nodeEnd
 enabled-returns-10 t c =
-    one-word _ _ _ _ _ _ _ _ ((c .before .before .before .before .before .before .before .before .if1 .left)) ((c .before .before .before .before .before .before .before .if2 .left)) ((c .before .before .before .before .before .wide .ensures .0)) ((c .before .before .head-mask .ensures)) ((c .before .if4 .left)) ((c .before .before .before .before .before .before .before .before .before .before .before .pre .1 .0)) ((c .before .before .before .before .before .before .before .before .before .before .before .pre .1 .1)) 13 ((c .match .keys6)) (λ h e. rw e refl) (λ z. omega arith) (λ z. omega arith) (λ z. omega arith) (λ z. omega arith)
+    one-word _ _ _ _ _ _ _ _ (enabled-head t (c .before)) 13 ((c .match .keys6)) (λ h e. rw e refl) (λ z. omega arith) (λ z. omega arith) (λ z. omega arith) (λ z. omega arith)
 
-enabled-returns-11 : (t : ℕ) → enabled-lts.Need-returns-11 (wide-reads.Asked, wide-reads.Learnt, plain-par-reads.Asked, plain-par-reads.Learnt, par-below t, par.Post, head-mask-reads.Asked, head-mask-reads.Learnt, seq-below t, seq.Post, scope-below t, scope.Post, executor-below t, executor.Post, read-reads.Asked, read-reads.Learnt) (enabled-at t) enabled.Post
+enabled-returns-11 : (t : ℕ) → enabled-lts.Need-returns-11 (enabled-claims t) (enabled-at t) enabled.Post
 unfolding nodeEnd
 enabled-returns-11 t c =
-    one-word _ _ _ _ _ _ _ _ ((c .before .before .before .before .before .before .before .before .if1 .left)) ((c .before .before .before .before .before .before .before .if2 .left)) ((c .before .before .before .before .before .wide .ensures .0)) ((c .before .before .head-mask .ensures)) ((c .before .if4 .left)) ((c .before .before .before .before .before .before .before .before .before .before .before .pre .1 .0)) ((c .before .before .before .before .before .before .before .before .before .before .before .pre .1 .1)) 14 ((c .match .keys7)) (λ h e. rw e refl) (λ z. omega arith) (λ z. omega arith) (λ z. omega arith) (λ z. omega arith)
+    one-word _ _ _ _ _ _ _ _ (enabled-head t (c .before)) 14 ((c .match .keys7)) (λ h e. rw e refl) (λ z. omega arith) (λ z. omega arith) (λ z. omega arith) (λ z. omega arith)
 
-enabled-same-length-5 : (t : ℕ) → enabled-lts.Need-same-length-5 (wide-reads.Asked, wide-reads.Learnt, plain-par-reads.Asked, plain-par-reads.Learnt, par-below t, par.Post, head-mask-reads.Asked, head-mask-reads.Learnt, seq-below t, seq.Post, scope-below t, scope.Post, executor-below t, executor.Post, read-reads.Asked, read-reads.Learnt) (enabled-at t) enabled.Post
+enabled-same-length-5 : (t : ℕ) → enabled-lts.Need-same-length-5 (enabled-claims t) (enabled-at t) enabled.Post
 enabled-same-length-5 t c = search needs
 
-enabled-returns-12 : (t : ℕ) → enabled-lts.Need-returns-12 (wide-reads.Asked, wide-reads.Learnt, plain-par-reads.Asked, plain-par-reads.Learnt, par-below t, par.Post, head-mask-reads.Asked, head-mask-reads.Learnt, seq-below t, seq.Post, scope-below t, scope.Post, executor-below t, executor.Post, read-reads.Asked, read-reads.Learnt) (enabled-at t) enabled.Post
-enabled-returns-12 t c = an-executor _ _ _ _ _ _ _ _ ((c .before .before .before .before .before .before .before .before .before .before .before .before .if1 .left)) ((c .before .before .before .before .before .before .before .before .before .before .before .if2 .left)) ((c .before .before .before .before .before .before .before .before .before .wide .ensures .0)) ((c .before .before .before .before .before .before .head-mask .ensures)) ((c .before .before .before .before .before .if4 .left)) ((c .before .before .before .before .before .before .before .before .before .before .before .before .before .before .before .pre .1 .0)) ((c .before .before .before .before .before .before .before .before .before .before .before .before .before .before .before .pre .1 .1)) _ _ ((c .before .before .before .before .match .keys8)) ((c .before .before .executor .ensures .0)) ((c .before .before .executor .ensures .1))
+enabled-returns-12 : (t : ℕ) → enabled-lts.Need-returns-12 (enabled-claims t) (enabled-at t) enabled.Post
+enabled-returns-12 t c = an-executor _ _ _ _ _ _ _ _ (enabled-head t (c .before .before .before .before .before)) _ _ ((c .before .before .before .before .match .keys8)) ((c .before .before .executor .ensures .0)) ((c .before .before .executor .ensures .1))
 
-enabled-returns-13 : (t : ℕ) → enabled-lts.Need-returns-13 (wide-reads.Asked, wide-reads.Learnt, plain-par-reads.Asked, plain-par-reads.Learnt, par-below t, par.Post, head-mask-reads.Asked, head-mask-reads.Learnt, seq-below t, seq.Post, scope-below t, scope.Post, executor-below t, executor.Post, read-reads.Asked, read-reads.Learnt) (enabled-at t) enabled.Post
-enabled-returns-13 t c = ((c .read .ensures), others _ _ _ _ _ _ _ _ ((c .before .before .before .before .before .before .before .before .before .if1 .left)) ((c .before .before .before .before .before .before .before .before .if2 .left)) ((c .before .before .before .before .before .before .wide .ensures .0)) ((c .before .before .before .head-mask .ensures)) ((c .before .before .if4 .left)) ((c .before .before .before .before .before .before .before .before .before .before .before .before .pre .1 .0)) ((c .before .before .before .before .before .before .before .before .before .before .before .before .pre .1 .1)) _ refl ((c .before .match .rest .0 .0 .0 .0 .0 .0 .1)) ((c .before .match .rest .0 .0 .0 .0 .0 .1)) ((c .before .match .rest .0 .0 .0 .1)) ((c .before .match .rest .1)))
+enabled-returns-13 : (t : ℕ) → enabled-lts.Need-returns-13 (enabled-claims t) (enabled-at t) enabled.Post
+enabled-returns-13 t c = ((c .read .ensures), others _ _ _ _ _ _ _ _ (enabled-head t (c .before .before)) _ refl ((c .before .match .rest .0 .0 .0 .0 .0 .0 .1)) ((c .before .match .rest .0 .0 .0 .0 .0 .1)) ((c .before .match .rest .0 .0 .0 .1)) ((c .before .match .rest .1)))
 
-executor-executor-fixed-requires : (t : ℕ) → executor-lts.Need-executor-fixed-requires (executor-fixed-reads.Asked, executor-fixed-reads.Learnt, noted-below t, noted.Post) (executor-at t) executor.Post
+abbrev executor-claims : ℕ → executor-lts.Claims
+executor-claims t = (executor-fixed-reads.Asked, executor-fixed-reads.Learnt, noted-below t, noted.Post)
+
+executor-executor-fixed-requires : (t : ℕ) → executor-lts.Need-executor-fixed-requires (executor-claims t) (executor-at t) executor.Post
 executor-executor-fixed-requires t c κs = search needs
 
-executor-add-noted : (t : ℕ) → executor-lts.Need-add-noted (executor-fixed-reads.Asked, executor-fixed-reads.Learnt, noted-below t, noted.Post) (executor-at t) executor.Post
+executor-add-noted : (t : ℕ) → executor-lts.Need-add-noted (executor-claims t) (executor-at t) executor.Post
 executor-add-noted t c = search needs
 
-executor-noted-requires : (t : ℕ) → executor-lts.Need-noted-requires (executor-fixed-reads.Asked, executor-fixed-reads.Learnt, noted-below t, noted.Post) (executor-at t) executor.Post
+executor-noted-requires : (t : ℕ) → executor-lts.Need-noted-requires (executor-claims t) (executor-at t) executor.Post
 executor-noted-requires t c κs = search needs
 
-executor-same-length : (t : ℕ) → executor-lts.Need-same-length (executor-fixed-reads.Asked, executor-fixed-reads.Learnt, noted-below t, noted.Post) (executor-at t) executor.Post
+executor-same-length : (t : ℕ) → executor-lts.Need-same-length (executor-claims t) (executor-at t) executor.Post
 executor-same-length t c = search needs
 
-executor-returns : (t : ℕ) → executor-lts.Need-returns (executor-fixed-reads.Asked, executor-fixed-reads.Learnt, noted-below t, noted.Post) (executor-at t) executor.Post
+executor-returns : (t : ℕ) → executor-lts.Need-returns (executor-claims t) (executor-at t) executor.Post
 executor-returns t c = executor-next _ _ _ _ _ _ _ _ (sym ((c .before .before .before .before .if1 .taken)) ∙ (c .before .before .before .before .before .executor-fixed .ensures)) ((c .before .before .noted .ensures .0)) ((c .before .before .noted .ensures .1))
 
-executor-returns-2 : (t : ℕ) → executor-lts.Need-returns-2 (executor-fixed-reads.Asked, executor-fixed-reads.Learnt, noted-below t, noted.Post) (executor-at t) executor.Post
+executor-returns-2 : (t : ℕ) → executor-lts.Need-returns-2 (executor-claims t) (executor-at t) executor.Post
 executor-returns-2 t c = executor-none _ _ _ _ _ _ (sym ((c .if1 .left)) ∙ (c .before .executor-fixed .ensures))
 
-noted-enabled-requires : (t : ℕ) → noted-lts.Need-enabled-requires (enabled-below t, enabled.Post, note-reads.Asked, note-reads.Learnt) (noted-at t) noted.Post
+abbrev noted-claims : ℕ → noted-lts.Claims
+noted-claims t = (enabled-below t, enabled.Post, note-reads.Asked, note-reads.Learnt)
+
+noted-enabled-requires : (t : ℕ) → noted-lts.Need-enabled-requires (noted-claims t) (noted-at t) noted.Post
 noted-enabled-requires t c κs = search needs
 
-noted-note-requires : (t : ℕ) → noted-lts.Need-note-requires (enabled-below t, enabled.Post, note-reads.Asked, note-reads.Learnt) (noted-at t) noted.Post
+noted-note-requires : (t : ℕ) → noted-lts.Need-note-requires (noted-claims t) (noted-at t) noted.Post
 noted-note-requires t c κs = search needs
 
-noted-same-length : (t : ℕ) → noted-lts.Need-same-length (enabled-below t, enabled.Post, note-reads.Asked, note-reads.Learnt) (noted-at t) noted.Post
+noted-same-length : (t : ℕ) → noted-lts.Need-same-length (noted-claims t) (noted-at t) noted.Post
 noted-same-length t c = search needs
 
-noted-returns : (t : ℕ) → noted-lts.Need-returns (enabled-below t, enabled.Post, note-reads.Asked, note-reads.Learnt) (noted-at t) noted.Post
+noted-returns : (t : ℕ) → noted-lts.Need-returns (noted-claims t) (noted-at t) noted.Post
 unfolding noting
 noted-returns t c =
     ((c .before .before .note .ensures .0) ∙ (c .before .before .before .before .before .before .enabled .ensures .0), (c .before .before .note .ensures .1) ∙ same-note _ _ _ _ _ ((c .before .before .before .before .before .before .enabled .ensures .0)) ((c .before .before .before .before .before .before .enabled .ensures .1)))
 
-par-noted-requires : (t : ℕ) → par-lts.Need-noted-requires (noted-below t, noted.Post) (par-at t) par.Post
+abbrev par-claims : ℕ → par-lts.Claims
+par-claims t = (noted-below t, noted.Post)
+
+par-noted-requires : (t : ℕ) → par-lts.Need-noted-requires (par-claims t) (par-at t) par.Post
 par-noted-requires t c κs = search needs
 
-par-same-length : (t : ℕ) → par-lts.Need-same-length (noted-below t, noted.Post) (par-at t) par.Post
+par-same-length : (t : ℕ) → par-lts.Need-same-length (par-claims t) (par-at t) par.Post
 par-same-length t c = search needs
 
-par-returns : (t : ℕ) → par-lts.Need-returns (noted-below t, noted.Post) (par-at t) par.Post
+par-returns : (t : ℕ) → par-lts.Need-returns (par-claims t) (par-at t) par.Post
 par-returns t c = (two-none _ (notesW ((c .before .before .before .before .before .before .before .args .depth)) ((c .before .before .before .before .before .before .before .args .ws .now)) ((c .before .before .before .before .before .before .before .args .bound))) _ _ _ _ ((c .before .before .before .noted .ensures .0)) ((c .before .before .before .noted .ensures .1)) _ ((c .if1 .taken)), par-none _ _ _ _ _ _ ((c .before .before .before .noted .ensures .0)) ((c .before .before .before .noted .ensures .1)) ((c .if1 .taken)))
 
-par-noted-requires-2 : (t : ℕ) → par-lts.Need-noted-requires-2 (noted-below t, noted.Post) (par-at t) par.Post
+par-noted-requires-2 : (t : ℕ) → par-lts.Need-noted-requires-2 (par-claims t) (par-at t) par.Post
 par-noted-requires-2 t c κs = search needs
 
-par-same-length-2 : (t : ℕ) → par-lts.Need-same-length-2 (noted-below t, noted.Post) (par-at t) par.Post
+par-same-length-2 : (t : ℕ) → par-lts.Need-same-length-2 (par-claims t) (par-at t) par.Post
 par-same-length-2 t c = search needs
 
-par-returns-2 : (t : ℕ) → par-lts.Need-returns-2 (noted-below t, noted.Post) (par-at t) par.Post
+par-returns-2 : (t : ℕ) → par-lts.Need-returns-2 (par-claims t) (par-at t) par.Post
 par-returns-2 t c = (two-next _ (notesW ((c .before .before .before .before .before .before .before .before .before .before .before .args .depth)) ((c .before .before .before .before .before .before .before .before .before .before .before .args .ws .now)) ((c .before .before .before .before .before .before .before .before .before .before .before .args .bound))) _ _ _ _ ((c .before .before .before .before .before .before .before .noted .ensures .0)) ((c .before .before .before .before .before .before .before .noted .ensures .1)) _ _ ((c .before .before .before .before .if1 .left)) ((c .before .before .noted2 .ensures .0)), par-next _ _ _ _ _ _ ((c .before .before .before .before .before .before .before .noted .ensures .0)) ((c .before .before .before .before .before .before .before .noted .ensures .1)) _ ((c .before .before .before .before .if1 .left)) ((c .before .before .noted2 .ensures .1)))
 
-scope-sub-if1 : (t : ℕ) → scope-lts.Need-sub-if1 (listed-reads.Asked, listed-reads.Learnt, note-list-reads.Asked, note-list-reads.Learnt, noted-below t, noted.Post) (scope-at t) scope.Post
+abbrev scope-claims : ℕ → scope-lts.Claims
+scope-claims t = (listed-reads.Asked, listed-reads.Learnt, note-list-reads.Asked, note-list-reads.Learnt, noted-below t, noted.Post)
+
+scope-sub-if1 : (t : ℕ) → scope-lts.Need-sub-if1 (scope-claims t) (scope-at t) scope.Post
 scope-sub-if1 t c = search needs
 
-scope-returns : (t : ℕ) → scope-lts.Need-returns (listed-reads.Asked, listed-reads.Learnt, note-list-reads.Asked, note-list-reads.Learnt, noted-below t, noted.Post) (scope-at t) scope.Post
+scope-returns : (t : ℕ) → scope-lts.Need-returns (scope-claims t) (scope-at t) scope.Post
 scope-returns t c = scope-short _ _ _ _ _ _ ((c .if1 .taken))
 
-scope-listed-requires : (t : ℕ) → scope-lts.Need-listed-requires (listed-reads.Asked, listed-reads.Learnt, note-list-reads.Asked, note-list-reads.Learnt, noted-below t, noted.Post) (scope-at t) scope.Post
+scope-listed-requires : (t : ℕ) → scope-lts.Need-listed-requires (scope-claims t) (scope-at t) scope.Post
 scope-listed-requires t c κs = search needs
 
-scope-returns-2 : (t : ℕ) → scope-lts.Need-returns-2 (listed-reads.Asked, listed-reads.Learnt, note-list-reads.Asked, note-list-reads.Learnt, noted-below t, noted.Post) (scope-at t) scope.Post
+scope-returns-2 : (t : ℕ) → scope-lts.Need-returns-2 (scope-claims t) (scope-at t) scope.Post
 scope-returns-2 t c = scope-none _ _ _ _ _ _ _ _ ((c .before .before .if1 .left)) refl ((c .before .listed .ensures)) ((c .if2 .taken))
 
-scope-add-note-list : (t : ℕ) → scope-lts.Need-add-note-list (listed-reads.Asked, listed-reads.Learnt, note-list-reads.Asked, note-list-reads.Learnt, noted-below t, noted.Post) (scope-at t) scope.Post
+scope-add-note-list : (t : ℕ) → scope-lts.Need-add-note-list (scope-claims t) (scope-at t) scope.Post
 scope-add-note-list t c = search needs
 
-scope-note-list-requires : (t : ℕ) → scope-lts.Need-note-list-requires (listed-reads.Asked, listed-reads.Learnt, note-list-reads.Asked, note-list-reads.Learnt, noted-below t, noted.Post) (scope-at t) scope.Post
+scope-note-list-requires : (t : ℕ) → scope-lts.Need-note-list-requires (scope-claims t) (scope-at t) scope.Post
 scope-note-list-requires t c κs = search needs
 
-scope-noted-requires : (t : ℕ) → scope-lts.Need-noted-requires (listed-reads.Asked, listed-reads.Learnt, note-list-reads.Asked, note-list-reads.Learnt, noted-below t, noted.Post) (scope-at t) scope.Post
+scope-noted-requires : (t : ℕ) → scope-lts.Need-noted-requires (scope-claims t) (scope-at t) scope.Post
 scope-noted-requires t c κs = search needs
 
-scope-same-length : (t : ℕ) → scope-lts.Need-same-length (listed-reads.Asked, listed-reads.Learnt, note-list-reads.Asked, note-list-reads.Learnt, noted-below t, noted.Post) (scope-at t) scope.Post
+scope-same-length : (t : ℕ) → scope-lts.Need-same-length (scope-claims t) (scope-at t) scope.Post
 scope-same-length t c = search needs
 
-scope-returns-3 : (t : ℕ) → scope-lts.Need-returns-3 (listed-reads.Asked, listed-reads.Learnt, note-list-reads.Asked, note-list-reads.Learnt, noted-below t, noted.Post) (scope-at t) scope.Post
+scope-returns-3 : (t : ℕ) → scope-lts.Need-returns-3 (scope-claims t) (scope-at t) scope.Post
 scope-returns-3 t c = scope-next _ _ _ _ _ _ _ _ ((c .before .before .before .before .before .before .before .before .before .before .if1 .left)) refl ((c .before .before .before .before .before .before .before .before .before .listed .ensures)) _ _ _ ((c .before .before .before .before .before .before .before .before .if2 .left)) ((c .before .before .before .before .before .before .note-list .ensures .1)) ((c .before .before .noted .ensures .0)) ((c .before .before .noted .ensures .1))
 
-seq-noted-requires : (t : ℕ) → seq-lts.Need-noted-requires (noted-below t, noted.Post, read-reads.Asked, read-reads.Learnt, note-reads.Asked, note-reads.Learnt) (seq-at t) seq.Post
+abbrev seq-claims : ℕ → seq-lts.Claims
+seq-claims t = (noted-below t, noted.Post, read-reads.Asked, read-reads.Learnt, note-reads.Asked, note-reads.Learnt)
+
+seq-noted-requires : (t : ℕ) → seq-lts.Need-noted-requires (seq-claims t) (seq-at t) seq.Post
 seq-noted-requires t c κs = search needs
 
-seq-same-length : (t : ℕ) → seq-lts.Need-same-length (noted-below t, noted.Post, read-reads.Asked, read-reads.Learnt, note-reads.Asked, note-reads.Learnt) (seq-at t) seq.Post
+seq-same-length : (t : ℕ) → seq-lts.Need-same-length (seq-claims t) (seq-at t) seq.Post
 seq-same-length t c = search needs
 
-seq-returns : (t : ℕ) → seq-lts.Need-returns (noted-below t, noted.Post, read-reads.Asked, read-reads.Learnt, note-reads.Asked, note-reads.Learnt) (seq-at t) seq.Post
+seq-returns : (t : ℕ) → seq-lts.Need-returns (seq-claims t) (seq-at t) seq.Post
 seq-returns t c = (two-none _ (notesW ((c .before .before .before .before .before .before .before .args .depth)) ((c .before .before .before .before .before .before .before .args .ws .now)) ((c .before .before .before .before .before .before .before .args .bound))) _ _ _ _ ((c .before .before .before .noted .ensures .0)) ((c .before .before .before .noted .ensures .1)) _ ((c .if1 .taken)), seq-none _ _ _ _ _ _ ((c .before .before .before .noted .ensures .0)) ((c .before .before .before .noted .ensures .1)) ((c .if1 .taken)))
 
-seq-read-requires : (t : ℕ) → seq-lts.Need-read-requires (noted-below t, noted.Post, read-reads.Asked, read-reads.Learnt, note-reads.Asked, note-reads.Learnt) (seq-at t) seq.Post
+seq-read-requires : (t : ℕ) → seq-lts.Need-read-requires (seq-claims t) (seq-at t) seq.Post
 seq-read-requires t c κs = search needs
 
-seq-note-requires : (t : ℕ) → seq-lts.Need-note-requires (noted-below t, noted.Post, read-reads.Asked, read-reads.Learnt, note-reads.Asked, note-reads.Learnt) (seq-at t) seq.Post
+seq-note-requires : (t : ℕ) → seq-lts.Need-note-requires (seq-claims t) (seq-at t) seq.Post
 seq-note-requires t c κs = search needs
 
-seq-same-length-2 : (t : ℕ) → seq-lts.Need-same-length-2 (noted-below t, noted.Post, read-reads.Asked, read-reads.Learnt, note-reads.Asked, note-reads.Learnt) (seq-at t) seq.Post
+seq-same-length-2 : (t : ℕ) → seq-lts.Need-same-length-2 (seq-claims t) (seq-at t) seq.Post
 seq-same-length-2 t c = search needs
 
-seq-returns-2 : (t : ℕ) → seq-lts.Need-returns-2 (noted-below t, noted.Post, read-reads.Asked, read-reads.Learnt, note-reads.Asked, note-reads.Learnt) (seq-at t) seq.Post
+seq-returns-2 : (t : ℕ) → seq-lts.Need-returns-2 (seq-claims t) (seq-at t) seq.Post
 seq-returns-2 t c = (two-next _ (notesW ((c .before .before .before .before .before .before .before .before .before .before .before .before .args .depth)) ((c .before .before .before .before .before .before .before .before .before .before .before .before .args .ws .now)) ((c .before .before .before .before .before .before .before .before .before .before .before .before .args .bound))) _ _ _ _ ((c .before .before .before .before .before .before .before .before .noted .ensures .0)) ((c .before .before .before .before .before .before .before .before .noted .ensures .1)) _ _ ((c .before .before .before .before .before .if1 .left)) ((c .before .before .note .ensures .0) ∙ (c .before .before .before .before .read .ensures)), seq-next _ _ _ _ _ _ ((c .before .before .before .before .before .before .before .before .noted .ensures .0)) ((c .before .before .before .before .before .before .before .before .noted .ensures .1)) _ _ ((c .before .before .before .before .before .if1 .left)) ((c .before .before .before .before .read .ensures)) ((c .before .before .note .ensures .1)))
 
 pub +enabled+executor+noted+par+scope+seq-spec : {M : Type 1} → statement M

@@ -1,4 +1,4 @@
--- `listed` of `noting::enabled` meets its contract: the code is the reader's mirror.
+-- `listed` of `noting::enabled` meets its contract: without mark and fault, an empty list ends where the reader has it end.
 -- Assumes nothing.
 use Prim.Native.Nat.{_+_}
 use mathlib.Core.Path.{ap, _∙_}

@@ -1,4 +1,4 @@
--- `plain_par` of `noting::enabled` meets its contract: the code is its mirror in specs/.
+-- `plain_par` of `noting::enabled` meets its contract: the context first, then the head.
 -- Assumes nothing.
 use Rattle.sock.proofs.Tests.{tests}
 use Rattle.noting.specs.Noting.{plainPar}

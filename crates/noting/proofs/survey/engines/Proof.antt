@@ -1,4 +1,5 @@
 -- `engines` of `noting::survey` meets its contract. The loop's invariant: the walk and the notes from here give what they give from the start.
+-- The measure is the engines left.
 -- Assumes nothing.
 use Prim.Native.Nat.{_-_, _≤_}
 use native.Mathlib.Omega.{arith}

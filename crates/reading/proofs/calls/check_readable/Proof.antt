@@ -1,4 +1,4 @@
--- `check_readable` of `reading::calls` meets its contract: the code is its mirror in specs/.
+-- `check_readable` of `reading::calls` meets its contract: the survey has an engine exactly where the definitions read a configuration.
 -- Assumes nothing.
 use Rattle.reading.proofs.Checks.{not-readable, is-readable}
 use Rattle.sock.specs.Configuration.{standard}

@@ -1,4 +1,4 @@
--- `check_start` of `reading::calls` meets its contract: the code is its mirror in specs/.
+-- `check_start` of `reading::calls` meets its contract: fresh is asked first, then whether it is readable at all.
 -- Assumes nothing.
 use Rattle.reading.proofs.Checks.{start-fresh, start-stale, start-unread}
 use Rattle.sock.specs.Configuration.{standard}

@@ -1,4 +1,4 @@
--- `calls::none_nil` meets its contract. The loop's invariant: the walk from here gives what it gives from the start.
+-- `calls::none_nil` meets its contract. The loop's invariant: the walk from here gives what it gives from the start. The measure is the engines left.
 -- Assumes nothing.
 use Prim.Native.Nat.{_-_, _≤_}
 use native.Mathlib.Omega.{arith}

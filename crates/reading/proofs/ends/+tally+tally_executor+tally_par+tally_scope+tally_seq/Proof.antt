@@ -1,12 +1,16 @@
--- `tally`, `tally_executor`, `tally_par`, `tally_scope` and `tally_seq` of `reading::ends` meet their contracts: the code is its mirror in specs/.
+-- `tally`, `tally_executor`, `tally_par`, `tally_scope` and `tally_seq` of `reading::ends` meet their contracts. The measure is twice the depth, and
+-- one more for a seq, par, scope or executor, which counts one level down. Counts do not run over: there are no more ends than words.
 -- Assumes nothing.
-use mathlib.Core.Path.{_∙_}
+use mathlib.Core.Path.{_≡_, _∙_}
 use borrow.Author.Needs.{needs}
 use native.Mathlib.Omega.{arith}
 use Rattle.reading.proofs.Counting.{tally-step, tally-node, tally-bounded, one-more-below, sums-below}
+use Rattle.sock.specs.Words.{kindOf}
+use Rattle.layout.specs.Contexts.{running}
+use Rattle.reading.specs.Walk.{processEnd}
 use Rattle.reading.specs.Tally.{after, seqTally, parTally, scopeTally, executorTally, nodeTally, tallyAt}
 use Rattle.reading.proofs.Tests.{tests}
-use Prim.Native.Nat.{ℕ, _+_, _*_, _<_}
+use Prim.Native.Nat.{ℕ, _+_, _-_, _*_, _<_}
 use borrow.Fn.Kinds.{In}
 use borrow.Fn.PlainCycle.{Measures, is, falls, and}
 use Rattle.reading.proofs.ends.tally.Reads as tally
@@ -92,118 +96,130 @@ abbrev tally-seq-below : ℕ → In 1 tally-seq-kinds.ps
 tally-seq-below t =
     and 1 tally-seq-kinds.ps (falls 1 tally-seq-kinds.ps _<_ μ-tally-seq t) tally-seq.Pre
 
-tally-not-counted-requires : (t : ℕ) → tally-lts.Need-not-counted-requires (not-counted-reads.Asked, not-counted-reads.Learnt, wide-reads.Asked, wide-reads.Learnt, tally-seq-below t, tally-seq.Post, tally-par-below t, tally-par.Post, tally-scope-below t, tally-scope.Post, tally-executor-below t, tally-executor.Post, process-reads.Asked, process-reads.Learnt, serial-at-reads.Asked, serial-at-reads.Learnt, count-reads.Asked, count-reads.Learnt) (tally-at t) tally.Post
+abbrev tally-claims : ℕ → tally-lts.Claims
+tally-claims t = (not-counted-reads.Asked, not-counted-reads.Learnt, wide-reads.Asked, wide-reads.Learnt, tally-seq-below t, tally-seq.Post, tally-par-below t, tally-par.Post, tally-scope-below t, tally-scope.Post, tally-executor-below t, tally-executor.Post, process-reads.Asked, process-reads.Learnt, serial-at-reads.Asked, serial-at-reads.Learnt, count-reads.Asked, count-reads.Learnt)
+
+tally-not-counted-requires : (t : ℕ) → tally-lts.Need-not-counted-requires (tally-claims t) (tally-at t) tally.Post
 tally-not-counted-requires t c κs = search needs
 
-tally-returns : (t : ℕ) → tally-lts.Need-returns (not-counted-reads.Asked, not-counted-reads.Learnt, wide-reads.Asked, wide-reads.Learnt, tally-seq-below t, tally-seq.Post, tally-par-below t, tally-par.Post, tally-scope-below t, tally-scope.Post, tally-executor-below t, tally-executor.Post, process-reads.Asked, process-reads.Learnt, serial-at-reads.Asked, serial-at-reads.Learnt, count-reads.Asked, count-reads.Learnt) (tally-at t) tally.Post
+tally-returns : (t : ℕ) → tally-lts.Need-returns (tally-claims t) (tally-at t) tally.Post
 unfolding tallyAt
 tally-returns t c =
     let f0 = (c .before .if1 .taken) in
     simp (tests, (c .not-counted .ensures), f0)
 
-tally-not-counted-requires-2 : (t : ℕ) → tally-lts.Need-not-counted-requires-2 (not-counted-reads.Asked, not-counted-reads.Learnt, wide-reads.Asked, wide-reads.Learnt, tally-seq-below t, tally-seq.Post, tally-par-below t, tally-par.Post, tally-scope-below t, tally-scope.Post, tally-executor-below t, tally-executor.Post, process-reads.Asked, process-reads.Learnt, serial-at-reads.Asked, serial-at-reads.Learnt, count-reads.Asked, count-reads.Learnt) (tally-at t) tally.Post
+tally-not-counted-requires-2 : (t : ℕ) → tally-lts.Need-not-counted-requires-2 (tally-claims t) (tally-at t) tally.Post
 tally-not-counted-requires-2 t c κs = search needs
 
-tally-returns-2 : (t : ℕ) → tally-lts.Need-returns-2 (not-counted-reads.Asked, not-counted-reads.Learnt, wide-reads.Asked, wide-reads.Learnt, tally-seq-below t, tally-seq.Post, tally-par-below t, tally-par.Post, tally-scope-below t, tally-scope.Post, tally-executor-below t, tally-executor.Post, process-reads.Asked, process-reads.Learnt, serial-at-reads.Asked, serial-at-reads.Learnt, count-reads.Asked, count-reads.Learnt) (tally-at t) tally.Post
+tally-returns-2 : (t : ℕ) → tally-lts.Need-returns-2 (tally-claims t) (tally-at t) tally.Post
 tally-returns-2 t c =
     let f0 = (c .before .before .if1 .left) in
     let f1 = (c .before .if2 .taken) in
     simp (tests, tally-step, (c .not-counted2 .ensures), f0, f1)
 
-tally-sub-d : (t : ℕ) → tally-lts.Need-sub-d (not-counted-reads.Asked, not-counted-reads.Learnt, wide-reads.Asked, wide-reads.Learnt, tally-seq-below t, tally-seq.Post, tally-par-below t, tally-par.Post, tally-scope-below t, tally-scope.Post, tally-executor-below t, tally-executor.Post, process-reads.Asked, process-reads.Learnt, serial-at-reads.Asked, serial-at-reads.Learnt, count-reads.Asked, count-reads.Learnt) (tally-at t) tally.Post
+tally-sub-d : (t : ℕ) → tally-lts.Need-sub-d (tally-claims t) (tally-at t) tally.Post
 tally-sub-d t c = search needs
 
-tally-mul-wide : (t : ℕ) → tally-lts.Need-mul-wide (not-counted-reads.Asked, not-counted-reads.Learnt, wide-reads.Asked, wide-reads.Learnt, tally-seq-below t, tally-seq.Post, tally-par-below t, tally-par.Post, tally-scope-below t, tally-scope.Post, tally-executor-below t, tally-executor.Post, process-reads.Asked, process-reads.Learnt, serial-at-reads.Asked, serial-at-reads.Learnt, count-reads.Asked, count-reads.Learnt) (tally-at t) tally.Post
+tally-mul-wide : (t : ℕ) → tally-lts.Need-mul-wide (tally-claims t) (tally-at t) tally.Post
 tally-mul-wide t c = search needs
 
-tally-shared-slice-read-wide : (t : ℕ) → tally-lts.Need-shared-slice-read-wide (not-counted-reads.Asked, not-counted-reads.Learnt, wide-reads.Asked, wide-reads.Learnt, tally-seq-below t, tally-seq.Post, tally-par-below t, tally-par.Post, tally-scope-below t, tally-scope.Post, tally-executor-below t, tally-executor.Post, process-reads.Asked, process-reads.Learnt, serial-at-reads.Asked, serial-at-reads.Learnt, count-reads.Asked, count-reads.Learnt) (tally-at t) tally.Post
+tally-shared-slice-read-wide : (t : ℕ) → tally-lts.Need-shared-slice-read-wide (tally-claims t) (tally-at t) tally.Post
 tally-shared-slice-read-wide t c = search needs
 
-tally-wide-requires : (t : ℕ) → tally-lts.Need-wide-requires (not-counted-reads.Asked, not-counted-reads.Learnt, wide-reads.Asked, wide-reads.Learnt, tally-seq-below t, tally-seq.Post, tally-par-below t, tally-par.Post, tally-scope-below t, tally-scope.Post, tally-executor-below t, tally-executor.Post, process-reads.Asked, process-reads.Learnt, serial-at-reads.Asked, serial-at-reads.Learnt, count-reads.Asked, count-reads.Learnt) (tally-at t) tally.Post
+tally-wide-requires : (t : ℕ) → tally-lts.Need-wide-requires (tally-claims t) (tally-at t) tally.Post
 tally-wide-requires t c κs = search needs
 
-tally-add-tally-seq : (t : ℕ) → tally-lts.Need-add-tally-seq (not-counted-reads.Asked, not-counted-reads.Learnt, wide-reads.Asked, wide-reads.Learnt, tally-seq-below t, tally-seq.Post, tally-par-below t, tally-par.Post, tally-scope-below t, tally-scope.Post, tally-executor-below t, tally-executor.Post, process-reads.Asked, process-reads.Learnt, serial-at-reads.Asked, serial-at-reads.Learnt, count-reads.Asked, count-reads.Learnt) (tally-at t) tally.Post
+tally-add-tally-seq : (t : ℕ) → tally-lts.Need-add-tally-seq (tally-claims t) (tally-at t) tally.Post
 tally-add-tally-seq t c = search needs
 
-tally-tally-seq-requires : (t : ℕ) → tally-lts.Need-tally-seq-requires (not-counted-reads.Asked, not-counted-reads.Learnt, wide-reads.Asked, wide-reads.Learnt, tally-seq-below t, tally-seq.Post, tally-par-below t, tally-par.Post, tally-scope-below t, tally-scope.Post, tally-executor-below t, tally-executor.Post, process-reads.Asked, process-reads.Learnt, serial-at-reads.Asked, serial-at-reads.Learnt, count-reads.Asked, count-reads.Learnt) (tally-at t) tally.Post
+tally-tally-seq-requires : (t : ℕ) → tally-lts.Need-tally-seq-requires (tally-claims t) (tally-at t) tally.Post
 tally-tally-seq-requires t c κs = search needs
 
-tally-add-tally-par : (t : ℕ) → tally-lts.Need-add-tally-par (not-counted-reads.Asked, not-counted-reads.Learnt, wide-reads.Asked, wide-reads.Learnt, tally-seq-below t, tally-seq.Post, tally-par-below t, tally-par.Post, tally-scope-below t, tally-scope.Post, tally-executor-below t, tally-executor.Post, process-reads.Asked, process-reads.Learnt, serial-at-reads.Asked, serial-at-reads.Learnt, count-reads.Asked, count-reads.Learnt) (tally-at t) tally.Post
+tally-add-tally-par : (t : ℕ) → tally-lts.Need-add-tally-par (tally-claims t) (tally-at t) tally.Post
 tally-add-tally-par t c = search needs
 
-tally-tally-par-requires : (t : ℕ) → tally-lts.Need-tally-par-requires (not-counted-reads.Asked, not-counted-reads.Learnt, wide-reads.Asked, wide-reads.Learnt, tally-seq-below t, tally-seq.Post, tally-par-below t, tally-par.Post, tally-scope-below t, tally-scope.Post, tally-executor-below t, tally-executor.Post, process-reads.Asked, process-reads.Learnt, serial-at-reads.Asked, serial-at-reads.Learnt, count-reads.Asked, count-reads.Learnt) (tally-at t) tally.Post
+tally-tally-par-requires : (t : ℕ) → tally-lts.Need-tally-par-requires (tally-claims t) (tally-at t) tally.Post
 tally-tally-par-requires t c κs = search needs
 
-tally-add-tally-scope : (t : ℕ) → tally-lts.Need-add-tally-scope (not-counted-reads.Asked, not-counted-reads.Learnt, wide-reads.Asked, wide-reads.Learnt, tally-seq-below t, tally-seq.Post, tally-par-below t, tally-par.Post, tally-scope-below t, tally-scope.Post, tally-executor-below t, tally-executor.Post, process-reads.Asked, process-reads.Learnt, serial-at-reads.Asked, serial-at-reads.Learnt, count-reads.Asked, count-reads.Learnt) (tally-at t) tally.Post
+tally-add-tally-scope : (t : ℕ) → tally-lts.Need-add-tally-scope (tally-claims t) (tally-at t) tally.Post
 tally-add-tally-scope t c = search needs
 
-tally-tally-scope-requires : (t : ℕ) → tally-lts.Need-tally-scope-requires (not-counted-reads.Asked, not-counted-reads.Learnt, wide-reads.Asked, wide-reads.Learnt, tally-seq-below t, tally-seq.Post, tally-par-below t, tally-par.Post, tally-scope-below t, tally-scope.Post, tally-executor-below t, tally-executor.Post, process-reads.Asked, process-reads.Learnt, serial-at-reads.Asked, serial-at-reads.Learnt, count-reads.Asked, count-reads.Learnt) (tally-at t) tally.Post
+tally-tally-scope-requires : (t : ℕ) → tally-lts.Need-tally-scope-requires (tally-claims t) (tally-at t) tally.Post
 tally-tally-scope-requires t c κs = search needs
 
-tally-tally-executor-requires : (t : ℕ) → tally-lts.Need-tally-executor-requires (not-counted-reads.Asked, not-counted-reads.Learnt, wide-reads.Asked, wide-reads.Learnt, tally-seq-below t, tally-seq.Post, tally-par-below t, tally-par.Post, tally-scope-below t, tally-scope.Post, tally-executor-below t, tally-executor.Post, process-reads.Asked, process-reads.Learnt, serial-at-reads.Asked, serial-at-reads.Learnt, count-reads.Asked, count-reads.Learnt) (tally-at t) tally.Post
+tally-tally-executor-requires : (t : ℕ) → tally-lts.Need-tally-executor-requires (tally-claims t) (tally-at t) tally.Post
 tally-tally-executor-requires t c κs = search needs
 
-tally-process-requires : (t : ℕ) → tally-lts.Need-process-requires (not-counted-reads.Asked, not-counted-reads.Learnt, wide-reads.Asked, wide-reads.Learnt, tally-seq-below t, tally-seq.Post, tally-par-below t, tally-par.Post, tally-scope-below t, tally-scope.Post, tally-executor-below t, tally-executor.Post, process-reads.Asked, process-reads.Learnt, serial-at-reads.Asked, serial-at-reads.Learnt, count-reads.Asked, count-reads.Learnt) (tally-at t) tally.Post
+tally-process-requires : (t : ℕ) → tally-lts.Need-process-requires (tally-claims t) (tally-at t) tally.Post
 tally-process-requires t c κs = search needs
 
-tally-serial-at-requires : (t : ℕ) → tally-lts.Need-serial-at-requires (not-counted-reads.Asked, not-counted-reads.Learnt, wide-reads.Asked, wide-reads.Learnt, tally-seq-below t, tally-seq.Post, tally-par-below t, tally-par.Post, tally-scope-below t, tally-scope.Post, tally-executor-below t, tally-executor.Post, process-reads.Asked, process-reads.Learnt, serial-at-reads.Asked, serial-at-reads.Learnt, count-reads.Asked, count-reads.Learnt) (tally-at t) tally.Post
+tally-serial-at-requires : (t : ℕ) → tally-lts.Need-serial-at-requires (tally-claims t) (tally-at t) tally.Post
 tally-serial-at-requires t c κs = search needs
 
-tally-count-requires : (t : ℕ) → tally-lts.Need-count-requires (not-counted-reads.Asked, not-counted-reads.Learnt, wide-reads.Asked, wide-reads.Learnt, tally-seq-below t, tally-seq.Post, tally-par-below t, tally-par.Post, tally-scope-below t, tally-scope.Post, tally-executor-below t, tally-executor.Post, process-reads.Asked, process-reads.Learnt, serial-at-reads.Asked, serial-at-reads.Learnt, count-reads.Asked, count-reads.Learnt) (tally-at t) tally.Post
+tally-count-requires : (t : ℕ) → tally-lts.Need-count-requires (tally-claims t) (tally-at t) tally.Post
 tally-count-requires t c κs = search needs
 
-tally-process-requires-2 : (t : ℕ) → tally-lts.Need-process-requires-2 (not-counted-reads.Asked, not-counted-reads.Learnt, wide-reads.Asked, wide-reads.Learnt, tally-seq-below t, tally-seq.Post, tally-par-below t, tally-par.Post, tally-scope-below t, tally-scope.Post, tally-executor-below t, tally-executor.Post, process-reads.Asked, process-reads.Learnt, serial-at-reads.Asked, serial-at-reads.Learnt, count-reads.Asked, count-reads.Learnt) (tally-at t) tally.Post
+tally-process-requires-2 : (t : ℕ) → tally-lts.Need-process-requires-2 (tally-claims t) (tally-at t) tally.Post
 tally-process-requires-2 t c κs = search needs
 
-tally-serial-at-requires-2 : (t : ℕ) → tally-lts.Need-serial-at-requires-2 (not-counted-reads.Asked, not-counted-reads.Learnt, wide-reads.Asked, wide-reads.Learnt, tally-seq-below t, tally-seq.Post, tally-par-below t, tally-par.Post, tally-scope-below t, tally-scope.Post, tally-executor-below t, tally-executor.Post, process-reads.Asked, process-reads.Learnt, serial-at-reads.Asked, serial-at-reads.Learnt, count-reads.Asked, count-reads.Learnt) (tally-at t) tally.Post
+tally-serial-at-requires-2 : (t : ℕ) → tally-lts.Need-serial-at-requires-2 (tally-claims t) (tally-at t) tally.Post
 tally-serial-at-requires-2 t c κs = search needs
 
-tally-count-requires-2 : (t : ℕ) → tally-lts.Need-count-requires-2 (not-counted-reads.Asked, not-counted-reads.Learnt, wide-reads.Asked, wide-reads.Learnt, tally-seq-below t, tally-seq.Post, tally-par-below t, tally-par.Post, tally-scope-below t, tally-scope.Post, tally-executor-below t, tally-executor.Post, process-reads.Asked, process-reads.Learnt, serial-at-reads.Asked, serial-at-reads.Learnt, count-reads.Asked, count-reads.Learnt) (tally-at t) tally.Post
+tally-count-requires-2 : (t : ℕ) → tally-lts.Need-count-requires-2 (tally-claims t) (tally-at t) tally.Post
 tally-count-requires-2 t c κs = search needs
 
-tally-process-requires-3 : (t : ℕ) → tally-lts.Need-process-requires-3 (not-counted-reads.Asked, not-counted-reads.Learnt, wide-reads.Asked, wide-reads.Learnt, tally-seq-below t, tally-seq.Post, tally-par-below t, tally-par.Post, tally-scope-below t, tally-scope.Post, tally-executor-below t, tally-executor.Post, process-reads.Asked, process-reads.Learnt, serial-at-reads.Asked, serial-at-reads.Learnt, count-reads.Asked, count-reads.Learnt) (tally-at t) tally.Post
+tally-process-requires-3 : (t : ℕ) → tally-lts.Need-process-requires-3 (tally-claims t) (tally-at t) tally.Post
 tally-process-requires-3 t c κs = search needs
 
-tally-count-requires-3 : (t : ℕ) → tally-lts.Need-count-requires-3 (not-counted-reads.Asked, not-counted-reads.Learnt, wide-reads.Asked, wide-reads.Learnt, tally-seq-below t, tally-seq.Post, tally-par-below t, tally-par.Post, tally-scope-below t, tally-scope.Post, tally-executor-below t, tally-executor.Post, process-reads.Asked, process-reads.Learnt, serial-at-reads.Asked, serial-at-reads.Learnt, count-reads.Asked, count-reads.Learnt) (tally-at t) tally.Post
+tally-count-requires-3 : (t : ℕ) → tally-lts.Need-count-requires-3 (tally-claims t) (tally-at t) tally.Post
 tally-count-requires-3 t c κs = search needs
 
-tally-returns-3 : (t : ℕ) → tally-lts.Need-returns-3 (not-counted-reads.Asked, not-counted-reads.Learnt, wide-reads.Asked, wide-reads.Learnt, tally-seq-below t, tally-seq.Post, tally-par-below t, tally-par.Post, tally-scope-below t, tally-scope.Post, tally-executor-below t, tally-executor.Post, process-reads.Asked, process-reads.Learnt, serial-at-reads.Asked, serial-at-reads.Learnt, count-reads.Asked, count-reads.Learnt) (tally-at t) tally.Post
+-- what is known where ends are counted by kind
+tally-by-kind :
+    (t : ℕ) (k : tally-lts.After-wide (tally-claims t) (tally-at t) tally.Post) →
+    let a = k .before .before .before .before .before .args in
+    tallyAt (a .depth) (a .ws .now) (a .serial) (a .bound) (a .at)
+    ≡ nodeTally (tallyAt (a .depth - 1) (a .ws .now) (a .serial) (a .bound)) (processEnd (a .depth - 1) (a .ws .now) (a .bound))
+    (processEnd (a .depth) (a .ws .now) (a .bound) running) (a .ws .now) (a .serial) (kindOf (k .wide .result)) (a .at)
+tally-by-kind t k = tally-node _ _ _ _ _ _ (k .before .before .before .if1 .left) (k .before .before .if2 .left) (k .wide .ensures .0)
+
+tally-returns-3 : (t : ℕ) → tally-lts.Need-returns-3 (tally-claims t) (tally-at t) tally.Post
 unfolding nodeTally
 tally-returns-3 t c =
     let f0 = (c .before .match .keys1) in
-    (c .tally-seq .ensures) ∙ rw (tally-node (c .before .before .before .before .before .before .before .args .depth) ((c .before .before .before .before .before .before .before .args .ws) .now) (c .before .before .before .before .before .before .before .args .serial) (c .before .before .before .before .before .before .before .args .bound) (c .before .before .before .before .before .before .before .args .at) (c .before .before .wide .result) (c .before .before .before .before .before .if1 .left) (c .before .before .before .before .if2 .left) (c .before .before .wide .ensures .0)) (simp (tests, f0))
+    (c .tally-seq .ensures) ∙ rw (tally-by-kind t (c .before .before)) (simp (tests, f0))
 
-tally-returns-4 : (t : ℕ) → tally-lts.Need-returns-4 (not-counted-reads.Asked, not-counted-reads.Learnt, wide-reads.Asked, wide-reads.Learnt, tally-seq-below t, tally-seq.Post, tally-par-below t, tally-par.Post, tally-scope-below t, tally-scope.Post, tally-executor-below t, tally-executor.Post, process-reads.Asked, process-reads.Learnt, serial-at-reads.Asked, serial-at-reads.Learnt, count-reads.Asked, count-reads.Learnt) (tally-at t) tally.Post
+tally-returns-4 : (t : ℕ) → tally-lts.Need-returns-4 (tally-claims t) (tally-at t) tally.Post
 unfolding nodeTally
 tally-returns-4 t c =
     let f0 = (c .before .match .keys2) in
-    (c .tally-par .ensures) ∙ rw (tally-node (c .before .before .before .before .before .before .before .args .depth) ((c .before .before .before .before .before .before .before .args .ws) .now) (c .before .before .before .before .before .before .before .args .serial) (c .before .before .before .before .before .before .before .args .bound) (c .before .before .before .before .before .before .before .args .at) (c .before .before .wide .result) (c .before .before .before .before .before .if1 .left) (c .before .before .before .before .if2 .left) (c .before .before .wide .ensures .0)) (simp (tests, f0))
+    (c .tally-par .ensures) ∙ rw (tally-by-kind t (c .before .before)) (simp (tests, f0))
 
-tally-returns-5 : (t : ℕ) → tally-lts.Need-returns-5 (not-counted-reads.Asked, not-counted-reads.Learnt, wide-reads.Asked, wide-reads.Learnt, tally-seq-below t, tally-seq.Post, tally-par-below t, tally-par.Post, tally-scope-below t, tally-scope.Post, tally-executor-below t, tally-executor.Post, process-reads.Asked, process-reads.Learnt, serial-at-reads.Asked, serial-at-reads.Learnt, count-reads.Asked, count-reads.Learnt) (tally-at t) tally.Post
+tally-returns-5 : (t : ℕ) → tally-lts.Need-returns-5 (tally-claims t) (tally-at t) tally.Post
 unfolding nodeTally
 tally-returns-5 t c =
     let f0 = (c .before .match .keys3) in
-    (c .tally-scope .ensures) ∙ rw (tally-node (c .before .before .before .before .before .before .before .args .depth) ((c .before .before .before .before .before .before .before .args .ws) .now) (c .before .before .before .before .before .before .before .args .serial) (c .before .before .before .before .before .before .before .args .bound) (c .before .before .before .before .before .before .before .args .at) (c .before .before .wide .result) (c .before .before .before .before .before .if1 .left) (c .before .before .before .before .if2 .left) (c .before .before .wide .ensures .0)) (simp (tests, f0))
+    (c .tally-scope .ensures) ∙ rw (tally-by-kind t (c .before .before)) (simp (tests, f0))
 
-tally-returns-6 : (t : ℕ) → tally-lts.Need-returns-6 (not-counted-reads.Asked, not-counted-reads.Learnt, wide-reads.Asked, wide-reads.Learnt, tally-seq-below t, tally-seq.Post, tally-par-below t, tally-par.Post, tally-scope-below t, tally-scope.Post, tally-executor-below t, tally-executor.Post, process-reads.Asked, process-reads.Learnt, serial-at-reads.Asked, serial-at-reads.Learnt, count-reads.Asked, count-reads.Learnt) (tally-at t) tally.Post
+tally-returns-6 : (t : ℕ) → tally-lts.Need-returns-6 (tally-claims t) (tally-at t) tally.Post
 unfolding nodeTally
 tally-returns-6 t c =
     let f0 = (c .before .match .keys4) in
-    (c .tally-executor .ensures) ∙ rw (tally-node (c .before .before .before .before .before .before .before .args .depth) ((c .before .before .before .before .before .before .before .args .ws) .now) (c .before .before .before .before .before .before .before .args .serial) (c .before .before .before .before .before .before .before .args .bound) (c .before .before .before .before .before .before .before .args .at) (c .before .before .wide .result) (c .before .before .before .before .before .if1 .left) (c .before .before .before .before .if2 .left) (c .before .before .wide .ensures .0)) (simp (tests, f0))
+    (c .tally-executor .ensures) ∙ rw (tally-by-kind t (c .before .before)) (simp (tests, f0))
 
-tally-returns-7 : (t : ℕ) → tally-lts.Need-returns-7 (not-counted-reads.Asked, not-counted-reads.Learnt, wide-reads.Asked, wide-reads.Learnt, tally-seq-below t, tally-seq.Post, tally-par-below t, tally-par.Post, tally-scope-below t, tally-scope.Post, tally-executor-below t, tally-executor.Post, process-reads.Asked, process-reads.Learnt, serial-at-reads.Asked, serial-at-reads.Learnt, count-reads.Asked, count-reads.Learnt) (tally-at t) tally.Post
+tally-returns-7 : (t : ℕ) → tally-lts.Need-returns-7 (tally-claims t) (tally-at t) tally.Post
 unfolding nodeTally
 tally-returns-7 t c =
     let f0 = (c .before .before .before .match .keys5) in
-    (c .count .ensures) ∙ rw (tally-node (c .before .before .before .before .before .before .before .before .before .args .depth) ((c .before .before .before .before .before .before .before .before .before .args .ws) .now) (c .before .before .before .before .before .before .before .before .before .args .serial) (c .before .before .before .before .before .before .before .before .before .args .bound) (c .before .before .before .before .before .before .before .before .before .args .at) (c .before .before .before .before .wide .result) (c .before .before .before .before .before .before .before .if1 .left) (c .before .before .before .before .before .before .if2 .left) (c .before .before .before .before .wide .ensures .0)) (simp (tests, f0, (c .before .serial-at .ensures .0), (c .before .before .process .ensures)))
+    (c .count .ensures) ∙ rw (tally-by-kind t (c .before .before .before .before)) (simp (tests, f0, (c .before .serial-at .ensures .0), (c .before .before .process .ensures)))
 
-tally-returns-8 : (t : ℕ) → tally-lts.Need-returns-8 (not-counted-reads.Asked, not-counted-reads.Learnt, wide-reads.Asked, wide-reads.Learnt, tally-seq-below t, tally-seq.Post, tally-par-below t, tally-par.Post, tally-scope-below t, tally-scope.Post, tally-executor-below t, tally-executor.Post, process-reads.Asked, process-reads.Learnt, serial-at-reads.Asked, serial-at-reads.Learnt, count-reads.Asked, count-reads.Learnt) (tally-at t) tally.Post
+tally-returns-8 : (t : ℕ) → tally-lts.Need-returns-8 (tally-claims t) (tally-at t) tally.Post
 unfolding nodeTally
 tally-returns-8 t c =
     let f0 = (c .before .before .before .match .keys6) in
-    (c .count2 .ensures) ∙ rw (tally-node (c .before .before .before .before .before .before .before .before .before .args .depth) ((c .before .before .before .before .before .before .before .before .before .args .ws) .now) (c .before .before .before .before .before .before .before .before .before .args .serial) (c .before .before .before .before .before .before .before .before .before .args .bound) (c .before .before .before .before .before .before .before .before .before .args .at) (c .before .before .before .before .wide .result) (c .before .before .before .before .before .before .before .if1 .left) (c .before .before .before .before .before .before .if2 .left) (c .before .before .before .before .wide .ensures .0)) (simp (tests, f0, (c .before .serial-at2 .ensures .0), (c .before .before .process2 .ensures)))
+    (c .count2 .ensures) ∙ rw (tally-by-kind t (c .before .before .before .before)) (simp (tests, f0, (c .before .serial-at2 .ensures .0), (c .before .before .process2 .ensures)))
 
-tally-returns-9 : (t : ℕ) → tally-lts.Need-returns-9 (not-counted-reads.Asked, not-counted-reads.Learnt, wide-reads.Asked, wide-reads.Learnt, tally-seq-below t, tally-seq.Post, tally-par-below t, tally-par.Post, tally-scope-below t, tally-scope.Post, tally-executor-below t, tally-executor.Post, process-reads.Asked, process-reads.Learnt, serial-at-reads.Asked, serial-at-reads.Learnt, count-reads.Asked, count-reads.Learnt) (tally-at t) tally.Post
+tally-returns-9 : (t : ℕ) → tally-lts.Need-returns-9 (tally-claims t) (tally-at t) tally.Post
 unfolding nodeTally
 tally-returns-9 t c =
     let f0 = (c .before .before .match .rest .0 .0 .0 .0 .0 .1) in
@@ -212,106 +228,118 @@ tally-returns-9 t c =
     let f3 = (c .before .before .match .rest .0 .0 .1) in
     let f4 = (c .before .before .match .rest .0 .1) in
     let f5 = (c .before .before .match .rest .1) in
-    (c .count3 .ensures) ∙ rw (tally-node (c .before .before .before .before .before .before .before .before .args .depth) ((c .before .before .before .before .before .before .before .before .args .ws) .now) (c .before .before .before .before .before .before .before .before .args .serial) (c .before .before .before .before .before .before .before .before .args .bound) (c .before .before .before .before .before .before .before .before .args .at) (c .before .before .before .wide .result) (c .before .before .before .before .before .before .if1 .left) (c .before .before .before .before .before .if2 .left) (c .before .before .before .wide .ensures .0)) (simp (tests, f0, f1, f2, f3, f4, f5, (c .before .process3 .ensures)))
+    (c .count3 .ensures) ∙ rw (tally-by-kind t (c .before .before .before)) (simp (tests, f0, f1, f2, f3, f4, f5, (c .before .process3 .ensures)))
 
-tally-executor-add-tally : (t : ℕ) → tally-executor-lts.Need-add-tally (tally-below t, tally.Post, serial-at-reads.Asked, serial-at-reads.Learnt, count-reads.Asked, count-reads.Learnt) (tally-executor-at t) tally-executor.Post
+abbrev tally-executor-claims : ℕ → tally-executor-lts.Claims
+tally-executor-claims t = (tally-below t, tally.Post, serial-at-reads.Asked, serial-at-reads.Learnt, count-reads.Asked, count-reads.Learnt)
+
+tally-executor-add-tally : (t : ℕ) → tally-executor-lts.Need-add-tally (tally-executor-claims t) (tally-executor-at t) tally-executor.Post
 tally-executor-add-tally t c = search needs
 
-tally-executor-tally-requires : (t : ℕ) → tally-executor-lts.Need-tally-requires (tally-below t, tally.Post, serial-at-reads.Asked, serial-at-reads.Learnt, count-reads.Asked, count-reads.Learnt) (tally-executor-at t) tally-executor.Post
+tally-executor-tally-requires : (t : ℕ) → tally-executor-lts.Need-tally-requires (tally-executor-claims t) (tally-executor-at t) tally-executor.Post
 tally-executor-tally-requires t c κs = search needs
 
-tally-executor-serial-at-requires : (t : ℕ) → tally-executor-lts.Need-serial-at-requires (tally-below t, tally.Post, serial-at-reads.Asked, serial-at-reads.Learnt, count-reads.Asked, count-reads.Learnt) (tally-executor-at t) tally-executor.Post
+tally-executor-serial-at-requires : (t : ℕ) → tally-executor-lts.Need-serial-at-requires (tally-executor-claims t) (tally-executor-at t) tally-executor.Post
 tally-executor-serial-at-requires t c κs = search needs
 
-tally-executor-add-count : (t : ℕ) → tally-executor-lts.Need-add-count (tally-below t, tally.Post, serial-at-reads.Asked, serial-at-reads.Learnt, count-reads.Asked, count-reads.Learnt) (tally-executor-at t) tally-executor.Post
+tally-executor-add-count : (t : ℕ) → tally-executor-lts.Need-add-count (tally-executor-claims t) (tally-executor-at t) tally-executor.Post
 tally-executor-add-count t c =
     let b = one-more-below (c .before .before .before .before .pre .1) (rw (← (c .before .before .tally .ensures)) at (tally-bounded ((c .before .before .before .before .args .ws) .now) (λ i. (c .before .before .before .shared-slice-known .given) i .fits) (c .before .before .before .before .args .serial) (c .before .before .before .before .args .bound) (c .before .before .before .before .args .depth) ((c .before .before .before .before .args .at) + 3))) in
     omega (arith, b)
 
-tally-executor-count-requires : (t : ℕ) → tally-executor-lts.Need-count-requires (tally-below t, tally.Post, serial-at-reads.Asked, serial-at-reads.Learnt, count-reads.Asked, count-reads.Learnt) (tally-executor-at t) tally-executor.Post
+tally-executor-count-requires : (t : ℕ) → tally-executor-lts.Need-count-requires (tally-executor-claims t) (tally-executor-at t) tally-executor.Post
 tally-executor-count-requires t c κs = search needs
 
-tally-executor-returns : (t : ℕ) → tally-executor-lts.Need-returns (tally-below t, tally.Post, serial-at-reads.Asked, serial-at-reads.Learnt, count-reads.Asked, count-reads.Learnt) (tally-executor-at t) tally-executor.Post
+tally-executor-returns : (t : ℕ) → tally-executor-lts.Need-returns (tally-executor-claims t) (tally-executor-at t) tally-executor.Post
 unfolding executorTally
 tally-executor-returns t c =
     simp (tests, (c .count .ensures), (c .before .before .before .tally .ensures), (c .before .before .serial-at .ensures .0))
 
-tally-par-tally-requires : (t : ℕ) → tally-par-lts.Need-tally-requires (tally-below t, tally.Post, not-counted-reads.Asked, not-counted-reads.Learnt, count-reads.Asked, count-reads.Learnt) (tally-par-at t) tally-par.Post
+abbrev tally-par-claims : ℕ → tally-par-lts.Claims
+tally-par-claims t = (tally-below t, tally.Post, not-counted-reads.Asked, not-counted-reads.Learnt, count-reads.Asked, count-reads.Learnt)
+
+tally-par-tally-requires : (t : ℕ) → tally-par-lts.Need-tally-requires (tally-par-claims t) (tally-par-at t) tally-par.Post
 tally-par-tally-requires t c κs = search needs
 
-tally-par-not-counted-requires : (t : ℕ) → tally-par-lts.Need-not-counted-requires (tally-below t, tally.Post, not-counted-reads.Asked, not-counted-reads.Learnt, count-reads.Asked, count-reads.Learnt) (tally-par-at t) tally-par.Post
+tally-par-not-counted-requires : (t : ℕ) → tally-par-lts.Need-not-counted-requires (tally-par-claims t) (tally-par-at t) tally-par.Post
 tally-par-not-counted-requires t c κs = search needs
 
-tally-par-returns : (t : ℕ) → tally-par-lts.Need-returns (tally-below t, tally.Post, not-counted-reads.Asked, not-counted-reads.Learnt, count-reads.Asked, count-reads.Learnt) (tally-par-at t) tally-par.Post
+tally-par-returns : (t : ℕ) → tally-par-lts.Need-returns (tally-par-claims t) (tally-par-at t) tally-par.Post
 unfolding parTally after
 tally-par-returns t c =
     let f0 = (c .before .if1 .taken) in
     simp (tests, (c .not-counted .ensures), ← (c .before .before .tally .ensures), f0)
 
-tally-par-tally-requires-2 : (t : ℕ) → tally-par-lts.Need-tally-requires-2 (tally-below t, tally.Post, not-counted-reads.Asked, not-counted-reads.Learnt, count-reads.Asked, count-reads.Learnt) (tally-par-at t) tally-par.Post
+tally-par-tally-requires-2 : (t : ℕ) → tally-par-lts.Need-tally-requires-2 (tally-par-claims t) (tally-par-at t) tally-par.Post
 tally-par-tally-requires-2 t c κs = search needs
 
-tally-par-add-count : (t : ℕ) → tally-par-lts.Need-add-count (tally-below t, tally.Post, not-counted-reads.Asked, not-counted-reads.Learnt, count-reads.Asked, count-reads.Learnt) (tally-par-at t) tally-par.Post
+tally-par-add-count : (t : ℕ) → tally-par-lts.Need-add-count (tally-par-claims t) (tally-par-at t) tally-par.Post
 tally-par-add-count t c =
     let bounded = tally-bounded ((c .before .before .before .before .before .before .args .ws) .now) (λ i. (c .before .before .before .before .before .shared-slice-known .given) i .fits) (c .before .before .before .before .before .before .args .serial) (c .before .before .before .before .before .before .args .bound) (c .before .before .before .before .before .before .args .depth) in
     let b = sums-below (rw (← (c .before .before .before .before .tally .ensures)) at (bounded (c .before .before .before .before .before .before .args .at))) (rw (← (c .before .before .tally2 .ensures)) at (bounded ((c .before .before .before .before .tally .result) .end))) .0 in
     omega (arith, b)
 
-tally-par-add-count-2 : (t : ℕ) → tally-par-lts.Need-add-count-2 (tally-below t, tally.Post, not-counted-reads.Asked, not-counted-reads.Learnt, count-reads.Asked, count-reads.Learnt) (tally-par-at t) tally-par.Post
+tally-par-add-count-2 : (t : ℕ) → tally-par-lts.Need-add-count-2 (tally-par-claims t) (tally-par-at t) tally-par.Post
 tally-par-add-count-2 t c =
     let bounded = tally-bounded ((c .before .before .before .before .before .before .before .before .args .ws) .now) (λ i. (c .before .before .before .before .before .before .before .shared-slice-known .given) i .fits) (c .before .before .before .before .before .before .before .before .args .serial) (c .before .before .before .before .before .before .before .before .args .bound) (c .before .before .before .before .before .before .before .before .args .depth) in
     let b = sums-below (rw (← (c .before .before .before .before .before .before .tally .ensures)) at (bounded (c .before .before .before .before .before .before .before .before .args .at))) (rw (← (c .before .before .before .before .tally2 .ensures)) at (bounded ((c .before .before .before .before .before .before .tally .result) .end))) .1 in
     omega (arith, b)
 
-tally-par-count-requires : (t : ℕ) → tally-par-lts.Need-count-requires (tally-below t, tally.Post, not-counted-reads.Asked, not-counted-reads.Learnt, count-reads.Asked, count-reads.Learnt) (tally-par-at t) tally-par.Post
+tally-par-count-requires : (t : ℕ) → tally-par-lts.Need-count-requires (tally-par-claims t) (tally-par-at t) tally-par.Post
 tally-par-count-requires t c κs = search needs
 
-tally-par-returns-2 : (t : ℕ) → tally-par-lts.Need-returns-2 (tally-below t, tally.Post, not-counted-reads.Asked, not-counted-reads.Learnt, count-reads.Asked, count-reads.Learnt) (tally-par-at t) tally-par.Post
+tally-par-returns-2 : (t : ℕ) → tally-par-lts.Need-returns-2 (tally-par-claims t) (tally-par-at t) tally-par.Post
 unfolding parTally after
 tally-par-returns-2 t c =
     let f0 = (c .before .before .before .before .before .before .if1 .left) in
     simp (tests, (c .count .ensures), ← (c .before .before .before .before .before .before .before .tally .ensures), ← (c .before .before .before .before .before .tally2 .ensures), f0)
 
-tally-scope-list-requires : (t : ℕ) → tally-scope-lts.Need-list-requires (list-reads.Asked, list-reads.Learnt, not-counted-reads.Asked, not-counted-reads.Learnt, tally-below t, tally.Post) (tally-scope-at t) tally-scope.Post
+abbrev tally-scope-claims : ℕ → tally-scope-lts.Claims
+tally-scope-claims t = (list-reads.Asked, list-reads.Learnt, not-counted-reads.Asked, not-counted-reads.Learnt, tally-below t, tally.Post)
+
+tally-scope-list-requires : (t : ℕ) → tally-scope-lts.Need-list-requires (tally-scope-claims t) (tally-scope-at t) tally-scope.Post
 tally-scope-list-requires t c κs = search needs
 
-tally-scope-not-counted-requires : (t : ℕ) → tally-scope-lts.Need-not-counted-requires (list-reads.Asked, list-reads.Learnt, not-counted-reads.Asked, not-counted-reads.Learnt, tally-below t, tally.Post) (tally-scope-at t) tally-scope.Post
+tally-scope-not-counted-requires : (t : ℕ) → tally-scope-lts.Need-not-counted-requires (tally-scope-claims t) (tally-scope-at t) tally-scope.Post
 tally-scope-not-counted-requires t c κs = search needs
 
-tally-scope-returns : (t : ℕ) → tally-scope-lts.Need-returns (list-reads.Asked, list-reads.Learnt, not-counted-reads.Asked, not-counted-reads.Learnt, tally-below t, tally.Post) (tally-scope-at t) tally-scope.Post
+tally-scope-returns : (t : ℕ) → tally-scope-lts.Need-returns (tally-scope-claims t) (tally-scope-at t) tally-scope.Post
 unfolding scopeTally
 tally-scope-returns t c =
     let f0 = (c .before .if1 .taken) in
     simp (tests, (c .not-counted .ensures), ← (c .before .before .list .ensures), f0)
 
-tally-scope-tally-requires : (t : ℕ) → tally-scope-lts.Need-tally-requires (list-reads.Asked, list-reads.Learnt, not-counted-reads.Asked, not-counted-reads.Learnt, tally-below t, tally.Post) (tally-scope-at t) tally-scope.Post
+tally-scope-tally-requires : (t : ℕ) → tally-scope-lts.Need-tally-requires (tally-scope-claims t) (tally-scope-at t) tally-scope.Post
 tally-scope-tally-requires t c κs = search needs
 
-tally-scope-returns-2 : (t : ℕ) → tally-scope-lts.Need-returns-2 (list-reads.Asked, list-reads.Learnt, not-counted-reads.Asked, not-counted-reads.Learnt, tally-below t, tally.Post) (tally-scope-at t) tally-scope.Post
+tally-scope-returns-2 : (t : ℕ) → tally-scope-lts.Need-returns-2 (tally-scope-claims t) (tally-scope-at t) tally-scope.Post
 unfolding scopeTally
 tally-scope-returns-2 t c =
     let f0 = (c .before .if1 .left) in
     simp (tests, (c .tally .ensures), ← (c .before .before .list .ensures), f0)
 
-tally-seq-tally-requires : (t : ℕ) → tally-seq-lts.Need-tally-requires (tally-below t, tally.Post, not-counted-reads.Asked, not-counted-reads.Learnt, process-reads.Asked, process-reads.Learnt, count-reads.Asked, count-reads.Learnt) (tally-seq-at t) tally-seq.Post
+abbrev tally-seq-claims : ℕ → tally-seq-lts.Claims
+tally-seq-claims t = (tally-below t, tally.Post, not-counted-reads.Asked, not-counted-reads.Learnt, process-reads.Asked, process-reads.Learnt, count-reads.Asked, count-reads.Learnt)
+
+tally-seq-tally-requires : (t : ℕ) → tally-seq-lts.Need-tally-requires (tally-seq-claims t) (tally-seq-at t) tally-seq.Post
 tally-seq-tally-requires t c κs = search needs
 
-tally-seq-not-counted-requires : (t : ℕ) → tally-seq-lts.Need-not-counted-requires (tally-below t, tally.Post, not-counted-reads.Asked, not-counted-reads.Learnt, process-reads.Asked, process-reads.Learnt, count-reads.Asked, count-reads.Learnt) (tally-seq-at t) tally-seq.Post
+tally-seq-not-counted-requires : (t : ℕ) → tally-seq-lts.Need-not-counted-requires (tally-seq-claims t) (tally-seq-at t) tally-seq.Post
 tally-seq-not-counted-requires t c κs = search needs
 
-tally-seq-returns : (t : ℕ) → tally-seq-lts.Need-returns (tally-below t, tally.Post, not-counted-reads.Asked, not-counted-reads.Learnt, process-reads.Asked, process-reads.Learnt, count-reads.Asked, count-reads.Learnt) (tally-seq-at t) tally-seq.Post
+tally-seq-returns : (t : ℕ) → tally-seq-lts.Need-returns (tally-seq-claims t) (tally-seq-at t) tally-seq.Post
 unfolding seqTally after
 tally-seq-returns t c =
     let f0 = (c .before .if1 .taken) in
     simp (tests, (c .not-counted .ensures), ← (c .before .before .tally .ensures), f0)
 
-tally-seq-process-requires : (t : ℕ) → tally-seq-lts.Need-process-requires (tally-below t, tally.Post, not-counted-reads.Asked, not-counted-reads.Learnt, process-reads.Asked, process-reads.Learnt, count-reads.Asked, count-reads.Learnt) (tally-seq-at t) tally-seq.Post
+tally-seq-process-requires : (t : ℕ) → tally-seq-lts.Need-process-requires (tally-seq-claims t) (tally-seq-at t) tally-seq.Post
 tally-seq-process-requires t c κs = search needs
 
-tally-seq-count-requires : (t : ℕ) → tally-seq-lts.Need-count-requires (tally-below t, tally.Post, not-counted-reads.Asked, not-counted-reads.Learnt, process-reads.Asked, process-reads.Learnt, count-reads.Asked, count-reads.Learnt) (tally-seq-at t) tally-seq.Post
+tally-seq-count-requires : (t : ℕ) → tally-seq-lts.Need-count-requires (tally-seq-claims t) (tally-seq-at t) tally-seq.Post
 tally-seq-count-requires t c κs = search needs
 
-tally-seq-returns-2 : (t : ℕ) → tally-seq-lts.Need-returns-2 (tally-below t, tally.Post, not-counted-reads.Asked, not-counted-reads.Learnt, process-reads.Asked, process-reads.Learnt, count-reads.Asked, count-reads.Learnt) (tally-seq-at t) tally-seq.Post
+tally-seq-returns-2 : (t : ℕ) → tally-seq-lts.Need-returns-2 (tally-seq-claims t) (tally-seq-at t) tally-seq.Post
 unfolding seqTally after
 tally-seq-returns-2 t c =
     let f0 = (c .before .before .if1 .left) in

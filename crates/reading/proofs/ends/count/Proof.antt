@@ -1,4 +1,4 @@
--- `count` of `reading::ends` meets its contract: the code is its mirror in specs/.
+-- `count` of `reading::ends` meets its contract: nothing is counted where there is no end.
 -- Assumes nothing.
 use Rattle.reading.specs.Tally.{counted}
 use Rattle.reading.proofs.Tests.{tests}

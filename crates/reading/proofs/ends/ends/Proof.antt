@@ -1,13 +1,27 @@
--- `ends` of `reading::ends` meets its contract: the code is its mirror in specs/.
+-- `ends` of `reading::ends` meets its contract: the refusals in order; else what is counted in all engines, of which there are no more than words.
 -- Assumes nothing.
 use Rattle.reading.proofs.Totals.{total-below, ends-unread, ends-none, ends-above, ends-counted}
-use Rattle.reading.proofs.Known.{survey-known, known-length, few-engines}
+use Rattle.reading.proofs.Known.{Known, survey-known, known-length, few-engines}
 use mathlib.Core.Path.{refl, _∙_}
 use native.Mathlib.Omega.{arith}
 use Rattle.sock.specs.Configuration.{standard}
 use borrow.Author.Needs.{needs}
 use Rattle.reading.proofs.ends.ends.Statement.{statement}
 use Rattle.reading.proofs.ends.ends.Tie as tie
+use Rattle.reading.proofs.ends.ends.Reads as reads
+use Rattle.reading.proofs.ends.ends.Lts as lts
+use Rattle.reading.proofs.ends.refused.Reads as refused-reads
+use Rattle.reading.proofs.ends.total.Reads as total-reads
+use Rattle.reading.proofs.survey.survey.Reads as survey-reads
+use Rattle.layout.proofs.number.wide.Reads as wide-reads
+
+abbrev claims : lts.Claims
+claims = (survey-reads.Asked, survey-reads.Learnt, refused-reads.Asked, refused-reads.Learnt, wide-reads.Asked, wide-reads.Learnt, total-reads.Asked, total-reads.Learnt)
+
+-- what is known once the survey has an engine
+known :
+    (k : lts.Else1 claims reads.Pre reads.Post) → Known standard (k .before .before .before .args .ws .now) (k .before .survey .result)
+known k = survey-known standard _ (λ i. k .before .before .shared-slice-known .given i .fits) _ (k .before .survey .ensures) (k .if1 .left)
 
 survey-requires : tie.Need-survey-requires
 survey-requires c κs = search needs
@@ -26,7 +40,7 @@ returns-2 c = (c .refused2 .ensures) ∙ ends-none standard ((c .before .before 
 
 shared-slice-read-if3 : tie.Need-shared-slice-read-if3
 shared-slice-read-if3 c =
-    let k = survey-known standard ((c .before .before .before .before .before .args .ws) .now) (λ i. (c .before .before .before .before .shared-slice-known .given) i .fits) (c .before .before .before .survey .result) (c .before .before .before .survey .ensures) (c .before .before .if1 .left) in
+    let k = known (c .before .before) in
     omega (arith, known-length k .0)
 
 refused-requires-3 : tie.Need-refused-requires-3
@@ -40,12 +54,12 @@ wide-requires c κs = search needs
 
 mul-total : tie.Need-mul-total
 mul-total c =
-    let k = survey-known standard ((c .before .before .before .before .before .before .before .before .args .ws) .now) (λ i. (c .before .before .before .before .before .before .before .shared-slice-known .given) i .fits) (c .before .before .before .before .before .before .survey .result) (c .before .before .before .before .before .before .survey .ensures) (c .before .before .before .before .before .if1 .left) in
+    let k = known (c .before .before .before .before .before) in
     omega (arith, few-engines k)
 
 shared-slice-read-wide : tie.Need-shared-slice-read-wide
 shared-slice-read-wide c =
-    let k = survey-known standard ((c .before .before .before .before .before .before .before .before .before .args .ws) .now) (λ i. (c .before .before .before .before .before .before .before .before .shared-slice-known .given) i .fits) (c .before .before .before .before .before .before .before .survey .result) (c .before .before .before .before .before .before .before .survey .ensures) (c .before .before .before .before .before .before .if1 .left) in
+    let k = known (c .before .before .before .before .before .before) in
     omega (arith, known-length k .0)
 
 wide-requires-2 : tie.Need-wide-requires-2
@@ -53,24 +67,24 @@ wide-requires-2 c κs = search needs
 
 add-total : tie.Need-add-total
 add-total c =
-    let k = survey-known standard ((c .before .before .before .before .before .before .before .before .before .before .args .ws) .now) (λ i. (c .before .before .before .before .before .before .before .before .before .shared-slice-known .given) i .fits) (c .before .before .before .before .before .before .before .before .survey .result) (c .before .before .before .before .before .before .before .before .survey .ensures) (c .before .before .before .before .before .before .before .if1 .left) in
+    let k = known (c .before .before .before .before .before .before .before) in
     omega (arith, few-engines k, (c .wide2 .ensures .1))
 
 total-requires : tie.Need-total-requires
 total-requires c κs =
-    let k = survey-known standard ((c .before .before .before .before .before .before .before .before .before .before .args .ws) .now) (λ i. (c .before .before .before .before .before .before .before .before .before .shared-slice-known .given) i .fits) (c .before .before .before .before .before .before .before .before .survey .result) (c .before .before .before .before .before .before .before .before .survey .ensures) (c .before .before .before .before .before .before .before .if1 .left) in
+    let k = known (c .before .before .before .before .before .before .before) in
     (omega (arith, few-engines k), omega (arith, known-length k .1))
 
 cast-t10 : tie.Need-cast-t10
 cast-t10 c =
-    let k = survey-known standard ((c .before .before .before .before .before .before .before .before .before .before .before .before .args .ws) .now) (λ i. (c .before .before .before .before .before .before .before .before .before .before .before .shared-slice-known .given) i .fits) (c .before .before .before .before .before .before .before .before .before .before .survey .result) (c .before .before .before .before .before .before .before .before .before .before .survey .ensures) (c .before .before .before .before .before .before .before .before .before .if1 .left) in
+    let k = known (c .before .before .before .before .before .before .before .before .before) in
     let t = rw (c .before .before .before .before .wide .ensures .0) at (c .before .total .ensures) in
     let b = total-below (λ i. (c .before .before .before .before .before .before .before .before .before .before .before .shared-slice-known .given) i .fits) k (c .before .before .before .before .before .before .before .before .before .before .before .before .args .serial) _ _ _ refl (c .before .before .wide2 .ensures .0) t .0 in
     omega (arith, b)
 
 cast-t16 : tie.Need-cast-t16
 cast-t16 c =
-    let k = survey-known standard ((c .before .before .before .before .before .before .before .before .before .before .before .before .before .args .ws) .now) (λ i. (c .before .before .before .before .before .before .before .before .before .before .before .before .shared-slice-known .given) i .fits) (c .before .before .before .before .before .before .before .before .before .before .before .survey .result) (c .before .before .before .before .before .before .before .before .before .before .before .survey .ensures) (c .before .before .before .before .before .before .before .before .before .before .if1 .left) in
+    let k = known (c .before .before .before .before .before .before .before .before .before .before) in
     let t = rw (c .before .before .before .before .before .wide .ensures .0) at (c .before .before .total .ensures) in
     let b = total-below (λ i. (c .before .before .before .before .before .before .before .before .before .before .before .before .shared-slice-known .given) i .fits) k (c .before .before .before .before .before .before .before .before .before .before .before .before .before .args .serial) _ _ _ refl (c .before .before .before .wide2 .ensures .0) t .1 in
     omega (arith, b)

@@ -1,4 +1,4 @@
--- `not_counted` of `reading::ends` meets its contract: the code is its mirror in specs/.
+-- `not_counted` of `reading::ends` meets its contract: no end and no counts.
 -- Assumes nothing.
 use Rattle.reading.specs.Tally.{uncounted}
 use mathlib.Core.Path.{refl}

@@ -1,4 +1,4 @@
--- `serial_at` of `reading::ends` meets its contract: the code is its mirror in specs/.
+-- `serial_at` of `reading::ends` meets its contract: the third word, if there are three.
 -- Assumes nothing.
 use native.Mathlib.Omega.{arith}
 use Rattle.reading.specs.Tally.{serialAt}

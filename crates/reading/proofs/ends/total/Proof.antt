@@ -1,5 +1,5 @@
 -- `ends::total` meets its contract. The loop's invariant: the walk from here gives what it gives from the start, and no engine has more
--- ends than words.
+-- ends than words. The measure is the engines left.
 -- Assumes nothing.
 use Prim.Native.Nat.{_-_, _*_, _≤_}
 use native.Mathlib.Omega.{arith}

@@ -1,4 +1,7 @@
--- `branch`, `choice`, `executor`, `list`, `marked`, `node`, `process`, `repeat`, `request`, `resting`, `scope`, `solicit`, `two`, `waiter` and `whole` of `reading::reader` meet their contracts: the code is its mirror
+-- The functions of `reading::reader` that call each other meet their contracts. The measure is 8 times the depth, and for the same depth up to 5
+-- for who calls whom: scope, then solicit, waiter, marked, branch and choice, then `list` and those that call `process` alone, then `process`,
+-- `whole` and `node`. Invariants: in `process`, what is read from here on, and then what is kept for later, ends where the whole does (`Later.Going`);
+-- in `list` and `choice`, the entries or branches that are left end where all of them do. Each loop's measure is what is left to read.
 -- Assumes nothing.
 use Prim.Native.Nat.{ℕ, _+_, _*_, _-_, _<_}
 use native.Mathlib.Omega.{arith}
@@ -6,12 +9,12 @@ use mathlib.Core.Path.{_≡_, refl, ap, _∙_}
 use borrow.Author.Needs.{needs}
 use lib.ListN.{length, List·getD-eq-default}
 use Rattle.reading.proofs.Fitting.{slot-small}
-use Rattle.reading.proofs.Later.{Going, begins, three-tests, too-deep, no-words, whole-fails, read-last, read-next, leaf-last, leaf-next, part-next, past-node, past-whole}
+use Rattle.reading.proofs.Later.{Going, begins, Ready, small, three-tests, too-deep, no-words, whole-fails, read-last, read-next, leaf-last, leaf-next, part-next, past-node, past-whole}
 use Rattle.reading.proofs.Others.{beyond}
 use Rattle.reading.proofs.Tests.{tests}
 use Rattle.reading.proofs.Walks.{process-step, branches-step, branches-end, entries-step, entries-end, process-node, process-refused, key-inside, entries-turn}
 use Rattle.reading.specs.Tables.{shapeOf}
-use Rattle.reading.specs.Walk.{itemEnd}
+use Rattle.reading.specs.Walk.{exprEnd, itemEnd, slotOf}
 use Rattle.reading.specs.Walk.{on, when, processEnd, twoEnd, branchEnd, repeatEnd, branchesEnd, choiceEnd, requestEnd, entriesEnd, listEnd, solicitEnd, markedEnd, restingEnd, scopeEnd, executorEnd, waiterEnd, nodeEnd}
 use borrow.Fn.Kinds.{In}
 use borrow.Fn.PlainCycle.{Measures, is, falls, and}
@@ -219,19 +222,22 @@ whole-at t = and 1 whole-kinds.ps (is 1 whole-kinds.ps μ-whole t) whole.Pre
 abbrev whole-below : ℕ → In 1 whole-kinds.ps
 whole-below t = and 1 whole-kinds.ps (falls 1 whole-kinds.ps _<_ μ-whole t) whole.Pre
 
-branch-expression-requires : (t : ℕ) → branch-lts.Need-expression-requires (expression-reads.Asked, expression-reads.Learnt, two-below t, two.Post) (branch-at t) branch.Post
+abbrev branch-claims : ℕ → branch-lts.Claims
+branch-claims t = (expression-reads.Asked, expression-reads.Learnt, two-below t, two.Post)
+
+branch-expression-requires : (t : ℕ) → branch-lts.Need-expression-requires (branch-claims t) (branch-at t) branch.Post
 branch-expression-requires t c κs = search needs
 
-branch-returns : (t : ℕ) → branch-lts.Need-returns (expression-reads.Asked, expression-reads.Learnt, two-below t, two.Post) (branch-at t) branch.Post
+branch-returns : (t : ℕ) → branch-lts.Need-returns (branch-claims t) (branch-at t) branch.Post
 unfolding on when processEnd twoEnd branchEnd repeatEnd branchesEnd choiceEnd requestEnd entriesEnd listEnd solicitEnd markedEnd restingEnd scopeEnd executorEnd waiterEnd nodeEnd
 branch-returns t c =
     let f0 = c .if1 .taken in
     simp (tests, process-step, branches-step, branches-end, entries-step, entries-end, f0, ← (c .before .expression .ensures))
 
-branch-two-requires : (t : ℕ) → branch-lts.Need-two-requires (expression-reads.Asked, expression-reads.Learnt, two-below t, two.Post) (branch-at t) branch.Post
+branch-two-requires : (t : ℕ) → branch-lts.Need-two-requires (branch-claims t) (branch-at t) branch.Post
 branch-two-requires t c κs = search needs
 
-branch-returns-2 : (t : ℕ) → branch-lts.Need-returns-2 (expression-reads.Asked, expression-reads.Learnt, two-below t, two.Post) (branch-at t) branch.Post
+branch-returns-2 : (t : ℕ) → branch-lts.Need-returns-2 (branch-claims t) (branch-at t) branch.Post
 unfolding on when processEnd twoEnd branchEnd repeatEnd branchesEnd choiceEnd requestEnd entriesEnd listEnd solicitEnd markedEnd restingEnd scopeEnd executorEnd waiterEnd nodeEnd
 branch-returns-2 t c =
     let f0 = c .before .if1 .left in
@@ -244,29 +250,32 @@ choice-Inv-loop ws at depth context count bound a₀ left₀ a left =
 abbrev choice-μ-loop : choice-lts.MeasureT-loop
 choice-μ-loop ws at depth context count bound a₀ left₀ a left = left
 
-choice-returns : (t : ℕ) → choice-lts.Need-returns (two-below t, two.Post) (choice-at t) choice.Post choice-Inv-loop choice-μ-loop
+abbrev choice-claims : ℕ → choice-lts.Claims
+choice-claims t = (two-below t, two.Post)
+
+choice-returns : (t : ℕ) → choice-lts.Need-returns (choice-claims t) (choice-at t) choice.Post choice-Inv-loop choice-μ-loop
 unfolding on when processEnd twoEnd branchEnd repeatEnd branchesEnd choiceEnd requestEnd entriesEnd listEnd solicitEnd markedEnd restingEnd scopeEnd executorEnd waiterEnd nodeEnd
 choice-returns t c =
     let f0 = c .if1 .taken in
     simp (tests, process-step, branches-step, branches-end, entries-step, entries-end, f0)
 
-choice-returns-2 : (t : ℕ) → choice-lts.Need-returns-2 (two-below t, two.Post) (choice-at t) choice.Post choice-Inv-loop choice-μ-loop
+choice-returns-2 : (t : ℕ) → choice-lts.Need-returns-2 (choice-claims t) (choice-at t) choice.Post choice-Inv-loop choice-μ-loop
 unfolding on when processEnd twoEnd branchEnd repeatEnd branchesEnd choiceEnd requestEnd entriesEnd listEnd solicitEnd markedEnd restingEnd scopeEnd executorEnd waiterEnd nodeEnd
 choice-returns-2 t c =
     let f0 = c .if2 .taken in
     let f1 = c .before .if1 .left in
     simp (tests, process-step, branches-step, branches-end, entries-step, entries-end, f0, f1)
 
-choice-loop-holds : (t : ℕ) → choice-lts.Need-loop-holds (two-below t, two.Post) (choice-at t) choice.Post choice-Inv-loop choice-μ-loop
+choice-loop-holds : (t : ℕ) → choice-lts.Need-loop-holds (choice-claims t) (choice-at t) choice.Post choice-Inv-loop choice-μ-loop
 choice-loop-holds t c = refl
 
-choice-add-two : (t : ℕ) → choice-lts.Need-add-two (two-below t, two.Post) (choice-at t) choice.Post choice-Inv-loop choice-μ-loop
+choice-add-two : (t : ℕ) → choice-lts.Need-add-two (choice-claims t) (choice-at t) choice.Post choice-Inv-loop choice-μ-loop
 choice-add-two t c = search needs
 
-choice-two-requires : (t : ℕ) → choice-lts.Need-two-requires (two-below t, two.Post) (choice-at t) choice.Post choice-Inv-loop choice-μ-loop
+choice-two-requires : (t : ℕ) → choice-lts.Need-two-requires (choice-claims t) (choice-at t) choice.Post choice-Inv-loop choice-μ-loop
 choice-two-requires t c κs = search needs
 
-choice-returns-3 : (t : ℕ) → choice-lts.Need-returns-3 (two-below t, two.Post) (choice-at t) choice.Post choice-Inv-loop choice-μ-loop
+choice-returns-3 : (t : ℕ) → choice-lts.Need-returns-3 (choice-claims t) (choice-at t) choice.Post choice-Inv-loop choice-μ-loop
 unfolding on when processEnd twoEnd branchEnd repeatEnd branchesEnd choiceEnd requestEnd entriesEnd listEnd solicitEnd markedEnd restingEnd scopeEnd executorEnd waiterEnd nodeEnd
 choice-returns-3 t c =
     let f0 = c .if3 .taken in
@@ -275,13 +284,13 @@ choice-returns-3 t c =
     let f3 = c .before .before .before .before .before .if1 .left in
     simp (tests, process-step, branches-step, branches-end, entries-step, entries-end, f0, ← (c .before .two .ensures), f1, ← (c .before .before .before .loop .inv), f2, f3)
 
-choice-sub-left : (t : ℕ) → choice-lts.Need-sub-left (two-below t, two.Post) (choice-at t) choice.Post choice-Inv-loop choice-μ-loop
+choice-sub-left : (t : ℕ) → choice-lts.Need-sub-left (choice-claims t) (choice-at t) choice.Post choice-Inv-loop choice-μ-loop
 choice-sub-left t c = search needs
 
-choice-loop-less : (t : ℕ) → choice-lts.Need-loop-less (two-below t, two.Post) (choice-at t) choice.Post choice-Inv-loop choice-μ-loop
+choice-loop-less : (t : ℕ) → choice-lts.Need-loop-less (choice-claims t) (choice-at t) choice.Post choice-Inv-loop choice-μ-loop
 choice-loop-less t c = search needs
 
-choice-loop-again : (t : ℕ) → choice-lts.Need-loop-again (two-below t, two.Post) (choice-at t) choice.Post choice-Inv-loop choice-μ-loop
+choice-loop-again : (t : ℕ) → choice-lts.Need-loop-again (choice-claims t) (choice-at t) choice.Post choice-Inv-loop choice-μ-loop
 unfolding on when processEnd twoEnd branchEnd repeatEnd branchesEnd choiceEnd requestEnd entriesEnd listEnd solicitEnd markedEnd restingEnd scopeEnd executorEnd waiterEnd nodeEnd
 choice-loop-again t c =
     let f0 = c .if3 .left in
@@ -290,7 +299,7 @@ choice-loop-again t c =
     let f3 = c .before .before .before .before .before .if1 .left in
     simp (tests, process-step, branches-step, branches-end, entries-step, entries-end, f0, ← (c .before .two .ensures), f1, ← (c .before .before .before .loop .inv), f2, f3)
 
-choice-returns-4 : (t : ℕ) → choice-lts.Need-returns-4 (two-below t, two.Post) (choice-at t) choice.Post choice-Inv-loop choice-μ-loop
+choice-returns-4 : (t : ℕ) → choice-lts.Need-returns-4 (choice-claims t) (choice-at t) choice.Post choice-Inv-loop choice-μ-loop
 unfolding on when processEnd twoEnd branchEnd repeatEnd branchesEnd choiceEnd requestEnd entriesEnd listEnd solicitEnd markedEnd restingEnd scopeEnd executorEnd waiterEnd nodeEnd
 choice-returns-4 t c =
     let f0 = c .loop-test .left in
@@ -298,22 +307,25 @@ choice-returns-4 t c =
     let f2 = c .before .before .before .if1 .left in
     simp (tests, process-step, branches-step, branches-end, entries-step, entries-end, f0, ← (c .before .loop .inv), f1, f2)
 
-executor-end-requires : (t : ℕ) → executor-lts.Need-end-requires (end-reads.Asked, end-reads.Learnt, process-below t, process.Post) (executor-at t) executor.Post
+abbrev executor-claims : ℕ → executor-lts.Claims
+executor-claims t = (end-reads.Asked, end-reads.Learnt, process-below t, process.Post)
+
+executor-end-requires : (t : ℕ) → executor-lts.Need-end-requires (executor-claims t) (executor-at t) executor.Post
 executor-end-requires t c κs = search needs
 
-executor-add-process : (t : ℕ) → executor-lts.Need-add-process (end-reads.Asked, end-reads.Learnt, process-below t, process.Post) (executor-at t) executor.Post
+executor-add-process : (t : ℕ) → executor-lts.Need-add-process (executor-claims t) (executor-at t) executor.Post
 executor-add-process t c = search needs
 
-executor-process-requires : (t : ℕ) → executor-lts.Need-process-requires (end-reads.Asked, end-reads.Learnt, process-below t, process.Post) (executor-at t) executor.Post
+executor-process-requires : (t : ℕ) → executor-lts.Need-process-requires (executor-claims t) (executor-at t) executor.Post
 executor-process-requires t c κs = search needs
 
-executor-returns : (t : ℕ) → executor-lts.Need-returns (end-reads.Asked, end-reads.Learnt, process-below t, process.Post) (executor-at t) executor.Post
+executor-returns : (t : ℕ) → executor-lts.Need-returns (executor-claims t) (executor-at t) executor.Post
 unfolding on when processEnd twoEnd branchEnd repeatEnd branchesEnd choiceEnd requestEnd entriesEnd listEnd solicitEnd markedEnd restingEnd scopeEnd executorEnd waiterEnd nodeEnd
 executor-returns t c =
     let f0 = c .before .if1 .taken in
     simp (tests, process-step, branches-step, branches-end, entries-step, entries-end, ← (c .process .ensures), f0, ← (c .before .before .end .ensures))
 
-executor-returns-2 : (t : ℕ) → executor-lts.Need-returns-2 (end-reads.Asked, end-reads.Learnt, process-below t, process.Post) (executor-at t) executor.Post
+executor-returns-2 : (t : ℕ) → executor-lts.Need-returns-2 (executor-claims t) (executor-at t) executor.Post
 unfolding on when processEnd twoEnd branchEnd repeatEnd branchesEnd choiceEnd requestEnd entriesEnd listEnd solicitEnd markedEnd restingEnd scopeEnd executorEnd waiterEnd nodeEnd
 executor-returns-2 t c =
     let f0 = c .if1 .left in
@@ -327,31 +339,34 @@ list-Inv-loop ws at depth context wanted bound left₀ a₀ least₀ met₀ left
 abbrev list-μ-loop : list-lts.MeasureT-loop
 list-μ-loop ws at depth context wanted bound left₀ a₀ least₀ met₀ left a least met = left
 
-list-returns : (t : ℕ) → list-lts.Need-returns (wide-reads.Asked, wide-reads.Learnt, key-at-reads.Asked, key-at-reads.Learnt, entry-context-reads.Asked, entry-context-reads.Learnt, process-below t, process.Post, met-by-reads.Asked, met-by-reads.Learnt) (list-at t) list.Post list-Inv-loop list-μ-loop
+abbrev list-claims : ℕ → list-lts.Claims
+list-claims t = (wide-reads.Asked, wide-reads.Learnt, key-at-reads.Asked, key-at-reads.Learnt, entry-context-reads.Asked, entry-context-reads.Learnt, process-below t, process.Post, met-by-reads.Asked, met-by-reads.Learnt)
+
+list-returns : (t : ℕ) → list-lts.Need-returns (list-claims t) (list-at t) list.Post list-Inv-loop list-μ-loop
 unfolding on when processEnd twoEnd branchEnd repeatEnd branchesEnd choiceEnd requestEnd entriesEnd listEnd solicitEnd markedEnd restingEnd scopeEnd executorEnd waiterEnd nodeEnd
 list-returns t c =
     let f0 = c .if1 .taken in
     simp (tests, process-step, branches-step, branches-end, entries-step, entries-end, f0)
 
-list-mul-wide : (t : ℕ) → list-lts.Need-mul-wide (wide-reads.Asked, wide-reads.Learnt, key-at-reads.Asked, key-at-reads.Learnt, entry-context-reads.Asked, entry-context-reads.Learnt, process-below t, process.Post, met-by-reads.Asked, met-by-reads.Learnt) (list-at t) list.Post list-Inv-loop list-μ-loop
+list-mul-wide : (t : ℕ) → list-lts.Need-mul-wide (list-claims t) (list-at t) list.Post list-Inv-loop list-μ-loop
 list-mul-wide t c = search needs
 
-list-shared-slice-read-wide : (t : ℕ) → list-lts.Need-shared-slice-read-wide (wide-reads.Asked, wide-reads.Learnt, key-at-reads.Asked, key-at-reads.Learnt, entry-context-reads.Asked, entry-context-reads.Learnt, process-below t, process.Post, met-by-reads.Asked, met-by-reads.Learnt) (list-at t) list.Post list-Inv-loop list-μ-loop
+list-shared-slice-read-wide : (t : ℕ) → list-lts.Need-shared-slice-read-wide (list-claims t) (list-at t) list.Post list-Inv-loop list-μ-loop
 list-shared-slice-read-wide t c = search needs
 
-list-wide-requires : (t : ℕ) → list-lts.Need-wide-requires (wide-reads.Asked, wide-reads.Learnt, key-at-reads.Asked, key-at-reads.Learnt, entry-context-reads.Asked, entry-context-reads.Learnt, process-below t, process.Post, met-by-reads.Asked, met-by-reads.Learnt) (list-at t) list.Post list-Inv-loop list-μ-loop
+list-wide-requires : (t : ℕ) → list-lts.Need-wide-requires (list-claims t) (list-at t) list.Post list-Inv-loop list-μ-loop
 list-wide-requires t c κs = search needs
 
-list-add-a : (t : ℕ) → list-lts.Need-add-a (wide-reads.Asked, wide-reads.Learnt, key-at-reads.Asked, key-at-reads.Learnt, entry-context-reads.Asked, entry-context-reads.Learnt, process-below t, process.Post, met-by-reads.Asked, met-by-reads.Learnt) (list-at t) list.Post list-Inv-loop list-μ-loop
+list-add-a : (t : ℕ) → list-lts.Need-add-a (list-claims t) (list-at t) list.Post list-Inv-loop list-μ-loop
 list-add-a t c = search needs
 
-list-loop-holds : (t : ℕ) → list-lts.Need-loop-holds (wide-reads.Asked, wide-reads.Learnt, key-at-reads.Asked, key-at-reads.Learnt, entry-context-reads.Asked, entry-context-reads.Learnt, process-below t, process.Post, met-by-reads.Asked, met-by-reads.Learnt) (list-at t) list.Post list-Inv-loop list-μ-loop
+list-loop-holds : (t : ℕ) → list-lts.Need-loop-holds (list-claims t) (list-at t) list.Post list-Inv-loop list-μ-loop
 list-loop-holds t c = refl
 
-list-key-at-requires : (t : ℕ) → list-lts.Need-key-at-requires (wide-reads.Asked, wide-reads.Learnt, key-at-reads.Asked, key-at-reads.Learnt, entry-context-reads.Asked, entry-context-reads.Learnt, process-below t, process.Post, met-by-reads.Asked, met-by-reads.Learnt) (list-at t) list.Post list-Inv-loop list-μ-loop
+list-key-at-requires : (t : ℕ) → list-lts.Need-key-at-requires (list-claims t) (list-at t) list.Post list-Inv-loop list-μ-loop
 list-key-at-requires t c κs = search needs
 
-list-returns-2 : (t : ℕ) → list-lts.Need-returns-2 (wide-reads.Asked, wide-reads.Learnt, key-at-reads.Asked, key-at-reads.Learnt, entry-context-reads.Asked, entry-context-reads.Learnt, process-below t, process.Post, met-by-reads.Asked, met-by-reads.Learnt) (list-at t) list.Post list-Inv-loop list-μ-loop
+list-returns-2 : (t : ℕ) → list-lts.Need-returns-2 (list-claims t) (list-at t) list.Post list-Inv-loop list-μ-loop
 unfolding on when processEnd twoEnd branchEnd repeatEnd branchesEnd choiceEnd requestEnd entriesEnd listEnd solicitEnd markedEnd restingEnd scopeEnd executorEnd waiterEnd nodeEnd
 list-returns-2 t c =
     let f0 = c .if2 .taken in
@@ -359,18 +374,18 @@ list-returns-2 t c =
     let f2 = c .before .before .before .before .before .before .if1 .left in
     simp (tests, process-step, branches-step, branches-end, entries-step, entries-end, f0, ← (c .before .key-at .ensures .0), f1, ← (c .before .before .before .loop .inv), ← (c .before .before .before .before .wide .ensures .0), f2)
 
-list-add-process : (t : ℕ) → list-lts.Need-add-process (wide-reads.Asked, wide-reads.Learnt, key-at-reads.Asked, key-at-reads.Learnt, entry-context-reads.Asked, entry-context-reads.Learnt, process-below t, process.Post, met-by-reads.Asked, met-by-reads.Learnt) (list-at t) list.Post list-Inv-loop list-μ-loop
+list-add-process : (t : ℕ) → list-lts.Need-add-process (list-claims t) (list-at t) list.Post list-Inv-loop list-μ-loop
 list-add-process t c =
     let h = key-inside _ _ _ _ (c .before .key-at .ensures .0) (c .if2 .left) in
     omega (arith, h)
 
-list-entry-context-requires : (t : ℕ) → list-lts.Need-entry-context-requires (wide-reads.Asked, wide-reads.Learnt, key-at-reads.Asked, key-at-reads.Learnt, entry-context-reads.Asked, entry-context-reads.Learnt, process-below t, process.Post, met-by-reads.Asked, met-by-reads.Learnt) (list-at t) list.Post list-Inv-loop list-μ-loop
+list-entry-context-requires : (t : ℕ) → list-lts.Need-entry-context-requires (list-claims t) (list-at t) list.Post list-Inv-loop list-μ-loop
 list-entry-context-requires t c κs = search needs
 
-list-process-requires : (t : ℕ) → list-lts.Need-process-requires (wide-reads.Asked, wide-reads.Learnt, key-at-reads.Asked, key-at-reads.Learnt, entry-context-reads.Asked, entry-context-reads.Learnt, process-below t, process.Post, met-by-reads.Asked, met-by-reads.Learnt) (list-at t) list.Post list-Inv-loop list-μ-loop
+list-process-requires : (t : ℕ) → list-lts.Need-process-requires (list-claims t) (list-at t) list.Post list-Inv-loop list-μ-loop
 list-process-requires t c κs = search needs
 
-list-returns-3 : (t : ℕ) → list-lts.Need-returns-3 (wide-reads.Asked, wide-reads.Learnt, key-at-reads.Asked, key-at-reads.Learnt, entry-context-reads.Asked, entry-context-reads.Learnt, process-below t, process.Post, met-by-reads.Asked, met-by-reads.Learnt) (list-at t) list.Post list-Inv-loop list-μ-loop
+list-returns-3 : (t : ℕ) → list-lts.Need-returns-3 (list-claims t) (list-at t) list.Post list-Inv-loop list-μ-loop
 unfolding on when processEnd twoEnd branchEnd repeatEnd branchesEnd choiceEnd requestEnd entriesEnd listEnd solicitEnd markedEnd restingEnd scopeEnd executorEnd waiterEnd nodeEnd
 list-returns-3 t c =
     let f0 = c .if3 .taken in
@@ -379,24 +394,25 @@ list-returns-3 t c =
     let f3 = c .before .before .before .before .before .before .before .before .before .if1 .left in
     simp (tests, process-step, branches-step, branches-end, entries-step, entries-end, f0, ← (c .before .process .ensures), ← (c .before .before .entry-context .ensures .0), f1, ← (c .before .before .before .before .key-at .ensures .0), f2, ← (c .before .before .before .before .before .before .loop .inv), ← (c .before .before .before .before .before .before .before .wide .ensures .0), f3)
 
-list-met-by-requires : (t : ℕ) → list-lts.Need-met-by-requires (wide-reads.Asked, wide-reads.Learnt, key-at-reads.Asked, key-at-reads.Learnt, entry-context-reads.Asked, entry-context-reads.Learnt, process-below t, process.Post, met-by-reads.Asked, met-by-reads.Learnt) (list-at t) list.Post list-Inv-loop list-μ-loop
+list-met-by-requires : (t : ℕ) → list-lts.Need-met-by-requires (list-claims t) (list-at t) list.Post list-Inv-loop list-μ-loop
 list-met-by-requires t c κs = search needs
 
-list-add-least : (t : ℕ) → list-lts.Need-add-least (wide-reads.Asked, wide-reads.Learnt, key-at-reads.Asked, key-at-reads.Learnt, entry-context-reads.Asked, entry-context-reads.Learnt, process-below t, process.Post, met-by-reads.Asked, met-by-reads.Learnt) (list-at t) list.Post list-Inv-loop list-μ-loop
+list-add-least : (t : ℕ) → list-lts.Need-add-least (list-claims t) (list-at t) list.Post list-Inv-loop list-μ-loop
 list-add-least t c = search needs
 
-list-sub-left : (t : ℕ) → list-lts.Need-sub-left (wide-reads.Asked, wide-reads.Learnt, key-at-reads.Asked, key-at-reads.Learnt, entry-context-reads.Asked, entry-context-reads.Learnt, process-below t, process.Post, met-by-reads.Asked, met-by-reads.Learnt) (list-at t) list.Post list-Inv-loop list-μ-loop
+list-sub-left : (t : ℕ) → list-lts.Need-sub-left (list-claims t) (list-at t) list.Post list-Inv-loop list-μ-loop
 list-sub-left t c = search needs
 
-list-loop-less : (t : ℕ) → list-lts.Need-loop-less (wide-reads.Asked, wide-reads.Learnt, key-at-reads.Asked, key-at-reads.Learnt, entry-context-reads.Asked, entry-context-reads.Learnt, process-below t, process.Post, met-by-reads.Asked, met-by-reads.Learnt) (list-at t) list.Post list-Inv-loop list-μ-loop
+list-loop-less : (t : ℕ) → list-lts.Need-loop-less (list-claims t) (list-at t) list.Post list-Inv-loop list-μ-loop
 list-loop-less t c = search needs
 
-list-loop-again : (t : ℕ) → list-lts.Need-loop-again (wide-reads.Asked, wide-reads.Learnt, key-at-reads.Asked, key-at-reads.Learnt, entry-context-reads.Asked, entry-context-reads.Learnt, process-below t, process.Post, met-by-reads.Asked, met-by-reads.Learnt) (list-at t) list.Post list-Inv-loop list-μ-loop
+list-loop-again : (t : ℕ) → list-lts.Need-loop-again (list-claims t) (list-at t) list.Post list-Inv-loop list-μ-loop
 list-loop-again t c =
-    entries-turn (processEnd (c .before .before .before .before .before .before .before .before .before .before .before .before .args .depth) (c .before .before .before .before .before .before .before .before .before .before .before .before .args .ws .now) (c .before .before .before .before .before .before .before .before .before .before .before .before .args .bound)) (c .before .before .before .before .before .before .before .before .before .before .before .before .args .ws .now) (c .before .before .before .before .before .before .before .before .before .before .before .before .args .context) (c .before .before .before .before .before .before .before .before .before .before .before .before .args .wanted) _ _ _ _ _ _ _ _ (c .before .before .before .before .before .before .loop-test .taken) (c .before .before .before .before .before .key-at .ensures .0) (c .before .before .before .before .if2 .left) (c .before .before .before .entry-context .ensures .0) (c .before .before .process .ensures) (c .before .if3 .left) (c .met-by .ensures)
+    let a = c .before .before .before .before .before .before .before .before .before .before .before .before .args in
+    entries-turn (processEnd (a .depth) (a .ws .now) (a .bound)) (a .ws .now) (a .context) (a .wanted) _ _ _ _ _ _ _ _ (c .before .before .before .before .before .before .loop-test .taken) (c .before .before .before .before .before .key-at .ensures .0) (c .before .before .before .before .if2 .left) (c .before .before .before .entry-context .ensures .0) (c .before .before .process .ensures) (c .before .if3 .left) (c .met-by .ensures)
     ∙ c .before .before .before .before .before .before .before .loop .inv
 
-list-returns-4 : (t : ℕ) → list-lts.Need-returns-4 (wide-reads.Asked, wide-reads.Learnt, key-at-reads.Asked, key-at-reads.Learnt, entry-context-reads.Asked, entry-context-reads.Learnt, process-below t, process.Post, met-by-reads.Asked, met-by-reads.Learnt) (list-at t) list.Post list-Inv-loop list-μ-loop
+list-returns-4 : (t : ℕ) → list-lts.Need-returns-4 (list-claims t) (list-at t) list.Post list-Inv-loop list-μ-loop
 unfolding on when processEnd twoEnd branchEnd repeatEnd branchesEnd choiceEnd requestEnd entriesEnd listEnd solicitEnd markedEnd restingEnd scopeEnd executorEnd waiterEnd nodeEnd
 list-returns-4 t c =
     let f0 = c .if4 .taken in
@@ -404,7 +420,7 @@ list-returns-4 t c =
     let f2 = c .before .before .before .before .before .if1 .left in
     simp (tests, process-step, branches-step, branches-end, entries-step, entries-end, f0, f1, ← (c .before .before .loop .inv), ← (c .before .before .before .wide .ensures .0), f2)
 
-list-returns-5 : (t : ℕ) → list-lts.Need-returns-5 (wide-reads.Asked, wide-reads.Learnt, key-at-reads.Asked, key-at-reads.Learnt, entry-context-reads.Asked, entry-context-reads.Learnt, process-below t, process.Post, met-by-reads.Asked, met-by-reads.Learnt) (list-at t) list.Post list-Inv-loop list-μ-loop
+list-returns-5 : (t : ℕ) → list-lts.Need-returns-5 (list-claims t) (list-at t) list.Post list-Inv-loop list-μ-loop
 unfolding on when processEnd twoEnd branchEnd repeatEnd branchesEnd choiceEnd requestEnd entriesEnd listEnd solicitEnd markedEnd restingEnd scopeEnd executorEnd waiterEnd nodeEnd
 list-returns-5 t c =
     let f0 = c .if4 .left in
@@ -412,51 +428,54 @@ list-returns-5 t c =
     let f2 = c .before .before .before .before .before .if1 .left in
     simp (tests, process-step, branches-step, branches-end, entries-step, entries-end, f0, f1, ← (c .before .before .loop .inv), ← (c .before .before .before .wide .ensures .0), f2)
 
-marked-list-requires : (t : ℕ) → marked-lts.Need-list-requires (list-below t, list.Post) (marked-at t) marked.Post
+abbrev marked-claims : ℕ → marked-lts.Claims
+marked-claims t = (list-below t, list.Post)
+
+marked-list-requires : (t : ℕ) → marked-lts.Need-list-requires (marked-claims t) (marked-at t) marked.Post
 marked-list-requires t c κs = search needs
 
-marked-list-requires-2 : (t : ℕ) → marked-lts.Need-list-requires-2 (list-below t, list.Post) (marked-at t) marked.Post
+marked-list-requires-2 : (t : ℕ) → marked-lts.Need-list-requires-2 (marked-claims t) (marked-at t) marked.Post
 marked-list-requires-2 t c κs = search needs
 
-marked-returns : (t : ℕ) → marked-lts.Need-returns (list-below t, list.Post) (marked-at t) marked.Post
+marked-returns : (t : ℕ) → marked-lts.Need-returns (marked-claims t) (marked-at t) marked.Post
 unfolding on when processEnd twoEnd branchEnd repeatEnd branchesEnd choiceEnd requestEnd entriesEnd listEnd solicitEnd markedEnd restingEnd scopeEnd executorEnd waiterEnd nodeEnd
 marked-returns t c =
     let f0 = c .if3 .taken in
     let f1 = c .before .match .keys3 in
     simp (tests, process-step, branches-step, branches-end, entries-step, entries-end, f0, f1)
 
-marked-list-requires-3 : (t : ℕ) → marked-lts.Need-list-requires-3 (list-below t, list.Post) (marked-at t) marked.Post
+marked-list-requires-3 : (t : ℕ) → marked-lts.Need-list-requires-3 (marked-claims t) (marked-at t) marked.Post
 marked-list-requires-3 t c κs = search needs
 
-marked-returns-2 : (t : ℕ) → marked-lts.Need-returns-2 (list-below t, list.Post) (marked-at t) marked.Post
+marked-returns-2 : (t : ℕ) → marked-lts.Need-returns-2 (marked-claims t) (marked-at t) marked.Post
 unfolding on when processEnd twoEnd branchEnd repeatEnd branchesEnd choiceEnd requestEnd entriesEnd listEnd solicitEnd markedEnd restingEnd scopeEnd executorEnd waiterEnd nodeEnd
 marked-returns-2 t c =
     let f0 = c .before .if1 .taken in
     let f1 = c .before .before .match .keys1 in
     simp (tests, process-step, branches-step, branches-end, entries-step, entries-end, ← (c .list .ensures), f0, f1)
 
-marked-returns-3 : (t : ℕ) → marked-lts.Need-returns-3 (list-below t, list.Post) (marked-at t) marked.Post
+marked-returns-3 : (t : ℕ) → marked-lts.Need-returns-3 (marked-claims t) (marked-at t) marked.Post
 unfolding on when processEnd twoEnd branchEnd repeatEnd branchesEnd choiceEnd requestEnd entriesEnd listEnd solicitEnd markedEnd restingEnd scopeEnd executorEnd waiterEnd nodeEnd
 marked-returns-3 t c =
     let f0 = c .if1 .left in
     let f1 = c .before .match .keys1 in
     simp (tests, process-step, branches-step, branches-end, entries-step, entries-end, f0, f1)
 
-marked-returns-4 : (t : ℕ) → marked-lts.Need-returns-4 (list-below t, list.Post) (marked-at t) marked.Post
+marked-returns-4 : (t : ℕ) → marked-lts.Need-returns-4 (marked-claims t) (marked-at t) marked.Post
 unfolding on when processEnd twoEnd branchEnd repeatEnd branchesEnd choiceEnd requestEnd entriesEnd listEnd solicitEnd markedEnd restingEnd scopeEnd executorEnd waiterEnd nodeEnd
 marked-returns-4 t c =
     let f0 = c .before .if2 .taken in
     let f1 = c .before .before .match .keys2 in
     simp (tests, process-step, branches-step, branches-end, entries-step, entries-end, ← (c .list2 .ensures), f0, f1)
 
-marked-returns-5 : (t : ℕ) → marked-lts.Need-returns-5 (list-below t, list.Post) (marked-at t) marked.Post
+marked-returns-5 : (t : ℕ) → marked-lts.Need-returns-5 (marked-claims t) (marked-at t) marked.Post
 unfolding on when processEnd twoEnd branchEnd repeatEnd branchesEnd choiceEnd requestEnd entriesEnd listEnd solicitEnd markedEnd restingEnd scopeEnd executorEnd waiterEnd nodeEnd
 marked-returns-5 t c =
     let f0 = c .if2 .left in
     let f1 = c .before .match .keys2 in
     simp (tests, process-step, branches-step, branches-end, entries-step, entries-end, f0, f1)
 
-marked-returns-6 : (t : ℕ) → marked-lts.Need-returns-6 (list-below t, list.Post) (marked-at t) marked.Post
+marked-returns-6 : (t : ℕ) → marked-lts.Need-returns-6 (marked-claims t) (marked-at t) marked.Post
 unfolding on when processEnd twoEnd branchEnd repeatEnd branchesEnd choiceEnd requestEnd entriesEnd listEnd solicitEnd markedEnd restingEnd scopeEnd executorEnd waiterEnd nodeEnd
 marked-returns-6 t c =
     let f0 = c .before .if4 .taken in
@@ -464,7 +483,7 @@ marked-returns-6 t c =
     let f2 = c .before .before .before .match .keys3 in
     simp (tests, process-step, branches-step, branches-end, entries-step, entries-end, ← (c .list3 .ensures), f0, f1, f2)
 
-marked-returns-7 : (t : ℕ) → marked-lts.Need-returns-7 (list-below t, list.Post) (marked-at t) marked.Post
+marked-returns-7 : (t : ℕ) → marked-lts.Need-returns-7 (marked-claims t) (marked-at t) marked.Post
 unfolding on when processEnd twoEnd branchEnd repeatEnd branchesEnd choiceEnd requestEnd entriesEnd listEnd solicitEnd markedEnd restingEnd scopeEnd executorEnd waiterEnd nodeEnd
 marked-returns-7 t c =
     let f0 = c .if4 .left in
@@ -472,246 +491,259 @@ marked-returns-7 t c =
     let f2 = c .before .before .match .keys3 in
     simp (tests, process-step, branches-step, branches-end, entries-step, entries-end, f0, f1, f2)
 
-marked-returns-8 : (t : ℕ) → marked-lts.Need-returns-8 (list-below t, list.Post) (marked-at t) marked.Post
+marked-returns-8 : (t : ℕ) → marked-lts.Need-returns-8 (marked-claims t) (marked-at t) marked.Post
 unfolding markedEnd
 marked-returns-8 t c =
     let f0 = beyond 3 _ (c .match .rest) in
     simp (List·getD-eq-default, f0)
 
-node-returns : (t : ℕ) → node-lts.Need-returns (wide-reads.Asked, wide-reads.Learnt, head-mask-reads.Asked, head-mask-reads.Learnt, rest-context-reads.Asked, rest-context-reads.Learnt, expression-reads.Asked, expression-reads.Learnt, same-context-reads.Asked, same-context-reads.Learnt, two-below t, two.Post, branch-below t, branch.Post, repeat-below t, repeat.Post, choice-below t, choice.Post, request-below t, request.Post, notify-reads.Asked, notify-reads.Learnt, solicit-below t, solicit.Post, scope-below t, scope.Post, list-below t, list.Post, executor-below t, executor.Post, waiter-below t, waiter.Post, notice-reads.Asked, notice-reads.Learnt) (node-at t) node.Post
+abbrev node-claims : ℕ → node-lts.Claims
+node-claims t = (wide-reads.Asked, wide-reads.Learnt, head-mask-reads.Asked, head-mask-reads.Learnt, rest-context-reads.Asked, rest-context-reads.Learnt, expression-reads.Asked, expression-reads.Learnt, same-context-reads.Asked, same-context-reads.Learnt, two-below t, two.Post, branch-below t, branch.Post, repeat-below t, repeat.Post, choice-below t, choice.Post, request-below t, request.Post, notify-reads.Asked, notify-reads.Learnt, solicit-below t, solicit.Post, scope-below t, scope.Post, list-below t, list.Post, executor-below t, executor.Post, waiter-below t, waiter.Post, notice-reads.Asked, notice-reads.Learnt)
+
+node-returns : (t : ℕ) → node-lts.Need-returns (node-claims t) (node-at t) node.Post
 unfolding on when processEnd twoEnd branchEnd repeatEnd branchesEnd choiceEnd requestEnd entriesEnd listEnd solicitEnd markedEnd restingEnd scopeEnd executorEnd waiterEnd nodeEnd
 node-returns t c =
     let f0 = c .if1 .taken in
     simp (tests, process-step, branches-step, branches-end, entries-step, entries-end, f0)
 
-node-returns-2 : (t : ℕ) → node-lts.Need-returns-2 (wide-reads.Asked, wide-reads.Learnt, head-mask-reads.Asked, head-mask-reads.Learnt, rest-context-reads.Asked, rest-context-reads.Learnt, expression-reads.Asked, expression-reads.Learnt, same-context-reads.Asked, same-context-reads.Learnt, two-below t, two.Post, branch-below t, branch.Post, repeat-below t, repeat.Post, choice-below t, choice.Post, request-below t, request.Post, notify-reads.Asked, notify-reads.Learnt, solicit-below t, solicit.Post, scope-below t, scope.Post, list-below t, list.Post, executor-below t, executor.Post, waiter-below t, waiter.Post, notice-reads.Asked, notice-reads.Learnt) (node-at t) node.Post
+node-returns-2 : (t : ℕ) → node-lts.Need-returns-2 (node-claims t) (node-at t) node.Post
 unfolding on when processEnd twoEnd branchEnd repeatEnd branchesEnd choiceEnd requestEnd entriesEnd listEnd solicitEnd markedEnd restingEnd scopeEnd executorEnd waiterEnd nodeEnd
 node-returns-2 t c =
     let f0 = c .if2 .taken in
     let f1 = c .before .if1 .left in
     simp (tests, process-step, branches-step, branches-end, entries-step, entries-end, f0, f1)
 
-node-mul-wide : (t : ℕ) → node-lts.Need-mul-wide (wide-reads.Asked, wide-reads.Learnt, head-mask-reads.Asked, head-mask-reads.Learnt, rest-context-reads.Asked, rest-context-reads.Learnt, expression-reads.Asked, expression-reads.Learnt, same-context-reads.Asked, same-context-reads.Learnt, two-below t, two.Post, branch-below t, branch.Post, repeat-below t, repeat.Post, choice-below t, choice.Post, request-below t, request.Post, notify-reads.Asked, notify-reads.Learnt, solicit-below t, solicit.Post, scope-below t, scope.Post, list-below t, list.Post, executor-below t, executor.Post, waiter-below t, waiter.Post, notice-reads.Asked, notice-reads.Learnt) (node-at t) node.Post
+node-mul-wide : (t : ℕ) → node-lts.Need-mul-wide (node-claims t) (node-at t) node.Post
 node-mul-wide t c = search needs
 
-node-shared-slice-read-wide : (t : ℕ) → node-lts.Need-shared-slice-read-wide (wide-reads.Asked, wide-reads.Learnt, head-mask-reads.Asked, head-mask-reads.Learnt, rest-context-reads.Asked, rest-context-reads.Learnt, expression-reads.Asked, expression-reads.Learnt, same-context-reads.Asked, same-context-reads.Learnt, two-below t, two.Post, branch-below t, branch.Post, repeat-below t, repeat.Post, choice-below t, choice.Post, request-below t, request.Post, notify-reads.Asked, notify-reads.Learnt, solicit-below t, solicit.Post, scope-below t, scope.Post, list-below t, list.Post, executor-below t, executor.Post, waiter-below t, waiter.Post, notice-reads.Asked, notice-reads.Learnt) (node-at t) node.Post
+node-shared-slice-read-wide : (t : ℕ) → node-lts.Need-shared-slice-read-wide (node-claims t) (node-at t) node.Post
 node-shared-slice-read-wide t c = search needs
 
-node-wide-requires : (t : ℕ) → node-lts.Need-wide-requires (wide-reads.Asked, wide-reads.Learnt, head-mask-reads.Asked, head-mask-reads.Learnt, rest-context-reads.Asked, rest-context-reads.Learnt, expression-reads.Asked, expression-reads.Learnt, same-context-reads.Asked, same-context-reads.Learnt, two-below t, two.Post, branch-below t, branch.Post, repeat-below t, repeat.Post, choice-below t, choice.Post, request-below t, request.Post, notify-reads.Asked, notify-reads.Learnt, solicit-below t, solicit.Post, scope-below t, scope.Post, list-below t, list.Post, executor-below t, executor.Post, waiter-below t, waiter.Post, notice-reads.Asked, notice-reads.Learnt) (node-at t) node.Post
+node-wide-requires : (t : ℕ) → node-lts.Need-wide-requires (node-claims t) (node-at t) node.Post
 node-wide-requires t c κs = search needs
 
-node-add-if3 : (t : ℕ) → node-lts.Need-add-if3 (wide-reads.Asked, wide-reads.Learnt, head-mask-reads.Asked, head-mask-reads.Learnt, rest-context-reads.Asked, rest-context-reads.Learnt, expression-reads.Asked, expression-reads.Learnt, same-context-reads.Asked, same-context-reads.Learnt, two-below t, two.Post, branch-below t, branch.Post, repeat-below t, repeat.Post, choice-below t, choice.Post, request-below t, request.Post, notify-reads.Asked, notify-reads.Learnt, solicit-below t, solicit.Post, scope-below t, scope.Post, list-below t, list.Post, executor-below t, executor.Post, waiter-below t, waiter.Post, notice-reads.Asked, notice-reads.Learnt) (node-at t) node.Post
+node-add-if3 : (t : ℕ) → node-lts.Need-add-if3 (node-claims t) (node-at t) node.Post
 node-add-if3 t c = search needs
 
-node-head-mask-requires : (t : ℕ) → node-lts.Need-head-mask-requires (wide-reads.Asked, wide-reads.Learnt, head-mask-reads.Asked, head-mask-reads.Learnt, rest-context-reads.Asked, rest-context-reads.Learnt, expression-reads.Asked, expression-reads.Learnt, same-context-reads.Asked, same-context-reads.Learnt, two-below t, two.Post, branch-below t, branch.Post, repeat-below t, repeat.Post, choice-below t, choice.Post, request-below t, request.Post, notify-reads.Asked, notify-reads.Learnt, solicit-below t, solicit.Post, scope-below t, scope.Post, list-below t, list.Post, executor-below t, executor.Post, waiter-below t, waiter.Post, notice-reads.Asked, notice-reads.Learnt) (node-at t) node.Post
+node-head-mask-requires : (t : ℕ) → node-lts.Need-head-mask-requires (node-claims t) (node-at t) node.Post
 node-head-mask-requires t c κs = search needs
 
-node-returns-3 : (t : ℕ) → node-lts.Need-returns-3 (wide-reads.Asked, wide-reads.Learnt, head-mask-reads.Asked, head-mask-reads.Learnt, rest-context-reads.Asked, rest-context-reads.Learnt, expression-reads.Asked, expression-reads.Learnt, same-context-reads.Asked, same-context-reads.Learnt, two-below t, two.Post, branch-below t, branch.Post, repeat-below t, repeat.Post, choice-below t, choice.Post, request-below t, request.Post, notify-reads.Asked, notify-reads.Learnt, solicit-below t, solicit.Post, scope-below t, scope.Post, list-below t, list.Post, executor-below t, executor.Post, waiter-below t, waiter.Post, notice-reads.Asked, notice-reads.Learnt) (node-at t) node.Post
+node-returns-3 : (t : ℕ) → node-lts.Need-returns-3 (node-claims t) (node-at t) node.Post
 node-returns-3 t c =
     process-refused (c .before .before .before .before .before .before .before .args .depth) (c .before .before .before .before .before .before .before .args .ws .now) (c .before .before .before .before .before .before .before .args .bound) (c .before .before .before .before .before .before .before .args .context) (c .before .before .before .before .before .before .before .args .at) (c .before .before .wide .result) (c .before .head-mask .result) (c .before .before .before .before .before .if1 .left) (c .before .before .before .before .if2 .left) (c .before .before .wide .ensures .0) (c .before .head-mask .ensures) (c .if3 .taken)
 
-node-sub-d : (t : ℕ) → node-lts.Need-sub-d (wide-reads.Asked, wide-reads.Learnt, head-mask-reads.Asked, head-mask-reads.Learnt, rest-context-reads.Asked, rest-context-reads.Learnt, expression-reads.Asked, expression-reads.Learnt, same-context-reads.Asked, same-context-reads.Learnt, two-below t, two.Post, branch-below t, branch.Post, repeat-below t, repeat.Post, choice-below t, choice.Post, request-below t, request.Post, notify-reads.Asked, notify-reads.Learnt, solicit-below t, solicit.Post, scope-below t, scope.Post, list-below t, list.Post, executor-below t, executor.Post, waiter-below t, waiter.Post, notice-reads.Asked, notice-reads.Learnt) (node-at t) node.Post
+node-sub-d : (t : ℕ) → node-lts.Need-sub-d (node-claims t) (node-at t) node.Post
 node-sub-d t c = search needs
 
-node-rest-context-requires : (t : ℕ) → node-lts.Need-rest-context-requires (wide-reads.Asked, wide-reads.Learnt, head-mask-reads.Asked, head-mask-reads.Learnt, rest-context-reads.Asked, rest-context-reads.Learnt, expression-reads.Asked, expression-reads.Learnt, same-context-reads.Asked, same-context-reads.Learnt, two-below t, two.Post, branch-below t, branch.Post, repeat-below t, repeat.Post, choice-below t, choice.Post, request-below t, request.Post, notify-reads.Asked, notify-reads.Learnt, solicit-below t, solicit.Post, scope-below t, scope.Post, list-below t, list.Post, executor-below t, executor.Post, waiter-below t, waiter.Post, notice-reads.Asked, notice-reads.Learnt) (node-at t) node.Post
+node-rest-context-requires : (t : ℕ) → node-lts.Need-rest-context-requires (node-claims t) (node-at t) node.Post
 node-rest-context-requires t c κs = search needs
 
-node-add-result : (t : ℕ) → node-lts.Need-add-result (wide-reads.Asked, wide-reads.Learnt, head-mask-reads.Asked, head-mask-reads.Learnt, rest-context-reads.Asked, rest-context-reads.Learnt, expression-reads.Asked, expression-reads.Learnt, same-context-reads.Asked, same-context-reads.Learnt, two-below t, two.Post, branch-below t, branch.Post, repeat-below t, repeat.Post, choice-below t, choice.Post, request-below t, request.Post, notify-reads.Asked, notify-reads.Learnt, solicit-below t, solicit.Post, scope-below t, scope.Post, list-below t, list.Post, executor-below t, executor.Post, waiter-below t, waiter.Post, notice-reads.Asked, notice-reads.Learnt) (node-at t) node.Post
+node-add-result : (t : ℕ) → node-lts.Need-add-result (node-claims t) (node-at t) node.Post
 node-add-result t c = search needs
 
-node-add-expression : (t : ℕ) → node-lts.Need-add-expression (wide-reads.Asked, wide-reads.Learnt, head-mask-reads.Asked, head-mask-reads.Learnt, rest-context-reads.Asked, rest-context-reads.Learnt, expression-reads.Asked, expression-reads.Learnt, same-context-reads.Asked, same-context-reads.Learnt, two-below t, two.Post, branch-below t, branch.Post, repeat-below t, repeat.Post, choice-below t, choice.Post, request-below t, request.Post, notify-reads.Asked, notify-reads.Learnt, solicit-below t, solicit.Post, scope-below t, scope.Post, list-below t, list.Post, executor-below t, executor.Post, waiter-below t, waiter.Post, notice-reads.Asked, notice-reads.Learnt) (node-at t) node.Post
+node-add-expression : (t : ℕ) → node-lts.Need-add-expression (node-claims t) (node-at t) node.Post
 node-add-expression t c = search needs
 
-node-expression-requires : (t : ℕ) → node-lts.Need-expression-requires (wide-reads.Asked, wide-reads.Learnt, head-mask-reads.Asked, head-mask-reads.Learnt, rest-context-reads.Asked, rest-context-reads.Learnt, expression-reads.Asked, expression-reads.Learnt, same-context-reads.Asked, same-context-reads.Learnt, two-below t, two.Post, branch-below t, branch.Post, repeat-below t, repeat.Post, choice-below t, choice.Post, request-below t, request.Post, notify-reads.Asked, notify-reads.Learnt, solicit-below t, solicit.Post, scope-below t, scope.Post, list-below t, list.Post, executor-below t, executor.Post, waiter-below t, waiter.Post, notice-reads.Asked, notice-reads.Learnt) (node-at t) node.Post
+node-expression-requires : (t : ℕ) → node-lts.Need-expression-requires (node-claims t) (node-at t) node.Post
 node-expression-requires t c κs = search needs
 
-node-add-two : (t : ℕ) → node-lts.Need-add-two (wide-reads.Asked, wide-reads.Learnt, head-mask-reads.Asked, head-mask-reads.Learnt, rest-context-reads.Asked, rest-context-reads.Learnt, expression-reads.Asked, expression-reads.Learnt, same-context-reads.Asked, same-context-reads.Learnt, two-below t, two.Post, branch-below t, branch.Post, repeat-below t, repeat.Post, choice-below t, choice.Post, request-below t, request.Post, notify-reads.Asked, notify-reads.Learnt, solicit-below t, solicit.Post, scope-below t, scope.Post, list-below t, list.Post, executor-below t, executor.Post, waiter-below t, waiter.Post, notice-reads.Asked, notice-reads.Learnt) (node-at t) node.Post
+node-add-two : (t : ℕ) → node-lts.Need-add-two (node-claims t) (node-at t) node.Post
 node-add-two t c = search needs
 
-node-same-context-requires : (t : ℕ) → node-lts.Need-same-context-requires (wide-reads.Asked, wide-reads.Learnt, head-mask-reads.Asked, head-mask-reads.Learnt, rest-context-reads.Asked, rest-context-reads.Learnt, expression-reads.Asked, expression-reads.Learnt, same-context-reads.Asked, same-context-reads.Learnt, two-below t, two.Post, branch-below t, branch.Post, repeat-below t, repeat.Post, choice-below t, choice.Post, request-below t, request.Post, notify-reads.Asked, notify-reads.Learnt, solicit-below t, solicit.Post, scope-below t, scope.Post, list-below t, list.Post, executor-below t, executor.Post, waiter-below t, waiter.Post, notice-reads.Asked, notice-reads.Learnt) (node-at t) node.Post
+node-same-context-requires : (t : ℕ) → node-lts.Need-same-context-requires (node-claims t) (node-at t) node.Post
 node-same-context-requires t c κs = search needs
 
-node-add-two-2 : (t : ℕ) → node-lts.Need-add-two-2 (wide-reads.Asked, wide-reads.Learnt, head-mask-reads.Asked, head-mask-reads.Learnt, rest-context-reads.Asked, rest-context-reads.Learnt, expression-reads.Asked, expression-reads.Learnt, same-context-reads.Asked, same-context-reads.Learnt, two-below t, two.Post, branch-below t, branch.Post, repeat-below t, repeat.Post, choice-below t, choice.Post, request-below t, request.Post, notify-reads.Asked, notify-reads.Learnt, solicit-below t, solicit.Post, scope-below t, scope.Post, list-below t, list.Post, executor-below t, executor.Post, waiter-below t, waiter.Post, notice-reads.Asked, notice-reads.Learnt) (node-at t) node.Post
+node-add-two-2 : (t : ℕ) → node-lts.Need-add-two-2 (node-claims t) (node-at t) node.Post
 node-add-two-2 t c = search needs
 
-node-two-requires : (t : ℕ) → node-lts.Need-two-requires (wide-reads.Asked, wide-reads.Learnt, head-mask-reads.Asked, head-mask-reads.Learnt, rest-context-reads.Asked, rest-context-reads.Learnt, expression-reads.Asked, expression-reads.Learnt, same-context-reads.Asked, same-context-reads.Learnt, two-below t, two.Post, branch-below t, branch.Post, repeat-below t, repeat.Post, choice-below t, choice.Post, request-below t, request.Post, notify-reads.Asked, notify-reads.Learnt, solicit-below t, solicit.Post, scope-below t, scope.Post, list-below t, list.Post, executor-below t, executor.Post, waiter-below t, waiter.Post, notice-reads.Asked, notice-reads.Learnt) (node-at t) node.Post
+node-two-requires : (t : ℕ) → node-lts.Need-two-requires (node-claims t) (node-at t) node.Post
 node-two-requires t c κs = search needs
 
-node-add-two-3 : (t : ℕ) → node-lts.Need-add-two-3 (wide-reads.Asked, wide-reads.Learnt, head-mask-reads.Asked, head-mask-reads.Learnt, rest-context-reads.Asked, rest-context-reads.Learnt, expression-reads.Asked, expression-reads.Learnt, same-context-reads.Asked, same-context-reads.Learnt, two-below t, two.Post, branch-below t, branch.Post, repeat-below t, repeat.Post, choice-below t, choice.Post, request-below t, request.Post, notify-reads.Asked, notify-reads.Learnt, solicit-below t, solicit.Post, scope-below t, scope.Post, list-below t, list.Post, executor-below t, executor.Post, waiter-below t, waiter.Post, notice-reads.Asked, notice-reads.Learnt) (node-at t) node.Post
+node-add-two-3 : (t : ℕ) → node-lts.Need-add-two-3 (node-claims t) (node-at t) node.Post
 node-add-two-3 t c = search needs
 
-node-same-context-requires-2 : (t : ℕ) → node-lts.Need-same-context-requires-2 (wide-reads.Asked, wide-reads.Learnt, head-mask-reads.Asked, head-mask-reads.Learnt, rest-context-reads.Asked, rest-context-reads.Learnt, expression-reads.Asked, expression-reads.Learnt, same-context-reads.Asked, same-context-reads.Learnt, two-below t, two.Post, branch-below t, branch.Post, repeat-below t, repeat.Post, choice-below t, choice.Post, request-below t, request.Post, notify-reads.Asked, notify-reads.Learnt, solicit-below t, solicit.Post, scope-below t, scope.Post, list-below t, list.Post, executor-below t, executor.Post, waiter-below t, waiter.Post, notice-reads.Asked, notice-reads.Learnt) (node-at t) node.Post
+node-same-context-requires-2 : (t : ℕ) → node-lts.Need-same-context-requires-2 (node-claims t) (node-at t) node.Post
 node-same-context-requires-2 t c κs = search needs
 
-node-add-two-4 : (t : ℕ) → node-lts.Need-add-two-4 (wide-reads.Asked, wide-reads.Learnt, head-mask-reads.Asked, head-mask-reads.Learnt, rest-context-reads.Asked, rest-context-reads.Learnt, expression-reads.Asked, expression-reads.Learnt, same-context-reads.Asked, same-context-reads.Learnt, two-below t, two.Post, branch-below t, branch.Post, repeat-below t, repeat.Post, choice-below t, choice.Post, request-below t, request.Post, notify-reads.Asked, notify-reads.Learnt, solicit-below t, solicit.Post, scope-below t, scope.Post, list-below t, list.Post, executor-below t, executor.Post, waiter-below t, waiter.Post, notice-reads.Asked, notice-reads.Learnt) (node-at t) node.Post
+node-add-two-4 : (t : ℕ) → node-lts.Need-add-two-4 (node-claims t) (node-at t) node.Post
 node-add-two-4 t c = search needs
 
-node-same-context-requires-3 : (t : ℕ) → node-lts.Need-same-context-requires-3 (wide-reads.Asked, wide-reads.Learnt, head-mask-reads.Asked, head-mask-reads.Learnt, rest-context-reads.Asked, rest-context-reads.Learnt, expression-reads.Asked, expression-reads.Learnt, same-context-reads.Asked, same-context-reads.Learnt, two-below t, two.Post, branch-below t, branch.Post, repeat-below t, repeat.Post, choice-below t, choice.Post, request-below t, request.Post, notify-reads.Asked, notify-reads.Learnt, solicit-below t, solicit.Post, scope-below t, scope.Post, list-below t, list.Post, executor-below t, executor.Post, waiter-below t, waiter.Post, notice-reads.Asked, notice-reads.Learnt) (node-at t) node.Post
+node-same-context-requires-3 : (t : ℕ) → node-lts.Need-same-context-requires-3 (node-claims t) (node-at t) node.Post
 node-same-context-requires-3 t c κs = search needs
 
-node-add-two-5 : (t : ℕ) → node-lts.Need-add-two-5 (wide-reads.Asked, wide-reads.Learnt, head-mask-reads.Asked, head-mask-reads.Learnt, rest-context-reads.Asked, rest-context-reads.Learnt, expression-reads.Asked, expression-reads.Learnt, same-context-reads.Asked, same-context-reads.Learnt, two-below t, two.Post, branch-below t, branch.Post, repeat-below t, repeat.Post, choice-below t, choice.Post, request-below t, request.Post, notify-reads.Asked, notify-reads.Learnt, solicit-below t, solicit.Post, scope-below t, scope.Post, list-below t, list.Post, executor-below t, executor.Post, waiter-below t, waiter.Post, notice-reads.Asked, notice-reads.Learnt) (node-at t) node.Post
+node-add-two-5 : (t : ℕ) → node-lts.Need-add-two-5 (node-claims t) (node-at t) node.Post
 node-add-two-5 t c = search needs
 
-node-two-requires-2 : (t : ℕ) → node-lts.Need-two-requires-2 (wide-reads.Asked, wide-reads.Learnt, head-mask-reads.Asked, head-mask-reads.Learnt, rest-context-reads.Asked, rest-context-reads.Learnt, expression-reads.Asked, expression-reads.Learnt, same-context-reads.Asked, same-context-reads.Learnt, two-below t, two.Post, branch-below t, branch.Post, repeat-below t, repeat.Post, choice-below t, choice.Post, request-below t, request.Post, notify-reads.Asked, notify-reads.Learnt, solicit-below t, solicit.Post, scope-below t, scope.Post, list-below t, list.Post, executor-below t, executor.Post, waiter-below t, waiter.Post, notice-reads.Asked, notice-reads.Learnt) (node-at t) node.Post
+node-two-requires-2 : (t : ℕ) → node-lts.Need-two-requires-2 (node-claims t) (node-at t) node.Post
 node-two-requires-2 t c κs = search needs
 
-node-add-branch : (t : ℕ) → node-lts.Need-add-branch (wide-reads.Asked, wide-reads.Learnt, head-mask-reads.Asked, head-mask-reads.Learnt, rest-context-reads.Asked, rest-context-reads.Learnt, expression-reads.Asked, expression-reads.Learnt, same-context-reads.Asked, same-context-reads.Learnt, two-below t, two.Post, branch-below t, branch.Post, repeat-below t, repeat.Post, choice-below t, choice.Post, request-below t, request.Post, notify-reads.Asked, notify-reads.Learnt, solicit-below t, solicit.Post, scope-below t, scope.Post, list-below t, list.Post, executor-below t, executor.Post, waiter-below t, waiter.Post, notice-reads.Asked, notice-reads.Learnt) (node-at t) node.Post
+node-add-branch : (t : ℕ) → node-lts.Need-add-branch (node-claims t) (node-at t) node.Post
 node-add-branch t c = search needs
 
-node-branch-requires : (t : ℕ) → node-lts.Need-branch-requires (wide-reads.Asked, wide-reads.Learnt, head-mask-reads.Asked, head-mask-reads.Learnt, rest-context-reads.Asked, rest-context-reads.Learnt, expression-reads.Asked, expression-reads.Learnt, same-context-reads.Asked, same-context-reads.Learnt, two-below t, two.Post, branch-below t, branch.Post, repeat-below t, repeat.Post, choice-below t, choice.Post, request-below t, request.Post, notify-reads.Asked, notify-reads.Learnt, solicit-below t, solicit.Post, scope-below t, scope.Post, list-below t, list.Post, executor-below t, executor.Post, waiter-below t, waiter.Post, notice-reads.Asked, notice-reads.Learnt) (node-at t) node.Post
+node-branch-requires : (t : ℕ) → node-lts.Need-branch-requires (node-claims t) (node-at t) node.Post
 node-branch-requires t c κs = search needs
 
-node-add-repeat : (t : ℕ) → node-lts.Need-add-repeat (wide-reads.Asked, wide-reads.Learnt, head-mask-reads.Asked, head-mask-reads.Learnt, rest-context-reads.Asked, rest-context-reads.Learnt, expression-reads.Asked, expression-reads.Learnt, same-context-reads.Asked, same-context-reads.Learnt, two-below t, two.Post, branch-below t, branch.Post, repeat-below t, repeat.Post, choice-below t, choice.Post, request-below t, request.Post, notify-reads.Asked, notify-reads.Learnt, solicit-below t, solicit.Post, scope-below t, scope.Post, list-below t, list.Post, executor-below t, executor.Post, waiter-below t, waiter.Post, notice-reads.Asked, notice-reads.Learnt) (node-at t) node.Post
+node-add-repeat : (t : ℕ) → node-lts.Need-add-repeat (node-claims t) (node-at t) node.Post
 node-add-repeat t c = search needs
 
-node-repeat-requires : (t : ℕ) → node-lts.Need-repeat-requires (wide-reads.Asked, wide-reads.Learnt, head-mask-reads.Asked, head-mask-reads.Learnt, rest-context-reads.Asked, rest-context-reads.Learnt, expression-reads.Asked, expression-reads.Learnt, same-context-reads.Asked, same-context-reads.Learnt, two-below t, two.Post, branch-below t, branch.Post, repeat-below t, repeat.Post, choice-below t, choice.Post, request-below t, request.Post, notify-reads.Asked, notify-reads.Learnt, solicit-below t, solicit.Post, scope-below t, scope.Post, list-below t, list.Post, executor-below t, executor.Post, waiter-below t, waiter.Post, notice-reads.Asked, notice-reads.Learnt) (node-at t) node.Post
+node-repeat-requires : (t : ℕ) → node-lts.Need-repeat-requires (node-claims t) (node-at t) node.Post
 node-repeat-requires t c κs = search needs
 
-node-add-choice : (t : ℕ) → node-lts.Need-add-choice (wide-reads.Asked, wide-reads.Learnt, head-mask-reads.Asked, head-mask-reads.Learnt, rest-context-reads.Asked, rest-context-reads.Learnt, expression-reads.Asked, expression-reads.Learnt, same-context-reads.Asked, same-context-reads.Learnt, two-below t, two.Post, branch-below t, branch.Post, repeat-below t, repeat.Post, choice-below t, choice.Post, request-below t, request.Post, notify-reads.Asked, notify-reads.Learnt, solicit-below t, solicit.Post, scope-below t, scope.Post, list-below t, list.Post, executor-below t, executor.Post, waiter-below t, waiter.Post, notice-reads.Asked, notice-reads.Learnt) (node-at t) node.Post
+node-add-choice : (t : ℕ) → node-lts.Need-add-choice (node-claims t) (node-at t) node.Post
 node-add-choice t c = search needs
 
-node-choice-requires : (t : ℕ) → node-lts.Need-choice-requires (wide-reads.Asked, wide-reads.Learnt, head-mask-reads.Asked, head-mask-reads.Learnt, rest-context-reads.Asked, rest-context-reads.Learnt, expression-reads.Asked, expression-reads.Learnt, same-context-reads.Asked, same-context-reads.Learnt, two-below t, two.Post, branch-below t, branch.Post, repeat-below t, repeat.Post, choice-below t, choice.Post, request-below t, request.Post, notify-reads.Asked, notify-reads.Learnt, solicit-below t, solicit.Post, scope-below t, scope.Post, list-below t, list.Post, executor-below t, executor.Post, waiter-below t, waiter.Post, notice-reads.Asked, notice-reads.Learnt) (node-at t) node.Post
+node-choice-requires : (t : ℕ) → node-lts.Need-choice-requires (node-claims t) (node-at t) node.Post
 node-choice-requires t c κs = search needs
 
-node-add-result-2 : (t : ℕ) → node-lts.Need-add-result-2 (wide-reads.Asked, wide-reads.Learnt, head-mask-reads.Asked, head-mask-reads.Learnt, rest-context-reads.Asked, rest-context-reads.Learnt, expression-reads.Asked, expression-reads.Learnt, same-context-reads.Asked, same-context-reads.Learnt, two-below t, two.Post, branch-below t, branch.Post, repeat-below t, repeat.Post, choice-below t, choice.Post, request-below t, request.Post, notify-reads.Asked, notify-reads.Learnt, solicit-below t, solicit.Post, scope-below t, scope.Post, list-below t, list.Post, executor-below t, executor.Post, waiter-below t, waiter.Post, notice-reads.Asked, notice-reads.Learnt) (node-at t) node.Post
+node-add-result-2 : (t : ℕ) → node-lts.Need-add-result-2 (node-claims t) (node-at t) node.Post
 node-add-result-2 t c = search needs
 
-node-request-requires : (t : ℕ) → node-lts.Need-request-requires (wide-reads.Asked, wide-reads.Learnt, head-mask-reads.Asked, head-mask-reads.Learnt, rest-context-reads.Asked, rest-context-reads.Learnt, expression-reads.Asked, expression-reads.Learnt, same-context-reads.Asked, same-context-reads.Learnt, two-below t, two.Post, branch-below t, branch.Post, repeat-below t, repeat.Post, choice-below t, choice.Post, request-below t, request.Post, notify-reads.Asked, notify-reads.Learnt, solicit-below t, solicit.Post, scope-below t, scope.Post, list-below t, list.Post, executor-below t, executor.Post, waiter-below t, waiter.Post, notice-reads.Asked, notice-reads.Learnt) (node-at t) node.Post
+node-request-requires : (t : ℕ) → node-lts.Need-request-requires (node-claims t) (node-at t) node.Post
 node-request-requires t c κs = search needs
 
-node-notify-requires : (t : ℕ) → node-lts.Need-notify-requires (wide-reads.Asked, wide-reads.Learnt, head-mask-reads.Asked, head-mask-reads.Learnt, rest-context-reads.Asked, rest-context-reads.Learnt, expression-reads.Asked, expression-reads.Learnt, same-context-reads.Asked, same-context-reads.Learnt, two-below t, two.Post, branch-below t, branch.Post, repeat-below t, repeat.Post, choice-below t, choice.Post, request-below t, request.Post, notify-reads.Asked, notify-reads.Learnt, solicit-below t, solicit.Post, scope-below t, scope.Post, list-below t, list.Post, executor-below t, executor.Post, waiter-below t, waiter.Post, notice-reads.Asked, notice-reads.Learnt) (node-at t) node.Post
+node-notify-requires : (t : ℕ) → node-lts.Need-notify-requires (node-claims t) (node-at t) node.Post
 node-notify-requires t c κs = search needs
 
-node-solicit-requires : (t : ℕ) → node-lts.Need-solicit-requires (wide-reads.Asked, wide-reads.Learnt, head-mask-reads.Asked, head-mask-reads.Learnt, rest-context-reads.Asked, rest-context-reads.Learnt, expression-reads.Asked, expression-reads.Learnt, same-context-reads.Asked, same-context-reads.Learnt, two-below t, two.Post, branch-below t, branch.Post, repeat-below t, repeat.Post, choice-below t, choice.Post, request-below t, request.Post, notify-reads.Asked, notify-reads.Learnt, solicit-below t, solicit.Post, scope-below t, scope.Post, list-below t, list.Post, executor-below t, executor.Post, waiter-below t, waiter.Post, notice-reads.Asked, notice-reads.Learnt) (node-at t) node.Post
+node-solicit-requires : (t : ℕ) → node-lts.Need-solicit-requires (node-claims t) (node-at t) node.Post
 node-solicit-requires t c κs = search needs
 
-node-scope-requires : (t : ℕ) → node-lts.Need-scope-requires (wide-reads.Asked, wide-reads.Learnt, head-mask-reads.Asked, head-mask-reads.Learnt, rest-context-reads.Asked, rest-context-reads.Learnt, expression-reads.Asked, expression-reads.Learnt, same-context-reads.Asked, same-context-reads.Learnt, two-below t, two.Post, branch-below t, branch.Post, repeat-below t, repeat.Post, choice-below t, choice.Post, request-below t, request.Post, notify-reads.Asked, notify-reads.Learnt, solicit-below t, solicit.Post, scope-below t, scope.Post, list-below t, list.Post, executor-below t, executor.Post, waiter-below t, waiter.Post, notice-reads.Asked, notice-reads.Learnt) (node-at t) node.Post
+node-scope-requires : (t : ℕ) → node-lts.Need-scope-requires (node-claims t) (node-at t) node.Post
 node-scope-requires t c κs = search needs
 
-node-add-list : (t : ℕ) → node-lts.Need-add-list (wide-reads.Asked, wide-reads.Learnt, head-mask-reads.Asked, head-mask-reads.Learnt, rest-context-reads.Asked, rest-context-reads.Learnt, expression-reads.Asked, expression-reads.Learnt, same-context-reads.Asked, same-context-reads.Learnt, two-below t, two.Post, branch-below t, branch.Post, repeat-below t, repeat.Post, choice-below t, choice.Post, request-below t, request.Post, notify-reads.Asked, notify-reads.Learnt, solicit-below t, solicit.Post, scope-below t, scope.Post, list-below t, list.Post, executor-below t, executor.Post, waiter-below t, waiter.Post, notice-reads.Asked, notice-reads.Learnt) (node-at t) node.Post
+node-add-list : (t : ℕ) → node-lts.Need-add-list (node-claims t) (node-at t) node.Post
 node-add-list t c = search needs
 
-node-list-requires : (t : ℕ) → node-lts.Need-list-requires (wide-reads.Asked, wide-reads.Learnt, head-mask-reads.Asked, head-mask-reads.Learnt, rest-context-reads.Asked, rest-context-reads.Learnt, expression-reads.Asked, expression-reads.Learnt, same-context-reads.Asked, same-context-reads.Learnt, two-below t, two.Post, branch-below t, branch.Post, repeat-below t, repeat.Post, choice-below t, choice.Post, request-below t, request.Post, notify-reads.Asked, notify-reads.Learnt, solicit-below t, solicit.Post, scope-below t, scope.Post, list-below t, list.Post, executor-below t, executor.Post, waiter-below t, waiter.Post, notice-reads.Asked, notice-reads.Learnt) (node-at t) node.Post
+node-list-requires : (t : ℕ) → node-lts.Need-list-requires (node-claims t) (node-at t) node.Post
 node-list-requires t c κs = search needs
 
-node-add-result-3 : (t : ℕ) → node-lts.Need-add-result-3 (wide-reads.Asked, wide-reads.Learnt, head-mask-reads.Asked, head-mask-reads.Learnt, rest-context-reads.Asked, rest-context-reads.Learnt, expression-reads.Asked, expression-reads.Learnt, same-context-reads.Asked, same-context-reads.Learnt, two-below t, two.Post, branch-below t, branch.Post, repeat-below t, repeat.Post, choice-below t, choice.Post, request-below t, request.Post, notify-reads.Asked, notify-reads.Learnt, solicit-below t, solicit.Post, scope-below t, scope.Post, list-below t, list.Post, executor-below t, executor.Post, waiter-below t, waiter.Post, notice-reads.Asked, notice-reads.Learnt) (node-at t) node.Post
+node-add-result-3 : (t : ℕ) → node-lts.Need-add-result-3 (node-claims t) (node-at t) node.Post
 node-add-result-3 t c = search needs
 
-node-add-result-4 : (t : ℕ) → node-lts.Need-add-result-4 (wide-reads.Asked, wide-reads.Learnt, head-mask-reads.Asked, head-mask-reads.Learnt, rest-context-reads.Asked, rest-context-reads.Learnt, expression-reads.Asked, expression-reads.Learnt, same-context-reads.Asked, same-context-reads.Learnt, two-below t, two.Post, branch-below t, branch.Post, repeat-below t, repeat.Post, choice-below t, choice.Post, request-below t, request.Post, notify-reads.Asked, notify-reads.Learnt, solicit-below t, solicit.Post, scope-below t, scope.Post, list-below t, list.Post, executor-below t, executor.Post, waiter-below t, waiter.Post, notice-reads.Asked, notice-reads.Learnt) (node-at t) node.Post
+node-add-result-4 : (t : ℕ) → node-lts.Need-add-result-4 (node-claims t) (node-at t) node.Post
 node-add-result-4 t c = search needs
 
-node-add-result-5 : (t : ℕ) → node-lts.Need-add-result-5 (wide-reads.Asked, wide-reads.Learnt, head-mask-reads.Asked, head-mask-reads.Learnt, rest-context-reads.Asked, rest-context-reads.Learnt, expression-reads.Asked, expression-reads.Learnt, same-context-reads.Asked, same-context-reads.Learnt, two-below t, two.Post, branch-below t, branch.Post, repeat-below t, repeat.Post, choice-below t, choice.Post, request-below t, request.Post, notify-reads.Asked, notify-reads.Learnt, solicit-below t, solicit.Post, scope-below t, scope.Post, list-below t, list.Post, executor-below t, executor.Post, waiter-below t, waiter.Post, notice-reads.Asked, notice-reads.Learnt) (node-at t) node.Post
+node-add-result-5 : (t : ℕ) → node-lts.Need-add-result-5 (node-claims t) (node-at t) node.Post
 node-add-result-5 t c = search needs
 
-node-executor-requires : (t : ℕ) → node-lts.Need-executor-requires (wide-reads.Asked, wide-reads.Learnt, head-mask-reads.Asked, head-mask-reads.Learnt, rest-context-reads.Asked, rest-context-reads.Learnt, expression-reads.Asked, expression-reads.Learnt, same-context-reads.Asked, same-context-reads.Learnt, two-below t, two.Post, branch-below t, branch.Post, repeat-below t, repeat.Post, choice-below t, choice.Post, request-below t, request.Post, notify-reads.Asked, notify-reads.Learnt, solicit-below t, solicit.Post, scope-below t, scope.Post, list-below t, list.Post, executor-below t, executor.Post, waiter-below t, waiter.Post, notice-reads.Asked, notice-reads.Learnt) (node-at t) node.Post
+node-executor-requires : (t : ℕ) → node-lts.Need-executor-requires (node-claims t) (node-at t) node.Post
 node-executor-requires t c κs = search needs
 
-node-waiter-requires : (t : ℕ) → node-lts.Need-waiter-requires (wide-reads.Asked, wide-reads.Learnt, head-mask-reads.Asked, head-mask-reads.Learnt, rest-context-reads.Asked, rest-context-reads.Learnt, expression-reads.Asked, expression-reads.Learnt, same-context-reads.Asked, same-context-reads.Learnt, two-below t, two.Post, branch-below t, branch.Post, repeat-below t, repeat.Post, choice-below t, choice.Post, request-below t, request.Post, notify-reads.Asked, notify-reads.Learnt, solicit-below t, solicit.Post, scope-below t, scope.Post, list-below t, list.Post, executor-below t, executor.Post, waiter-below t, waiter.Post, notice-reads.Asked, notice-reads.Learnt) (node-at t) node.Post
+node-waiter-requires : (t : ℕ) → node-lts.Need-waiter-requires (node-claims t) (node-at t) node.Post
 node-waiter-requires t c κs = search needs
 
-node-notice-requires : (t : ℕ) → node-lts.Need-notice-requires (wide-reads.Asked, wide-reads.Learnt, head-mask-reads.Asked, head-mask-reads.Learnt, rest-context-reads.Asked, rest-context-reads.Learnt, expression-reads.Asked, expression-reads.Learnt, same-context-reads.Asked, same-context-reads.Learnt, two-below t, two.Post, branch-below t, branch.Post, repeat-below t, repeat.Post, choice-below t, choice.Post, request-below t, request.Post, notify-reads.Asked, notify-reads.Learnt, solicit-below t, solicit.Post, scope-below t, scope.Post, list-below t, list.Post, executor-below t, executor.Post, waiter-below t, waiter.Post, notice-reads.Asked, notice-reads.Learnt) (node-at t) node.Post
+node-notice-requires : (t : ℕ) → node-lts.Need-notice-requires (node-claims t) (node-at t) node.Post
 node-notice-requires t c κs = search needs
 
-node-returns-4 : (t : ℕ) → node-lts.Need-returns-4 (wide-reads.Asked, wide-reads.Learnt, head-mask-reads.Asked, head-mask-reads.Learnt, rest-context-reads.Asked, rest-context-reads.Learnt, expression-reads.Asked, expression-reads.Learnt, same-context-reads.Asked, same-context-reads.Learnt, two-below t, two.Post, branch-below t, branch.Post, repeat-below t, repeat.Post, choice-below t, choice.Post, request-below t, request.Post, notify-reads.Asked, notify-reads.Learnt, solicit-below t, solicit.Post, scope-below t, scope.Post, list-below t, list.Post, executor-below t, executor.Post, waiter-below t, waiter.Post, notice-reads.Asked, notice-reads.Learnt) (node-at t) node.Post
+-- what is known where a node is read by its kind
+node-by-kind :
+    (t : ℕ) (k : node-lts.After-rest-context (node-claims t) (node-at t) node.Post) →
+    let a = k .before .before .before .before .before .before .before .before .args in
+    processEnd (a .depth) (a .ws .now) (a .bound) (a .context) (a .at)
+    ≡ nodeEnd (exprEnd (a .depth - 1) (a .ws .now)) (processEnd (a .depth - 1) (a .ws .now) (a .bound)) (a .ws .now) (a .context) (a .bound) (k .before .before .before .wide .result) (a .at)
+node-by-kind t k =
+    let a = k .before .before .before .before .before .before .before .before .args in
+    process-node (a .depth) (a .ws .now) (a .bound) (a .context) (a .at) _ _ (k .before .before .before .before .before .before .if1 .left) (k .before .before .before .before .before .if2 .left) (k .before .before .before .wide .ensures .0) (k .before .before .head-mask .ensures) (k .before .if3 .left)
+
+node-returns-4 : (t : ℕ) → node-lts.Need-returns-4 (node-claims t) (node-at t) node.Post
 unfolding nodeEnd
 node-returns-4 t c =
-    rw (process-node (c .before .before .before .before .before .before .before .before .before .args .depth) (c .before .before .before .before .before .before .before .before .before .args .ws .now) (c .before .before .before .before .before .before .before .before .before .args .bound) (c .before .before .before .before .before .before .before .before .before .args .context) (c .before .before .before .before .before .before .before .before .before .args .at) (c .before .before .before .before .wide .result) (c .before .before .before .head-mask .result) (c .before .before .before .before .before .before .before .if1 .left) (c .before .before .before .before .before .before .if2 .left) (c .before .before .before .before .wide .ensures .0) (c .before .before .before .head-mask .ensures) (c .before .before .if3 .left)) (simp (c .match .keys1, ← (c .before .rest-context .ensures .0)))
+    rw (node-by-kind t (c .before)) (simp (c .match .keys1, ← (c .before .rest-context .ensures .0)))
 
-node-returns-5 : (t : ℕ) → node-lts.Need-returns-5 (wide-reads.Asked, wide-reads.Learnt, head-mask-reads.Asked, head-mask-reads.Learnt, rest-context-reads.Asked, rest-context-reads.Learnt, expression-reads.Asked, expression-reads.Learnt, same-context-reads.Asked, same-context-reads.Learnt, two-below t, two.Post, branch-below t, branch.Post, repeat-below t, repeat.Post, choice-below t, choice.Post, request-below t, request.Post, notify-reads.Asked, notify-reads.Learnt, solicit-below t, solicit.Post, scope-below t, scope.Post, list-below t, list.Post, executor-below t, executor.Post, waiter-below t, waiter.Post, notice-reads.Asked, notice-reads.Learnt) (node-at t) node.Post
+node-returns-5 : (t : ℕ) → node-lts.Need-returns-5 (node-claims t) (node-at t) node.Post
 unfolding nodeEnd
 node-returns-5 t c =
-    rw (process-node (c .before .before .before .before .before .before .before .before .before .before .args .depth) (c .before .before .before .before .before .before .before .before .before .before .args .ws .now) (c .before .before .before .before .before .before .before .before .before .before .args .bound) (c .before .before .before .before .before .before .before .before .before .before .args .context) (c .before .before .before .before .before .before .before .before .before .before .args .at) (c .before .before .before .before .before .wide .result) (c .before .before .before .before .head-mask .result) (c .before .before .before .before .before .before .before .before .if1 .left) (c .before .before .before .before .before .before .before .if2 .left) (c .before .before .before .before .before .wide .ensures .0) (c .before .before .before .before .head-mask .ensures) (c .before .before .before .if3 .left)) (simp (← (c .expression .ensures), c .before .match .keys2, ← (c .before .before .rest-context .ensures .0)))
+    rw (node-by-kind t (c .before .before)) (simp (← (c .expression .ensures), c .before .match .keys2, ← (c .before .before .rest-context .ensures .0)))
 
-node-returns-6 : (t : ℕ) → node-lts.Need-returns-6 (wide-reads.Asked, wide-reads.Learnt, head-mask-reads.Asked, head-mask-reads.Learnt, rest-context-reads.Asked, rest-context-reads.Learnt, expression-reads.Asked, expression-reads.Learnt, same-context-reads.Asked, same-context-reads.Learnt, two-below t, two.Post, branch-below t, branch.Post, repeat-below t, repeat.Post, choice-below t, choice.Post, request-below t, request.Post, notify-reads.Asked, notify-reads.Learnt, solicit-below t, solicit.Post, scope-below t, scope.Post, list-below t, list.Post, executor-below t, executor.Post, waiter-below t, waiter.Post, notice-reads.Asked, notice-reads.Learnt) (node-at t) node.Post
+node-returns-6 : (t : ℕ) → node-lts.Need-returns-6 (node-claims t) (node-at t) node.Post
 unfolding nodeEnd
 node-returns-6 t c =
-    rw (process-node (c .before .before .before .before .before .before .before .before .before .before .before .args .depth) (c .before .before .before .before .before .before .before .before .before .before .before .args .ws .now) (c .before .before .before .before .before .before .before .before .before .before .before .args .bound) (c .before .before .before .before .before .before .before .before .before .before .before .args .context) (c .before .before .before .before .before .before .before .before .before .before .before .args .at) (c .before .before .before .before .before .before .wide .result) (c .before .before .before .before .before .head-mask .result) (c .before .before .before .before .before .before .before .before .before .if1 .left) (c .before .before .before .before .before .before .before .before .if2 .left) (c .before .before .before .before .before .before .wide .ensures .0) (c .before .before .before .before .before .head-mask .ensures) (c .before .before .before .before .if3 .left)) (simp (← (c .two .ensures), ← (c .before .same-context .ensures), c .before .before .match .keys3, ← (c .before .before .before .rest-context .ensures .0)))
+    rw (node-by-kind t (c .before .before .before)) (simp (← (c .two .ensures), ← (c .before .same-context .ensures), c .before .before .match .keys3, ← (c .before .before .before .rest-context .ensures .0)))
 
-node-returns-7 : (t : ℕ) → node-lts.Need-returns-7 (wide-reads.Asked, wide-reads.Learnt, head-mask-reads.Asked, head-mask-reads.Learnt, rest-context-reads.Asked, rest-context-reads.Learnt, expression-reads.Asked, expression-reads.Learnt, same-context-reads.Asked, same-context-reads.Learnt, two-below t, two.Post, branch-below t, branch.Post, repeat-below t, repeat.Post, choice-below t, choice.Post, request-below t, request.Post, notify-reads.Asked, notify-reads.Learnt, solicit-below t, solicit.Post, scope-below t, scope.Post, list-below t, list.Post, executor-below t, executor.Post, waiter-below t, waiter.Post, notice-reads.Asked, notice-reads.Learnt) (node-at t) node.Post
+node-returns-7 : (t : ℕ) → node-lts.Need-returns-7 (node-claims t) (node-at t) node.Post
 unfolding nodeEnd
 node-returns-7 t c =
-    rw (process-node (c .before .before .before .before .before .before .before .before .before .before .before .before .args .depth) (c .before .before .before .before .before .before .before .before .before .before .before .before .args .ws .now) (c .before .before .before .before .before .before .before .before .before .before .before .before .args .bound) (c .before .before .before .before .before .before .before .before .before .before .before .before .args .context) (c .before .before .before .before .before .before .before .before .before .before .before .before .args .at) (c .before .before .before .before .before .before .before .wide .result) (c .before .before .before .before .before .before .head-mask .result) (c .before .before .before .before .before .before .before .before .before .before .if1 .left) (c .before .before .before .before .before .before .before .before .before .if2 .left) (c .before .before .before .before .before .before .before .wide .ensures .0) (c .before .before .before .before .before .before .head-mask .ensures) (c .before .before .before .before .before .if3 .left)) (c .two2 .ensures ∙ simp (c .before .same-context3 .ensures, c .before .before .same-context2 .ensures, c .before .before .before .match .keys4, ← (c .before .before .before .before .rest-context .ensures .0)))
+    rw (node-by-kind t (c .before .before .before .before)) (c .two2 .ensures ∙ simp (c .before .same-context3 .ensures, c .before .before .same-context2 .ensures, c .before .before .before .match .keys4, ← (c .before .before .before .before .rest-context .ensures .0)))
 
-node-returns-8 : (t : ℕ) → node-lts.Need-returns-8 (wide-reads.Asked, wide-reads.Learnt, head-mask-reads.Asked, head-mask-reads.Learnt, rest-context-reads.Asked, rest-context-reads.Learnt, expression-reads.Asked, expression-reads.Learnt, same-context-reads.Asked, same-context-reads.Learnt, two-below t, two.Post, branch-below t, branch.Post, repeat-below t, repeat.Post, choice-below t, choice.Post, request-below t, request.Post, notify-reads.Asked, notify-reads.Learnt, solicit-below t, solicit.Post, scope-below t, scope.Post, list-below t, list.Post, executor-below t, executor.Post, waiter-below t, waiter.Post, notice-reads.Asked, notice-reads.Learnt) (node-at t) node.Post
+node-returns-8 : (t : ℕ) → node-lts.Need-returns-8 (node-claims t) (node-at t) node.Post
 unfolding nodeEnd
 node-returns-8 t c =
-    rw (process-node (c .before .before .before .before .before .before .before .before .before .before .args .depth) (c .before .before .before .before .before .before .before .before .before .before .args .ws .now) (c .before .before .before .before .before .before .before .before .before .before .args .bound) (c .before .before .before .before .before .before .before .before .before .before .args .context) (c .before .before .before .before .before .before .before .before .before .before .args .at) (c .before .before .before .before .before .wide .result) (c .before .before .before .before .head-mask .result) (c .before .before .before .before .before .before .before .before .if1 .left) (c .before .before .before .before .before .before .before .if2 .left) (c .before .before .before .before .before .wide .ensures .0) (c .before .before .before .before .head-mask .ensures) (c .before .before .before .if3 .left)) (simp (← (c .branch .ensures), c .before .match .keys5, ← (c .before .before .rest-context .ensures .0)))
+    rw (node-by-kind t (c .before .before)) (simp (← (c .branch .ensures), c .before .match .keys5, ← (c .before .before .rest-context .ensures .0)))
 
-node-returns-9 : (t : ℕ) → node-lts.Need-returns-9 (wide-reads.Asked, wide-reads.Learnt, head-mask-reads.Asked, head-mask-reads.Learnt, rest-context-reads.Asked, rest-context-reads.Learnt, expression-reads.Asked, expression-reads.Learnt, same-context-reads.Asked, same-context-reads.Learnt, two-below t, two.Post, branch-below t, branch.Post, repeat-below t, repeat.Post, choice-below t, choice.Post, request-below t, request.Post, notify-reads.Asked, notify-reads.Learnt, solicit-below t, solicit.Post, scope-below t, scope.Post, list-below t, list.Post, executor-below t, executor.Post, waiter-below t, waiter.Post, notice-reads.Asked, notice-reads.Learnt) (node-at t) node.Post
+node-returns-9 : (t : ℕ) → node-lts.Need-returns-9 (node-claims t) (node-at t) node.Post
 unfolding nodeEnd
 node-returns-9 t c =
-    rw (process-node (c .before .before .before .before .before .before .before .before .before .before .args .depth) (c .before .before .before .before .before .before .before .before .before .before .args .ws .now) (c .before .before .before .before .before .before .before .before .before .before .args .bound) (c .before .before .before .before .before .before .before .before .before .before .args .context) (c .before .before .before .before .before .before .before .before .before .before .args .at) (c .before .before .before .before .before .wide .result) (c .before .before .before .before .head-mask .result) (c .before .before .before .before .before .before .before .before .if1 .left) (c .before .before .before .before .before .before .before .if2 .left) (c .before .before .before .before .before .wide .ensures .0) (c .before .before .before .before .head-mask .ensures) (c .before .before .before .if3 .left)) (simp (← (c .repeat .ensures), c .before .match .keys6, ← (c .before .before .rest-context .ensures .0)))
+    rw (node-by-kind t (c .before .before)) (simp (← (c .repeat .ensures), c .before .match .keys6, ← (c .before .before .rest-context .ensures .0)))
 
-node-returns-10 : (t : ℕ) → node-lts.Need-returns-10 (wide-reads.Asked, wide-reads.Learnt, head-mask-reads.Asked, head-mask-reads.Learnt, rest-context-reads.Asked, rest-context-reads.Learnt, expression-reads.Asked, expression-reads.Learnt, same-context-reads.Asked, same-context-reads.Learnt, two-below t, two.Post, branch-below t, branch.Post, repeat-below t, repeat.Post, choice-below t, choice.Post, request-below t, request.Post, notify-reads.Asked, notify-reads.Learnt, solicit-below t, solicit.Post, scope-below t, scope.Post, list-below t, list.Post, executor-below t, executor.Post, waiter-below t, waiter.Post, notice-reads.Asked, notice-reads.Learnt) (node-at t) node.Post
+node-returns-10 : (t : ℕ) → node-lts.Need-returns-10 (node-claims t) (node-at t) node.Post
 unfolding nodeEnd
 node-returns-10 t c =
-    rw (process-node (c .before .before .before .before .before .before .before .before .before .before .args .depth) (c .before .before .before .before .before .before .before .before .before .before .args .ws .now) (c .before .before .before .before .before .before .before .before .before .before .args .bound) (c .before .before .before .before .before .before .before .before .before .before .args .context) (c .before .before .before .before .before .before .before .before .before .before .args .at) (c .before .before .before .before .before .wide .result) (c .before .before .before .before .head-mask .result) (c .before .before .before .before .before .before .before .before .if1 .left) (c .before .before .before .before .before .before .before .if2 .left) (c .before .before .before .before .before .wide .ensures .0) (c .before .before .before .before .head-mask .ensures) (c .before .before .before .if3 .left)) (simp (← (c .choice .ensures), c .before .match .keys7, ← (c .before .before .rest-context .ensures .0)))
+    rw (node-by-kind t (c .before .before)) (simp (← (c .choice .ensures), c .before .match .keys7, ← (c .before .before .rest-context .ensures .0)))
 
-node-returns-11 : (t : ℕ) → node-lts.Need-returns-11 (wide-reads.Asked, wide-reads.Learnt, head-mask-reads.Asked, head-mask-reads.Learnt, rest-context-reads.Asked, rest-context-reads.Learnt, expression-reads.Asked, expression-reads.Learnt, same-context-reads.Asked, same-context-reads.Learnt, two-below t, two.Post, branch-below t, branch.Post, repeat-below t, repeat.Post, choice-below t, choice.Post, request-below t, request.Post, notify-reads.Asked, notify-reads.Learnt, solicit-below t, solicit.Post, scope-below t, scope.Post, list-below t, list.Post, executor-below t, executor.Post, waiter-below t, waiter.Post, notice-reads.Asked, notice-reads.Learnt) (node-at t) node.Post
+node-returns-11 : (t : ℕ) → node-lts.Need-returns-11 (node-claims t) (node-at t) node.Post
 unfolding nodeEnd
 node-returns-11 t c =
-    rw (process-node (c .before .before .before .before .before .before .before .before .before .args .depth) (c .before .before .before .before .before .before .before .before .before .args .ws .now) (c .before .before .before .before .before .before .before .before .before .args .bound) (c .before .before .before .before .before .before .before .before .before .args .context) (c .before .before .before .before .before .before .before .before .before .args .at) (c .before .before .before .before .wide .result) (c .before .before .before .head-mask .result) (c .before .before .before .before .before .before .before .if1 .left) (c .before .before .before .before .before .before .if2 .left) (c .before .before .before .before .wide .ensures .0) (c .before .before .before .head-mask .ensures) (c .before .before .if3 .left)) (simp (c .match .keys8, ← (c .before .rest-context .ensures .0)))
+    rw (node-by-kind t (c .before)) (simp (c .match .keys8, ← (c .before .rest-context .ensures .0)))
 
-node-returns-12 : (t : ℕ) → node-lts.Need-returns-12 (wide-reads.Asked, wide-reads.Learnt, head-mask-reads.Asked, head-mask-reads.Learnt, rest-context-reads.Asked, rest-context-reads.Learnt, expression-reads.Asked, expression-reads.Learnt, same-context-reads.Asked, same-context-reads.Learnt, two-below t, two.Post, branch-below t, branch.Post, repeat-below t, repeat.Post, choice-below t, choice.Post, request-below t, request.Post, notify-reads.Asked, notify-reads.Learnt, solicit-below t, solicit.Post, scope-below t, scope.Post, list-below t, list.Post, executor-below t, executor.Post, waiter-below t, waiter.Post, notice-reads.Asked, notice-reads.Learnt) (node-at t) node.Post
+node-returns-12 : (t : ℕ) → node-lts.Need-returns-12 (node-claims t) (node-at t) node.Post
 unfolding nodeEnd
 node-returns-12 t c =
-    rw (process-node (c .before .before .before .before .before .before .before .before .before .before .args .depth) (c .before .before .before .before .before .before .before .before .before .before .args .ws .now) (c .before .before .before .before .before .before .before .before .before .before .args .bound) (c .before .before .before .before .before .before .before .before .before .before .args .context) (c .before .before .before .before .before .before .before .before .before .before .args .at) (c .before .before .before .before .before .wide .result) (c .before .before .before .before .head-mask .result) (c .before .before .before .before .before .before .before .before .if1 .left) (c .before .before .before .before .before .before .before .if2 .left) (c .before .before .before .before .before .wide .ensures .0) (c .before .before .before .before .head-mask .ensures) (c .before .before .before .if3 .left)) (simp (← (c .request .ensures), c .before .match .keys9, ← (c .before .before .rest-context .ensures .0)))
+    rw (node-by-kind t (c .before .before)) (simp (← (c .request .ensures), c .before .match .keys9, ← (c .before .before .rest-context .ensures .0)))
 
-node-returns-13 : (t : ℕ) → node-lts.Need-returns-13 (wide-reads.Asked, wide-reads.Learnt, head-mask-reads.Asked, head-mask-reads.Learnt, rest-context-reads.Asked, rest-context-reads.Learnt, expression-reads.Asked, expression-reads.Learnt, same-context-reads.Asked, same-context-reads.Learnt, two-below t, two.Post, branch-below t, branch.Post, repeat-below t, repeat.Post, choice-below t, choice.Post, request-below t, request.Post, notify-reads.Asked, notify-reads.Learnt, solicit-below t, solicit.Post, scope-below t, scope.Post, list-below t, list.Post, executor-below t, executor.Post, waiter-below t, waiter.Post, notice-reads.Asked, notice-reads.Learnt) (node-at t) node.Post
+node-returns-13 : (t : ℕ) → node-lts.Need-returns-13 (node-claims t) (node-at t) node.Post
 unfolding nodeEnd
 node-returns-13 t c =
-    rw (process-node (c .before .before .before .before .before .before .before .before .before .before .args .depth) (c .before .before .before .before .before .before .before .before .before .before .args .ws .now) (c .before .before .before .before .before .before .before .before .before .before .args .bound) (c .before .before .before .before .before .before .before .before .before .before .args .context) (c .before .before .before .before .before .before .before .before .before .before .args .at) (c .before .before .before .before .before .wide .result) (c .before .before .before .before .head-mask .result) (c .before .before .before .before .before .before .before .before .if1 .left) (c .before .before .before .before .before .before .before .if2 .left) (c .before .before .before .before .before .wide .ensures .0) (c .before .before .before .before .head-mask .ensures) (c .before .before .before .if3 .left)) (simp (← (c .notify .ensures), c .before .match .keys10, ← (c .before .before .rest-context .ensures .0)))
+    rw (node-by-kind t (c .before .before)) (simp (← (c .notify .ensures), c .before .match .keys10, ← (c .before .before .rest-context .ensures .0)))
 
-node-returns-14 : (t : ℕ) → node-lts.Need-returns-14 (wide-reads.Asked, wide-reads.Learnt, head-mask-reads.Asked, head-mask-reads.Learnt, rest-context-reads.Asked, rest-context-reads.Learnt, expression-reads.Asked, expression-reads.Learnt, same-context-reads.Asked, same-context-reads.Learnt, two-below t, two.Post, branch-below t, branch.Post, repeat-below t, repeat.Post, choice-below t, choice.Post, request-below t, request.Post, notify-reads.Asked, notify-reads.Learnt, solicit-below t, solicit.Post, scope-below t, scope.Post, list-below t, list.Post, executor-below t, executor.Post, waiter-below t, waiter.Post, notice-reads.Asked, notice-reads.Learnt) (node-at t) node.Post
+node-returns-14 : (t : ℕ) → node-lts.Need-returns-14 (node-claims t) (node-at t) node.Post
 unfolding nodeEnd
 node-returns-14 t c =
-    rw (process-node (c .before .before .before .before .before .before .before .before .before .before .args .depth) (c .before .before .before .before .before .before .before .before .before .before .args .ws .now) (c .before .before .before .before .before .before .before .before .before .before .args .bound) (c .before .before .before .before .before .before .before .before .before .before .args .context) (c .before .before .before .before .before .before .before .before .before .before .args .at) (c .before .before .before .before .before .wide .result) (c .before .before .before .before .head-mask .result) (c .before .before .before .before .before .before .before .before .if1 .left) (c .before .before .before .before .before .before .before .if2 .left) (c .before .before .before .before .before .wide .ensures .0) (c .before .before .before .before .head-mask .ensures) (c .before .before .before .if3 .left)) (simp (← (c .solicit .ensures), c .before .match .keys11, ← (c .before .before .rest-context .ensures .0)))
+    rw (node-by-kind t (c .before .before)) (simp (← (c .solicit .ensures), c .before .match .keys11, ← (c .before .before .rest-context .ensures .0)))
 
-node-returns-15 : (t : ℕ) → node-lts.Need-returns-15 (wide-reads.Asked, wide-reads.Learnt, head-mask-reads.Asked, head-mask-reads.Learnt, rest-context-reads.Asked, rest-context-reads.Learnt, expression-reads.Asked, expression-reads.Learnt, same-context-reads.Asked, same-context-reads.Learnt, two-below t, two.Post, branch-below t, branch.Post, repeat-below t, repeat.Post, choice-below t, choice.Post, request-below t, request.Post, notify-reads.Asked, notify-reads.Learnt, solicit-below t, solicit.Post, scope-below t, scope.Post, list-below t, list.Post, executor-below t, executor.Post, waiter-below t, waiter.Post, notice-reads.Asked, notice-reads.Learnt) (node-at t) node.Post
+node-returns-15 : (t : ℕ) → node-lts.Need-returns-15 (node-claims t) (node-at t) node.Post
 unfolding nodeEnd
 node-returns-15 t c =
-    rw (process-node (c .before .before .before .before .before .before .before .before .before .before .args .depth) (c .before .before .before .before .before .before .before .before .before .before .args .ws .now) (c .before .before .before .before .before .before .before .before .before .before .args .bound) (c .before .before .before .before .before .before .before .before .before .before .args .context) (c .before .before .before .before .before .before .before .before .before .before .args .at) (c .before .before .before .before .before .wide .result) (c .before .before .before .before .head-mask .result) (c .before .before .before .before .before .before .before .before .if1 .left) (c .before .before .before .before .before .before .before .if2 .left) (c .before .before .before .before .before .wide .ensures .0) (c .before .before .before .before .head-mask .ensures) (c .before .before .before .if3 .left)) (simp (← (c .scope .ensures), c .before .match .keys12, ← (c .before .before .rest-context .ensures .0)))
+    rw (node-by-kind t (c .before .before)) (simp (← (c .scope .ensures), c .before .match .keys12, ← (c .before .before .rest-context .ensures .0)))
 
-node-returns-16 : (t : ℕ) → node-lts.Need-returns-16 (wide-reads.Asked, wide-reads.Learnt, head-mask-reads.Asked, head-mask-reads.Learnt, rest-context-reads.Asked, rest-context-reads.Learnt, expression-reads.Asked, expression-reads.Learnt, same-context-reads.Asked, same-context-reads.Learnt, two-below t, two.Post, branch-below t, branch.Post, repeat-below t, repeat.Post, choice-below t, choice.Post, request-below t, request.Post, notify-reads.Asked, notify-reads.Learnt, solicit-below t, solicit.Post, scope-below t, scope.Post, list-below t, list.Post, executor-below t, executor.Post, waiter-below t, waiter.Post, notice-reads.Asked, notice-reads.Learnt) (node-at t) node.Post
+node-returns-16 : (t : ℕ) → node-lts.Need-returns-16 (node-claims t) (node-at t) node.Post
 unfolding nodeEnd
 node-returns-16 t c =
-    rw (process-node (c .before .before .before .before .before .before .before .before .before .before .args .depth) (c .before .before .before .before .before .before .before .before .before .before .args .ws .now) (c .before .before .before .before .before .before .before .before .before .before .args .bound) (c .before .before .before .before .before .before .before .before .before .before .args .context) (c .before .before .before .before .before .before .before .before .before .before .args .at) (c .before .before .before .before .before .wide .result) (c .before .before .before .before .head-mask .result) (c .before .before .before .before .before .before .before .before .if1 .left) (c .before .before .before .before .before .before .before .if2 .left) (c .before .before .before .before .before .wide .ensures .0) (c .before .before .before .before .head-mask .ensures) (c .before .before .before .if3 .left)) (simp (← (c .list .ensures), c .before .match .keys13, ← (c .before .before .rest-context .ensures .0)))
+    rw (node-by-kind t (c .before .before)) (simp (← (c .list .ensures), c .before .match .keys13, ← (c .before .before .rest-context .ensures .0)))
 
-node-returns-17 : (t : ℕ) → node-lts.Need-returns-17 (wide-reads.Asked, wide-reads.Learnt, head-mask-reads.Asked, head-mask-reads.Learnt, rest-context-reads.Asked, rest-context-reads.Learnt, expression-reads.Asked, expression-reads.Learnt, same-context-reads.Asked, same-context-reads.Learnt, two-below t, two.Post, branch-below t, branch.Post, repeat-below t, repeat.Post, choice-below t, choice.Post, request-below t, request.Post, notify-reads.Asked, notify-reads.Learnt, solicit-below t, solicit.Post, scope-below t, scope.Post, list-below t, list.Post, executor-below t, executor.Post, waiter-below t, waiter.Post, notice-reads.Asked, notice-reads.Learnt) (node-at t) node.Post
+node-returns-17 : (t : ℕ) → node-lts.Need-returns-17 (node-claims t) (node-at t) node.Post
 unfolding nodeEnd
 node-returns-17 t c =
-    rw (process-node (c .before .before .before .before .before .before .before .before .before .args .depth) (c .before .before .before .before .before .before .before .before .before .args .ws .now) (c .before .before .before .before .before .before .before .before .before .args .bound) (c .before .before .before .before .before .before .before .before .before .args .context) (c .before .before .before .before .before .before .before .before .before .args .at) (c .before .before .before .before .wide .result) (c .before .before .before .head-mask .result) (c .before .before .before .before .before .before .before .if1 .left) (c .before .before .before .before .before .before .if2 .left) (c .before .before .before .before .wide .ensures .0) (c .before .before .before .head-mask .ensures) (c .before .before .if3 .left)) (simp (c .match .keys14, ← (c .before .rest-context .ensures .0)))
+    rw (node-by-kind t (c .before)) (simp (c .match .keys14, ← (c .before .rest-context .ensures .0)))
 
-node-returns-18 : (t : ℕ) → node-lts.Need-returns-18 (wide-reads.Asked, wide-reads.Learnt, head-mask-reads.Asked, head-mask-reads.Learnt, rest-context-reads.Asked, rest-context-reads.Learnt, expression-reads.Asked, expression-reads.Learnt, same-context-reads.Asked, same-context-reads.Learnt, two-below t, two.Post, branch-below t, branch.Post, repeat-below t, repeat.Post, choice-below t, choice.Post, request-below t, request.Post, notify-reads.Asked, notify-reads.Learnt, solicit-below t, solicit.Post, scope-below t, scope.Post, list-below t, list.Post, executor-below t, executor.Post, waiter-below t, waiter.Post, notice-reads.Asked, notice-reads.Learnt) (node-at t) node.Post
+node-returns-18 : (t : ℕ) → node-lts.Need-returns-18 (node-claims t) (node-at t) node.Post
 unfolding nodeEnd
 node-returns-18 t c =
-    rw (process-node (c .before .before .before .before .before .before .before .before .before .args .depth) (c .before .before .before .before .before .before .before .before .before .args .ws .now) (c .before .before .before .before .before .before .before .before .before .args .bound) (c .before .before .before .before .before .before .before .before .before .args .context) (c .before .before .before .before .before .before .before .before .before .args .at) (c .before .before .before .before .wide .result) (c .before .before .before .head-mask .result) (c .before .before .before .before .before .before .before .if1 .left) (c .before .before .before .before .before .before .if2 .left) (c .before .before .before .before .wide .ensures .0) (c .before .before .before .head-mask .ensures) (c .before .before .if3 .left)) (simp (c .match .keys15, ← (c .before .rest-context .ensures .0)))
+    rw (node-by-kind t (c .before)) (simp (c .match .keys15, ← (c .before .rest-context .ensures .0)))
 
-node-returns-19 : (t : ℕ) → node-lts.Need-returns-19 (wide-reads.Asked, wide-reads.Learnt, head-mask-reads.Asked, head-mask-reads.Learnt, rest-context-reads.Asked, rest-context-reads.Learnt, expression-reads.Asked, expression-reads.Learnt, same-context-reads.Asked, same-context-reads.Learnt, two-below t, two.Post, branch-below t, branch.Post, repeat-below t, repeat.Post, choice-below t, choice.Post, request-below t, request.Post, notify-reads.Asked, notify-reads.Learnt, solicit-below t, solicit.Post, scope-below t, scope.Post, list-below t, list.Post, executor-below t, executor.Post, waiter-below t, waiter.Post, notice-reads.Asked, notice-reads.Learnt) (node-at t) node.Post
+node-returns-19 : (t : ℕ) → node-lts.Need-returns-19 (node-claims t) (node-at t) node.Post
 unfolding nodeEnd
 node-returns-19 t c =
-    rw (process-node (c .before .before .before .before .before .before .before .before .before .args .depth) (c .before .before .before .before .before .before .before .before .before .args .ws .now) (c .before .before .before .before .before .before .before .before .before .args .bound) (c .before .before .before .before .before .before .before .before .before .args .context) (c .before .before .before .before .before .before .before .before .before .args .at) (c .before .before .before .before .wide .result) (c .before .before .before .head-mask .result) (c .before .before .before .before .before .before .before .if1 .left) (c .before .before .before .before .before .before .if2 .left) (c .before .before .before .before .wide .ensures .0) (c .before .before .before .head-mask .ensures) (c .before .before .if3 .left)) (simp (c .match .keys16, ← (c .before .rest-context .ensures .0)))
+    rw (node-by-kind t (c .before)) (simp (c .match .keys16, ← (c .before .rest-context .ensures .0)))
 
-node-returns-20 : (t : ℕ) → node-lts.Need-returns-20 (wide-reads.Asked, wide-reads.Learnt, head-mask-reads.Asked, head-mask-reads.Learnt, rest-context-reads.Asked, rest-context-reads.Learnt, expression-reads.Asked, expression-reads.Learnt, same-context-reads.Asked, same-context-reads.Learnt, two-below t, two.Post, branch-below t, branch.Post, repeat-below t, repeat.Post, choice-below t, choice.Post, request-below t, request.Post, notify-reads.Asked, notify-reads.Learnt, solicit-below t, solicit.Post, scope-below t, scope.Post, list-below t, list.Post, executor-below t, executor.Post, waiter-below t, waiter.Post, notice-reads.Asked, notice-reads.Learnt) (node-at t) node.Post
+node-returns-20 : (t : ℕ) → node-lts.Need-returns-20 (node-claims t) (node-at t) node.Post
 unfolding nodeEnd
 node-returns-20 t c =
-    rw (process-node (c .before .before .before .before .before .before .before .before .before .before .args .depth) (c .before .before .before .before .before .before .before .before .before .before .args .ws .now) (c .before .before .before .before .before .before .before .before .before .before .args .bound) (c .before .before .before .before .before .before .before .before .before .before .args .context) (c .before .before .before .before .before .before .before .before .before .before .args .at) (c .before .before .before .before .before .wide .result) (c .before .before .before .before .head-mask .result) (c .before .before .before .before .before .before .before .before .if1 .left) (c .before .before .before .before .before .before .before .if2 .left) (c .before .before .before .before .before .wide .ensures .0) (c .before .before .before .before .head-mask .ensures) (c .before .before .before .if3 .left)) (simp (← (c .executor .ensures), c .before .match .keys17, ← (c .before .before .rest-context .ensures .0)))
+    rw (node-by-kind t (c .before .before)) (simp (← (c .executor .ensures), c .before .match .keys17, ← (c .before .before .rest-context .ensures .0)))
 
-node-returns-21 : (t : ℕ) → node-lts.Need-returns-21 (wide-reads.Asked, wide-reads.Learnt, head-mask-reads.Asked, head-mask-reads.Learnt, rest-context-reads.Asked, rest-context-reads.Learnt, expression-reads.Asked, expression-reads.Learnt, same-context-reads.Asked, same-context-reads.Learnt, two-below t, two.Post, branch-below t, branch.Post, repeat-below t, repeat.Post, choice-below t, choice.Post, request-below t, request.Post, notify-reads.Asked, notify-reads.Learnt, solicit-below t, solicit.Post, scope-below t, scope.Post, list-below t, list.Post, executor-below t, executor.Post, waiter-below t, waiter.Post, notice-reads.Asked, notice-reads.Learnt) (node-at t) node.Post
+node-returns-21 : (t : ℕ) → node-lts.Need-returns-21 (node-claims t) (node-at t) node.Post
 unfolding nodeEnd
 node-returns-21 t c =
-    rw (process-node (c .before .before .before .before .before .before .before .before .before .before .args .depth) (c .before .before .before .before .before .before .before .before .before .before .args .ws .now) (c .before .before .before .before .before .before .before .before .before .before .args .bound) (c .before .before .before .before .before .before .before .before .before .before .args .context) (c .before .before .before .before .before .before .before .before .before .before .args .at) (c .before .before .before .before .before .wide .result) (c .before .before .before .before .head-mask .result) (c .before .before .before .before .before .before .before .before .if1 .left) (c .before .before .before .before .before .before .before .if2 .left) (c .before .before .before .before .before .wide .ensures .0) (c .before .before .before .before .head-mask .ensures) (c .before .before .before .if3 .left)) (simp (← (c .waiter .ensures), c .before .match .keys18, ← (c .before .before .rest-context .ensures .0)))
+    rw (node-by-kind t (c .before .before)) (simp (← (c .waiter .ensures), c .before .match .keys18, ← (c .before .before .rest-context .ensures .0)))
 
-node-returns-22 : (t : ℕ) → node-lts.Need-returns-22 (wide-reads.Asked, wide-reads.Learnt, head-mask-reads.Asked, head-mask-reads.Learnt, rest-context-reads.Asked, rest-context-reads.Learnt, expression-reads.Asked, expression-reads.Learnt, same-context-reads.Asked, same-context-reads.Learnt, two-below t, two.Post, branch-below t, branch.Post, repeat-below t, repeat.Post, choice-below t, choice.Post, request-below t, request.Post, notify-reads.Asked, notify-reads.Learnt, solicit-below t, solicit.Post, scope-below t, scope.Post, list-below t, list.Post, executor-below t, executor.Post, waiter-below t, waiter.Post, notice-reads.Asked, notice-reads.Learnt) (node-at t) node.Post
+node-returns-22 : (t : ℕ) → node-lts.Need-returns-22 (node-claims t) (node-at t) node.Post
 unfolding nodeEnd
 node-returns-22 t c =
-    rw (process-node (c .before .before .before .before .before .before .before .before .before .before .args .depth) (c .before .before .before .before .before .before .before .before .before .before .args .ws .now) (c .before .before .before .before .before .before .before .before .before .before .args .bound) (c .before .before .before .before .before .before .before .before .before .before .args .context) (c .before .before .before .before .before .before .before .before .before .before .args .at) (c .before .before .before .before .before .wide .result) (c .before .before .before .before .head-mask .result) (c .before .before .before .before .before .before .before .before .if1 .left) (c .before .before .before .before .before .before .before .if2 .left) (c .before .before .before .before .before .wide .ensures .0) (c .before .before .before .before .head-mask .ensures) (c .before .before .before .if3 .left)) (simp (← (c .notice .ensures), c .before .match .keys19, ← (c .before .before .rest-context .ensures .0)))
+    rw (node-by-kind t (c .before .before)) (simp (← (c .notice .ensures), c .before .match .keys19, ← (c .before .before .rest-context .ensures .0)))
 
-node-returns-23 : (t : ℕ) → node-lts.Need-returns-23 (wide-reads.Asked, wide-reads.Learnt, head-mask-reads.Asked, head-mask-reads.Learnt, rest-context-reads.Asked, rest-context-reads.Learnt, expression-reads.Asked, expression-reads.Learnt, same-context-reads.Asked, same-context-reads.Learnt, two-below t, two.Post, branch-below t, branch.Post, repeat-below t, repeat.Post, choice-below t, choice.Post, request-below t, request.Post, notify-reads.Asked, notify-reads.Learnt, solicit-below t, solicit.Post, scope-below t, scope.Post, list-below t, list.Post, executor-below t, executor.Post, waiter-below t, waiter.Post, notice-reads.Asked, notice-reads.Learnt) (node-at t) node.Post
+node-returns-23 : (t : ℕ) → node-lts.Need-returns-23 (node-claims t) (node-at t) node.Post
 unfolding nodeEnd
 node-returns-23 t c =
     let f0 = beyond 19 _ (c .match .rest) in
-    rw (process-node (c .before .before .before .before .before .before .before .before .before .args .depth) (c .before .before .before .before .before .before .before .before .before .args .ws .now) (c .before .before .before .before .before .before .before .before .before .args .bound) (c .before .before .before .before .before .before .before .before .before .args .context) (c .before .before .before .before .before .before .before .before .before .args .at) (c .before .before .before .before .wide .result) (c .before .before .before .head-mask .result) (c .before .before .before .before .before .before .before .if1 .left) (c .before .before .before .before .before .before .if2 .left) (c .before .before .before .before .wide .ensures .0) (c .before .before .before .head-mask .ensures) (c .before .before .if3 .left)) (simp (List·getD-eq-default, f0, ← (c .before .rest-context .ensures .0)))
+    rw (node-by-kind t (c .before)) (simp (List·getD-eq-default, f0, ← (c .before .rest-context .ensures .0)))
 
 abbrev process-Inv-loop : process-lts.InvT-loop
 process-Inv-loop ws at depth context bound later₀ n₀ a₀ d₀ c₀ later n a d c =
@@ -720,250 +752,283 @@ process-Inv-loop ws at depth context bound later₀ n₀ a₀ d₀ c₀ later n 
 abbrev process-μ-loop : process-lts.MeasureT-loop
 process-μ-loop ws at depth context bound later₀ n₀ a₀ d₀ c₀ later n a d c = length ws - a
 
-process-loop-holds : (t : ℕ) → process-lts.Need-loop-holds (wide-reads.Asked, wide-reads.Learnt, slot-reads.Asked, slot-reads.Learnt, shape-reads.Asked, shape-reads.Learnt, ready-reads.Asked, ready-reads.Learnt, part-reads.Asked, part-reads.Learnt, whole-below t, whole.Post) (process-at t) process.Post process-Inv-loop process-μ-loop
+abbrev process-claims : ℕ → process-lts.Claims
+process-claims t = (wide-reads.Asked, wide-reads.Learnt, slot-reads.Asked, slot-reads.Learnt, shape-reads.Asked, shape-reads.Learnt, ready-reads.Asked, ready-reads.Learnt, part-reads.Asked, part-reads.Learnt, whole-below t, whole.Post)
+
+process-loop-holds : (t : ℕ) → process-lts.Need-loop-holds (process-claims t) (process-at t) process.Post process-Inv-loop process-μ-loop
 process-loop-holds t c = begins _ _ _ _ _ (c .before .pre .1)
 
-process-returns : (t : ℕ) → process-lts.Need-returns (wide-reads.Asked, wide-reads.Learnt, slot-reads.Asked, slot-reads.Learnt, shape-reads.Asked, shape-reads.Learnt, ready-reads.Asked, ready-reads.Learnt, part-reads.Asked, part-reads.Learnt, whole-below t, whole.Post) (process-at t) process.Post process-Inv-loop process-μ-loop
+process-returns : (t : ℕ) → process-lts.Need-returns (process-claims t) (process-at t) process.Post process-Inv-loop process-μ-loop
 process-returns t c = too-deep _ _ _ _ _ _ _ _ _ (c .before .before .loop .inv) (c .if1 .taken)
 
-process-mul-wide : (t : ℕ) → process-lts.Need-mul-wide (wide-reads.Asked, wide-reads.Learnt, slot-reads.Asked, slot-reads.Learnt, shape-reads.Asked, shape-reads.Learnt, ready-reads.Asked, ready-reads.Learnt, part-reads.Asked, part-reads.Learnt, whole-below t, whole.Post) (process-at t) process.Post process-Inv-loop process-μ-loop
+process-mul-wide : (t : ℕ) → process-lts.Need-mul-wide (process-claims t) (process-at t) process.Post process-Inv-loop process-μ-loop
 process-mul-wide t c = search needs
 
-process-shared-slice-read-wide : (t : ℕ) → process-lts.Need-shared-slice-read-wide (wide-reads.Asked, wide-reads.Learnt, slot-reads.Asked, slot-reads.Learnt, shape-reads.Asked, shape-reads.Learnt, ready-reads.Asked, ready-reads.Learnt, part-reads.Asked, part-reads.Learnt, whole-below t, whole.Post) (process-at t) process.Post process-Inv-loop process-μ-loop
+process-shared-slice-read-wide : (t : ℕ) → process-lts.Need-shared-slice-read-wide (process-claims t) (process-at t) process.Post process-Inv-loop process-μ-loop
 process-shared-slice-read-wide t c = search needs
 
-process-wide-requires : (t : ℕ) → process-lts.Need-wide-requires (wide-reads.Asked, wide-reads.Learnt, slot-reads.Asked, slot-reads.Learnt, shape-reads.Asked, shape-reads.Learnt, ready-reads.Asked, ready-reads.Learnt, part-reads.Asked, part-reads.Learnt, whole-below t, whole.Post) (process-at t) process.Post process-Inv-loop process-μ-loop
+process-wide-requires : (t : ℕ) → process-lts.Need-wide-requires (process-claims t) (process-at t) process.Post process-Inv-loop process-μ-loop
 process-wide-requires t c κs = search needs
 
-process-slot-requires : (t : ℕ) → process-lts.Need-slot-requires (wide-reads.Asked, wide-reads.Learnt, slot-reads.Asked, slot-reads.Learnt, shape-reads.Asked, shape-reads.Learnt, ready-reads.Asked, ready-reads.Learnt, part-reads.Asked, part-reads.Learnt, whole-below t, whole.Post) (process-at t) process.Post process-Inv-loop process-μ-loop
+process-slot-requires : (t : ℕ) → process-lts.Need-slot-requires (process-claims t) (process-at t) process.Post process-Inv-loop process-μ-loop
 process-slot-requires t c κs = search needs
 
-process-shape-requires : (t : ℕ) → process-lts.Need-shape-requires (wide-reads.Asked, wide-reads.Learnt, slot-reads.Asked, slot-reads.Learnt, shape-reads.Asked, shape-reads.Learnt, ready-reads.Asked, ready-reads.Learnt, part-reads.Asked, part-reads.Learnt, whole-below t, whole.Post) (process-at t) process.Post process-Inv-loop process-μ-loop
+process-shape-requires : (t : ℕ) → process-lts.Need-shape-requires (process-claims t) (process-at t) process.Post process-Inv-loop process-μ-loop
 process-shape-requires t c κs = search needs
 
-process-ready-requires : (t : ℕ) → process-lts.Need-ready-requires (wide-reads.Asked, wide-reads.Learnt, slot-reads.Asked, slot-reads.Learnt, shape-reads.Asked, shape-reads.Learnt, ready-reads.Asked, ready-reads.Learnt, part-reads.Asked, part-reads.Learnt, whole-below t, whole.Post) (process-at t) process.Post process-Inv-loop process-μ-loop
+process-ready-requires : (t : ℕ) → process-lts.Need-ready-requires (process-claims t) (process-at t) process.Post process-Inv-loop process-μ-loop
 process-ready-requires t c κs = (c .before .before .before .before .before .loop-test .taken, (slot-small _ _ _ (c .before .before .before .before .before .before .loop .inv .3) (c .before .before .wide .ensures .1) (c .shape .ensures ∙ ap shapeOf (c .before .slot .ensures))) .2)
 
-process-add-a : (t : ℕ) → process-lts.Need-add-a (wide-reads.Asked, wide-reads.Learnt, slot-reads.Asked, slot-reads.Learnt, shape-reads.Asked, shape-reads.Learnt, ready-reads.Asked, ready-reads.Learnt, part-reads.Asked, part-reads.Learnt, whole-below t, whole.Post) (process-at t) process.Post process-Inv-loop process-μ-loop
+process-add-a : (t : ℕ) → process-lts.Need-add-a (process-claims t) (process-at t) process.Post process-Inv-loop process-μ-loop
 process-add-a t c = search needs
 
-process-returns-2 : (t : ℕ) → process-lts.Need-returns-2 (wide-reads.Asked, wide-reads.Learnt, slot-reads.Asked, slot-reads.Learnt, shape-reads.Asked, shape-reads.Learnt, ready-reads.Asked, ready-reads.Learnt, part-reads.Asked, part-reads.Learnt, whole-below t, whole.Post) (process-at t) process.Post process-Inv-loop process-μ-loop
-process-returns-2 t c = leaf-last _ _ _ _ _ _ _ _ _ (c .before .before .before .before .before .before .before .before .before .before .loop .inv) (λ i. (c .before .before .before .before .before .before .before .before .before .before .before .shared-slice-known .given) i .fits) (c .before .before .before .before .before .before .before .before .before .loop-test .taken) (c .before .before .before .before .before .before .before .before .if1 .left) _ _ (c .before .before .before .before .before .before .wide .ensures .0) (c .before .before .before .before .shape .ensures ∙ ap shapeOf (c .before .before .before .before .before .slot .ensures)) ((three-tests _ (c .before .before .before .before .before .before .before .before .before .before .loop .d) (c .before .before .before .before .before .before .before .before .before .before .loop .n) _ (c .before .before .before .ready .ensures) (c .before .before .if2 .taken)) .2) (c .before .if3 .taken) (c .if4 .taken)
+-- what is known where a node is read by its parts
+process-ready :
+    (t : ℕ) (k : process-lts.Then2 (process-claims t) (process-at t) process.Post process-Inv-loop process-μ-loop) →
+    let l = k .before .before .before .before .before .before .before .before .loop in
+    Ready (k .before .before .before .before .before .before .before .before .before .before .args .ws .now) (l .n) (l .a) (l .d) (l .c) (k .before .before .shape .result)
+process-ready t k =
+    let l = k .before .before .before .before .before .before .before .before .loop in
+    let tests = three-tests _ (l .d) (l .n) _ (k .before .ready .ensures) (k .if2 .taken) in
+    record {
+      words = λ i. k .before .before .before .before .before .before .before .before .before .shared-slice-known .given i .fits;
+      inside = k .before .before .before .before .before .before .before .loop-test .taken;
+      deep = k .before .before .before .before .before .before .if1 .left;
+      shape = k .before .before .shape .ensures ∙ ap shapeOf (k .before .before .before .slot .ensures) ∙ ap (λ h. shapeOf (slotOf (l .c) h)) (k .before .before .before .before .wide .ensures .0);
+      shallow = tests .0;
+      room = tests .1;
+      fit = tests .2;
+    }
 
-process-mul-d : (t : ℕ) → process-lts.Need-mul-d (wide-reads.Asked, wide-reads.Learnt, slot-reads.Asked, slot-reads.Learnt, shape-reads.Asked, shape-reads.Learnt, ready-reads.Asked, ready-reads.Learnt, part-reads.Asked, part-reads.Learnt, whole-below t, whole.Post) (process-at t) process.Post process-Inv-loop process-μ-loop
+process-returns-2 : (t : ℕ) → process-lts.Need-returns-2 (process-claims t) (process-at t) process.Post process-Inv-loop process-μ-loop
+process-returns-2 t c = leaf-last _ _ _ _ _ _ _ _ _ (c .before .before .before .before .before .before .before .before .before .before .loop .inv) _ (process-ready t (c .before .before)) (c .before .if3 .taken) (c .if4 .taken)
+
+process-mul-d : (t : ℕ) → process-lts.Need-mul-d (process-claims t) (process-at t) process.Post process-Inv-loop process-μ-loop
 process-mul-d t c = search needs
 
-process-array-read-d : (t : ℕ) → process-lts.Need-array-read-d (wide-reads.Asked, wide-reads.Learnt, slot-reads.Asked, slot-reads.Learnt, shape-reads.Asked, shape-reads.Learnt, ready-reads.Asked, ready-reads.Learnt, part-reads.Asked, part-reads.Learnt, whole-below t, whole.Post) (process-at t) process.Post process-Inv-loop process-μ-loop
+process-array-read-d : (t : ℕ) → process-lts.Need-array-read-d (process-claims t) (process-at t) process.Post process-Inv-loop process-μ-loop
 process-array-read-d t c = search needs
 
-process-mul-c : (t : ℕ) → process-lts.Need-mul-c (wide-reads.Asked, wide-reads.Learnt, slot-reads.Asked, slot-reads.Learnt, shape-reads.Asked, shape-reads.Learnt, ready-reads.Asked, ready-reads.Learnt, part-reads.Asked, part-reads.Learnt, whole-below t, whole.Post) (process-at t) process.Post process-Inv-loop process-μ-loop
+process-mul-c : (t : ℕ) → process-lts.Need-mul-c (process-claims t) (process-at t) process.Post process-Inv-loop process-μ-loop
 process-mul-c t c = search needs
 
-process-array-read-c : (t : ℕ) → process-lts.Need-array-read-c (wide-reads.Asked, wide-reads.Learnt, slot-reads.Asked, slot-reads.Learnt, shape-reads.Asked, shape-reads.Learnt, ready-reads.Asked, ready-reads.Learnt, part-reads.Asked, part-reads.Learnt, whole-below t, whole.Post) (process-at t) process.Post process-Inv-loop process-μ-loop
+process-array-read-c : (t : ℕ) → process-lts.Need-array-read-c (process-claims t) (process-at t) process.Post process-Inv-loop process-μ-loop
 process-array-read-c t c = search needs
 
-process-sub-n : (t : ℕ) → process-lts.Need-sub-n (wide-reads.Asked, wide-reads.Learnt, slot-reads.Asked, slot-reads.Learnt, shape-reads.Asked, shape-reads.Learnt, ready-reads.Asked, ready-reads.Learnt, part-reads.Asked, part-reads.Learnt, whole-below t, whole.Post) (process-at t) process.Post process-Inv-loop process-μ-loop
+process-sub-n : (t : ℕ) → process-lts.Need-sub-n (process-claims t) (process-at t) process.Post process-Inv-loop process-μ-loop
 process-sub-n t c = search needs
 
-process-loop-less : (t : ℕ) → process-lts.Need-loop-less (wide-reads.Asked, wide-reads.Learnt, slot-reads.Asked, slot-reads.Learnt, shape-reads.Asked, shape-reads.Learnt, ready-reads.Asked, ready-reads.Learnt, part-reads.Asked, part-reads.Learnt, whole-below t, whole.Post) (process-at t) process.Post process-Inv-loop process-μ-loop
-process-loop-less t c = past-node _ _ _ _ _ _ _ _ _ (c .before .before .before .before .before .before .before .before .before .before .loop .inv) (λ i. (c .before .before .before .before .before .before .before .before .before .before .before .shared-slice-known .given) i .fits) (c .before .before .before .before .before .before .before .before .before .loop-test .taken) (c .before .before .before .before .before .before .before .before .if1 .left) _ _ (c .before .before .before .before .before .before .wide .ensures .0) (c .before .before .before .before .shape .ensures ∙ ap shapeOf (c .before .before .before .before .before .slot .ensures)) ((three-tests _ (c .before .before .before .before .before .before .before .before .before .before .loop .d) (c .before .before .before .before .before .before .before .before .before .before .loop .n) _ (c .before .before .before .ready .ensures) (c .before .before .if2 .taken)) .2)
+process-loop-less : (t : ℕ) → process-lts.Need-loop-less (process-claims t) (process-at t) process.Post process-Inv-loop process-μ-loop
+process-loop-less t c = past-node _ _ _ _ _ _ _ _ _ (c .before .before .before .before .before .before .before .before .before .before .loop .inv) _ (process-ready t (c .before .before))
 
-process-loop-again : (t : ℕ) → process-lts.Need-loop-again (wide-reads.Asked, wide-reads.Learnt, slot-reads.Asked, slot-reads.Learnt, shape-reads.Asked, shape-reads.Learnt, ready-reads.Asked, ready-reads.Learnt, part-reads.Asked, part-reads.Learnt, whole-below t, whole.Post) (process-at t) process.Post process-Inv-loop process-μ-loop
-process-loop-again t c = leaf-next _ _ _ _ _ _ _ _ _ (c .before .before .before .before .before .before .before .before .before .before .loop .inv) (λ i. (c .before .before .before .before .before .before .before .before .before .before .before .shared-slice-known .given) i .fits) (c .before .before .before .before .before .before .before .before .before .loop-test .taken) (c .before .before .before .before .before .before .before .before .if1 .left) _ _ (c .before .before .before .before .before .before .wide .ensures .0) (c .before .before .before .before .shape .ensures ∙ ap shapeOf (c .before .before .before .before .before .slot .ensures)) ((three-tests _ (c .before .before .before .before .before .before .before .before .before .before .loop .d) (c .before .before .before .before .before .before .before .before .before .before .loop .n) _ (c .before .before .before .ready .ensures) (c .before .before .if2 .taken)) .2) (c .before .if3 .taken) (c .if4 .left)
+process-loop-again : (t : ℕ) → process-lts.Need-loop-again (process-claims t) (process-at t) process.Post process-Inv-loop process-μ-loop
+process-loop-again t c = leaf-next _ _ _ _ _ _ _ _ _ (c .before .before .before .before .before .before .before .before .before .before .loop .inv) _ (process-ready t (c .before .before)) (c .before .if3 .taken) (c .if4 .left)
 
-process-sub-d : (t : ℕ) → process-lts.Need-sub-d (wide-reads.Asked, wide-reads.Learnt, slot-reads.Asked, slot-reads.Learnt, shape-reads.Asked, shape-reads.Learnt, ready-reads.Asked, ready-reads.Learnt, part-reads.Asked, part-reads.Learnt, whole-below t, whole.Post) (process-at t) process.Post process-Inv-loop process-μ-loop
+process-sub-d : (t : ℕ) → process-lts.Need-sub-d (process-claims t) (process-at t) process.Post process-Inv-loop process-μ-loop
 process-sub-d t c = search needs
 
-process-mul-last : (t : ℕ) → process-lts.Need-mul-last (wide-reads.Asked, wide-reads.Learnt, slot-reads.Asked, slot-reads.Learnt, shape-reads.Asked, shape-reads.Learnt, ready-reads.Asked, ready-reads.Learnt, part-reads.Asked, part-reads.Learnt, whole-below t, whole.Post) (process-at t) process.Post process-Inv-loop process-μ-loop
-process-mul-last t c = let f0 = (three-tests _ (c .before .before .before .before .before .before .before .before .before .loop .d) (c .before .before .before .before .before .before .before .before .before .loop .n) _ (c .before .before .ready .ensures) (c .before .if2 .taken)) .0 in omega arith
+process-mul-last : (t : ℕ) → process-lts.Need-mul-last (process-claims t) (process-at t) process.Post process-Inv-loop process-μ-loop
+process-mul-last t c = let f0 = process-ready t (c .before) .shallow in omega arith
 
-process-part-requires : (t : ℕ) → process-lts.Need-part-requires (wide-reads.Asked, wide-reads.Learnt, slot-reads.Asked, slot-reads.Learnt, shape-reads.Asked, shape-reads.Learnt, ready-reads.Asked, ready-reads.Learnt, part-reads.Asked, part-reads.Learnt, whole-below t, whole.Post) (process-at t) process.Post process-Inv-loop process-μ-loop
+process-part-requires : (t : ℕ) → process-lts.Need-part-requires (process-claims t) (process-at t) process.Post process-Inv-loop process-μ-loop
 process-part-requires t c κs = search needs
 
-process-add-last : (t : ℕ) → process-lts.Need-add-last (wide-reads.Asked, wide-reads.Learnt, slot-reads.Asked, slot-reads.Learnt, shape-reads.Asked, shape-reads.Learnt, ready-reads.Asked, ready-reads.Learnt, part-reads.Asked, part-reads.Learnt, whole-below t, whole.Post) (process-at t) process.Post process-Inv-loop process-μ-loop
-process-add-last t c = let f0 = (three-tests _ (c .before .before .before .before .before .before .before .before .before .before .loop .d) (c .before .before .before .before .before .before .before .before .before .before .loop .n) _ (c .before .before .before .ready .ensures) (c .before .before .if2 .taken)) .0 in let f1 = (slot-small _ _ _ (c .before .before .before .before .before .before .before .before .before .before .loop .inv .3) (c .before .before .before .before .before .before .wide .ensures .1) (c .before .before .before .before .shape .ensures ∙ ap shapeOf (c .before .before .before .before .before .slot .ensures))) .1 in let f2 = c .part .ensures in omega arith
+process-add-last : (t : ℕ) → process-lts.Need-add-last (process-claims t) (process-at t) process.Post process-Inv-loop process-μ-loop
+process-add-last t c = let f0 = process-ready t (c .before .before) .shallow in let f1 = small _ _ _ _ _ _ _ _ _ (c .before .before .before .before .before .before .before .before .before .before .loop .inv) _ (process-ready t (c .before .before)) .1 in let f2 = c .part .ensures in omega arith
 
-process-add-later : (t : ℕ) → process-lts.Need-add-later (wide-reads.Asked, wide-reads.Learnt, slot-reads.Asked, slot-reads.Learnt, shape-reads.Asked, shape-reads.Learnt, ready-reads.Asked, ready-reads.Learnt, part-reads.Asked, part-reads.Learnt, whole-below t, whole.Post) (process-at t) process.Post process-Inv-loop process-μ-loop
+process-add-later : (t : ℕ) → process-lts.Need-add-later (process-claims t) (process-at t) process.Post process-Inv-loop process-μ-loop
 process-add-later t c = search needs
 
-process-mul-later : (t : ℕ) → process-lts.Need-mul-later (wide-reads.Asked, wide-reads.Learnt, slot-reads.Asked, slot-reads.Learnt, shape-reads.Asked, shape-reads.Learnt, ready-reads.Asked, ready-reads.Learnt, part-reads.Asked, part-reads.Learnt, whole-below t, whole.Post) (process-at t) process.Post process-Inv-loop process-μ-loop
+process-mul-later : (t : ℕ) → process-lts.Need-mul-later (process-claims t) (process-at t) process.Post process-Inv-loop process-μ-loop
 process-mul-later t c = search needs
 
-process-array-write-later : (t : ℕ) → process-lts.Need-array-write-later (wide-reads.Asked, wide-reads.Learnt, slot-reads.Asked, slot-reads.Learnt, shape-reads.Asked, shape-reads.Learnt, ready-reads.Asked, ready-reads.Learnt, part-reads.Asked, part-reads.Learnt, whole-below t, whole.Post) (process-at t) process.Post process-Inv-loop process-μ-loop
-process-array-write-later t c = let f0 = (three-tests _ (c .before .before .before .before .before .before .before .before .before .before .loop .d) (c .before .before .before .before .before .before .before .before .before .before .loop .n) _ (c .before .before .before .ready .ensures) (c .before .before .if2 .taken)) .1 in omega arith
+process-array-write-later : (t : ℕ) → process-lts.Need-array-write-later (process-claims t) (process-at t) process.Post process-Inv-loop process-μ-loop
+process-array-write-later t c = let f0 = process-ready t (c .before .before) .room in omega arith
 
-process-add-later-2 : (t : ℕ) → process-lts.Need-add-later-2 (wide-reads.Asked, wide-reads.Learnt, slot-reads.Asked, slot-reads.Learnt, shape-reads.Asked, shape-reads.Learnt, ready-reads.Asked, ready-reads.Learnt, part-reads.Asked, part-reads.Learnt, whole-below t, whole.Post) (process-at t) process.Post process-Inv-loop process-μ-loop
+process-add-later-2 : (t : ℕ) → process-lts.Need-add-later-2 (process-claims t) (process-at t) process.Post process-Inv-loop process-μ-loop
 process-add-later-2 t c = search needs
 
-process-mul-later-2 : (t : ℕ) → process-lts.Need-mul-later-2 (wide-reads.Asked, wide-reads.Learnt, slot-reads.Asked, slot-reads.Learnt, shape-reads.Asked, shape-reads.Learnt, ready-reads.Asked, ready-reads.Learnt, part-reads.Asked, part-reads.Learnt, whole-below t, whole.Post) (process-at t) process.Post process-Inv-loop process-μ-loop
+process-mul-later-2 : (t : ℕ) → process-lts.Need-mul-later-2 (process-claims t) (process-at t) process.Post process-Inv-loop process-μ-loop
 process-mul-later-2 t c = search needs
 
-process-array-write-later-2 : (t : ℕ) → process-lts.Need-array-write-later-2 (wide-reads.Asked, wide-reads.Learnt, slot-reads.Asked, slot-reads.Learnt, shape-reads.Asked, shape-reads.Learnt, ready-reads.Asked, ready-reads.Learnt, part-reads.Asked, part-reads.Learnt, whole-below t, whole.Post) (process-at t) process.Post process-Inv-loop process-μ-loop
-process-array-write-later-2 t c = let f0 = (three-tests _ (c .before .before .before .before .before .before .before .before .before .before .loop .d) (c .before .before .before .before .before .before .before .before .before .before .loop .n) _ (c .before .before .before .ready .ensures) (c .before .before .if2 .taken)) .1 in omega arith
+process-array-write-later-2 : (t : ℕ) → process-lts.Need-array-write-later-2 (process-claims t) (process-at t) process.Post process-Inv-loop process-μ-loop
+process-array-write-later-2 t c = let f0 = process-ready t (c .before .before) .room in omega arith
 
-process-part-requires-2 : (t : ℕ) → process-lts.Need-part-requires-2 (wide-reads.Asked, wide-reads.Learnt, slot-reads.Asked, slot-reads.Learnt, shape-reads.Asked, shape-reads.Learnt, ready-reads.Asked, ready-reads.Learnt, part-reads.Asked, part-reads.Learnt, whole-below t, whole.Post) (process-at t) process.Post process-Inv-loop process-μ-loop
+process-part-requires-2 : (t : ℕ) → process-lts.Need-part-requires-2 (process-claims t) (process-at t) process.Post process-Inv-loop process-μ-loop
 process-part-requires-2 t c κs = search needs
 
-process-add-n : (t : ℕ) → process-lts.Need-add-n (wide-reads.Asked, wide-reads.Learnt, slot-reads.Asked, slot-reads.Learnt, shape-reads.Asked, shape-reads.Learnt, ready-reads.Asked, ready-reads.Learnt, part-reads.Asked, part-reads.Learnt, whole-below t, whole.Post) (process-at t) process.Post process-Inv-loop process-μ-loop
+process-add-n : (t : ℕ) → process-lts.Need-add-n (process-claims t) (process-at t) process.Post process-Inv-loop process-μ-loop
 process-add-n t c = search needs
 
-process-sub-n-2 : (t : ℕ) → process-lts.Need-sub-n-2 (wide-reads.Asked, wide-reads.Learnt, slot-reads.Asked, slot-reads.Learnt, shape-reads.Asked, shape-reads.Learnt, ready-reads.Asked, ready-reads.Learnt, part-reads.Asked, part-reads.Learnt, whole-below t, whole.Post) (process-at t) process.Post process-Inv-loop process-μ-loop
+process-sub-n-2 : (t : ℕ) → process-lts.Need-sub-n-2 (process-claims t) (process-at t) process.Post process-Inv-loop process-μ-loop
 process-sub-n-2 t c = search needs
 
-process-loop-less-2 : (t : ℕ) → process-lts.Need-loop-less-2 (wide-reads.Asked, wide-reads.Learnt, slot-reads.Asked, slot-reads.Learnt, shape-reads.Asked, shape-reads.Learnt, ready-reads.Asked, ready-reads.Learnt, part-reads.Asked, part-reads.Learnt, whole-below t, whole.Post) (process-at t) process.Post process-Inv-loop process-μ-loop
-process-loop-less-2 t c = past-node _ _ _ _ _ _ _ _ _ (c .before .before .before .before .before .before .before .before .before .before .before .loop .inv) (λ i. (c .before .before .before .before .before .before .before .before .before .before .before .before .shared-slice-known .given) i .fits) (c .before .before .before .before .before .before .before .before .before .before .loop-test .taken) (c .before .before .before .before .before .before .before .before .before .if1 .left) _ _ (c .before .before .before .before .before .before .before .wide .ensures .0) (c .before .before .before .before .before .shape .ensures ∙ ap shapeOf (c .before .before .before .before .before .before .slot .ensures)) ((three-tests _ (c .before .before .before .before .before .before .before .before .before .before .before .loop .d) (c .before .before .before .before .before .before .before .before .before .before .before .loop .n) _ (c .before .before .before .before .ready .ensures) (c .before .before .before .if2 .taken)) .2)
+process-loop-less-2 : (t : ℕ) → process-lts.Need-loop-less-2 (process-claims t) (process-at t) process.Post process-Inv-loop process-μ-loop
+process-loop-less-2 t c = past-node _ _ _ _ _ _ _ _ _ (c .before .before .before .before .before .before .before .before .before .before .before .loop .inv) _ (process-ready t (c .before .before .before))
 
-process-loop-again-2 : (t : ℕ) → process-lts.Need-loop-again-2 (wide-reads.Asked, wide-reads.Learnt, slot-reads.Asked, slot-reads.Learnt, shape-reads.Asked, shape-reads.Learnt, ready-reads.Asked, ready-reads.Learnt, part-reads.Asked, part-reads.Learnt, whole-below t, whole.Post) (process-at t) process.Post process-Inv-loop process-μ-loop
-process-loop-again-2 t c = part-next _ _ _ _ _ _ _ _ _ (c .before .before .before .before .before .before .before .before .before .before .before .loop .inv) (λ i. (c .before .before .before .before .before .before .before .before .before .before .before .before .shared-slice-known .given) i .fits) (c .before .before .before .before .before .before .before .before .before .before .loop-test .taken) (c .before .before .before .before .before .before .before .before .before .if1 .left) _ _ (c .before .before .before .before .before .before .before .wide .ensures .0) (c .before .before .before .before .before .shape .ensures ∙ ap shapeOf (c .before .before .before .before .before .before .slot .ensures)) ((three-tests _ (c .before .before .before .before .before .before .before .before .before .before .before .loop .d) (c .before .before .before .before .before .before .before .before .before .before .before .loop .n) _ (c .before .before .before .before .ready .ensures) (c .before .before .before .if2 .taken)) .2) (c .part2 .result) (c .before .part .result) ((c .before .before .before .before .before .before .before .before .before .before .before .loop .d - 1) * 16 + c .before .part .result) ((three-tests _ (c .before .before .before .before .before .before .before .before .before .before .before .loop .d) (c .before .before .before .before .before .before .before .before .before .before .before .loop .n) _ (c .before .before .before .before .ready .ensures) (c .before .before .before .if2 .taken)) .1) (c .before .before .if3 .left) (c .part2 .ensures) (c .before .part .ensures) refl
+process-loop-again-2 : (t : ℕ) → process-lts.Need-loop-again-2 (process-claims t) (process-at t) process.Post process-Inv-loop process-μ-loop
+process-loop-again-2 t c = part-next _ _ _ _ _ _ _ _ _ (c .before .before .before .before .before .before .before .before .before .before .before .loop .inv) _ (process-ready t (c .before .before .before)) (c .part2 .result) (c .before .part .result) ((c .before .before .before .before .before .before .before .before .before .before .before .loop .d - 1) * 16 + c .before .part .result) (c .before .before .if3 .left) (c .part2 .ensures) (c .before .part .ensures) refl
 
-process-whole-requires : (t : ℕ) → process-lts.Need-whole-requires (wide-reads.Asked, wide-reads.Learnt, slot-reads.Asked, slot-reads.Learnt, shape-reads.Asked, shape-reads.Learnt, ready-reads.Asked, ready-reads.Learnt, part-reads.Asked, part-reads.Learnt, whole-below t, whole.Post) (process-at t) process.Post process-Inv-loop process-μ-loop
+process-whole-requires : (t : ℕ) → process-lts.Need-whole-requires (process-claims t) (process-at t) process.Post process-Inv-loop process-μ-loop
 process-whole-requires t c κs = search needs
 
-process-returns-3 : (t : ℕ) → process-lts.Need-returns-3 (wide-reads.Asked, wide-reads.Learnt, slot-reads.Asked, slot-reads.Learnt, shape-reads.Asked, shape-reads.Learnt, ready-reads.Asked, ready-reads.Learnt, part-reads.Asked, part-reads.Learnt, whole-below t, whole.Post) (process-at t) process.Post process-Inv-loop process-μ-loop
+process-returns-3 : (t : ℕ) → process-lts.Need-returns-3 (process-claims t) (process-at t) process.Post process-Inv-loop process-μ-loop
 process-returns-3 t c = whole-fails _ _ _ _ _ _ _ _ _ (c .before .before .before .before .before .before .before .before .before .before .loop .inv) _ (c .before .whole .ensures) (c .if5 .taken)
 
-process-returns-4 : (t : ℕ) → process-lts.Need-returns-4 (wide-reads.Asked, wide-reads.Learnt, slot-reads.Asked, slot-reads.Learnt, shape-reads.Asked, shape-reads.Learnt, ready-reads.Asked, ready-reads.Learnt, part-reads.Asked, part-reads.Learnt, whole-below t, whole.Post) (process-at t) process.Post process-Inv-loop process-μ-loop
+process-returns-4 : (t : ℕ) → process-lts.Need-returns-4 (process-claims t) (process-at t) process.Post process-Inv-loop process-μ-loop
 process-returns-4 t c = read-last _ _ _ _ _ _ _ _ _ (c .before .before .before .before .before .before .before .before .before .before .before .loop .inv) _ (c .before .before .whole .ensures) (c .before .if5 .left) (c .if6 .taken)
 
-process-mul-d-2 : (t : ℕ) → process-lts.Need-mul-d-2 (wide-reads.Asked, wide-reads.Learnt, slot-reads.Asked, slot-reads.Learnt, shape-reads.Asked, shape-reads.Learnt, ready-reads.Asked, ready-reads.Learnt, part-reads.Asked, part-reads.Learnt, whole-below t, whole.Post) (process-at t) process.Post process-Inv-loop process-μ-loop
+process-mul-d-2 : (t : ℕ) → process-lts.Need-mul-d-2 (process-claims t) (process-at t) process.Post process-Inv-loop process-μ-loop
 process-mul-d-2 t c = search needs
 
-process-array-read-d-2 : (t : ℕ) → process-lts.Need-array-read-d-2 (wide-reads.Asked, wide-reads.Learnt, slot-reads.Asked, slot-reads.Learnt, shape-reads.Asked, shape-reads.Learnt, ready-reads.Asked, ready-reads.Learnt, part-reads.Asked, part-reads.Learnt, whole-below t, whole.Post) (process-at t) process.Post process-Inv-loop process-μ-loop
+process-array-read-d-2 : (t : ℕ) → process-lts.Need-array-read-d-2 (process-claims t) (process-at t) process.Post process-Inv-loop process-μ-loop
 process-array-read-d-2 t c = search needs
 
-process-mul-c-2 : (t : ℕ) → process-lts.Need-mul-c-2 (wide-reads.Asked, wide-reads.Learnt, slot-reads.Asked, slot-reads.Learnt, shape-reads.Asked, shape-reads.Learnt, ready-reads.Asked, ready-reads.Learnt, part-reads.Asked, part-reads.Learnt, whole-below t, whole.Post) (process-at t) process.Post process-Inv-loop process-μ-loop
+process-mul-c-2 : (t : ℕ) → process-lts.Need-mul-c-2 (process-claims t) (process-at t) process.Post process-Inv-loop process-μ-loop
 process-mul-c-2 t c = search needs
 
-process-array-read-c-2 : (t : ℕ) → process-lts.Need-array-read-c-2 (wide-reads.Asked, wide-reads.Learnt, slot-reads.Asked, slot-reads.Learnt, shape-reads.Asked, shape-reads.Learnt, ready-reads.Asked, ready-reads.Learnt, part-reads.Asked, part-reads.Learnt, whole-below t, whole.Post) (process-at t) process.Post process-Inv-loop process-μ-loop
+process-array-read-c-2 : (t : ℕ) → process-lts.Need-array-read-c-2 (process-claims t) (process-at t) process.Post process-Inv-loop process-μ-loop
 process-array-read-c-2 t c = search needs
 
-process-sub-n-3 : (t : ℕ) → process-lts.Need-sub-n-3 (wide-reads.Asked, wide-reads.Learnt, slot-reads.Asked, slot-reads.Learnt, shape-reads.Asked, shape-reads.Learnt, ready-reads.Asked, ready-reads.Learnt, part-reads.Asked, part-reads.Learnt, whole-below t, whole.Post) (process-at t) process.Post process-Inv-loop process-μ-loop
+process-sub-n-3 : (t : ℕ) → process-lts.Need-sub-n-3 (process-claims t) (process-at t) process.Post process-Inv-loop process-μ-loop
 process-sub-n-3 t c = search needs
 
-process-loop-less-3 : (t : ℕ) → process-lts.Need-loop-less-3 (wide-reads.Asked, wide-reads.Learnt, slot-reads.Asked, slot-reads.Learnt, shape-reads.Asked, shape-reads.Learnt, ready-reads.Asked, ready-reads.Learnt, part-reads.Asked, part-reads.Learnt, whole-below t, whole.Post) (process-at t) process.Post process-Inv-loop process-μ-loop
+process-loop-less-3 : (t : ℕ) → process-lts.Need-loop-less-3 (process-claims t) (process-at t) process.Post process-Inv-loop process-μ-loop
 process-loop-less-3 t c = past-whole _ _ _ _ _ _ _ _ _ (c .before .before .before .before .before .before .before .before .before .before .before .loop .inv) (λ i. (c .before .before .before .before .before .before .before .before .before .before .before .before .shared-slice-known .given) i .fits) (c .before .before .before .before .before .before .before .before .before .before .loop-test .taken) _ (c .before .before .whole .ensures) (c .before .if5 .left)
 
-process-loop-again-3 : (t : ℕ) → process-lts.Need-loop-again-3 (wide-reads.Asked, wide-reads.Learnt, slot-reads.Asked, slot-reads.Learnt, shape-reads.Asked, shape-reads.Learnt, ready-reads.Asked, ready-reads.Learnt, part-reads.Asked, part-reads.Learnt, whole-below t, whole.Post) (process-at t) process.Post process-Inv-loop process-μ-loop
+process-loop-again-3 : (t : ℕ) → process-lts.Need-loop-again-3 (process-claims t) (process-at t) process.Post process-Inv-loop process-μ-loop
 process-loop-again-3 t c = read-next _ _ _ _ _ _ _ _ _ (c .before .before .before .before .before .before .before .before .before .before .before .loop .inv) _ (c .before .before .whole .ensures) (c .before .if5 .left) (c .if6 .left)
 
-process-returns-5 : (t : ℕ) → process-lts.Need-returns-5 (wide-reads.Asked, wide-reads.Learnt, slot-reads.Asked, slot-reads.Learnt, shape-reads.Asked, shape-reads.Learnt, ready-reads.Asked, ready-reads.Learnt, part-reads.Asked, part-reads.Learnt, whole-below t, whole.Post) (process-at t) process.Post process-Inv-loop process-μ-loop
+process-returns-5 : (t : ℕ) → process-lts.Need-returns-5 (process-claims t) (process-at t) process.Post process-Inv-loop process-μ-loop
 process-returns-5 t c = no-words _ _ _ _ _ _ _ _ _ (c .before .loop .inv) (c .loop-test .left)
 
-repeat-expression-requires : (t : ℕ) → repeat-lts.Need-expression-requires (expression-reads.Asked, expression-reads.Learnt, process-below t, process.Post) (repeat-at t) repeat.Post
+abbrev repeat-claims : ℕ → repeat-lts.Claims
+repeat-claims t = (expression-reads.Asked, expression-reads.Learnt, process-below t, process.Post)
+
+repeat-expression-requires : (t : ℕ) → repeat-lts.Need-expression-requires (repeat-claims t) (repeat-at t) repeat.Post
 repeat-expression-requires t c κs = search needs
 
-repeat-returns : (t : ℕ) → repeat-lts.Need-returns (expression-reads.Asked, expression-reads.Learnt, process-below t, process.Post) (repeat-at t) repeat.Post
+repeat-returns : (t : ℕ) → repeat-lts.Need-returns (repeat-claims t) (repeat-at t) repeat.Post
 unfolding on when processEnd twoEnd branchEnd repeatEnd branchesEnd choiceEnd requestEnd entriesEnd listEnd solicitEnd markedEnd restingEnd scopeEnd executorEnd waiterEnd nodeEnd
 repeat-returns t c =
     let f0 = c .if1 .taken in
     simp (tests, process-step, branches-step, branches-end, entries-step, entries-end, f0, ← (c .before .expression .ensures))
 
-repeat-process-requires : (t : ℕ) → repeat-lts.Need-process-requires (expression-reads.Asked, expression-reads.Learnt, process-below t, process.Post) (repeat-at t) repeat.Post
+repeat-process-requires : (t : ℕ) → repeat-lts.Need-process-requires (repeat-claims t) (repeat-at t) repeat.Post
 repeat-process-requires t c κs = search needs
 
-repeat-returns-2 : (t : ℕ) → repeat-lts.Need-returns-2 (expression-reads.Asked, expression-reads.Learnt, process-below t, process.Post) (repeat-at t) repeat.Post
+repeat-returns-2 : (t : ℕ) → repeat-lts.Need-returns-2 (repeat-claims t) (repeat-at t) repeat.Post
 unfolding on when processEnd twoEnd branchEnd repeatEnd branchesEnd choiceEnd requestEnd entriesEnd listEnd solicitEnd markedEnd restingEnd scopeEnd executorEnd waiterEnd nodeEnd
 repeat-returns-2 t c =
     let f0 = c .before .if1 .left in
     simp (tests, process-step, branches-step, branches-end, entries-step, entries-end, ← (c .process .ensures), f0, ← (c .before .before .expression .ensures))
 
-request-fixed-requires : (t : ℕ) → request-lts.Need-fixed-requires (fixed-reads.Asked, fixed-reads.Learnt, process-below t, process.Post) (request-at t) request.Post
+abbrev request-claims : ℕ → request-lts.Claims
+request-claims t = (fixed-reads.Asked, fixed-reads.Learnt, process-below t, process.Post)
+
+request-fixed-requires : (t : ℕ) → request-lts.Need-fixed-requires (request-claims t) (request-at t) request.Post
 request-fixed-requires t c κs = search needs
 
-request-add-process : (t : ℕ) → request-lts.Need-add-process (fixed-reads.Asked, fixed-reads.Learnt, process-below t, process.Post) (request-at t) request.Post
+request-add-process : (t : ℕ) → request-lts.Need-add-process (request-claims t) (request-at t) request.Post
 request-add-process t c = search needs
 
-request-process-requires : (t : ℕ) → request-lts.Need-process-requires (fixed-reads.Asked, fixed-reads.Learnt, process-below t, process.Post) (request-at t) request.Post
+request-process-requires : (t : ℕ) → request-lts.Need-process-requires (request-claims t) (request-at t) request.Post
 request-process-requires t c κs = search needs
 
-request-returns : (t : ℕ) → request-lts.Need-returns (fixed-reads.Asked, fixed-reads.Learnt, process-below t, process.Post) (request-at t) request.Post
+request-returns : (t : ℕ) → request-lts.Need-returns (request-claims t) (request-at t) request.Post
 unfolding on when processEnd twoEnd branchEnd repeatEnd branchesEnd choiceEnd requestEnd entriesEnd listEnd solicitEnd markedEnd restingEnd scopeEnd executorEnd waiterEnd nodeEnd
 request-returns t c =
     let f0 = c .before .if1 .taken in
     simp (tests, process-step, branches-step, branches-end, entries-step, entries-end, ← (c .process .ensures), f0, ← (c .before .before .fixed .ensures))
 
-request-returns-2 : (t : ℕ) → request-lts.Need-returns-2 (fixed-reads.Asked, fixed-reads.Learnt, process-below t, process.Post) (request-at t) request.Post
+request-returns-2 : (t : ℕ) → request-lts.Need-returns-2 (request-claims t) (request-at t) request.Post
 unfolding on when processEnd twoEnd branchEnd repeatEnd branchesEnd choiceEnd requestEnd entriesEnd listEnd solicitEnd markedEnd restingEnd scopeEnd executorEnd waiterEnd nodeEnd
 request-returns-2 t c =
     let f0 = c .if1 .left in
     simp (tests, process-step, branches-step, branches-end, entries-step, entries-end, f0, ← (c .before .fixed .ensures))
 
-resting-returns : (t : ℕ) → resting-lts.Need-returns (same-context-reads.Asked, same-context-reads.Learnt, process-below t, process.Post) (resting-at t) resting.Post
+abbrev resting-claims : ℕ → resting-lts.Claims
+resting-claims t = (same-context-reads.Asked, same-context-reads.Learnt, process-below t, process.Post)
+
+resting-returns : (t : ℕ) → resting-lts.Need-returns (resting-claims t) (resting-at t) resting.Post
 unfolding on when processEnd twoEnd branchEnd repeatEnd branchesEnd choiceEnd requestEnd entriesEnd listEnd solicitEnd markedEnd restingEnd scopeEnd executorEnd waiterEnd nodeEnd
 resting-returns t c =
     let f0 = c .if1 .taken in
     simp (tests, process-step, branches-step, branches-end, entries-step, entries-end, f0)
 
-resting-add-if2 : (t : ℕ) → resting-lts.Need-add-if2 (same-context-reads.Asked, same-context-reads.Learnt, process-below t, process.Post) (resting-at t) resting.Post
+resting-add-if2 : (t : ℕ) → resting-lts.Need-add-if2 (resting-claims t) (resting-at t) resting.Post
 resting-add-if2 t c = search needs
 
-resting-mul-if2 : (t : ℕ) → resting-lts.Need-mul-if2 (same-context-reads.Asked, same-context-reads.Learnt, process-below t, process.Post) (resting-at t) resting.Post
+resting-mul-if2 : (t : ℕ) → resting-lts.Need-mul-if2 (resting-claims t) (resting-at t) resting.Post
 resting-mul-if2 t c = search needs
 
-resting-shared-slice-read-if2 : (t : ℕ) → resting-lts.Need-shared-slice-read-if2 (same-context-reads.Asked, same-context-reads.Learnt, process-below t, process.Post) (resting-at t) resting.Post
+resting-shared-slice-read-if2 : (t : ℕ) → resting-lts.Need-shared-slice-read-if2 (resting-claims t) (resting-at t) resting.Post
 resting-shared-slice-read-if2 t c = search needs
 
-resting-returns-2 : (t : ℕ) → resting-lts.Need-returns-2 (same-context-reads.Asked, same-context-reads.Learnt, process-below t, process.Post) (resting-at t) resting.Post
+resting-returns-2 : (t : ℕ) → resting-lts.Need-returns-2 (resting-claims t) (resting-at t) resting.Post
 unfolding on when processEnd twoEnd branchEnd repeatEnd branchesEnd choiceEnd requestEnd entriesEnd listEnd solicitEnd markedEnd restingEnd scopeEnd executorEnd waiterEnd nodeEnd
 resting-returns-2 t c =
     let f0 = c .if2 .taken in
     let f1 = c .before .before .if1 .left in
     simp (tests, process-step, branches-step, branches-end, entries-step, entries-end, f0, f1)
 
-resting-add-process : (t : ℕ) → resting-lts.Need-add-process (same-context-reads.Asked, same-context-reads.Learnt, process-below t, process.Post) (resting-at t) resting.Post
+resting-add-process : (t : ℕ) → resting-lts.Need-add-process (resting-claims t) (resting-at t) resting.Post
 resting-add-process t c = search needs
 
-resting-same-context-requires : (t : ℕ) → resting-lts.Need-same-context-requires (same-context-reads.Asked, same-context-reads.Learnt, process-below t, process.Post) (resting-at t) resting.Post
+resting-same-context-requires : (t : ℕ) → resting-lts.Need-same-context-requires (resting-claims t) (resting-at t) resting.Post
 resting-same-context-requires t c κs = search needs
 
-resting-process-requires : (t : ℕ) → resting-lts.Need-process-requires (same-context-reads.Asked, same-context-reads.Learnt, process-below t, process.Post) (resting-at t) resting.Post
+resting-process-requires : (t : ℕ) → resting-lts.Need-process-requires (resting-claims t) (resting-at t) resting.Post
 resting-process-requires t c κs = search needs
 
-resting-returns-3 : (t : ℕ) → resting-lts.Need-returns-3 (same-context-reads.Asked, same-context-reads.Learnt, process-below t, process.Post) (resting-at t) resting.Post
+resting-returns-3 : (t : ℕ) → resting-lts.Need-returns-3 (resting-claims t) (resting-at t) resting.Post
 unfolding on when processEnd twoEnd branchEnd repeatEnd branchesEnd choiceEnd requestEnd entriesEnd listEnd solicitEnd markedEnd restingEnd scopeEnd executorEnd waiterEnd nodeEnd
 resting-returns-3 t c =
     let f0 = c .before .before .if2 .left in
     let f1 = c .before .before .before .before .if1 .left in
     simp (tests, process-step, branches-step, branches-end, entries-step, entries-end, ← (c .process .ensures), ← (c .before .same-context .ensures), f0, f1)
 
-scope-sub-if1 : (t : ℕ) → scope-lts.Need-sub-if1 (wide-reads.Asked, wide-reads.Learnt, resting-below t, resting.Post, marked-below t, marked.Post, process-below t, process.Post) (scope-at t) scope.Post
+abbrev scope-claims : ℕ → scope-lts.Claims
+scope-claims t = (wide-reads.Asked, wide-reads.Learnt, resting-below t, resting.Post, marked-below t, marked.Post, process-below t, process.Post)
+
+scope-sub-if1 : (t : ℕ) → scope-lts.Need-sub-if1 (scope-claims t) (scope-at t) scope.Post
 scope-sub-if1 t c = search needs
 
-scope-returns : (t : ℕ) → scope-lts.Need-returns (wide-reads.Asked, wide-reads.Learnt, resting-below t, resting.Post, marked-below t, marked.Post, process-below t, process.Post) (scope-at t) scope.Post
+scope-returns : (t : ℕ) → scope-lts.Need-returns (scope-claims t) (scope-at t) scope.Post
 unfolding on when processEnd twoEnd branchEnd repeatEnd branchesEnd choiceEnd requestEnd entriesEnd listEnd solicitEnd markedEnd restingEnd scopeEnd executorEnd waiterEnd nodeEnd
 scope-returns t c =
     let f0 = c .if1 .taken in
     simp (tests, process-step, branches-step, branches-end, entries-step, entries-end, f0)
 
-scope-add-wide : (t : ℕ) → scope-lts.Need-add-wide (wide-reads.Asked, wide-reads.Learnt, resting-below t, resting.Post, marked-below t, marked.Post, process-below t, process.Post) (scope-at t) scope.Post
+scope-add-wide : (t : ℕ) → scope-lts.Need-add-wide (scope-claims t) (scope-at t) scope.Post
 scope-add-wide t c = search needs
 
-scope-mul-wide : (t : ℕ) → scope-lts.Need-mul-wide (wide-reads.Asked, wide-reads.Learnt, resting-below t, resting.Post, marked-below t, marked.Post, process-below t, process.Post) (scope-at t) scope.Post
+scope-mul-wide : (t : ℕ) → scope-lts.Need-mul-wide (scope-claims t) (scope-at t) scope.Post
 scope-mul-wide t c = search needs
 
-scope-shared-slice-read-wide : (t : ℕ) → scope-lts.Need-shared-slice-read-wide (wide-reads.Asked, wide-reads.Learnt, resting-below t, resting.Post, marked-below t, marked.Post, process-below t, process.Post) (scope-at t) scope.Post
+scope-shared-slice-read-wide : (t : ℕ) → scope-lts.Need-shared-slice-read-wide (scope-claims t) (scope-at t) scope.Post
 scope-shared-slice-read-wide t c = search needs
 
-scope-wide-requires : (t : ℕ) → scope-lts.Need-wide-requires (wide-reads.Asked, wide-reads.Learnt, resting-below t, resting.Post, marked-below t, marked.Post, process-below t, process.Post) (scope-at t) scope.Post
+scope-wide-requires : (t : ℕ) → scope-lts.Need-wide-requires (scope-claims t) (scope-at t) scope.Post
 scope-wide-requires t c κs = search needs
 
-scope-resting-requires : (t : ℕ) → scope-lts.Need-resting-requires (wide-reads.Asked, wide-reads.Learnt, resting-below t, resting.Post, marked-below t, marked.Post, process-below t, process.Post) (scope-at t) scope.Post
+scope-resting-requires : (t : ℕ) → scope-lts.Need-resting-requires (scope-claims t) (scope-at t) scope.Post
 scope-resting-requires t c κs = search needs
 
-scope-returns-2 : (t : ℕ) → scope-lts.Need-returns-2 (wide-reads.Asked, wide-reads.Learnt, resting-below t, resting.Post, marked-below t, marked.Post, process-below t, process.Post) (scope-at t) scope.Post
+scope-returns-2 : (t : ℕ) → scope-lts.Need-returns-2 (scope-claims t) (scope-at t) scope.Post
 unfolding on when processEnd twoEnd branchEnd repeatEnd branchesEnd choiceEnd requestEnd entriesEnd listEnd solicitEnd markedEnd restingEnd scopeEnd executorEnd waiterEnd nodeEnd
 scope-returns-2 t c =
     let f0 = c .before .if2 .taken in
     let f1 = c .before .before .before .before .if1 .left in
     simp (tests, process-step, branches-step, branches-end, entries-step, entries-end, ← (c .resting .ensures), f0, ← (c .before .before .wide .ensures .0), f1)
 
-scope-add-marked : (t : ℕ) → scope-lts.Need-add-marked (wide-reads.Asked, wide-reads.Learnt, resting-below t, resting.Post, marked-below t, marked.Post, process-below t, process.Post) (scope-at t) scope.Post
+scope-add-marked : (t : ℕ) → scope-lts.Need-add-marked (scope-claims t) (scope-at t) scope.Post
 scope-add-marked t c = search needs
 
-scope-marked-requires : (t : ℕ) → scope-lts.Need-marked-requires (wide-reads.Asked, wide-reads.Learnt, resting-below t, resting.Post, marked-below t, marked.Post, process-below t, process.Post) (scope-at t) scope.Post
+scope-marked-requires : (t : ℕ) → scope-lts.Need-marked-requires (scope-claims t) (scope-at t) scope.Post
 scope-marked-requires t c κs = search needs
 
-scope-returns-3 : (t : ℕ) → scope-lts.Need-returns-3 (wide-reads.Asked, wide-reads.Learnt, resting-below t, resting.Post, marked-below t, marked.Post, process-below t, process.Post) (scope-at t) scope.Post
+scope-returns-3 : (t : ℕ) → scope-lts.Need-returns-3 (scope-claims t) (scope-at t) scope.Post
 unfolding on when processEnd twoEnd branchEnd repeatEnd branchesEnd choiceEnd requestEnd entriesEnd listEnd solicitEnd markedEnd restingEnd scopeEnd executorEnd waiterEnd nodeEnd
 scope-returns-3 t c =
     let f0 = c .if3 .taken in
@@ -971,10 +1036,10 @@ scope-returns-3 t c =
     let f2 = c .before .before .before .before .before .if1 .left in
     simp (tests, process-step, branches-step, branches-end, entries-step, entries-end, f0, ← (c .before .marked .ensures), f1, ← (c .before .before .before .wide .ensures .0), f2)
 
-scope-process-requires : (t : ℕ) → scope-lts.Need-process-requires (wide-reads.Asked, wide-reads.Learnt, resting-below t, resting.Post, marked-below t, marked.Post, process-below t, process.Post) (scope-at t) scope.Post
+scope-process-requires : (t : ℕ) → scope-lts.Need-process-requires (scope-claims t) (scope-at t) scope.Post
 scope-process-requires t c κs = search needs
 
-scope-returns-4 : (t : ℕ) → scope-lts.Need-returns-4 (wide-reads.Asked, wide-reads.Learnt, resting-below t, resting.Post, marked-below t, marked.Post, process-below t, process.Post) (scope-at t) scope.Post
+scope-returns-4 : (t : ℕ) → scope-lts.Need-returns-4 (scope-claims t) (scope-at t) scope.Post
 unfolding on when processEnd twoEnd branchEnd repeatEnd branchesEnd choiceEnd requestEnd entriesEnd listEnd solicitEnd markedEnd restingEnd scopeEnd executorEnd waiterEnd nodeEnd
 scope-returns-4 t c =
     let f0 = c .before .if3 .left in
@@ -982,79 +1047,91 @@ scope-returns-4 t c =
     let f2 = c .before .before .before .before .before .before .if1 .left in
     simp (tests, process-step, branches-step, branches-end, entries-step, entries-end, ← (c .process .ensures), f0, ← (c .before .before .marked .ensures), f1, ← (c .before .before .before .before .wide .ensures .0), f2)
 
-solicit-fixed-requires : (t : ℕ) → solicit-lts.Need-fixed-requires (fixed-reads.Asked, fixed-reads.Learnt, list-below t, list.Post) (solicit-at t) solicit.Post
+abbrev solicit-claims : ℕ → solicit-lts.Claims
+solicit-claims t = (fixed-reads.Asked, fixed-reads.Learnt, list-below t, list.Post)
+
+solicit-fixed-requires : (t : ℕ) → solicit-lts.Need-fixed-requires (solicit-claims t) (solicit-at t) solicit.Post
 solicit-fixed-requires t c κs = search needs
 
-solicit-add-list : (t : ℕ) → solicit-lts.Need-add-list (fixed-reads.Asked, fixed-reads.Learnt, list-below t, list.Post) (solicit-at t) solicit.Post
+solicit-add-list : (t : ℕ) → solicit-lts.Need-add-list (solicit-claims t) (solicit-at t) solicit.Post
 solicit-add-list t c = search needs
 
-solicit-list-requires : (t : ℕ) → solicit-lts.Need-list-requires (fixed-reads.Asked, fixed-reads.Learnt, list-below t, list.Post) (solicit-at t) solicit.Post
+solicit-list-requires : (t : ℕ) → solicit-lts.Need-list-requires (solicit-claims t) (solicit-at t) solicit.Post
 solicit-list-requires t c κs = search needs
 
-solicit-returns : (t : ℕ) → solicit-lts.Need-returns (fixed-reads.Asked, fixed-reads.Learnt, list-below t, list.Post) (solicit-at t) solicit.Post
+solicit-returns : (t : ℕ) → solicit-lts.Need-returns (solicit-claims t) (solicit-at t) solicit.Post
 unfolding on when processEnd twoEnd branchEnd repeatEnd branchesEnd choiceEnd requestEnd entriesEnd listEnd solicitEnd markedEnd restingEnd scopeEnd executorEnd waiterEnd nodeEnd
 solicit-returns t c =
     let f0 = c .before .if1 .taken in
     simp (tests, process-step, branches-step, branches-end, entries-step, entries-end, ← (c .list .ensures), f0, ← (c .before .before .fixed .ensures))
 
-solicit-returns-2 : (t : ℕ) → solicit-lts.Need-returns-2 (fixed-reads.Asked, fixed-reads.Learnt, list-below t, list.Post) (solicit-at t) solicit.Post
+solicit-returns-2 : (t : ℕ) → solicit-lts.Need-returns-2 (solicit-claims t) (solicit-at t) solicit.Post
 unfolding on when processEnd twoEnd branchEnd repeatEnd branchesEnd choiceEnd requestEnd entriesEnd listEnd solicitEnd markedEnd restingEnd scopeEnd executorEnd waiterEnd nodeEnd
 solicit-returns-2 t c =
     let f0 = c .if1 .left in
     simp (tests, process-step, branches-step, branches-end, entries-step, entries-end, f0, ← (c .before .fixed .ensures))
 
-two-process-requires : (t : ℕ) → two-lts.Need-process-requires (process-below t, process.Post) (two-at t) two.Post
+abbrev two-claims : ℕ → two-lts.Claims
+two-claims t = (process-below t, process.Post)
+
+two-process-requires : (t : ℕ) → two-lts.Need-process-requires (two-claims t) (two-at t) two.Post
 two-process-requires t c κs = search needs
 
-two-returns : (t : ℕ) → two-lts.Need-returns (process-below t, process.Post) (two-at t) two.Post
+two-returns : (t : ℕ) → two-lts.Need-returns (two-claims t) (two-at t) two.Post
 unfolding on when processEnd twoEnd branchEnd repeatEnd branchesEnd choiceEnd requestEnd entriesEnd listEnd solicitEnd markedEnd restingEnd scopeEnd executorEnd waiterEnd nodeEnd
 two-returns t c =
     let f0 = c .if1 .taken in
     simp (tests, process-step, branches-step, branches-end, entries-step, entries-end, f0, ← (c .before .process .ensures))
 
-two-process-requires-2 : (t : ℕ) → two-lts.Need-process-requires-2 (process-below t, process.Post) (two-at t) two.Post
+two-process-requires-2 : (t : ℕ) → two-lts.Need-process-requires-2 (two-claims t) (two-at t) two.Post
 two-process-requires-2 t c κs = search needs
 
-two-returns-2 : (t : ℕ) → two-lts.Need-returns-2 (process-below t, process.Post) (two-at t) two.Post
+two-returns-2 : (t : ℕ) → two-lts.Need-returns-2 (two-claims t) (two-at t) two.Post
 unfolding on when processEnd twoEnd branchEnd repeatEnd branchesEnd choiceEnd requestEnd entriesEnd listEnd solicitEnd markedEnd restingEnd scopeEnd executorEnd waiterEnd nodeEnd
 two-returns-2 t c =
     let f0 = c .before .if1 .left in
     simp (tests, process-step, branches-step, branches-end, entries-step, entries-end, ← (c .process2 .ensures), f0, ← (c .before .before .process .ensures))
 
-waiter-end-requires : (t : ℕ) → waiter-lts.Need-end-requires (end-reads.Asked, end-reads.Learnt, list-below t, list.Post) (waiter-at t) waiter.Post
+abbrev waiter-claims : ℕ → waiter-lts.Claims
+waiter-claims t = (end-reads.Asked, end-reads.Learnt, list-below t, list.Post)
+
+waiter-end-requires : (t : ℕ) → waiter-lts.Need-end-requires (waiter-claims t) (waiter-at t) waiter.Post
 waiter-end-requires t c κs = search needs
 
-waiter-add-list : (t : ℕ) → waiter-lts.Need-add-list (end-reads.Asked, end-reads.Learnt, list-below t, list.Post) (waiter-at t) waiter.Post
+waiter-add-list : (t : ℕ) → waiter-lts.Need-add-list (waiter-claims t) (waiter-at t) waiter.Post
 waiter-add-list t c = search needs
 
-waiter-list-requires : (t : ℕ) → waiter-lts.Need-list-requires (end-reads.Asked, end-reads.Learnt, list-below t, list.Post) (waiter-at t) waiter.Post
+waiter-list-requires : (t : ℕ) → waiter-lts.Need-list-requires (waiter-claims t) (waiter-at t) waiter.Post
 waiter-list-requires t c κs = search needs
 
-waiter-returns : (t : ℕ) → waiter-lts.Need-returns (end-reads.Asked, end-reads.Learnt, list-below t, list.Post) (waiter-at t) waiter.Post
+waiter-returns : (t : ℕ) → waiter-lts.Need-returns (waiter-claims t) (waiter-at t) waiter.Post
 unfolding on when processEnd twoEnd branchEnd repeatEnd branchesEnd choiceEnd requestEnd entriesEnd listEnd solicitEnd markedEnd restingEnd scopeEnd executorEnd waiterEnd nodeEnd
 waiter-returns t c =
     let f0 = c .before .if1 .taken in
     simp (tests, process-step, branches-step, branches-end, entries-step, entries-end, ← (c .list .ensures), f0, ← (c .before .before .end .ensures))
 
-waiter-returns-2 : (t : ℕ) → waiter-lts.Need-returns-2 (end-reads.Asked, end-reads.Learnt, list-below t, list.Post) (waiter-at t) waiter.Post
+waiter-returns-2 : (t : ℕ) → waiter-lts.Need-returns-2 (waiter-claims t) (waiter-at t) waiter.Post
 unfolding on when processEnd twoEnd branchEnd repeatEnd branchesEnd choiceEnd requestEnd entriesEnd listEnd solicitEnd markedEnd restingEnd scopeEnd executorEnd waiterEnd nodeEnd
 waiter-returns-2 t c =
     let f0 = c .if1 .left in
     simp (tests, process-step, branches-step, branches-end, entries-step, entries-end, f0, ← (c .before .end .ensures))
 
-whole-expression-requires : (t : ℕ) → whole-lts.Need-expression-requires (expression-reads.Asked, expression-reads.Learnt, node-below t, node.Post) (whole-at t) whole.Post
+abbrev whole-claims : ℕ → whole-lts.Claims
+whole-claims t = (expression-reads.Asked, expression-reads.Learnt, node-below t, node.Post)
+
+whole-expression-requires : (t : ℕ) → whole-lts.Need-expression-requires (whole-claims t) (whole-at t) whole.Post
 whole-expression-requires t c κs = search needs
 
-whole-node-requires : (t : ℕ) → whole-lts.Need-node-requires (expression-reads.Asked, expression-reads.Learnt, node-below t, node.Post) (whole-at t) whole.Post
+whole-node-requires : (t : ℕ) → whole-lts.Need-node-requires (whole-claims t) (whole-at t) whole.Post
 whole-node-requires t c κs = search needs
 
-whole-returns : (t : ℕ) → whole-lts.Need-returns (expression-reads.Asked, expression-reads.Learnt, node-below t, node.Post) (whole-at t) whole.Post
+whole-returns : (t : ℕ) → whole-lts.Need-returns (whole-claims t) (whole-at t) whole.Post
 unfolding itemEnd
 whole-returns t c =
     let f0 = c .before .if1 .taken in
     simp (tests, ← (c .expression .ensures), f0)
 
-whole-returns-2 : (t : ℕ) → whole-lts.Need-returns-2 (expression-reads.Asked, expression-reads.Learnt, node-below t, node.Post) (whole-at t) whole.Post
+whole-returns-2 : (t : ℕ) → whole-lts.Need-returns-2 (whole-claims t) (whole-at t) whole.Post
 unfolding itemEnd
 whole-returns-2 t c =
     let f0 = c .before .if1 .left in

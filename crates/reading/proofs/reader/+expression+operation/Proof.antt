@@ -1,4 +1,5 @@
--- `expression` and `operation` of `reading::reader` meet their contracts: the code is its mirror in specs/.
+-- `expression` and `operation` of `reading::reader` meet their contracts. The measure is twice the depth, and one more for an operation, which
+-- reads its operands one level down.
 -- Assumes nothing.
 use lib.ListN.{List·getD-eq-default}
 use Rattle.reading.proofs.Others.{beyond}
@@ -41,59 +42,62 @@ abbrev operation-below : ℕ → In 1 operation-kinds.ps
 operation-below t =
     and 1 operation-kinds.ps (falls 1 operation-kinds.ps _<_ μ-operation t) operation.Pre
 
-expression-returns : (t : ℕ) → expression-lts.Need-returns (wide-reads.Asked, wide-reads.Learnt, constant-reads.Asked, constant-reads.Learnt, operation-below t, operation.Post) (expression-at t) expression.Post
+abbrev expression-claims : ℕ → expression-lts.Claims
+expression-claims t = (wide-reads.Asked, wide-reads.Learnt, constant-reads.Asked, constant-reads.Learnt, operation-below t, operation.Post)
+
+expression-returns : (t : ℕ) → expression-lts.Need-returns (expression-claims t) (expression-at t) expression.Post
 unfolding exprEnd exprAt operationEnd on when
 expression-returns t c =
     let f0 = c .if1 .taken in
     simp (tests, expr-step, f0)
 
-expression-returns-2 : (t : ℕ) → expression-lts.Need-returns-2 (wide-reads.Asked, wide-reads.Learnt, constant-reads.Asked, constant-reads.Learnt, operation-below t, operation.Post) (expression-at t) expression.Post
+expression-returns-2 : (t : ℕ) → expression-lts.Need-returns-2 (expression-claims t) (expression-at t) expression.Post
 unfolding exprEnd exprAt operationEnd on when
 expression-returns-2 t c =
     let f0 = c .if2 .taken in
     let f1 = c .before .if1 .left in
     simp (tests, expr-step, f0, f1)
 
-expression-mul-wide : (t : ℕ) → expression-lts.Need-mul-wide (wide-reads.Asked, wide-reads.Learnt, constant-reads.Asked, constant-reads.Learnt, operation-below t, operation.Post) (expression-at t) expression.Post
+expression-mul-wide : (t : ℕ) → expression-lts.Need-mul-wide (expression-claims t) (expression-at t) expression.Post
 expression-mul-wide t c = search needs
 
-expression-shared-slice-read-wide : (t : ℕ) → expression-lts.Need-shared-slice-read-wide (wide-reads.Asked, wide-reads.Learnt, constant-reads.Asked, constant-reads.Learnt, operation-below t, operation.Post) (expression-at t) expression.Post
+expression-shared-slice-read-wide : (t : ℕ) → expression-lts.Need-shared-slice-read-wide (expression-claims t) (expression-at t) expression.Post
 expression-shared-slice-read-wide t c = search needs
 
-expression-wide-requires : (t : ℕ) → expression-lts.Need-wide-requires (wide-reads.Asked, wide-reads.Learnt, constant-reads.Asked, constant-reads.Learnt, operation-below t, operation.Post) (expression-at t) expression.Post
+expression-wide-requires : (t : ℕ) → expression-lts.Need-wide-requires (expression-claims t) (expression-at t) expression.Post
 expression-wide-requires t c κs = search needs
 
-expression-constant-requires : (t : ℕ) → expression-lts.Need-constant-requires (wide-reads.Asked, wide-reads.Learnt, constant-reads.Asked, constant-reads.Learnt, operation-below t, operation.Post) (expression-at t) expression.Post
+expression-constant-requires : (t : ℕ) → expression-lts.Need-constant-requires (expression-claims t) (expression-at t) expression.Post
 expression-constant-requires t c κs = search needs
 
-expression-add-result : (t : ℕ) → expression-lts.Need-add-result (wide-reads.Asked, wide-reads.Learnt, constant-reads.Asked, constant-reads.Learnt, operation-below t, operation.Post) (expression-at t) expression.Post
+expression-add-result : (t : ℕ) → expression-lts.Need-add-result (expression-claims t) (expression-at t) expression.Post
 expression-add-result t c = search needs
 
-expression-sub-operation : (t : ℕ) → expression-lts.Need-sub-operation (wide-reads.Asked, wide-reads.Learnt, constant-reads.Asked, constant-reads.Learnt, operation-below t, operation.Post) (expression-at t) expression.Post
+expression-sub-operation : (t : ℕ) → expression-lts.Need-sub-operation (expression-claims t) (expression-at t) expression.Post
 expression-sub-operation t c = search needs
 
-expression-operation-requires : (t : ℕ) → expression-lts.Need-operation-requires (wide-reads.Asked, wide-reads.Learnt, constant-reads.Asked, constant-reads.Learnt, operation-below t, operation.Post) (expression-at t) expression.Post
+expression-operation-requires : (t : ℕ) → expression-lts.Need-operation-requires (expression-claims t) (expression-at t) expression.Post
 expression-operation-requires t c κs = search needs
 
-expression-sub-operation-2 : (t : ℕ) → expression-lts.Need-sub-operation-2 (wide-reads.Asked, wide-reads.Learnt, constant-reads.Asked, constant-reads.Learnt, operation-below t, operation.Post) (expression-at t) expression.Post
+expression-sub-operation-2 : (t : ℕ) → expression-lts.Need-sub-operation-2 (expression-claims t) (expression-at t) expression.Post
 expression-sub-operation-2 t c = search needs
 
-expression-operation-requires-2 : (t : ℕ) → expression-lts.Need-operation-requires-2 (wide-reads.Asked, wide-reads.Learnt, constant-reads.Asked, constant-reads.Learnt, operation-below t, operation.Post) (expression-at t) expression.Post
+expression-operation-requires-2 : (t : ℕ) → expression-lts.Need-operation-requires-2 (expression-claims t) (expression-at t) expression.Post
 expression-operation-requires-2 t c κs = search needs
 
-expression-sub-operation-3 : (t : ℕ) → expression-lts.Need-sub-operation-3 (wide-reads.Asked, wide-reads.Learnt, constant-reads.Asked, constant-reads.Learnt, operation-below t, operation.Post) (expression-at t) expression.Post
+expression-sub-operation-3 : (t : ℕ) → expression-lts.Need-sub-operation-3 (expression-claims t) (expression-at t) expression.Post
 expression-sub-operation-3 t c = search needs
 
-expression-operation-requires-3 : (t : ℕ) → expression-lts.Need-operation-requires-3 (wide-reads.Asked, wide-reads.Learnt, constant-reads.Asked, constant-reads.Learnt, operation-below t, operation.Post) (expression-at t) expression.Post
+expression-operation-requires-3 : (t : ℕ) → expression-lts.Need-operation-requires-3 (expression-claims t) (expression-at t) expression.Post
 expression-operation-requires-3 t c κs = search needs
 
-expression-sub-operation-4 : (t : ℕ) → expression-lts.Need-sub-operation-4 (wide-reads.Asked, wide-reads.Learnt, constant-reads.Asked, constant-reads.Learnt, operation-below t, operation.Post) (expression-at t) expression.Post
+expression-sub-operation-4 : (t : ℕ) → expression-lts.Need-sub-operation-4 (expression-claims t) (expression-at t) expression.Post
 expression-sub-operation-4 t c = search needs
 
-expression-operation-requires-4 : (t : ℕ) → expression-lts.Need-operation-requires-4 (wide-reads.Asked, wide-reads.Learnt, constant-reads.Asked, constant-reads.Learnt, operation-below t, operation.Post) (expression-at t) expression.Post
+expression-operation-requires-4 : (t : ℕ) → expression-lts.Need-operation-requires-4 (expression-claims t) (expression-at t) expression.Post
 expression-operation-requires-4 t c κs = search needs
 
-expression-returns-3 : (t : ℕ) → expression-lts.Need-returns-3 (wide-reads.Asked, wide-reads.Learnt, constant-reads.Asked, constant-reads.Learnt, operation-below t, operation.Post) (expression-at t) expression.Post
+expression-returns-3 : (t : ℕ) → expression-lts.Need-returns-3 (expression-claims t) (expression-at t) expression.Post
 unfolding exprEnd exprAt operationEnd on when
 expression-returns-3 t c =
     let f0 = c .before .match .keys1 in
@@ -101,7 +105,7 @@ expression-returns-3 t c =
     let f2 = c .before .before .before .before .before .if1 .left in
     simp (tests, expr-step, ← (c .constant .ensures), f0, ← (c .before .before .wide .ensures .0), f1, f2)
 
-expression-returns-4 : (t : ℕ) → expression-lts.Need-returns-4 (wide-reads.Asked, wide-reads.Learnt, constant-reads.Asked, constant-reads.Learnt, operation-below t, operation.Post) (expression-at t) expression.Post
+expression-returns-4 : (t : ℕ) → expression-lts.Need-returns-4 (expression-claims t) (expression-at t) expression.Post
 unfolding exprEnd exprAt operationEnd on when
 expression-returns-4 t c =
     let f0 = c .if3 .taken in
@@ -110,7 +114,7 @@ expression-returns-4 t c =
     let f3 = c .before .before .before .before .before .if1 .left in
     simp (tests, expr-step, f0, f1, ← (c .before .before .wide .ensures .0), f2, f3)
 
-expression-returns-5 : (t : ℕ) → expression-lts.Need-returns-5 (wide-reads.Asked, wide-reads.Learnt, constant-reads.Asked, constant-reads.Learnt, operation-below t, operation.Post) (expression-at t) expression.Post
+expression-returns-5 : (t : ℕ) → expression-lts.Need-returns-5 (expression-claims t) (expression-at t) expression.Post
 unfolding exprEnd exprAt operationEnd on when
 expression-returns-5 t c =
     let f0 = c .if3 .left in
@@ -119,7 +123,7 @@ expression-returns-5 t c =
     let f3 = c .before .before .before .before .before .if1 .left in
     simp (tests, expr-step, f0, f1, ← (c .before .before .wide .ensures .0), f2, f3)
 
-expression-returns-6 : (t : ℕ) → expression-lts.Need-returns-6 (wide-reads.Asked, wide-reads.Learnt, constant-reads.Asked, constant-reads.Learnt, operation-below t, operation.Post) (expression-at t) expression.Post
+expression-returns-6 : (t : ℕ) → expression-lts.Need-returns-6 (expression-claims t) (expression-at t) expression.Post
 unfolding exprEnd exprAt operationEnd on when
 expression-returns-6 t c =
     let f0 = c .before .match .keys3 in
@@ -127,7 +131,7 @@ expression-returns-6 t c =
     let f2 = c .before .before .before .before .before .if1 .left in
     simp (tests, expr-step, ← (c .operation .ensures), f0, ← (c .before .before .wide .ensures .0), f1, f2)
 
-expression-returns-7 : (t : ℕ) → expression-lts.Need-returns-7 (wide-reads.Asked, wide-reads.Learnt, constant-reads.Asked, constant-reads.Learnt, operation-below t, operation.Post) (expression-at t) expression.Post
+expression-returns-7 : (t : ℕ) → expression-lts.Need-returns-7 (expression-claims t) (expression-at t) expression.Post
 unfolding exprEnd exprAt operationEnd on when
 expression-returns-7 t c =
     let f0 = c .before .match .keys4 in
@@ -135,7 +139,7 @@ expression-returns-7 t c =
     let f2 = c .before .before .before .before .before .if1 .left in
     simp (tests, expr-step, ← (c .operation2 .ensures), f0, ← (c .before .before .wide .ensures .0), f1, f2)
 
-expression-returns-8 : (t : ℕ) → expression-lts.Need-returns-8 (wide-reads.Asked, wide-reads.Learnt, constant-reads.Asked, constant-reads.Learnt, operation-below t, operation.Post) (expression-at t) expression.Post
+expression-returns-8 : (t : ℕ) → expression-lts.Need-returns-8 (expression-claims t) (expression-at t) expression.Post
 unfolding exprEnd exprAt operationEnd on when
 expression-returns-8 t c =
     let f0 = c .before .match .keys5 in
@@ -143,7 +147,7 @@ expression-returns-8 t c =
     let f2 = c .before .before .before .before .before .if1 .left in
     simp (tests, expr-step, ← (c .operation3 .ensures), f0, ← (c .before .before .wide .ensures .0), f1, f2)
 
-expression-returns-9 : (t : ℕ) → expression-lts.Need-returns-9 (wide-reads.Asked, wide-reads.Learnt, constant-reads.Asked, constant-reads.Learnt, operation-below t, operation.Post) (expression-at t) expression.Post
+expression-returns-9 : (t : ℕ) → expression-lts.Need-returns-9 (expression-claims t) (expression-at t) expression.Post
 unfolding exprEnd exprAt operationEnd on when
 expression-returns-9 t c =
     let f0 = c .before .match .keys6 in
@@ -151,7 +155,7 @@ expression-returns-9 t c =
     let f2 = c .before .before .before .before .before .if1 .left in
     simp (tests, expr-step, ← (c .operation4 .ensures), f0, ← (c .before .before .wide .ensures .0), f1, f2)
 
-expression-returns-10 : (t : ℕ) → expression-lts.Need-returns-10 (wide-reads.Asked, wide-reads.Learnt, constant-reads.Asked, constant-reads.Learnt, operation-below t, operation.Post) (expression-at t) expression.Post
+expression-returns-10 : (t : ℕ) → expression-lts.Need-returns-10 (expression-claims t) (expression-at t) expression.Post
 unfolding exprEnd exprAt operationEnd on when
 expression-returns-10 t c =
     let f0 = beyond 6 _ (c .match .rest) in
@@ -159,29 +163,32 @@ expression-returns-10 t c =
     let f2 = c .before .before .before .before .if1 .left in
     simp (tests, expr-step, List·getD-eq-default, ← (c .before .wide .ensures .0), f0, f1, f2)
 
-operation-returns : (t : ℕ) → operation-lts.Need-returns (expression-below t, expression.Post) (operation-at t) operation.Post
+abbrev operation-claims : ℕ → operation-lts.Claims
+operation-claims t = (expression-below t, expression.Post)
+
+operation-returns : (t : ℕ) → operation-lts.Need-returns (operation-claims t) (operation-at t) operation.Post
 unfolding exprEnd exprAt operationEnd on when
 operation-returns t c =
     let f0 = c .if1 .taken in
     simp (tests, expr-step, f0)
 
-operation-add-expression : (t : ℕ) → operation-lts.Need-add-expression (expression-below t, expression.Post) (operation-at t) operation.Post
+operation-add-expression : (t : ℕ) → operation-lts.Need-add-expression (operation-claims t) (operation-at t) operation.Post
 operation-add-expression t c = search needs
 
-operation-expression-requires : (t : ℕ) → operation-lts.Need-expression-requires (expression-below t, expression.Post) (operation-at t) operation.Post
+operation-expression-requires : (t : ℕ) → operation-lts.Need-expression-requires (operation-claims t) (operation-at t) operation.Post
 operation-expression-requires t c κs = search needs
 
-operation-returns-2 : (t : ℕ) → operation-lts.Need-returns-2 (expression-below t, expression.Post) (operation-at t) operation.Post
+operation-returns-2 : (t : ℕ) → operation-lts.Need-returns-2 (operation-claims t) (operation-at t) operation.Post
 unfolding exprEnd exprAt operationEnd on when
 operation-returns-2 t c =
     let f0 = c .if2 .taken in
     let f1 = c .before .before .if1 .left in
     simp (tests, expr-step, f0, ← (c .before .expression .ensures), f1)
 
-operation-expression-requires-2 : (t : ℕ) → operation-lts.Need-expression-requires-2 (expression-below t, expression.Post) (operation-at t) operation.Post
+operation-expression-requires-2 : (t : ℕ) → operation-lts.Need-expression-requires-2 (operation-claims t) (operation-at t) operation.Post
 operation-expression-requires-2 t c κs = search needs
 
-operation-returns-3 : (t : ℕ) → operation-lts.Need-returns-3 (expression-below t, expression.Post) (operation-at t) operation.Post
+operation-returns-3 : (t : ℕ) → operation-lts.Need-returns-3 (operation-claims t) (operation-at t) operation.Post
 unfolding exprEnd exprAt operationEnd on when
 operation-returns-3 t c =
     let f0 = c .before .if2 .left in

@@ -1,4 +1,4 @@
--- `constant` of `reading::reader` meets its contract: the code is its mirror in specs/.
+-- `constant` of `reading::reader` meets its contract: no bit behind the first three, and two words follow.
 -- Assumes nothing.
 use Rattle.reading.specs.Walk.{constantEnd, when}
 use Rattle.reading.proofs.Tests.{tests}

@@ -1,4 +1,4 @@
--- `end` of `reading::reader` meets its contract: the code is its mirror in specs/.
+-- `end` of `reading::reader` meets its contract: the five tests in order, each passed where the next is made.
 -- Assumes nothing.
 use Rattle.reading.specs.Walk.{endAfter}
 use Rattle.reading.proofs.Tests.{tests}

@@ -1,4 +1,4 @@
--- `entry_context` of `reading::reader` meets its contract: the code is its mirror in specs/.
+-- `entry_context` of `reading::reader` meets its contract: only plain code tells scopes' keys from faults'.
 -- Assumes nothing.
 use borrow.Author.Needs.{needs}
 use Rattle.reading.specs.Walk.{entryContext}

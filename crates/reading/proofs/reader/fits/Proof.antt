@@ -1,4 +1,4 @@
--- `fits` of `reading::reader` meets its contract: the code is its mirror in specs/.
+-- `fits` of `reading::reader` meets its contract: bits that have to be 0 are 0 exactly where their sum is.
 -- Assumes nothing.
 use Prim.Native.Nat.{_+_, _*_, _/_, _%_}
 use native.Mathlib.Omega.{arith}

@@ -1,4 +1,4 @@
--- `fixed` of `reading::reader` meets its contract: the code is its mirror in specs/.
+-- `fixed` of `reading::reader` meets its contract: the word stands, and its bits below the unit are 0.
 -- Assumes nothing.
 use Rattle.reading.specs.Walk.{fixedAfter}
 use Rattle.reading.proofs.Tests.{tests}

@@ -1,4 +1,4 @@
--- `key_at` of `reading::reader` meets its contract: the code is its mirror in specs/.
+-- `key_at` of `reading::reader` meets its contract: the three tests in order; each that fails gives no key.
 -- Assumes nothing.
 use Rattle.reading.specs.Walk.{keyAt}
 use Rattle.reading.proofs.Tests.{tests}

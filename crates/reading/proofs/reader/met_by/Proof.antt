@@ -1,4 +1,4 @@
--- `met_by` of `reading::reader` meets its contract: the code is its mirror in specs/.
+-- `met_by` of `reading::reader` meets its contract: a test without `||`.
 -- Assumes nothing.
 use Rattle.reading.proofs.Tests.{tests}
 use borrow.Author.Needs.{needs}

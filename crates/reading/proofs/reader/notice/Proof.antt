@@ -1,4 +1,4 @@
--- `notice` of `reading::reader` meets its contract: the code is its mirror in specs/.
+-- `notice` of `reading::reader` meets its contract: where its two words stand and fit, it ends three words on.
 -- Assumes nothing.
 use Rattle.reading.specs.Walk.{noticeEnd, when}
 use Rattle.reading.proofs.Tests.{tests}

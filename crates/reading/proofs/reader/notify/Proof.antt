@@ -1,4 +1,4 @@
--- `notify` of `reading::reader` meets its contract: the code is its mirror in specs/.
+-- `notify` of `reading::reader` meets its contract: where its word stands and is clear, it ends two words on.
 -- Assumes nothing.
 use Rattle.reading.specs.Walk.{notifyEnd, when}
 use Rattle.reading.proofs.Tests.{tests}

@@ -1,4 +1,4 @@
--- `part` of `reading::reader` meets its contract: the code is its mirror in specs/.
+-- `part` of `reading::reader` meets its contract: the bits kept of a context below 13 and what is added to them do not run over.
 -- Assumes nothing.
 use Prim.Native.Nat.{_%_}
 use native.Mathlib.Omega.{arith}

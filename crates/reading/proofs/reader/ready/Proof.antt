@@ -1,4 +1,4 @@
--- `ready` of `reading::reader` meets its contract: the code is its mirror in specs/.
+-- `ready` of `reading::reader` meets its contract: room to keep parts is tested first, then what stands there.
 -- Assumes nothing.
 use Rattle.reading.proofs.Tests.{tests}
 use borrow.Author.Needs.{needs}

@@ -1,4 +1,4 @@
--- `rest_context` of `reading::reader` meets its contract: the code is its mirror in specs/.
+-- `rest_context` of `reading::reader` meets its contract: below 8 the stratum stays, else it is code.
 -- Assumes nothing.
 use Rattle.reading.specs.Walk.{restOf}
 use Rattle.reading.proofs.Tests.{tests}

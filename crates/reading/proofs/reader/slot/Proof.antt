@@ -1,4 +1,4 @@
--- `slot` of `reading::reader` meets its contract: the code is its mirror in specs/.
+-- `slot` of `reading::reader` meets its contract: by kind, or behind all kinds by the first three bits of an expression.
 -- Assumes nothing.
 use Rattle.reading.specs.Walk.{slotOf}
 use Rattle.reading.proofs.Tests.{tests}

@@ -1,4 +1,4 @@
--- `survey::engines` meets its contract. The loop's invariant: the walk from here gives what it gives from the start.
+-- `survey::engines` meets its contract. The loop's invariant: the walk from here gives what it gives from the start. The measure is the engines left.
 -- Assumes nothing.
 use Prim.Native.Nat.{_-_, _≤_}
 use mathlib.Core.Path.{_≡_, refl}

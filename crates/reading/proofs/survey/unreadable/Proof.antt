@@ -1,4 +1,4 @@
--- `survey::unreadable` meets its contract.
+-- `unreadable` of `reading::survey` meets its contract: no engine, and nine places with 0.
 -- Assumes nothing.
 use mathlib.Core.Path.{refl}
 use Rattle.reading.specs.Survey.{noStarts}

@@ -1,4 +1,4 @@
--- `note_at` of `skipping::pass` meets its contract: the code is its mirror in specs/.
+-- `note_at` of `skipping::pass` meets its contract: a place behind the notes is not even doubled.
 -- Assumes nothing.
 use mathlib.Core.Path.{sym}
 use Rattle.skipping.specs.Pass.{noteAt}

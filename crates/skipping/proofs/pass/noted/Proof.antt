@@ -1,4 +1,4 @@
--- `noted` of `skipping::pass` meets its contract: the code is its mirror in specs/.
+-- `noted` of `skipping::pass` meets its contract: behind the notes there is none.
 -- Assumes nothing.
 use lib.ListN.{List·getD-eq-default}
 use borrow.Author.Needs.{needs}

@@ -1,4 +1,4 @@
--- `pass` of `skipping::pass` meets its contract: the code is its mirror in specs/.
+-- `pass` of `skipping::pass` meets its contract: where 0 is noted, the process is passed over.
 -- Assumes nothing.
 use mathlib.Core.Path.{sym, _∙_}
 use Rattle.skipping.proofs.Passes.{unmarked, marked}

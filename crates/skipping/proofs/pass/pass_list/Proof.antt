@@ -1,4 +1,4 @@
--- `pass_list` of `skipping::pass` meets its contract: the code is its mirror in specs/.
+-- `pass_list` of `skipping::pass` meets its contract: behind the notes, and where 0 is noted, the list is passed over.
 -- Assumes nothing.
 use mathlib.Core.Path.{sym, _∙_}
 use Rattle.skipping.specs.Pass.{listNoteAt}

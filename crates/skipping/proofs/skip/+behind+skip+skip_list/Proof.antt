@@ -1,12 +1,13 @@
--- `behind`, `skip` and `skip_list` of `skipping::skip` meet their contracts: the code is its mirror in specs/. The invariants: the mirror's loop
--- from here on gives the same end. Depth falls from a process to what its lists hold.
+-- `behind`, `skip` and `skip_list` of `skipping::skip` meet their contracts. The invariants: the mirror's loop from here on gives the same end; the
+-- loops' measures are the turns and the entries that are left. The measure of the calls is three times the depth, which falls from a process to
+-- what its lists hold, and for the same depth who calls whom.
 -- Assumes nothing.
 use native.Mathlib.Omega.{arith}
 use mathlib.Core.Path.{_≡_, sym, ap, _∙_}
 use mathlib.Core.Bool.{cond}
 use borrow.Author.Needs.{needs}
 use lib.ListN.{length}
-use Rattle.reading.proofs.Tests.{tests}
+use Rattle.sock.proofs.Tests.{tests}
 use Rattle.skipping.specs.Skip.{entriesSkip, listBy, behindBy, skipLoop, skipEnd, skipList}
 use Rattle.skipping.proofs.Turns.{entries-end, entries-out, entries-turn, no-depth, skip-start, skip-last, skip-over, skip-out, skip-turn, branches-small}
 use Prim.Native.Nat.{ℕ, _+_, _*_, _-_, _<_, _≤_}
@@ -59,23 +60,26 @@ abbrev skip-list-below : ℕ → In 1 skip-list-kinds.ps
 skip-list-below t =
     and 1 skip-list-kinds.ps (falls 1 skip-list-kinds.ps _<_ μ-skip-list t) skip-list.Pre
 
-behind-returns : (t : ℕ) → behind-lts.Need-returns (skip-expression-reads.Asked, skip-expression-reads.Learnt, skip-list-below t, skip-list.Post) (behind-at t) behind.Post
+abbrev behind-claims : ℕ → behind-lts.Claims
+behind-claims t = (skip-expression-reads.Asked, skip-expression-reads.Learnt, skip-list-below t, skip-list.Post)
+
+behind-returns : (t : ℕ) → behind-lts.Need-returns (behind-claims t) (behind-at t) behind.Post
 unfolding behindBy listBy entriesSkip skipList
 behind-returns t c =
     let f0 = c .if1 .taken in
     simp (tests, f0)
 
-behind-skip-expression-requires : (t : ℕ) → behind-lts.Need-skip-expression-requires (skip-expression-reads.Asked, skip-expression-reads.Learnt, skip-list-below t, skip-list.Post) (behind-at t) behind.Post
+behind-skip-expression-requires : (t : ℕ) → behind-lts.Need-skip-expression-requires (behind-claims t) (behind-at t) behind.Post
 behind-skip-expression-requires t c κs = search needs
 
-behind-returns-2 : (t : ℕ) → behind-lts.Need-returns-2 (skip-expression-reads.Asked, skip-expression-reads.Learnt, skip-list-below t, skip-list.Post) (behind-at t) behind.Post
+behind-returns-2 : (t : ℕ) → behind-lts.Need-returns-2 (behind-claims t) (behind-at t) behind.Post
 unfolding behindBy listBy entriesSkip skipList
 behind-returns-2 t c =
     let f0 = c .before .if2 .taken in
     let f1 = c .before .before .if1 .left in
     simp (tests, f0, f1, ← (c .skip-expression .ensures))
 
-behind-returns-3 : (t : ℕ) → behind-lts.Need-returns-3 (skip-expression-reads.Asked, skip-expression-reads.Learnt, skip-list-below t, skip-list.Post) (behind-at t) behind.Post
+behind-returns-3 : (t : ℕ) → behind-lts.Need-returns-3 (behind-claims t) (behind-at t) behind.Post
 unfolding behindBy listBy entriesSkip skipList
 behind-returns-3 t c =
     let f0 = c .if3 .taken in
@@ -83,16 +87,16 @@ behind-returns-3 t c =
     let f2 = c .before .before .if1 .left in
     simp (tests, f0, f1, f2)
 
-behind-mul-if4 : (t : ℕ) → behind-lts.Need-mul-if4 (skip-expression-reads.Asked, skip-expression-reads.Learnt, skip-list-below t, skip-list.Post) (behind-at t) behind.Post
+behind-mul-if4 : (t : ℕ) → behind-lts.Need-mul-if4 (behind-claims t) (behind-at t) behind.Post
 behind-mul-if4 t c = search needs
 
-behind-shared-slice-read-if4 : (t : ℕ) → behind-lts.Need-shared-slice-read-if4 (skip-expression-reads.Asked, skip-expression-reads.Learnt, skip-list-below t, skip-list.Post) (behind-at t) behind.Post
+behind-shared-slice-read-if4 : (t : ℕ) → behind-lts.Need-shared-slice-read-if4 (behind-claims t) (behind-at t) behind.Post
 behind-shared-slice-read-if4 t c = search needs
 
-behind-add-result : (t : ℕ) → behind-lts.Need-add-result (skip-expression-reads.Asked, skip-expression-reads.Learnt, skip-list-below t, skip-list.Post) (behind-at t) behind.Post
+behind-add-result : (t : ℕ) → behind-lts.Need-add-result (behind-claims t) (behind-at t) behind.Post
 behind-add-result t c = search needs
 
-behind-returns-4 : (t : ℕ) → behind-lts.Need-returns-4 (skip-expression-reads.Asked, skip-expression-reads.Learnt, skip-list-below t, skip-list.Post) (behind-at t) behind.Post
+behind-returns-4 : (t : ℕ) → behind-lts.Need-returns-4 (behind-claims t) (behind-at t) behind.Post
 unfolding behindBy listBy entriesSkip skipList
 behind-returns-4 t c =
     let f0 = c .if4 .taken in
@@ -101,10 +105,10 @@ behind-returns-4 t c =
     let f3 = c .before .before .before .before .if1 .left in
     simp (tests, f0, f1, f2, f3)
 
-behind-skip-list-requires : (t : ℕ) → behind-lts.Need-skip-list-requires (skip-expression-reads.Asked, skip-expression-reads.Learnt, skip-list-below t, skip-list.Post) (behind-at t) behind.Post
+behind-skip-list-requires : (t : ℕ) → behind-lts.Need-skip-list-requires (behind-claims t) (behind-at t) behind.Post
 behind-skip-list-requires t c κs = search needs
 
-behind-returns-5 : (t : ℕ) → behind-lts.Need-returns-5 (skip-expression-reads.Asked, skip-expression-reads.Learnt, skip-list-below t, skip-list.Post) (behind-at t) behind.Post
+behind-returns-5 : (t : ℕ) → behind-lts.Need-returns-5 (behind-claims t) (behind-at t) behind.Post
 unfolding behindBy skipList
 behind-returns-5 t c =
     let f0 = c .before .before .before .before .if2 .left in
@@ -119,67 +123,70 @@ abbrev skip-μ-loop : skip-lts.MeasureT-loop
 skip-μ-loop ws at depth a₀ follows₀ left₀ turns₀ a follows left turns =
     turns
 
-skip-returns : (t : ℕ) → skip-lts.Need-returns (behind-below t, behind.Post, wide-reads.Asked, wide-reads.Learnt, form-reads.Asked, form-reads.Learnt) (skip-at t) skip.Post skip-Inv-loop skip-μ-loop
+abbrev skip-claims : ℕ → skip-lts.Claims
+skip-claims t = (behind-below t, behind.Post, wide-reads.Asked, wide-reads.Learnt, form-reads.Asked, form-reads.Learnt)
+
+skip-returns : (t : ℕ) → skip-lts.Need-returns (skip-claims t) (skip-at t) skip.Post skip-Inv-loop skip-μ-loop
 skip-returns t c =
     sym (no-depth (c .before .before .args .depth) (c .before .before .args .ws .now) (c .before .before .args .at) (c .if1 .taken))
 
-skip-loop-holds : (t : ℕ) → skip-lts.Need-loop-holds (behind-below t, behind.Post, wide-reads.Asked, wide-reads.Learnt, form-reads.Asked, form-reads.Learnt) (skip-at t) skip.Post skip-Inv-loop skip-μ-loop
+skip-loop-holds : (t : ℕ) → skip-lts.Need-loop-holds (skip-claims t) (skip-at t) skip.Post skip-Inv-loop skip-μ-loop
 skip-loop-holds t c =
     (search needs, skip-start (c .before .before .args .depth) (c .before .before .args .ws .now) (c .before .before .args .at) (c .if1 .left))
 
-skip-sub-behind : (t : ℕ) → skip-lts.Need-sub-behind (behind-below t, behind.Post, wide-reads.Asked, wide-reads.Learnt, form-reads.Asked, form-reads.Learnt) (skip-at t) skip.Post skip-Inv-loop skip-μ-loop
+skip-sub-behind : (t : ℕ) → skip-lts.Need-sub-behind (skip-claims t) (skip-at t) skip.Post skip-Inv-loop skip-μ-loop
 skip-sub-behind t c = search needs
 
-skip-behind-requires : (t : ℕ) → skip-lts.Need-behind-requires (behind-below t, behind.Post, wide-reads.Asked, wide-reads.Learnt, form-reads.Asked, form-reads.Learnt) (skip-at t) skip.Post skip-Inv-loop skip-μ-loop
+skip-behind-requires : (t : ℕ) → skip-lts.Need-behind-requires (skip-claims t) (skip-at t) skip.Post skip-Inv-loop skip-μ-loop
 skip-behind-requires t c κs = search needs
 
-skip-returns-2 : (t : ℕ) → skip-lts.Need-returns-2 (behind-below t, behind.Post, wide-reads.Asked, wide-reads.Learnt, form-reads.Asked, form-reads.Learnt) (skip-at t) skip.Post skip-Inv-loop skip-μ-loop
+skip-returns-2 : (t : ℕ) → skip-lts.Need-returns-2 (skip-claims t) (skip-at t) skip.Post skip-Inv-loop skip-μ-loop
 skip-returns-2 t c =
     c .before .behind .ensures
     ∙ sym (skip-last (c .before .before .before .loop .turns) (skipEnd (c .before .before .before .before .before .before .args .depth - 1) (c .before .before .before .before .before .before .args .ws .now)) (c .before .before .before .before .before .before .args .ws .now) (c .before .before .before .loop .left) (c .before .before .before .loop .follows) (c .before .before .before .loop .a) (c .if2 .taken))
     ∙ c .before .before .before .loop .inv .1
 
-skip-returns-3 : (t : ℕ) → skip-lts.Need-returns-3 (behind-below t, behind.Post, wide-reads.Asked, wide-reads.Learnt, form-reads.Asked, form-reads.Learnt) (skip-at t) skip.Post skip-Inv-loop skip-μ-loop
+skip-returns-3 : (t : ℕ) → skip-lts.Need-returns-3 (skip-claims t) (skip-at t) skip.Post skip-Inv-loop skip-μ-loop
 skip-returns-3 t c =
     sym (skip-out (skipEnd (c .before .before .before .before .before .before .before .args .depth - 1) (c .before .before .before .before .before .before .before .args .ws .now)) (c .before .before .before .before .before .before .before .args .ws .now) (c .before .before .before .before .loop .turns) (c .before .before .before .before .loop .left) (c .before .before .before .before .loop .follows) (c .before .before .before .before .loop .a) (c .before .if2 .left) (rw (c .before .before .behind .ensures) at (c .if3 .taken)))
     ∙ c .before .before .before .before .loop .inv .1
 
-skip-mul-wide : (t : ℕ) → skip-lts.Need-mul-wide (behind-below t, behind.Post, wide-reads.Asked, wide-reads.Learnt, form-reads.Asked, form-reads.Learnt) (skip-at t) skip.Post skip-Inv-loop skip-μ-loop
+skip-mul-wide : (t : ℕ) → skip-lts.Need-mul-wide (skip-claims t) (skip-at t) skip.Post skip-Inv-loop skip-μ-loop
 skip-mul-wide t c = search needs
 
-skip-shared-slice-read-wide : (t : ℕ) → skip-lts.Need-shared-slice-read-wide (behind-below t, behind.Post, wide-reads.Asked, wide-reads.Learnt, form-reads.Asked, form-reads.Learnt) (skip-at t) skip.Post skip-Inv-loop skip-μ-loop
+skip-shared-slice-read-wide : (t : ℕ) → skip-lts.Need-shared-slice-read-wide (skip-claims t) (skip-at t) skip.Post skip-Inv-loop skip-μ-loop
 skip-shared-slice-read-wide t c = search needs
 
-skip-wide-requires : (t : ℕ) → skip-lts.Need-wide-requires (behind-below t, behind.Post, wide-reads.Asked, wide-reads.Learnt, form-reads.Asked, form-reads.Learnt) (skip-at t) skip.Post skip-Inv-loop skip-μ-loop
+skip-wide-requires : (t : ℕ) → skip-lts.Need-wide-requires (skip-claims t) (skip-at t) skip.Post skip-Inv-loop skip-μ-loop
 skip-wide-requires t c κs = search needs
 
-skip-form-requires : (t : ℕ) → skip-lts.Need-form-requires (behind-below t, behind.Post, wide-reads.Asked, wide-reads.Learnt, form-reads.Asked, form-reads.Learnt) (skip-at t) skip.Post skip-Inv-loop skip-μ-loop
+skip-form-requires : (t : ℕ) → skip-lts.Need-form-requires (skip-claims t) (skip-at t) skip.Post skip-Inv-loop skip-μ-loop
 skip-form-requires t c κs = search needs
 
-skip-add-a : (t : ℕ) → skip-lts.Need-add-a (behind-below t, behind.Post, wide-reads.Asked, wide-reads.Learnt, form-reads.Asked, form-reads.Learnt) (skip-at t) skip.Post skip-Inv-loop skip-μ-loop
+skip-add-a : (t : ℕ) → skip-lts.Need-add-a (skip-claims t) (skip-at t) skip.Post skip-Inv-loop skip-μ-loop
 skip-add-a t c = search needs
 
-skip-sub-left : (t : ℕ) → skip-lts.Need-sub-left (behind-below t, behind.Post, wide-reads.Asked, wide-reads.Learnt, form-reads.Asked, form-reads.Learnt) (skip-at t) skip.Post skip-Inv-loop skip-μ-loop
+skip-sub-left : (t : ℕ) → skip-lts.Need-sub-left (skip-claims t) (skip-at t) skip.Post skip-Inv-loop skip-μ-loop
 skip-sub-left t c = search needs
 
-skip-add-left : (t : ℕ) → skip-lts.Need-add-left (behind-below t, behind.Post, wide-reads.Asked, wide-reads.Learnt, form-reads.Asked, form-reads.Learnt) (skip-at t) skip.Post skip-Inv-loop skip-μ-loop
+skip-add-left : (t : ℕ) → skip-lts.Need-add-left (skip-claims t) (skip-at t) skip.Post skip-Inv-loop skip-μ-loop
 skip-add-left t c = search needs
 
-skip-mul-left : (t : ℕ) → skip-lts.Need-mul-left (behind-below t, behind.Post, wide-reads.Asked, wide-reads.Learnt, form-reads.Asked, form-reads.Learnt) (skip-at t) skip.Post skip-Inv-loop skip-μ-loop
+skip-mul-left : (t : ℕ) → skip-lts.Need-mul-left (skip-claims t) (skip-at t) skip.Post skip-Inv-loop skip-μ-loop
 skip-mul-left t c =
     omega (arith, branches-small (c .before .wide .result) (c .form .result) (c .form .ensures .1))
 
-skip-add-left-2 : (t : ℕ) → skip-lts.Need-add-left-2 (behind-below t, behind.Post, wide-reads.Asked, wide-reads.Learnt, form-reads.Asked, form-reads.Learnt) (skip-at t) skip.Post skip-Inv-loop skip-μ-loop
+skip-add-left-2 : (t : ℕ) → skip-lts.Need-add-left-2 (skip-claims t) (skip-at t) skip.Post skip-Inv-loop skip-μ-loop
 skip-add-left-2 t c =
     omega (arith, branches-small (c .before .wide .result) (c .form .result) (c .form .ensures .1))
 
-skip-sub-turns : (t : ℕ) → skip-lts.Need-sub-turns (behind-below t, behind.Post, wide-reads.Asked, wide-reads.Learnt, form-reads.Asked, form-reads.Learnt) (skip-at t) skip.Post skip-Inv-loop skip-μ-loop
+skip-sub-turns : (t : ℕ) → skip-lts.Need-sub-turns (skip-claims t) (skip-at t) skip.Post skip-Inv-loop skip-μ-loop
 skip-sub-turns t c = search needs
 
-skip-loop-less : (t : ℕ) → skip-lts.Need-loop-less (behind-below t, behind.Post, wide-reads.Asked, wide-reads.Learnt, form-reads.Asked, form-reads.Learnt) (skip-at t) skip.Post skip-Inv-loop skip-μ-loop
+skip-loop-less : (t : ℕ) → skip-lts.Need-loop-less (skip-claims t) (skip-at t) skip.Post skip-Inv-loop skip-μ-loop
 skip-loop-less t c = search needs
 
-skip-loop-again : (t : ℕ) → skip-lts.Need-loop-again (behind-below t, behind.Post, wide-reads.Asked, wide-reads.Learnt, form-reads.Asked, form-reads.Learnt) (skip-at t) skip.Post skip-Inv-loop skip-μ-loop
+skip-loop-again : (t : ℕ) → skip-lts.Need-loop-again (skip-claims t) (skip-at t) skip.Post skip-Inv-loop skip-μ-loop
 skip-loop-again t c = (
   search needs,
   skip-turn (skipEnd (c .before .before .before .before .before .before .before .before .before .before .args .depth - 1) (c .before .before .before .before .before .before .before .before .before .before .args .ws .now)) (c .before .before .before .before .before .before .before .before .before .before .args .ws .now) (c .before .before .before .before .before .before .before .loop .turns) (c .before .before .before .before .before .before .before .loop .left) (c .before .before .before .before .before .before .before .loop .follows) (c .before .before .before .before .before .before .before .loop .a) (c .before .before .before .before .before .behind .result) (c .before .wide .result) (c .form .result)
@@ -187,7 +194,7 @@ skip-loop-again t c = (
       ∙ c .before .before .before .before .before .before .before .loop .inv .1,
 )
 
-skip-returns-4 : (t : ℕ) → skip-lts.Need-returns-4 (behind-below t, behind.Post, wide-reads.Asked, wide-reads.Learnt, form-reads.Asked, form-reads.Learnt) (skip-at t) skip.Post skip-Inv-loop skip-μ-loop
+skip-returns-4 : (t : ℕ) → skip-lts.Need-returns-4 (skip-claims t) (skip-at t) skip.Post skip-Inv-loop skip-μ-loop
 skip-returns-4 t c =
     sym (skip-over (c .before .loop .turns) (skipEnd (c .before .before .before .before .args .depth - 1) (c .before .before .before .before .args .ws .now)) (c .before .before .before .before .args .ws .now) (c .before .loop .left) (c .before .loop .follows) (c .before .loop .a) (c .loop-test .left)) ∙ c .before .loop .inv .1
 
@@ -199,69 +206,72 @@ abbrev skip-list-μ-loop : skip-list-lts.MeasureT-loop
 skip-list-μ-loop ws at depth wanted left₀ a₀ met₀ left a met =
     left
 
-skip-list-returns : (t : ℕ) → skip-list-lts.Need-returns (wide-reads.Asked, wide-reads.Learnt, met-by-reads.Asked, met-by-reads.Learnt, skip-below t, skip.Post) (skip-list-at t) skip-list.Post skip-list-Inv-loop skip-list-μ-loop
+abbrev skip-list-claims : ℕ → skip-list-lts.Claims
+skip-list-claims t = (wide-reads.Asked, wide-reads.Learnt, met-by-reads.Asked, met-by-reads.Learnt, skip-below t, skip.Post)
+
+skip-list-returns : (t : ℕ) → skip-list-lts.Need-returns (skip-list-claims t) (skip-list-at t) skip-list.Post skip-list-Inv-loop skip-list-μ-loop
 unfolding listBy skipList
 skip-list-returns t c =
     let f0 = c .if1 .taken in
     simp (tests, f0)
 
-skip-list-mul-wide : (t : ℕ) → skip-list-lts.Need-mul-wide (wide-reads.Asked, wide-reads.Learnt, met-by-reads.Asked, met-by-reads.Learnt, skip-below t, skip.Post) (skip-list-at t) skip-list.Post skip-list-Inv-loop skip-list-μ-loop
+skip-list-mul-wide : (t : ℕ) → skip-list-lts.Need-mul-wide (skip-list-claims t) (skip-list-at t) skip-list.Post skip-list-Inv-loop skip-list-μ-loop
 skip-list-mul-wide t c = search needs
 
-skip-list-shared-slice-read-wide : (t : ℕ) → skip-list-lts.Need-shared-slice-read-wide (wide-reads.Asked, wide-reads.Learnt, met-by-reads.Asked, met-by-reads.Learnt, skip-below t, skip.Post) (skip-list-at t) skip-list.Post skip-list-Inv-loop skip-list-μ-loop
+skip-list-shared-slice-read-wide : (t : ℕ) → skip-list-lts.Need-shared-slice-read-wide (skip-list-claims t) (skip-list-at t) skip-list.Post skip-list-Inv-loop skip-list-μ-loop
 skip-list-shared-slice-read-wide t c = search needs
 
-skip-list-wide-requires : (t : ℕ) → skip-list-lts.Need-wide-requires (wide-reads.Asked, wide-reads.Learnt, met-by-reads.Asked, met-by-reads.Learnt, skip-below t, skip.Post) (skip-list-at t) skip-list.Post skip-list-Inv-loop skip-list-μ-loop
+skip-list-wide-requires : (t : ℕ) → skip-list-lts.Need-wide-requires (skip-list-claims t) (skip-list-at t) skip-list.Post skip-list-Inv-loop skip-list-μ-loop
 skip-list-wide-requires t c κs = search needs
 
-skip-list-add-a : (t : ℕ) → skip-list-lts.Need-add-a (wide-reads.Asked, wide-reads.Learnt, met-by-reads.Asked, met-by-reads.Learnt, skip-below t, skip.Post) (skip-list-at t) skip-list.Post skip-list-Inv-loop skip-list-μ-loop
+skip-list-add-a : (t : ℕ) → skip-list-lts.Need-add-a (skip-list-claims t) (skip-list-at t) skip-list.Post skip-list-Inv-loop skip-list-μ-loop
 skip-list-add-a t c = search needs
 
-skip-list-loop-holds : (t : ℕ) → skip-list-lts.Need-loop-holds (wide-reads.Asked, wide-reads.Learnt, met-by-reads.Asked, met-by-reads.Learnt, skip-below t, skip.Post) (skip-list-at t) skip-list.Post skip-list-Inv-loop skip-list-μ-loop
+skip-list-loop-holds : (t : ℕ) → skip-list-lts.Need-loop-holds (skip-list-claims t) (skip-list-at t) skip-list.Post skip-list-Inv-loop skip-list-μ-loop
 unfolding listBy skipList
 skip-list-loop-holds t c =
     let f0 = c .before .before .if1 .left in
     simp (tests, f0, (c .wide .ensures .0))
 
-skip-list-returns-2 : (t : ℕ) → skip-list-lts.Need-returns-2 (wide-reads.Asked, wide-reads.Learnt, met-by-reads.Asked, met-by-reads.Learnt, skip-below t, skip.Post) (skip-list-at t) skip-list.Post skip-list-Inv-loop skip-list-μ-loop
+skip-list-returns-2 : (t : ℕ) → skip-list-lts.Need-returns-2 (skip-list-claims t) (skip-list-at t) skip-list.Post skip-list-Inv-loop skip-list-μ-loop
 skip-list-returns-2 t c =
     sym (entries-out (skipEnd (c .before .before .before .before .before .before .before .args .depth) (c .before .before .before .before .before .before .before .args .ws .now)) (c .before .before .before .before .before .before .before .args .ws .now) (c .before .before .before .before .before .before .before .args .wanted) (c .before .before .loop .left) (c .before .before .loop .met) (c .before .before .loop .a) (c .before .loop-test .taken) (c .if2 .taken)) ∙ c .before .before .loop .inv
 
-skip-list-mul-wide-2 : (t : ℕ) → skip-list-lts.Need-mul-wide-2 (wide-reads.Asked, wide-reads.Learnt, met-by-reads.Asked, met-by-reads.Learnt, skip-below t, skip.Post) (skip-list-at t) skip-list.Post skip-list-Inv-loop skip-list-μ-loop
+skip-list-mul-wide-2 : (t : ℕ) → skip-list-lts.Need-mul-wide-2 (skip-list-claims t) (skip-list-at t) skip-list.Post skip-list-Inv-loop skip-list-μ-loop
 skip-list-mul-wide-2 t c = search needs
 
-skip-list-shared-slice-read-wide-2 : (t : ℕ) → skip-list-lts.Need-shared-slice-read-wide-2 (wide-reads.Asked, wide-reads.Learnt, met-by-reads.Asked, met-by-reads.Learnt, skip-below t, skip.Post) (skip-list-at t) skip-list.Post skip-list-Inv-loop skip-list-μ-loop
+skip-list-shared-slice-read-wide-2 : (t : ℕ) → skip-list-lts.Need-shared-slice-read-wide-2 (skip-list-claims t) (skip-list-at t) skip-list.Post skip-list-Inv-loop skip-list-μ-loop
 skip-list-shared-slice-read-wide-2 t c = search needs
 
-skip-list-wide-requires-2 : (t : ℕ) → skip-list-lts.Need-wide-requires-2 (wide-reads.Asked, wide-reads.Learnt, met-by-reads.Asked, met-by-reads.Learnt, skip-below t, skip.Post) (skip-list-at t) skip-list.Post skip-list-Inv-loop skip-list-μ-loop
+skip-list-wide-requires-2 : (t : ℕ) → skip-list-lts.Need-wide-requires-2 (skip-list-claims t) (skip-list-at t) skip-list.Post skip-list-Inv-loop skip-list-μ-loop
 skip-list-wide-requires-2 t c κs = search needs
 
-skip-list-met-by-requires : (t : ℕ) → skip-list-lts.Need-met-by-requires (wide-reads.Asked, wide-reads.Learnt, met-by-reads.Asked, met-by-reads.Learnt, skip-below t, skip.Post) (skip-list-at t) skip-list.Post skip-list-Inv-loop skip-list-μ-loop
+skip-list-met-by-requires : (t : ℕ) → skip-list-lts.Need-met-by-requires (skip-list-claims t) (skip-list-at t) skip-list.Post skip-list-Inv-loop skip-list-μ-loop
 skip-list-met-by-requires t c κs = search needs
 
-skip-list-add-skip : (t : ℕ) → skip-list-lts.Need-add-skip (wide-reads.Asked, wide-reads.Learnt, met-by-reads.Asked, met-by-reads.Learnt, skip-below t, skip.Post) (skip-list-at t) skip-list.Post skip-list-Inv-loop skip-list-μ-loop
+skip-list-add-skip : (t : ℕ) → skip-list-lts.Need-add-skip (skip-list-claims t) (skip-list-at t) skip-list.Post skip-list-Inv-loop skip-list-μ-loop
 skip-list-add-skip t c = search needs
 
-skip-list-skip-requires : (t : ℕ) → skip-list-lts.Need-skip-requires (wide-reads.Asked, wide-reads.Learnt, met-by-reads.Asked, met-by-reads.Learnt, skip-below t, skip.Post) (skip-list-at t) skip-list.Post skip-list-Inv-loop skip-list-μ-loop
+skip-list-skip-requires : (t : ℕ) → skip-list-lts.Need-skip-requires (skip-list-claims t) (skip-list-at t) skip-list.Post skip-list-Inv-loop skip-list-μ-loop
 skip-list-skip-requires t c κs = search needs
 
-skip-list-sub-left : (t : ℕ) → skip-list-lts.Need-sub-left (wide-reads.Asked, wide-reads.Learnt, met-by-reads.Asked, met-by-reads.Learnt, skip-below t, skip.Post) (skip-list-at t) skip-list.Post skip-list-Inv-loop skip-list-μ-loop
+skip-list-sub-left : (t : ℕ) → skip-list-lts.Need-sub-left (skip-list-claims t) (skip-list-at t) skip-list.Post skip-list-Inv-loop skip-list-μ-loop
 skip-list-sub-left t c = search needs
 
-skip-list-loop-less : (t : ℕ) → skip-list-lts.Need-loop-less (wide-reads.Asked, wide-reads.Learnt, met-by-reads.Asked, met-by-reads.Learnt, skip-below t, skip.Post) (skip-list-at t) skip-list.Post skip-list-Inv-loop skip-list-μ-loop
+skip-list-loop-less : (t : ℕ) → skip-list-lts.Need-loop-less (skip-list-claims t) (skip-list-at t) skip-list.Post skip-list-Inv-loop skip-list-μ-loop
 skip-list-loop-less t c = search needs
 
-skip-list-loop-again : (t : ℕ) → skip-list-lts.Need-loop-again (wide-reads.Asked, wide-reads.Learnt, met-by-reads.Asked, met-by-reads.Learnt, skip-below t, skip.Post) (skip-list-at t) skip-list.Post skip-list-Inv-loop skip-list-μ-loop
+skip-list-loop-again : (t : ℕ) → skip-list-lts.Need-loop-again (skip-list-claims t) (skip-list-at t) skip-list.Post skip-list-Inv-loop skip-list-μ-loop
 skip-list-loop-again t c =
     entries-turn (skipEnd (c .before .before .before .before .before .before .before .before .before .before .before .args .depth) (c .before .before .before .before .before .before .before .before .before .before .before .args .ws .now)) (c .before .before .before .before .before .before .before .before .before .before .before .args .ws .now) (c .before .before .before .before .before .before .before .before .before .before .before .args .wanted) (c .before .before .before .before .before .before .loop .left) (c .before .before .before .before .before .before .loop .met) (c .before .before .before .before .before .before .loop .a) (c .before .before .wide2 .result) (c .skip .result) (c .before .met-by .result)
     (c .before .before .before .before .before .loop-test .taken) (c .before .before .before .before .if2 .left) (c .before .before .wide2 .ensures .0) (c .before .met-by .ensures) (c .skip .ensures)
     ∙ c .before .before .before .before .before .before .loop .inv
 
-skip-list-returns-3 : (t : ℕ) → skip-list-lts.Need-returns-3 (wide-reads.Asked, wide-reads.Learnt, met-by-reads.Asked, met-by-reads.Learnt, skip-below t, skip.Post) (skip-list-at t) skip-list.Post skip-list-Inv-loop skip-list-μ-loop
+skip-list-returns-3 : (t : ℕ) → skip-list-lts.Need-returns-3 (skip-list-claims t) (skip-list-at t) skip-list.Post skip-list-Inv-loop skip-list-μ-loop
 skip-list-returns-3 t c =
     ap (λ m. cond m (c .before .before .loop .a) 0) (sym (c .if3 .taken)) ∙ sym (entries-end (skipEnd (c .before .before .before .before .before .before .before .args .depth) (c .before .before .before .before .before .before .before .args .ws .now)) (c .before .before .before .before .before .before .before .args .ws .now) (c .before .before .before .before .before .before .before .args .wanted) (c .before .before .loop .left) (c .before .before .loop .met) (c .before .before .loop .a) (c .before .loop-test .left)) ∙ c .before .before .loop .inv
 
-skip-list-returns-4 : (t : ℕ) → skip-list-lts.Need-returns-4 (wide-reads.Asked, wide-reads.Learnt, met-by-reads.Asked, met-by-reads.Learnt, skip-below t, skip.Post) (skip-list-at t) skip-list.Post skip-list-Inv-loop skip-list-μ-loop
+skip-list-returns-4 : (t : ℕ) → skip-list-lts.Need-returns-4 (skip-list-claims t) (skip-list-at t) skip-list.Post skip-list-Inv-loop skip-list-μ-loop
 skip-list-returns-4 t c =
     ap (λ m. cond m (c .before .before .loop .a) 0) (sym (c .if3 .left)) ∙ sym (entries-end (skipEnd (c .before .before .before .before .before .before .before .args .depth) (c .before .before .before .before .before .before .before .args .ws .now)) (c .before .before .before .before .before .before .before .args .ws .now) (c .before .before .before .before .before .before .before .args .wanted) (c .before .before .loop .left) (c .before .before .loop .met) (c .before .before .loop .a) (c .before .loop-test .left)) ∙ c .before .before .loop .inv
 

@@ -1,7 +1,7 @@
--- `expression_form` of `skipping::skip` meets its contract: the code is its mirror in specs/.
+-- `expression_form` of `skipping::skip` meets its contract: three words for a constant, one for a variable, one and two operands for the rest.
 -- Assumes nothing.
 use borrow.Author.Needs.{needs}
-use Rattle.reading.proofs.Tests.{tests}
+use Rattle.sock.proofs.Tests.{tests}
 use Rattle.skipping.specs.Skip.{exprForm}
 use Rattle.skipping.proofs.skip.expression_form.Statement.{statement}
 use Rattle.skipping.proofs.skip.expression_form.Tie as tie

@@ -1,4 +1,4 @@
--- `skip_expression` of `skipping::skip` meets its contract: the code is its mirror in specs/. The invariant: the mirror's loop from here on gives
+-- `skip_expression` of `skipping::skip` meets its contract. The invariant: the mirror's loop from here on gives
 -- the same end. The measure is the turns that are left.
 -- Assumes nothing.
 use Prim.Native.Nat.{_≤_, _/_}
