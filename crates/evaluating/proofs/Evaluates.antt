@@ -12,6 +12,7 @@ use Rattle.sock.specs.Layout.{operatorTag, exprWords, exprDepth}
 use Rattle.sock.specs.Configuration.{valuesWords}
 use Rattle.sock.specs.Evaluation.{valueAt, operate, evaluate}
 use Rattle.sock.proofs.Fits.{FitsExpr, constantFits, variableFits, applyFits, AllBelow, noneBelow, oneBelow}
+use Rattle.sock.proofs.Fields.{operator-tag}
 use Rattle.sock.proofs.Positions.{At, at-head, at-past}
 use Rattle.evaluating.specs.declared.evaluate.Evaluated.{Evaluated}
 use Rattle.evaluating.specs.Evaluating.{valueIn, operated, constantAt, both, evaluatedAt, evaluated}
@@ -33,12 +34,6 @@ operated-as sum a b = refl
 operated-as difference a b = refl
 operated-as less a b = refl
 operated-as equal a b = refl
-
-pub operator-tag : (o : Operator) → (2 ≤ operatorTag o) × (operatorTag o ≤ 5)
-operator-tag sum = (omega arith, omega arith)
-operator-tag difference = (omega arith, omega arith)
-operator-tag less = (omega arith, omega arith)
-operator-tag equal = (omega arith, omega arith)
 
 -- ---- expressions
 

@@ -7,6 +7,7 @@ use lib.Dec.{ltb, leb, eqb}
 use lib.ListN.{length, getD}
 use Rattle.sock.specs.Kind
 use Rattle.sock.specs.Words.{kindOf, nameOf, zombieOf}
+use Rattle.layout.specs.Keys
 use Rattle.skipping.specs.Skip.{skipList}
 use Rattle.skipping.specs.Pass.{noteAt, passEnd, passList}
 use Rattle.finding.specs.declared.find.Site.{Site}
@@ -78,20 +79,16 @@ scopeOf i scope = cond (eqb scope 0) i scope
 unfoldable pub levelOf : ℕ → ℕ → ℕ → ℕ
 levelOf level scope inner = cond (eqb scope 0) level inner
 
--- no name is this one
-abbrev pub noFault : ℕ
-noFault = 128
-
--- the fault that the process at `target` throws; none if it is no throw
+-- the fault that the process at `target` throws, as a key; none if it is no throw
 unfoldable pub faultAt : List ℕ → ℕ → ℕ
-faultAt ws target = cond (eqb (kindOf (getD ws target 0)) Kind.throw) (nameOf (getD ws target 0)) noFault
+faultAt ws target = cond (eqb (kindOf (getD ws target 0)) Kind.throw) (nameOf (getD ws target 0)) Keys.noKey
 
 unfoldable pub catchesW : ℕ → List ℕ → ℕ → ℕ → Bool
 catchesW d ws i fault = eqb (zombieOf (getD ws i 0)) 1 || not (eqb (skipList d ws fault (i + 2)) 0)
 
 unfoldable pub catcherOf : ℕ → List ℕ → ℕ → ℕ → ℕ → ℕ
 catcherOf d ws target i catcher =
-    cond (leb 64 (faultAt ws target)) 0
+    cond (leb Keys.scopeKeys (faultAt ws target)) 0
     (cond (eqb catcher 0) (cond (catchesW d ws i (faultAt ws target)) i 0) catcher)
 
 unfoldable pub inScopeW : ℕ → List ℕ → ℕ → ℕ → ℕ → Found → Found

@@ -1,9 +1,9 @@
 // Finding an enabled process by its position: the cut that its end would make, the nearest scope, and the scope that catches its fault.
-use layout::field;
 use layout::field::kind_of;
 use layout::field::name_of;
 use layout::field::zombie_of;
 use layout::head;
+use layout::key;
 use layout::kind;
 use skipping::pass::note_at;
 use skipping::pass::pass;
@@ -279,7 +279,7 @@ fn catcher_of(ws: &[u16], at: usize, target: usize, catcher: usize, depth: usize
     ensures { λ r. ⌜ r ≡ catcherOf depth (now (ws .entry)) target at catcher ⌝ }
 {
     let fault = fault_at(ws, target);
-    if field::NAMES <= fault {
+    if key::SCOPE_KEYS <= fault {
         return 0;
     }
     if catcher != 0 {
@@ -288,20 +288,17 @@ fn catcher_of(ws: &[u16], at: usize, target: usize, catcher: usize, depth: usize
     if catches(ws, at, fault, depth) { at } else { 0 }
 }
 
-// No name is this one.
-const NO_FAULT: usize = 128;
-
-// The fault that the process at `target` throws; none if it is no throw.
+// The fault that the process at `target` throws, as a key; none if it is no throw.
 fn fault_at(ws: &[u16], target: usize) -> usize
     ensures { λ r. ⌜ r ≡ faultAt (now (ws .entry)) target ⌝ }
 {
     if ws.len() <= target {
-        return NO_FAULT;
+        return key::NO_KEY;
     }
     if kind_of(ws[target]) == kind::THROW {
         name_of(ws[target])
     } else {
-        NO_FAULT
+        key::NO_KEY
     }
 }
 

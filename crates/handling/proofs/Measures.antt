@@ -15,14 +15,13 @@ use Rattle.sock.specs.Term.{Expr, constant, variable, apply, Node, node, Block,
 use Rattle.sock.specs.Layout.{operatorTag, exprWords, exprDepth, exprsWords, exprsDepth, count, words, blockWords, entriesWords, nodesWords, depth, blockDepth, entriesDepth, nodesDepth}
 use Rattle.sock.specs.Reading.{code, Place, anywhere, allowed, nodeFits, restingFits, isEmpty, fixedAt, partStratum, partPlace}
 use Rattle.sock.proofs.Fits.{FitsExpr, constantFits, variableFits, applyFits, FitsExprs, noExprs, oneExpr, FitsFixed, noFixed, oneFixed, Fits, fits, FitsBlock, noList, aList, FitsEntries, emptyFits, entryFitsOn, FitsParts, noPart, onePart}
-use Rattle.sock.proofs.Fields.{From, end, _then_, fact-at, four}
+use Rattle.sock.proofs.Fields.{From, end, _then_, fact-at, four, operator-tag}
 use Rattle.sock.proofs.Nodes.{fixed-length}
 use Rattle.sock.proofs.ByKind.{head-tests}
 use Rattle.sock.proofs.Positions.{At, at-head, at-past}
 use Rattle.handling.specs.declared.measure.Measured.{Measured}
 use Rattle.layout.specs.Positions.{onward}
 use Rattle.handling.specs.Measuring.{measured, operandLevels, expressionLevels, partsLevels, expressedLevels, entriesLevels, listLevels, nodeLevels, codeLevels}
-use Rattle.evaluating.proofs.Evaluates.{operator-tag}
 use Rattle.writers.proofs.Laid.{Near, onward-near}
 
 both : {a b x y : ℕ} → a ≡ b → x ≡ y → measured a x ≡ measured b y

@@ -24,6 +24,10 @@ wrote end to nil levels out = record { answer = record { end = end; to = to; nil
 abbrev pub Walk : Type 0
 Walk = ℕ → List ℕ → ℕ → Wrote
 
+-- of what is not there nothing is written
+abbrev pub missing : Rebuilt
+missing = record { end = 0; to = 0; nil = false; levels = 0 }
+
 unfoldable pub oldEnd : List ℕ → Old → ℕ → ℕ
 oldEnd ws old to = cond (old .nil) (onward to 1) (pastedEnd ws (old .from) (old .upto) to)
 

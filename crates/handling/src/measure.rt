@@ -24,11 +24,12 @@ pub fn larger(a: usize, b: usize) -> usize
     if a < b { b } else { a }
 }
 
-fn leaf(at: usize) -> Measured
-    ensures { λ r. ⌜ r ≡ measured (onward at 1) 1 ⌝ }
+// A level of so many words.
+pub fn own(at: usize, words: usize) -> Measured
+    ensures { λ r. ⌜ r ≡ measured (onward at words) 1 ⌝ }
 {
     Measured {
-        end: further(at, 1),
+        end: further(at, words),
         levels: 1,
     }
 }
@@ -49,10 +50,7 @@ pub fn expression_levels(ws: &[u16], at: usize, depth: usize) -> Measured
         return nowhere();
     }
     match tag_of(ws[at]) {
-        tag::CONSTANT => Measured {
-            end: further(at, 3),
-            levels: 1,
-        },
+        tag::CONSTANT => own(at, 3),
         tag::VARIABLE => Measured {
             end: at + 1,
             levels: 1,
@@ -79,23 +77,20 @@ pub fn code_levels(ws: &[u16], at: usize, depth: usize) -> Measured
         return nowhere();
     }
     match kind_of(ws[at]) {
-        kind::NIL => leaf(at),
+        kind::NIL => own(at, 1),
         kind::ASSIGN => expressed(ws, at + 1, 0, depth - 1),
         kind::SEQ => parts(ws, at + 1, 0, 2, depth - 1),
         kind::PAR => parts(ws, at + 1, 0, 2, depth - 1),
         kind::IF => expressed(ws, at + 1, 2, depth - 1),
         kind::WHILE => expressed(ws, at + 1, 1, depth - 1),
         kind::CHOICE => parts(ws, at + 1, 0, count_of(ws[at]) * 2, depth - 1),
-        kind::ONE_WAY => leaf(at),
+        kind::ONE_WAY => own(at, 1),
         kind::REQUEST => parts(ws, further(at, 2), 0, 1, depth - 1),
-        kind::NOTIFY => Measured {
-            end: further(at, 2),
-            levels: 1,
-        },
+        kind::NOTIFY => own(at, 2),
         kind::SOLICIT => list_levels(ws, further(at, 2), depth - 1),
         kind::SCOPE => parts(ws, further(at, 3), 0, 1, depth - 1),
         kind::INST => list_levels(ws, at + 1, depth - 1),
-        _ => leaf(at),
+        _ => own(at, 1),
     }
 }
 

@@ -1,7 +1,9 @@
 // cH replaced by the old process, into scratch; nil before seq and beside par is dropped. Lists keep their cH.
+use crate::measure::Measured;
 use crate::measure::code_levels;
 use crate::measure::expression_levels;
 use crate::measure::larger;
+use crate::measure::own;
 use layout::field::count_of;
 use layout::field::kind_of;
 use layout::head;
@@ -12,9 +14,8 @@ use writers::write::copy;
 use writers::write::down;
 use writers::write::put;
 ghost use mathlib.Core.Path.{_≡_};
-ghost use Prim.Native.Nat.{_-_};
 ghost use Rattle.handling.specs.Measuring.{expressionLevels, codeLevels};
-ghost use Rattle.handling.specs.Replacing.{oldEnd, oldOut, replaceW, seqW, parW, closePar, conditionW, keptW, otherW, cHW, nilW, wrote};
+ghost use Rattle.handling.specs.Replacing.{oldEnd, oldOut, replaceW, seqW, parW, closePar, conditionW, keptW, otherW, cHW, nilW, missing};
 
 // Where the source ends, where the writing has come to, whether only nil was written, and how deep that is.
 pub struct Rebuilt {
@@ -43,59 +44,60 @@ fn put_old(ws: &[u16], old: Old, out: &mut [u16], to: usize) -> usize
     copy(ws, from, upto, out, to)
 }
 
+// Of what is not there nothing is written.
+fn nowhere() -> Rebuilt
+    ensures { λ r. ⌜ r ≡ missing ⌝ }
+{
+    Rebuilt {
+        end: 0,
+        to: 0,
+        nil: false,
+        levels: 0,
+    }
+}
+
 // The process at `at`, of at most `depth` levels.
 pub fn replace(ws: &[u16], at: usize, old: Old, depth: usize, out: &mut [u16], to: usize) -> Rebuilt
     ensures { λ r. ⌜ (r ≡ replaceW depth (now (ws .entry)) old at (now (out .entry)) to .answer) × (now (out .exit) ≡ replaceW depth (now (ws .entry)) old at (now (out .entry)) to .out) ⌝ }
 {
     if depth == 0 {
-        return Rebuilt {
-            end: 0,
-            to: 0,
-            nil: false,
-            levels: 0,
-        };
+        return nowhere();
     }
     if ws.len() <= at {
-        return Rebuilt {
-            end: 0,
-            to: 0,
-            nil: false,
-            levels: 0,
-        };
+        return nowhere();
     }
     match kind_of(ws[at]) {
-        kind::NIL => Rebuilt {
-            end: further(at, 1),
-            to: put(out, to, head::NIL),
-            nil: true,
-            levels: 1,
-        },
+        kind::NIL => nil(at, out, to),
         kind::ASSIGN => other(ws, at, depth, out, to),
         kind::SEQ => in_seq(ws, at, old, depth - 1, out, to),
         kind::PAR => in_par(ws, at, old, depth - 1, out, to),
         kind::IF => condition(ws, at, 2, old, depth - 1, out, to),
         kind::WHILE => condition(ws, at, 1, old, depth - 1, out, to),
-        kind::CHOICE => kept(
-            ws,
-            at,
-            further(at, 1),
-            1,
-            count_of(ws[at]) * 2,
-            old,
-            depth - 1,
-            out,
-            to,
-        ),
+        kind::CHOICE => {
+            let count = count_of(ws[at]) * 2;
+            kept(ws, at, own(at, 1), count, old, depth - 1, out, to)
+        }
         kind::ONE_WAY => other(ws, at, depth, out, to),
-        kind::REQUEST => kept(ws, at, further(at, 2), 1, 1, old, depth - 1, out, to),
+        kind::REQUEST => kept(ws, at, own(at, 2), 1, old, depth - 1, out, to),
         kind::NOTIFY => other(ws, at, depth, out, to),
         kind::SOLICIT => other(ws, at, depth, out, to),
-        kind::SCOPE => kept(ws, at, further(at, 3), 1, 1, old, depth - 1, out, to),
+        kind::SCOPE => kept(ws, at, own(at, 3), 1, old, depth - 1, out, to),
         kind::INST => other(ws, at, depth, out, to),
         kind::THROW => other(ws, at, depth, out, to),
         kind::COMP => other(ws, at, depth, out, to),
         kind::CH => in_place(ws, at, old, out, to),
         _ => other(ws, at, depth, out, to),
+    }
+}
+
+fn nil(at: usize, out: &mut [u16], to: usize) -> Rebuilt
+    ensures { λ r. ⌜ (r ≡ nilW at (now (out .entry)) to .answer) × (now (out .exit) ≡ nilW at (now (out .entry)) to .out) ⌝ }
+{
+    Rebuilt {
+        end: further(at, 1),
+        to: put(out, to, head::NIL),
+        nil: true,
+        levels: 1,
     }
 }
 
@@ -185,28 +187,29 @@ fn condition(
     ensures { λ r. ⌜ (r ≡ conditionW (expressionLevels depth (now (ws .entry))) (replaceW depth (now (ws .entry)) old) (now (ws .entry)) at count (now (out .entry)) to .answer) × (now (out .exit) ≡ conditionW (expressionLevels depth (now (ws .entry))) (replaceW depth (now (ws .entry)) old) (now (ws .entry)) at count (now (out .entry)) to .out) ⌝ }
 {
     let e = expression_levels(ws, further(at, 1), depth);
-    let from = e.end;
-    let levels = further(e.levels, 1);
-    kept(ws, at, from, levels, count, old, depth, out, to)
+    let own = Measured {
+        end: e.end,
+        levels: further(e.levels, 1),
+    };
+    kept(ws, at, own, count, old, depth, out, to)
 }
 
-// The words at..from stay, then come `count` parts.
+// The words from `at` to the end of `own` stay, then come `count` parts.
 fn kept(
     ws: &[u16],
     at: usize,
-    from: usize,
-    levels: usize,
+    own: Measured,
     count: usize,
     old: Old,
     depth: usize,
     out: &mut [u16],
     to: usize,
 ) -> Rebuilt
-    ensures { λ r. ⌜ (r ≡ keptW (replaceW depth (now (ws .entry)) old) (now (ws .entry)) at from levels count (now (out .entry)) to .answer) × (now (out .exit) ≡ keptW (replaceW depth (now (ws .entry)) old) (now (ws .entry)) at from levels count (now (out .entry)) to .out) ⌝ }
+    ensures { λ r. ⌜ (r ≡ keptW (replaceW depth (now (ws .entry)) old) (now (ws .entry)) at (own .end) (own .levels) count (now (out .entry)) to .answer) × (now (out .exit) ≡ keptW (replaceW depth (now (ws .entry)) old) (now (ws .entry)) at (own .end) (own .levels) count (now (out .entry)) to .out) ⌝ }
 {
-    let mut a = from;
-    let mut t = copy(ws, at, from, out, to);
-    let mut deepest = levels;
+    let mut a = own.end;
+    let mut t = copy(ws, at, a, out, to);
+    let mut deepest = own.levels;
     let mut left = count;
     while 0 < left {
         let p = replace(ws, a, old, depth, out, t);

@@ -14,7 +14,7 @@ use Rattle.skipping.specs.Pass.{passEnd, passList}
 use Rattle.layout.specs.Killed.{noticeHead, noticeWord}
 use Rattle.layout.specs.Positions.{onward}
 use Rattle.writers.specs.Writing.{pasted, pastedEnd, lowered}
-use Rattle.killing.specs.Killing.{Killed, Walk, stuckW, made, goes, noticeW, executorOn, executorW, headFor, liveOn, liveW, goneW, leftOn, parW, rightOn, rightW, scopeAt, scopeW, kindW, killW}
+use Rattle.killing.specs.Killing.{Killed, Walk, stuckW, made, goes, noticeW, executorOn, executorW, headFor, liveOn, liveW, goneKind, goneW, leftOn, parW, rightOn, rightW, scopeAt, scopeW, kindW, killW}
 use Rattle.killing.specs.declared.kill.Moved.{Moved}
 
 pub kill-step :
@@ -25,6 +25,11 @@ pub kill-step :
 unfolding killW
 kill-step zero ws notes fault hole i out to h = absurd (h refl)
 kill-step (suc d) ws notes fault hole i out to h = rw (sub-one (suc d))
+
+-- what just becomes nil, by the kind that the code knows
+pub gone-at : (ws : List ℕ) (i k : ℕ) → i < length ws → k ≡ kindOf (getD ws i 0) → goneKind k ≡ goneW ws i
+unfolding goneW
+gone-at ws i k h e = rw (lt-leb (length ws) i h, ← e)
 
 -- a notice's three words one after the other
 pub notice-made :

@@ -1,12 +1,12 @@
 // Killing with a fault, into scratch. A scope around the position `hole`, from which a fault climbs, turns zombie with mark 0, any other
 // one with mark 2; but for that the climb does what killing does. What it need not look into it passes over by the notes noted of it, not
 // word by word. Total: what does not fit can't be killed.
-use layout::field;
 use layout::field::kind_of;
 use layout::field::zombie_of;
 use layout::head;
 use layout::killed;
 use layout::kind;
+use layout::mark;
 use layout::number::further;
 use layout::number::less_one;
 use skipping::pass::pass;
@@ -134,23 +134,24 @@ fn kill_par(
     if p.nil == 1 {
         return kill(ws, notes, p.end, fault, hole, depth, out, to);
     }
-    kill_right(ws, notes, p.end, fault, hole, depth, out, one, p.to)
+    kill_right(ws, notes, p, fault, hole, depth, out, one)
 }
 
-// The right side of a par whose left stands killed at one..to; if it just becomes nil, it too is passed over.
+// The right side of a par whose left, killed, stands from `one` on; if it just becomes nil, it too is passed over.
 fn kill_right(
     ws: &[u16],
     notes: &[u16],
-    at: usize,
+    left: Moved,
     fault: u16,
     hole: usize,
     depth: usize,
     out: &mut [u16],
     one: usize,
-    to: usize,
 ) -> Moved
-    ensures { λ r. ⌜ (r ≡ rightW depth (killW depth (now (ws .entry)) (now (notes .entry)) fault hole) (now (ws .entry)) (now (notes .entry)) at (now (out .entry)) one to .moved) × (now (out .exit) ≡ rightW depth (killW depth (now (ws .entry)) (now (notes .entry)) fault hole) (now (ws .entry)) (now (notes .entry)) at (now (out .entry)) one to .out) ⌝ }
+    ensures { λ r. ⌜ (r ≡ rightW depth (killW depth (now (ws .entry)) (now (notes .entry)) fault hole) (now (ws .entry)) (now (notes .entry)) (left .end) (now (out .entry)) one (left .to) .moved) × (now (out .exit) ≡ rightW depth (killW depth (now (ws .entry)) (now (notes .entry)) fault hole) (now (ws .entry)) (now (notes .entry)) (left .end) (now (out .entry)) one (left .to) .out) ⌝ }
 {
+    let at = left.end;
+    let to = left.to;
     if gone(ws, at) {
         down(out, one, to);
         return Moved {
@@ -178,6 +179,12 @@ fn kill_right(
     }
 }
 
+// Where a scope stands, and where its body begins.
+pub struct Scope {
+    pub at: usize,
+    pub body: usize,
+}
+
 fn kill_scope(
     ws: &[u16],
     notes: &[u16],
@@ -201,29 +208,29 @@ fn kill_scope(
         return stuck();
     }
     if zombie_of(ws[at]) == 1 {
-        return kill_zombie(ws, notes, at, body, fault, hole, depth, out, to);
+        return kill_zombie(ws, notes, Scope { at, body }, fault, hole, depth, out, to);
     }
     if ws[body] == head::NIL {
         return stuck();
     }
-    kill_live(ws, notes, at, body, fault, hole, depth, out, to)
+    kill_live(ws, notes, Scope { at, body }, fault, hole, depth, out, to)
 }
 
 // A zombie stays as it is, if its body can be killed.
 fn kill_zombie(
     ws: &[u16],
     notes: &[u16],
-    at: usize,
-    body: usize,
+    s: Scope,
     fault: u16,
     hole: usize,
     depth: usize,
     out: &mut [u16],
     to: usize,
 ) -> Moved
-    ensures { λ r. ⌜ (r ≡ zombieW (killW depth (now (ws .entry)) (now (notes .entry)) fault hole) (now (ws .entry)) at body (now (out .entry)) to .moved) × (now (out .exit) ≡ zombieW (killW depth (now (ws .entry)) (now (notes .entry)) fault hole) (now (ws .entry)) at body (now (out .entry)) to .out) ⌝ }
+    ensures { λ r. ⌜ (r ≡ zombieW (killW depth (now (ws .entry)) (now (notes .entry)) fault hole) (now (ws .entry)) (s .at) (s .body) (now (out .entry)) to .moved) × (now (out .exit) ≡ zombieW (killW depth (now (ws .entry)) (now (notes .entry)) fault hole) (now (ws .entry)) (s .at) (s .body) (now (out .entry)) to .out) ⌝ }
 {
-    let p = kill(ws, notes, body, fault, hole, depth, out, to);
+    let at = s.at;
+    let p = kill(ws, notes, s.body, fault, hole, depth, out, to);
     if p.end == 0 {
         return stuck();
     }
@@ -238,16 +245,17 @@ fn kill_zombie(
 fn kill_live(
     ws: &[u16],
     notes: &[u16],
-    at: usize,
-    body: usize,
+    s: Scope,
     fault: u16,
     hole: usize,
     depth: usize,
     out: &mut [u16],
     to: usize,
 ) -> Moved
-    ensures { λ r. ⌜ (r ≡ liveW (killW depth (now (ws .entry)) (now (notes .entry)) fault hole) (now (ws .entry)) hole at body (now (out .entry)) to .moved) × (now (out .exit) ≡ liveW (killW depth (now (ws .entry)) (now (notes .entry)) fault hole) (now (ws .entry)) hole at body (now (out .entry)) to .out) ⌝ }
+    ensures { λ r. ⌜ (r ≡ liveW (killW depth (now (ws .entry)) (now (notes .entry)) fault hole) (now (ws .entry)) hole (s .at) (s .body) (now (out .entry)) to .moved) × (now (out .exit) ≡ liveW (killW depth (now (ws .entry)) (now (notes .entry)) fault hole) (now (ws .entry)) hole (s .at) (s .body) (now (out .entry)) to .out) ⌝ }
 {
+    let at = s.at;
+    let body = s.body;
     let b = copy(ws, at, body, out, to);
     let p = kill(ws, notes, body, fault, hole, depth, out, b);
     if p.end == 0 {
@@ -281,13 +289,13 @@ fn zombie_head(ws: &[u16], at: usize, hole: usize, end: usize) -> u16
 fn own_zombie(h: u16) -> u16
     ensures { λ r. ⌜ r ≡ ownZombie h ⌝ }
 {
-    killed::zombie(h, field::OWN_NAME)
+    killed::zombie(h, mark::OWN_NAME)
 }
 
 fn plain_zombie(h: u16) -> u16
     ensures { λ r. ⌜ r ≡ plainZombie h ⌝ }
 {
-    killed::zombie(h, field::UNMARKED)
+    killed::zombie(h, mark::UNMARKED)
 }
 
 // An executor becomes its killed body par a notice.

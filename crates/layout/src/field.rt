@@ -40,14 +40,6 @@ pub fn second_of(h: u16) -> usize
     wide(h) % 32
 }
 
-// How many names there are.
-pub const NAMES: usize = 64;
-
-// The marks of a scope that marks no fault: none, and its own name.
-pub const UNMARKED: u16 = 0;
-
-pub const OWN_NAME: u16 = 2;
-
 // Document 01's mark, 2 bits after a scope's name.
 pub fn mark_of(h: u16) -> usize
     ensures { λ r. ⌜ (r ≡ markOf h) × (r < 4) ⌝ }

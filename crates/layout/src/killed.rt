@@ -3,10 +3,10 @@ ghost use mathlib.Core.Path.{_≡_};
 ghost use Rattle.layout.specs.Killed.{zombieHead, noticeHead, noticeWord, waiterWord};
 
 // A scope's head as a zombie's, with another mark.
-pub fn zombie(h: u16, mark: u16) -> u16
+pub fn zombie(h: u16, mark: usize) -> u16
     ensures { λ r. ⌜ r ≡ zombieHead h mark ⌝ }
 {
-    h / 32 * 32 + mark % 4 * 8 + 4
+    h / 32 * 32 + (mark % 4 * 8 + 4) as u16
 }
 
 // A notice's head, from its executor's.

@@ -1,4 +1,4 @@
-// What an expression is, in the first 3 bits of its word (document 01, "Words"), as `Tags` has them.
+// What an expression is.
 pub const CONSTANT: usize = 0;
 
 pub const VARIABLE: usize = 1;

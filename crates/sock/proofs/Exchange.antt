@@ -7,7 +7,7 @@ use mathlib.Core.Path.{_≡_, refl, subst, sym, ap, _∙_}
 use mathlib.Core.Bool.{Bool, true, false, not, _&&_, _||_, cond}
 use mathlib.Core.Option.{Option, none, some}
 use mathlib.Core.List.{List, [], _∷_}
-use lib.Dec.{T, leb, ltb, eqb, ltb→lt, lt→ltb, leb→le, le→leb, lit<}
+use lib.Dec.{T, leb, ltb, eqb, lit<}
 use Rattle.sock.specs.Kind
 use Rattle.sock.specs.Kind.{rowOf, rows}
 use Rattle.sock.specs.Words.{kindOf, countOf, nameOf, secondOf, markOf, zombieOf, firstVariable, firstName, clear, headOf}
@@ -17,8 +17,9 @@ use Rattle.sock.specs.Running.{Run, nil, seq, par, scope, executor, wait
 use Rattle.sock.specs.Configuration.{guarded}
 use Rattle.sock.specs.Frames.{Frame, seqOf}
 use Rattle.sock.specs.Rules.{Message, notification, solicitation, reply, failure, Receiver, deaf, hears, serves, receiver, Offer, chosen, bare, offered, offer, followed, Exchange, notified, solicited, instOf, throwOf, replied, faulting, awaited, exchange}
-use Rattle.sock.proofs.Logic.{and-left, and-right, and-both, cond-case, All, allNone, allSome, all-guarded}
+use Rattle.sock.proofs.Logic.{and-left, and-right, cond-case, All, allNone, allSome, all-guarded}
 use Rattle.sock.proofs.Fits.{FitsFixed, FitsExprs, FitsBlock, FitsParts, isPlain, Fits, fits, noFixed, noExprs, noList, aList, noPart, FitsEntries, Sound, nilSound, seqSound, parSound, scopeSound, executorSound, waiterSound, noticeSound, actSound, SoundFrame, seqFrameSound, leftFrameSound, rightFrameSound, scopeFrameSound, executorFrameSound, SoundFrames, noFrames, oneFrame}
+use Rattle.sock.proofs.Fields.{end-tests, end-fits}
 use Rattle.sock.proofs.Nodes.{head-fits, part-fits, fixed-word}
 use Rattle.sock.proofs.Running.{enable-sound}
 use Rattle.sock.proofs.Frames.{seqOf-sound}
@@ -26,33 +27,10 @@ use Rattle.sock.proofs.Rules.{FitValues, values-set, FitsMessage, notif
 
 -- ---- more serials
 
-pub record EndFits (n issued engine serial : ℕ) : Type 0 where
-  pub below : engine < n
-  pub positive : zero < serial
-  pub given : serial ≤ issued
-
-pub three : (a b c : Bool) → T (a && b && c) → T a × T b × T c
-three true true c t = (tt, tt, t)
-three true false c t = absurd t
-three false b c t = absurd t
-
-pub end-tests : {n issued engine serial : ℕ} → T (endFits n issued engine serial) → EndFits n issued engine serial
-unfolding endFits
-end-tests {n} {issued} {engine} {serial} t =
-    let q = three (ltb engine n) (ltb 0 serial) (leb serial issued) t in
-    record { below = ltb→lt engine n (q .0); positive = ltb→lt 0 serial (q .1); given = leb→le serial issued (q .2) }
-
-pub end-fits : {n issued engine serial : ℕ} → EndFits n issued engine serial → T (endFits n issued engine serial)
-unfolding endFits
-end-fits {n} {issued} {engine} {serial} e =
-    and-both (ltb engine n && ltb 0 serial) (leb serial issued)
-    (and-both (ltb engine n) (ltb 0 serial) (lt→ltb engine n (e .below)) (lt→ltb 0 serial (e .positive)))
-    (le→leb serial issued (e .given))
-
 module _ (n : ℕ) {issued issued' : ℕ} (h : issued ≤ issued') where
   end-later : (engine serial : ℕ) → T (endFits n issued engine serial) → T (endFits n issued' engine serial)
   end-later engine serial t =
-      let e : EndFits n issued engine serial = end-tests t in
+      let e = end-tests n issued engine serial t in
       let g : serial ≤ issued' = le-trans (e .given) h in
       end-fits (record { below = e .below; positive = e .positive; given = g })
 

@@ -6,10 +6,11 @@ use native.Mathlib.Decide.{ℕ-discrete}
 use mathlib.Core.Path.{_≡_, refl, sym, subst}
 use mathlib.Core.Bool.{Bool, true, false, not, _&&_, _||_}
 use borrow.Author.Tests.{eq-eqb, ne-eqb, eqb-true, eqb-false}
-use lib.Dec.{T, eqb, eqb→eq, leb, ltb, leb→le, ltb→lt, le→leb}
+use lib.Dec.{T, eqb, eqb→eq, leb, ltb, leb→le, ltb→lt, le→leb, lt→ltb}
 use lib.Ieee.Fits.{and-i, and-l, and-r}
 use Rattle.sock.specs.Words.{kindOf, nameOf, secondOf, markOf, zombieOf, firstName, executorsClient, deadOf, waitersServer, noticesClient, bit, isOne, headOf, nameFields, isWord, clear}
-use Rattle.sock.specs.Term.{Entries}
+use Rattle.sock.specs.Term.{Operator, sum, difference, less, equal, Entries}
+use Rattle.sock.specs.Layout.{operatorTag}
 use Rattle.sock.specs.Reading.{scopeFits, restingFits, isEmpty, endFits}
 use Rattle.sock.specs.Running.{Mark, unmarked, faulted, ownName, markNumber, markedFault, markBy, scopeHead}
 use Rattle.sock.proofs.Fits.{MarkFits, isPlain}
@@ -27,6 +28,11 @@ fact-at end j a b = absurd (omega arith)
 fact-at {P} {k = k} (p then r) j a b = elim (ℕ-discrete k j) [ yes e ↦ subst P e p | no n ↦ fact-at r j (omega arith) b ]
 
 -- ---- tests
+
+pub three : (a b c : Bool) → T (a && b && c) → T a × T b × T c
+three true true c t = (tt, tt, t)
+three true false c t = absurd t
+three false b c t = absurd t
 
 pub four : (a b c d : Bool) → T (a && b && c && d) → T a × T b × T c × T d
 four true true true true t = (tt, tt, tt, tt)
@@ -184,8 +190,32 @@ clear-one w = omega arith
 
 -- ---- ends
 
-pub end-tests : (n issued engine serial : ℕ) → T (endFits n issued engine serial) → (engine < n) × (serial ≤ issued)
+pub record EndFits (n issued engine serial : ℕ) : Type 0 where
+  pub below : engine < n
+  pub positive : zero < serial
+  pub given : serial ≤ issued
+
+pub end-tests : (n issued engine serial : ℕ) → T (endFits n issued engine serial) → EndFits n issued engine serial
 unfolding endFits
 end-tests n issued engine serial t =
     let both = and-l (ltb engine n && ltb 0 serial) (leb serial issued) t in
-    (ltb→lt engine n (and-l (ltb engine n) (ltb 0 serial) both), leb→le serial issued (and-r (ltb engine n && ltb 0 serial) (leb serial issued) t))
+    record {
+      below = ltb→lt engine n (and-l (ltb engine n) (ltb 0 serial) both);
+      positive = ltb→lt 0 serial (and-r (ltb engine n) (ltb 0 serial) both);
+      given = leb→le serial issued (and-r (ltb engine n && ltb 0 serial) (leb serial issued) t);
+    }
+
+pub end-fits : {n issued engine serial : ℕ} → EndFits n issued engine serial → T (endFits n issued engine serial)
+unfolding endFits
+end-fits {n} {issued} {engine} {serial} e =
+    and-i (ltb engine n && ltb 0 serial) (leb serial issued)
+    (and-i (ltb engine n) (ltb 0 serial) (lt→ltb engine n (e .below)) (lt→ltb 0 serial (e .positive)))
+    (le→leb serial issued (e .given))
+
+-- ---- expressions
+
+pub operator-tag : (o : Operator) → (2 ≤ operatorTag o) × (operatorTag o ≤ 5)
+operator-tag sum = (omega arith, omega arith)
+operator-tag difference = (omega arith, omega arith)
+operator-tag less = (omega arith, omega arith)
+operator-tag equal = (omega arith, omega arith)

@@ -13,7 +13,7 @@ use Rattle.sock.specs.Running.{Run}
 use Rattle.sock.specs.Configuration.{Config}
 use Rattle.sock.specs.Calls.{End, waiting, working}
 use Rattle.sock.specs.Runs.{carries, same}
-use Rattle.sock.proofs.Exchange.{three}
+use Rattle.sock.proofs.Fields.{three}
 use Rattle.sock.proofs.Moves.{Quiet}
 use Rattle.sock.proofs.Turns.{here, here-same, here-other, here-zero, share, endsAt, Turn, quietly, begins, ended}
 

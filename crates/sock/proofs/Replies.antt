@@ -18,12 +18,12 @@ use Rattle.sock.specs.Rules.{also}
 use Rattle.sock.specs.Calls.{done, Numbers, Spot, enabledAt, Stepped, step, answerOf, stepAnswer, End, waiting, working, endOf, ofEnd, isEnd, tally, tallyAll, waits, works}
 use Rattle.sock.specs.Everywhere.{everywhere}
 use Rattle.sock.specs.Runs.{ofSpot, carries, awaits, bodyless, ready, same, names, endAt, delivery}
+use Rattle.sock.proofs.Fields.{three}
 use Rattle.sock.proofs.Logic.{and-left, and-right, all-some}
 use Rattle.sock.proofs.Fits.{Readable}
 use Rattle.sock.proofs.Located.{enabled-stands}
 use Rattle.sock.proofs.Delivery.{Meets, replyMeets, faultMeets, delivery-accepted}
 use Rattle.sock.proofs.Turns.{endsAt, Standing, enabled-standing}
-use Rattle.sock.proofs.Exchange.{three}
 use Rattle.sock.proofs.Ledger.{pending, openOf, Apart, Ledger, waiting-same, working-same}
 use Rattle.sock.proofs.Accounts.{stands, waits-all, by-waiting, by-working, ends-paired}
 use Rattle.sock.proofs.Placed.{OnlyEnds, end-only, named-somewhere, everywhere-all}

@@ -1,4 +1,4 @@
--- `evaluate` of `evaluating::evaluate` meets its contract: the code is its mirror in specs/.
+-- `evaluating::evaluate::evaluate`, which calls itself for both operands. The measure is the depth left.
 -- Assumes nothing.
 use borrow.Author.Needs.{needs}
 use Rattle.evaluating.specs.Evaluating.{evaluated, evaluatedAt, both}

@@ -1,4 +1,4 @@
--- `constant` of `evaluating::evaluate` meets its contract: the code is its mirror in specs/.
+-- `evaluating::evaluate::constant`: a constant cut off by the end of the words is nowhere.
 -- Assumes nothing.
 use Rattle.evaluating.specs.Evaluating.{constantAt}
 use Rattle.sock.proofs.Tests.{tests}

@@ -1,4 +1,4 @@
--- `operate` of `evaluating::evaluate` meets its contract: the code is its mirror in specs/.
+-- `evaluating::evaluate::operate`, operator by operator; the difference is the number that b added to wraps back to a.
 -- Assumes nothing.
 use Rattle.evaluating.proofs.Evaluations.{wrapped}
 use Rattle.evaluating.specs.Evaluating.{operated}

@@ -1,4 +1,4 @@
--- `variable` of `evaluating::evaluate` meets its contract: the code is its mirror in specs/.
+-- `evaluating::evaluate::variable`: past the values both words count as 0.
 -- Assumes nothing.
 use Prim.Native.Nat.{ℕ, _+_, _*_, _≤_}
 use native.Mathlib.Omega.{arith}

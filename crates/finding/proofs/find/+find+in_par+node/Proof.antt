@@ -1,4 +1,5 @@
--- `finding::find::find`, `in_par` and `node` meet their contracts: the search, by what its calls give.
+-- The search, by what its calls give: `finding::find::find`, `in_par` and `node`. The measure is the depth left, times 3: `find` goes to `node`
+-- with one level less, `node` to `in_par`, and both back to `find`, with the same.
 -- Assumes nothing.
 use borrow.Author.Needs.{needs}
 use Rattle.finding.specs.Find.{nodeW, inParW, parSides}

@@ -1,4 +1,6 @@
--- `condition`, `in_par`, `in_seq`, `kept` and `replace` of `handling::replace` meet their contracts: the code is its mirror in specs/.
+-- `handling::replace::replace` and the functions for single kinds that it goes round with. The measure is the depth left, times 3. The invariant
+-- of the loop in `kept`: the parts left, written from here on, give what all give from the start, and the output keeps its length; its
+-- measure: the parts left.
 -- Assumes nothing.
 use Prim.Native.Nat.{ℕ, _+_, _*_, _<_}
 use mathlib.Core.Path.{_≡_, refl, sym, _∙_}
@@ -28,7 +30,10 @@ use Rattle.handling.proofs.replace.replace.Kinds as replace-kinds
 use Rattle.handling.proofs.replace.+condition+in_par+in_seq+kept+replace.Lts-replace as replace-lts
 use Rattle.handling.proofs.measure.expression_levels.Reads as expression-levels-reads
 use Rattle.handling.proofs.measure.larger.Reads as larger-reads
+use Rattle.handling.proofs.measure.own.Reads as own-reads
 use Rattle.handling.proofs.replace.in_place.Reads as in-place-reads
+use Rattle.handling.proofs.replace.nil.Reads as nil-reads
+use Rattle.handling.proofs.replace.nowhere.Reads as nowhere-reads
 use Rattle.handling.proofs.replace.other.Reads as other-reads
 use Rattle.layout.proofs.field.count_of.Reads as count-of-reads
 use Rattle.layout.proofs.field.kind_of.Reads as kind-of-reads
@@ -50,7 +55,7 @@ abbrev μ-in-seq : Measures 2 in-seq-kinds.ps ℕ
 μ-in-seq κs a = a .1 .1 .1 .0 * 3 + 1
 
 abbrev μ-kept : Measures 2 kept-kinds.ps ℕ
-μ-kept κs a = a .1 .1 .1 .1 .1 .1 .0 * 3 + 1
+μ-kept κs a = a .1 .1 .1 .1 .1 .0 * 3 + 1
 
 abbrev μ-replace : Measures 2 replace-kinds.ps ℕ
 μ-replace κs a = a .1 .1 .1 .0 * 3
@@ -200,11 +205,11 @@ in-seq-returns-2 t c =
     (simp (← (c .further2 .ensures), ← (c .before .larger .ensures), ← (c .before .before .before .before .replace3 .ensures .0), ← (c .before .before .before .before .replace3 .ensures .1), f0, ← (c .before .before .before .before .before .before .before .before .before .replace .ensures .0), ← (c .before .before .before .before .before .before .before .before .before .replace .ensures .1), ← (c .before .before .before .before .before .before .before .before .before .before .before .further .ensures), ← (c .before .before .before .before .before .before .before .before .before .before .before .before .before .before .put .ensures .0), ← (c .before .before .before .before .before .before .before .before .before .before .before .before .before .before .put .ensures .1)), simp (← (c .before .before .before .before .replace3 .ensures .0), ← (c .before .before .before .before .replace3 .ensures .1), f0, ← (c .before .before .before .before .before .before .before .before .before .replace .ensures .0), ← (c .before .before .before .before .before .before .before .before .before .replace .ensures .1), ← (c .before .before .before .before .before .before .before .before .before .before .before .further .ensures), ← (c .before .before .before .before .before .before .before .before .before .before .before .before .before .before .put .ensures .0), ← (c .before .before .before .before .before .before .before .before .before .before .before .before .before .before .put .ensures .1)))
 
 abbrev kept-Inv-loop : kept-lts.InvT-loop
-kept-Inv-loop ws at from levels count old depth out₀ to a₀ t₀ deepest₀ left₀ out a t deepest left =
+kept-Inv-loop ws at count old depth out₀ to a₀ t₀ deepest₀ left₀ out a t deepest left =
     (partsW (replaceW depth ws old) left deepest a out t ≡ partsW (replaceW depth ws old) left₀ deepest₀ a₀ out₀ t₀) × (length out ≡ length out₀)
 
 abbrev kept-μ-loop : kept-lts.MeasureT-loop
-kept-μ-loop ws at from levels count old depth out₀ to a₀ t₀ deepest₀ left₀ out a t deepest left = left
+kept-μ-loop ws at count old depth out₀ to a₀ t₀ deepest₀ left₀ out a t deepest left = left
 
 kept-copy-requires : (t : ℕ) → kept-lts.Need-copy-requires (copy-reads.Asked, copy-reads.Learnt, replace-below t, replace.Post, further-reads.Asked, further-reads.Learnt, larger-reads.Asked, larger-reads.Learnt) (kept-at t) kept.Post kept-Inv-loop kept-μ-loop
 kept-copy-requires t c κs = search needs
@@ -243,139 +248,142 @@ kept-returns t c =
     let y = c .before .before .before .before .copy .ensures .1 in
     (simp (← x, ← y, e), simp (← x, ← y, e))
 
-replace-returns : (t : ℕ) → replace-lts.Need-returns (kind-of-reads.Asked, kind-of-reads.Learnt, further-reads.Asked, further-reads.Learnt, put-reads.Asked, put-reads.Learnt, other-reads.Asked, other-reads.Learnt, in-seq-below t, in-seq.Post, in-par-below t, in-par.Post, condition-below t, condition.Post, count-of-reads.Asked, count-of-reads.Learnt, kept-below t, kept.Post, in-place-reads.Asked, in-place-reads.Learnt) (replace-at t) replace.Post
+replace-nowhere-requires : (t : ℕ) → replace-lts.Need-nowhere-requires (nowhere-reads.Asked, nowhere-reads.Learnt, kind-of-reads.Asked, kind-of-reads.Learnt, nil-reads.Asked, nil-reads.Learnt, other-reads.Asked, other-reads.Learnt, in-seq-below t, in-seq.Post, in-par-below t, in-par.Post, condition-below t, condition.Post, count-of-reads.Asked, count-of-reads.Learnt, own-reads.Asked, own-reads.Learnt, kept-below t, kept.Post, in-place-reads.Asked, in-place-reads.Learnt) (replace-at t) replace.Post
+replace-nowhere-requires t c κs = search needs
+
+replace-returns : (t : ℕ) → replace-lts.Need-returns (nowhere-reads.Asked, nowhere-reads.Learnt, kind-of-reads.Asked, kind-of-reads.Learnt, nil-reads.Asked, nil-reads.Learnt, other-reads.Asked, other-reads.Learnt, in-seq-below t, in-seq.Post, in-par-below t, in-par.Post, condition-below t, condition.Post, count-of-reads.Asked, count-of-reads.Learnt, own-reads.Asked, own-reads.Learnt, kept-below t, kept.Post, in-place-reads.Asked, in-place-reads.Learnt) (replace-at t) replace.Post
 unfolding replaceW nodeW seqW afterFirst parW parAfter closePar conditionW keptW nilW
 replace-returns t c =
-    let f0 = c .if1 .taken in
-    (simp f0, simp f0)
+    let f0 = c .before .if1 .taken in
+    (simp (c .nowhere .ensures, f0), simp f0)
 
-replace-returns-2 : (t : ℕ) → replace-lts.Need-returns-2 (kind-of-reads.Asked, kind-of-reads.Learnt, further-reads.Asked, further-reads.Learnt, put-reads.Asked, put-reads.Learnt, other-reads.Asked, other-reads.Learnt, in-seq-below t, in-seq.Post, in-par-below t, in-par.Post, condition-below t, condition.Post, count-of-reads.Asked, count-of-reads.Learnt, kept-below t, kept.Post, in-place-reads.Asked, in-place-reads.Learnt) (replace-at t) replace.Post
+replace-nowhere-requires-2 : (t : ℕ) → replace-lts.Need-nowhere-requires-2 (nowhere-reads.Asked, nowhere-reads.Learnt, kind-of-reads.Asked, kind-of-reads.Learnt, nil-reads.Asked, nil-reads.Learnt, other-reads.Asked, other-reads.Learnt, in-seq-below t, in-seq.Post, in-par-below t, in-par.Post, condition-below t, condition.Post, count-of-reads.Asked, count-of-reads.Learnt, own-reads.Asked, own-reads.Learnt, kept-below t, kept.Post, in-place-reads.Asked, in-place-reads.Learnt) (replace-at t) replace.Post
+replace-nowhere-requires-2 t c κs = search needs
+
+replace-returns-2 : (t : ℕ) → replace-lts.Need-returns-2 (nowhere-reads.Asked, nowhere-reads.Learnt, kind-of-reads.Asked, kind-of-reads.Learnt, nil-reads.Asked, nil-reads.Learnt, other-reads.Asked, other-reads.Learnt, in-seq-below t, in-seq.Post, in-par-below t, in-par.Post, condition-below t, condition.Post, count-of-reads.Asked, count-of-reads.Learnt, own-reads.Asked, own-reads.Learnt, kept-below t, kept.Post, in-place-reads.Asked, in-place-reads.Learnt) (replace-at t) replace.Post
 unfolding nodeW seqW afterFirst parW parAfter closePar conditionW keptW nilW
 replace-returns-2 t c =
-    let f0 = c .if2 .taken in
-    let f1 = c .before .if1 .left in
-    (simp (tests, replace-step, f0, f1), simp (tests, replace-step, f0, f1))
+    let f0 = c .before .if2 .taken in
+    let f1 = c .before .before .if1 .left in
+    (simp (tests, replace-step, c .nowhere2 .ensures, f0, f1), simp (tests, replace-step, f0, f1))
 
-replace-mul-kind-of : (t : ℕ) → replace-lts.Need-mul-kind-of (kind-of-reads.Asked, kind-of-reads.Learnt, further-reads.Asked, further-reads.Learnt, put-reads.Asked, put-reads.Learnt, other-reads.Asked, other-reads.Learnt, in-seq-below t, in-seq.Post, in-par-below t, in-par.Post, condition-below t, condition.Post, count-of-reads.Asked, count-of-reads.Learnt, kept-below t, kept.Post, in-place-reads.Asked, in-place-reads.Learnt) (replace-at t) replace.Post
+replace-mul-kind-of : (t : ℕ) → replace-lts.Need-mul-kind-of (nowhere-reads.Asked, nowhere-reads.Learnt, kind-of-reads.Asked, kind-of-reads.Learnt, nil-reads.Asked, nil-reads.Learnt, other-reads.Asked, other-reads.Learnt, in-seq-below t, in-seq.Post, in-par-below t, in-par.Post, condition-below t, condition.Post, count-of-reads.Asked, count-of-reads.Learnt, own-reads.Asked, own-reads.Learnt, kept-below t, kept.Post, in-place-reads.Asked, in-place-reads.Learnt) (replace-at t) replace.Post
 replace-mul-kind-of t c = search needs
 
-replace-shared-slice-read-kind-of : (t : ℕ) → replace-lts.Need-shared-slice-read-kind-of (kind-of-reads.Asked, kind-of-reads.Learnt, further-reads.Asked, further-reads.Learnt, put-reads.Asked, put-reads.Learnt, other-reads.Asked, other-reads.Learnt, in-seq-below t, in-seq.Post, in-par-below t, in-par.Post, condition-below t, condition.Post, count-of-reads.Asked, count-of-reads.Learnt, kept-below t, kept.Post, in-place-reads.Asked, in-place-reads.Learnt) (replace-at t) replace.Post
+replace-shared-slice-read-kind-of : (t : ℕ) → replace-lts.Need-shared-slice-read-kind-of (nowhere-reads.Asked, nowhere-reads.Learnt, kind-of-reads.Asked, kind-of-reads.Learnt, nil-reads.Asked, nil-reads.Learnt, other-reads.Asked, other-reads.Learnt, in-seq-below t, in-seq.Post, in-par-below t, in-par.Post, condition-below t, condition.Post, count-of-reads.Asked, count-of-reads.Learnt, own-reads.Asked, own-reads.Learnt, kept-below t, kept.Post, in-place-reads.Asked, in-place-reads.Learnt) (replace-at t) replace.Post
 replace-shared-slice-read-kind-of t c = search needs
 
-replace-kind-of-requires : (t : ℕ) → replace-lts.Need-kind-of-requires (kind-of-reads.Asked, kind-of-reads.Learnt, further-reads.Asked, further-reads.Learnt, put-reads.Asked, put-reads.Learnt, other-reads.Asked, other-reads.Learnt, in-seq-below t, in-seq.Post, in-par-below t, in-par.Post, condition-below t, condition.Post, count-of-reads.Asked, count-of-reads.Learnt, kept-below t, kept.Post, in-place-reads.Asked, in-place-reads.Learnt) (replace-at t) replace.Post
+replace-kind-of-requires : (t : ℕ) → replace-lts.Need-kind-of-requires (nowhere-reads.Asked, nowhere-reads.Learnt, kind-of-reads.Asked, kind-of-reads.Learnt, nil-reads.Asked, nil-reads.Learnt, other-reads.Asked, other-reads.Learnt, in-seq-below t, in-seq.Post, in-par-below t, in-par.Post, condition-below t, condition.Post, count-of-reads.Asked, count-of-reads.Learnt, own-reads.Asked, own-reads.Learnt, kept-below t, kept.Post, in-place-reads.Asked, in-place-reads.Learnt) (replace-at t) replace.Post
 replace-kind-of-requires t c κs = search needs
 
-replace-further-requires : (t : ℕ) → replace-lts.Need-further-requires (kind-of-reads.Asked, kind-of-reads.Learnt, further-reads.Asked, further-reads.Learnt, put-reads.Asked, put-reads.Learnt, other-reads.Asked, other-reads.Learnt, in-seq-below t, in-seq.Post, in-par-below t, in-par.Post, condition-below t, condition.Post, count-of-reads.Asked, count-of-reads.Learnt, kept-below t, kept.Post, in-place-reads.Asked, in-place-reads.Learnt) (replace-at t) replace.Post
-replace-further-requires t c κs = search needs
+replace-nil-requires : (t : ℕ) → replace-lts.Need-nil-requires (nowhere-reads.Asked, nowhere-reads.Learnt, kind-of-reads.Asked, kind-of-reads.Learnt, nil-reads.Asked, nil-reads.Learnt, other-reads.Asked, other-reads.Learnt, in-seq-below t, in-seq.Post, in-par-below t, in-par.Post, condition-below t, condition.Post, count-of-reads.Asked, count-of-reads.Learnt, own-reads.Asked, own-reads.Learnt, kept-below t, kept.Post, in-place-reads.Asked, in-place-reads.Learnt) (replace-at t) replace.Post
+replace-nil-requires t c κs = search needs
 
-replace-put-requires : (t : ℕ) → replace-lts.Need-put-requires (kind-of-reads.Asked, kind-of-reads.Learnt, further-reads.Asked, further-reads.Learnt, put-reads.Asked, put-reads.Learnt, other-reads.Asked, other-reads.Learnt, in-seq-below t, in-seq.Post, in-par-below t, in-par.Post, condition-below t, condition.Post, count-of-reads.Asked, count-of-reads.Learnt, kept-below t, kept.Post, in-place-reads.Asked, in-place-reads.Learnt) (replace-at t) replace.Post
-replace-put-requires t c κs = search needs
-
-replace-other-requires : (t : ℕ) → replace-lts.Need-other-requires (kind-of-reads.Asked, kind-of-reads.Learnt, further-reads.Asked, further-reads.Learnt, put-reads.Asked, put-reads.Learnt, other-reads.Asked, other-reads.Learnt, in-seq-below t, in-seq.Post, in-par-below t, in-par.Post, condition-below t, condition.Post, count-of-reads.Asked, count-of-reads.Learnt, kept-below t, kept.Post, in-place-reads.Asked, in-place-reads.Learnt) (replace-at t) replace.Post
+replace-other-requires : (t : ℕ) → replace-lts.Need-other-requires (nowhere-reads.Asked, nowhere-reads.Learnt, kind-of-reads.Asked, kind-of-reads.Learnt, nil-reads.Asked, nil-reads.Learnt, other-reads.Asked, other-reads.Learnt, in-seq-below t, in-seq.Post, in-par-below t, in-par.Post, condition-below t, condition.Post, count-of-reads.Asked, count-of-reads.Learnt, own-reads.Asked, own-reads.Learnt, kept-below t, kept.Post, in-place-reads.Asked, in-place-reads.Learnt) (replace-at t) replace.Post
 replace-other-requires t c κs = search needs
 
-replace-sub-in-seq : (t : ℕ) → replace-lts.Need-sub-in-seq (kind-of-reads.Asked, kind-of-reads.Learnt, further-reads.Asked, further-reads.Learnt, put-reads.Asked, put-reads.Learnt, other-reads.Asked, other-reads.Learnt, in-seq-below t, in-seq.Post, in-par-below t, in-par.Post, condition-below t, condition.Post, count-of-reads.Asked, count-of-reads.Learnt, kept-below t, kept.Post, in-place-reads.Asked, in-place-reads.Learnt) (replace-at t) replace.Post
+replace-sub-in-seq : (t : ℕ) → replace-lts.Need-sub-in-seq (nowhere-reads.Asked, nowhere-reads.Learnt, kind-of-reads.Asked, kind-of-reads.Learnt, nil-reads.Asked, nil-reads.Learnt, other-reads.Asked, other-reads.Learnt, in-seq-below t, in-seq.Post, in-par-below t, in-par.Post, condition-below t, condition.Post, count-of-reads.Asked, count-of-reads.Learnt, own-reads.Asked, own-reads.Learnt, kept-below t, kept.Post, in-place-reads.Asked, in-place-reads.Learnt) (replace-at t) replace.Post
 replace-sub-in-seq t c = search needs
 
-replace-in-seq-requires : (t : ℕ) → replace-lts.Need-in-seq-requires (kind-of-reads.Asked, kind-of-reads.Learnt, further-reads.Asked, further-reads.Learnt, put-reads.Asked, put-reads.Learnt, other-reads.Asked, other-reads.Learnt, in-seq-below t, in-seq.Post, in-par-below t, in-par.Post, condition-below t, condition.Post, count-of-reads.Asked, count-of-reads.Learnt, kept-below t, kept.Post, in-place-reads.Asked, in-place-reads.Learnt) (replace-at t) replace.Post
+replace-in-seq-requires : (t : ℕ) → replace-lts.Need-in-seq-requires (nowhere-reads.Asked, nowhere-reads.Learnt, kind-of-reads.Asked, kind-of-reads.Learnt, nil-reads.Asked, nil-reads.Learnt, other-reads.Asked, other-reads.Learnt, in-seq-below t, in-seq.Post, in-par-below t, in-par.Post, condition-below t, condition.Post, count-of-reads.Asked, count-of-reads.Learnt, own-reads.Asked, own-reads.Learnt, kept-below t, kept.Post, in-place-reads.Asked, in-place-reads.Learnt) (replace-at t) replace.Post
 replace-in-seq-requires t c κs = search needs
 
-replace-sub-in-par : (t : ℕ) → replace-lts.Need-sub-in-par (kind-of-reads.Asked, kind-of-reads.Learnt, further-reads.Asked, further-reads.Learnt, put-reads.Asked, put-reads.Learnt, other-reads.Asked, other-reads.Learnt, in-seq-below t, in-seq.Post, in-par-below t, in-par.Post, condition-below t, condition.Post, count-of-reads.Asked, count-of-reads.Learnt, kept-below t, kept.Post, in-place-reads.Asked, in-place-reads.Learnt) (replace-at t) replace.Post
+replace-sub-in-par : (t : ℕ) → replace-lts.Need-sub-in-par (nowhere-reads.Asked, nowhere-reads.Learnt, kind-of-reads.Asked, kind-of-reads.Learnt, nil-reads.Asked, nil-reads.Learnt, other-reads.Asked, other-reads.Learnt, in-seq-below t, in-seq.Post, in-par-below t, in-par.Post, condition-below t, condition.Post, count-of-reads.Asked, count-of-reads.Learnt, own-reads.Asked, own-reads.Learnt, kept-below t, kept.Post, in-place-reads.Asked, in-place-reads.Learnt) (replace-at t) replace.Post
 replace-sub-in-par t c = search needs
 
-replace-in-par-requires : (t : ℕ) → replace-lts.Need-in-par-requires (kind-of-reads.Asked, kind-of-reads.Learnt, further-reads.Asked, further-reads.Learnt, put-reads.Asked, put-reads.Learnt, other-reads.Asked, other-reads.Learnt, in-seq-below t, in-seq.Post, in-par-below t, in-par.Post, condition-below t, condition.Post, count-of-reads.Asked, count-of-reads.Learnt, kept-below t, kept.Post, in-place-reads.Asked, in-place-reads.Learnt) (replace-at t) replace.Post
+replace-in-par-requires : (t : ℕ) → replace-lts.Need-in-par-requires (nowhere-reads.Asked, nowhere-reads.Learnt, kind-of-reads.Asked, kind-of-reads.Learnt, nil-reads.Asked, nil-reads.Learnt, other-reads.Asked, other-reads.Learnt, in-seq-below t, in-seq.Post, in-par-below t, in-par.Post, condition-below t, condition.Post, count-of-reads.Asked, count-of-reads.Learnt, own-reads.Asked, own-reads.Learnt, kept-below t, kept.Post, in-place-reads.Asked, in-place-reads.Learnt) (replace-at t) replace.Post
 replace-in-par-requires t c κs = search needs
 
-replace-sub-condition : (t : ℕ) → replace-lts.Need-sub-condition (kind-of-reads.Asked, kind-of-reads.Learnt, further-reads.Asked, further-reads.Learnt, put-reads.Asked, put-reads.Learnt, other-reads.Asked, other-reads.Learnt, in-seq-below t, in-seq.Post, in-par-below t, in-par.Post, condition-below t, condition.Post, count-of-reads.Asked, count-of-reads.Learnt, kept-below t, kept.Post, in-place-reads.Asked, in-place-reads.Learnt) (replace-at t) replace.Post
+replace-sub-condition : (t : ℕ) → replace-lts.Need-sub-condition (nowhere-reads.Asked, nowhere-reads.Learnt, kind-of-reads.Asked, kind-of-reads.Learnt, nil-reads.Asked, nil-reads.Learnt, other-reads.Asked, other-reads.Learnt, in-seq-below t, in-seq.Post, in-par-below t, in-par.Post, condition-below t, condition.Post, count-of-reads.Asked, count-of-reads.Learnt, own-reads.Asked, own-reads.Learnt, kept-below t, kept.Post, in-place-reads.Asked, in-place-reads.Learnt) (replace-at t) replace.Post
 replace-sub-condition t c = search needs
 
-replace-condition-requires : (t : ℕ) → replace-lts.Need-condition-requires (kind-of-reads.Asked, kind-of-reads.Learnt, further-reads.Asked, further-reads.Learnt, put-reads.Asked, put-reads.Learnt, other-reads.Asked, other-reads.Learnt, in-seq-below t, in-seq.Post, in-par-below t, in-par.Post, condition-below t, condition.Post, count-of-reads.Asked, count-of-reads.Learnt, kept-below t, kept.Post, in-place-reads.Asked, in-place-reads.Learnt) (replace-at t) replace.Post
+replace-condition-requires : (t : ℕ) → replace-lts.Need-condition-requires (nowhere-reads.Asked, nowhere-reads.Learnt, kind-of-reads.Asked, kind-of-reads.Learnt, nil-reads.Asked, nil-reads.Learnt, other-reads.Asked, other-reads.Learnt, in-seq-below t, in-seq.Post, in-par-below t, in-par.Post, condition-below t, condition.Post, count-of-reads.Asked, count-of-reads.Learnt, own-reads.Asked, own-reads.Learnt, kept-below t, kept.Post, in-place-reads.Asked, in-place-reads.Learnt) (replace-at t) replace.Post
 replace-condition-requires t c κs = search needs
 
-replace-sub-condition-2 : (t : ℕ) → replace-lts.Need-sub-condition-2 (kind-of-reads.Asked, kind-of-reads.Learnt, further-reads.Asked, further-reads.Learnt, put-reads.Asked, put-reads.Learnt, other-reads.Asked, other-reads.Learnt, in-seq-below t, in-seq.Post, in-par-below t, in-par.Post, condition-below t, condition.Post, count-of-reads.Asked, count-of-reads.Learnt, kept-below t, kept.Post, in-place-reads.Asked, in-place-reads.Learnt) (replace-at t) replace.Post
+replace-sub-condition-2 : (t : ℕ) → replace-lts.Need-sub-condition-2 (nowhere-reads.Asked, nowhere-reads.Learnt, kind-of-reads.Asked, kind-of-reads.Learnt, nil-reads.Asked, nil-reads.Learnt, other-reads.Asked, other-reads.Learnt, in-seq-below t, in-seq.Post, in-par-below t, in-par.Post, condition-below t, condition.Post, count-of-reads.Asked, count-of-reads.Learnt, own-reads.Asked, own-reads.Learnt, kept-below t, kept.Post, in-place-reads.Asked, in-place-reads.Learnt) (replace-at t) replace.Post
 replace-sub-condition-2 t c = search needs
 
-replace-condition-requires-2 : (t : ℕ) → replace-lts.Need-condition-requires-2 (kind-of-reads.Asked, kind-of-reads.Learnt, further-reads.Asked, further-reads.Learnt, put-reads.Asked, put-reads.Learnt, other-reads.Asked, other-reads.Learnt, in-seq-below t, in-seq.Post, in-par-below t, in-par.Post, condition-below t, condition.Post, count-of-reads.Asked, count-of-reads.Learnt, kept-below t, kept.Post, in-place-reads.Asked, in-place-reads.Learnt) (replace-at t) replace.Post
+replace-condition-requires-2 : (t : ℕ) → replace-lts.Need-condition-requires-2 (nowhere-reads.Asked, nowhere-reads.Learnt, kind-of-reads.Asked, kind-of-reads.Learnt, nil-reads.Asked, nil-reads.Learnt, other-reads.Asked, other-reads.Learnt, in-seq-below t, in-seq.Post, in-par-below t, in-par.Post, condition-below t, condition.Post, count-of-reads.Asked, count-of-reads.Learnt, own-reads.Asked, own-reads.Learnt, kept-below t, kept.Post, in-place-reads.Asked, in-place-reads.Learnt) (replace-at t) replace.Post
 replace-condition-requires-2 t c κs = search needs
 
-replace-further-requires-2 : (t : ℕ) → replace-lts.Need-further-requires-2 (kind-of-reads.Asked, kind-of-reads.Learnt, further-reads.Asked, further-reads.Learnt, put-reads.Asked, put-reads.Learnt, other-reads.Asked, other-reads.Learnt, in-seq-below t, in-seq.Post, in-par-below t, in-par.Post, condition-below t, condition.Post, count-of-reads.Asked, count-of-reads.Learnt, kept-below t, kept.Post, in-place-reads.Asked, in-place-reads.Learnt) (replace-at t) replace.Post
-replace-further-requires-2 t c κs = search needs
-
-replace-mul-count-of : (t : ℕ) → replace-lts.Need-mul-count-of (kind-of-reads.Asked, kind-of-reads.Learnt, further-reads.Asked, further-reads.Learnt, put-reads.Asked, put-reads.Learnt, other-reads.Asked, other-reads.Learnt, in-seq-below t, in-seq.Post, in-par-below t, in-par.Post, condition-below t, condition.Post, count-of-reads.Asked, count-of-reads.Learnt, kept-below t, kept.Post, in-place-reads.Asked, in-place-reads.Learnt) (replace-at t) replace.Post
+replace-mul-count-of : (t : ℕ) → replace-lts.Need-mul-count-of (nowhere-reads.Asked, nowhere-reads.Learnt, kind-of-reads.Asked, kind-of-reads.Learnt, nil-reads.Asked, nil-reads.Learnt, other-reads.Asked, other-reads.Learnt, in-seq-below t, in-seq.Post, in-par-below t, in-par.Post, condition-below t, condition.Post, count-of-reads.Asked, count-of-reads.Learnt, own-reads.Asked, own-reads.Learnt, kept-below t, kept.Post, in-place-reads.Asked, in-place-reads.Learnt) (replace-at t) replace.Post
 replace-mul-count-of t c = search needs
 
-replace-shared-slice-read-count-of : (t : ℕ) → replace-lts.Need-shared-slice-read-count-of (kind-of-reads.Asked, kind-of-reads.Learnt, further-reads.Asked, further-reads.Learnt, put-reads.Asked, put-reads.Learnt, other-reads.Asked, other-reads.Learnt, in-seq-below t, in-seq.Post, in-par-below t, in-par.Post, condition-below t, condition.Post, count-of-reads.Asked, count-of-reads.Learnt, kept-below t, kept.Post, in-place-reads.Asked, in-place-reads.Learnt) (replace-at t) replace.Post
+replace-shared-slice-read-count-of : (t : ℕ) → replace-lts.Need-shared-slice-read-count-of (nowhere-reads.Asked, nowhere-reads.Learnt, kind-of-reads.Asked, kind-of-reads.Learnt, nil-reads.Asked, nil-reads.Learnt, other-reads.Asked, other-reads.Learnt, in-seq-below t, in-seq.Post, in-par-below t, in-par.Post, condition-below t, condition.Post, count-of-reads.Asked, count-of-reads.Learnt, own-reads.Asked, own-reads.Learnt, kept-below t, kept.Post, in-place-reads.Asked, in-place-reads.Learnt) (replace-at t) replace.Post
 replace-shared-slice-read-count-of t c = search needs
 
-replace-count-of-requires : (t : ℕ) → replace-lts.Need-count-of-requires (kind-of-reads.Asked, kind-of-reads.Learnt, further-reads.Asked, further-reads.Learnt, put-reads.Asked, put-reads.Learnt, other-reads.Asked, other-reads.Learnt, in-seq-below t, in-seq.Post, in-par-below t, in-par.Post, condition-below t, condition.Post, count-of-reads.Asked, count-of-reads.Learnt, kept-below t, kept.Post, in-place-reads.Asked, in-place-reads.Learnt) (replace-at t) replace.Post
+replace-count-of-requires : (t : ℕ) → replace-lts.Need-count-of-requires (nowhere-reads.Asked, nowhere-reads.Learnt, kind-of-reads.Asked, kind-of-reads.Learnt, nil-reads.Asked, nil-reads.Learnt, other-reads.Asked, other-reads.Learnt, in-seq-below t, in-seq.Post, in-par-below t, in-par.Post, condition-below t, condition.Post, count-of-reads.Asked, count-of-reads.Learnt, own-reads.Asked, own-reads.Learnt, kept-below t, kept.Post, in-place-reads.Asked, in-place-reads.Learnt) (replace-at t) replace.Post
 replace-count-of-requires t c κs = search needs
 
-replace-mul-kept : (t : ℕ) → replace-lts.Need-mul-kept (kind-of-reads.Asked, kind-of-reads.Learnt, further-reads.Asked, further-reads.Learnt, put-reads.Asked, put-reads.Learnt, other-reads.Asked, other-reads.Learnt, in-seq-below t, in-seq.Post, in-par-below t, in-par.Post, condition-below t, condition.Post, count-of-reads.Asked, count-of-reads.Learnt, kept-below t, kept.Post, in-place-reads.Asked, in-place-reads.Learnt) (replace-at t) replace.Post
-replace-mul-kept t c = search needs
+replace-mul-count : (t : ℕ) → replace-lts.Need-mul-count (nowhere-reads.Asked, nowhere-reads.Learnt, kind-of-reads.Asked, kind-of-reads.Learnt, nil-reads.Asked, nil-reads.Learnt, other-reads.Asked, other-reads.Learnt, in-seq-below t, in-seq.Post, in-par-below t, in-par.Post, condition-below t, condition.Post, count-of-reads.Asked, count-of-reads.Learnt, own-reads.Asked, own-reads.Learnt, kept-below t, kept.Post, in-place-reads.Asked, in-place-reads.Learnt) (replace-at t) replace.Post
+replace-mul-count t c = search needs
 
-replace-sub-kept : (t : ℕ) → replace-lts.Need-sub-kept (kind-of-reads.Asked, kind-of-reads.Learnt, further-reads.Asked, further-reads.Learnt, put-reads.Asked, put-reads.Learnt, other-reads.Asked, other-reads.Learnt, in-seq-below t, in-seq.Post, in-par-below t, in-par.Post, condition-below t, condition.Post, count-of-reads.Asked, count-of-reads.Learnt, kept-below t, kept.Post, in-place-reads.Asked, in-place-reads.Learnt) (replace-at t) replace.Post
+replace-own-requires : (t : ℕ) → replace-lts.Need-own-requires (nowhere-reads.Asked, nowhere-reads.Learnt, kind-of-reads.Asked, kind-of-reads.Learnt, nil-reads.Asked, nil-reads.Learnt, other-reads.Asked, other-reads.Learnt, in-seq-below t, in-seq.Post, in-par-below t, in-par.Post, condition-below t, condition.Post, count-of-reads.Asked, count-of-reads.Learnt, own-reads.Asked, own-reads.Learnt, kept-below t, kept.Post, in-place-reads.Asked, in-place-reads.Learnt) (replace-at t) replace.Post
+replace-own-requires t c κs = search needs
+
+replace-sub-kept : (t : ℕ) → replace-lts.Need-sub-kept (nowhere-reads.Asked, nowhere-reads.Learnt, kind-of-reads.Asked, kind-of-reads.Learnt, nil-reads.Asked, nil-reads.Learnt, other-reads.Asked, other-reads.Learnt, in-seq-below t, in-seq.Post, in-par-below t, in-par.Post, condition-below t, condition.Post, count-of-reads.Asked, count-of-reads.Learnt, own-reads.Asked, own-reads.Learnt, kept-below t, kept.Post, in-place-reads.Asked, in-place-reads.Learnt) (replace-at t) replace.Post
 replace-sub-kept t c = search needs
 
-replace-kept-requires : (t : ℕ) → replace-lts.Need-kept-requires (kind-of-reads.Asked, kind-of-reads.Learnt, further-reads.Asked, further-reads.Learnt, put-reads.Asked, put-reads.Learnt, other-reads.Asked, other-reads.Learnt, in-seq-below t, in-seq.Post, in-par-below t, in-par.Post, condition-below t, condition.Post, count-of-reads.Asked, count-of-reads.Learnt, kept-below t, kept.Post, in-place-reads.Asked, in-place-reads.Learnt) (replace-at t) replace.Post
+replace-kept-requires : (t : ℕ) → replace-lts.Need-kept-requires (nowhere-reads.Asked, nowhere-reads.Learnt, kind-of-reads.Asked, kind-of-reads.Learnt, nil-reads.Asked, nil-reads.Learnt, other-reads.Asked, other-reads.Learnt, in-seq-below t, in-seq.Post, in-par-below t, in-par.Post, condition-below t, condition.Post, count-of-reads.Asked, count-of-reads.Learnt, own-reads.Asked, own-reads.Learnt, kept-below t, kept.Post, in-place-reads.Asked, in-place-reads.Learnt) (replace-at t) replace.Post
 replace-kept-requires t c κs = search needs
 
-replace-other-requires-2 : (t : ℕ) → replace-lts.Need-other-requires-2 (kind-of-reads.Asked, kind-of-reads.Learnt, further-reads.Asked, further-reads.Learnt, put-reads.Asked, put-reads.Learnt, other-reads.Asked, other-reads.Learnt, in-seq-below t, in-seq.Post, in-par-below t, in-par.Post, condition-below t, condition.Post, count-of-reads.Asked, count-of-reads.Learnt, kept-below t, kept.Post, in-place-reads.Asked, in-place-reads.Learnt) (replace-at t) replace.Post
+replace-other-requires-2 : (t : ℕ) → replace-lts.Need-other-requires-2 (nowhere-reads.Asked, nowhere-reads.Learnt, kind-of-reads.Asked, kind-of-reads.Learnt, nil-reads.Asked, nil-reads.Learnt, other-reads.Asked, other-reads.Learnt, in-seq-below t, in-seq.Post, in-par-below t, in-par.Post, condition-below t, condition.Post, count-of-reads.Asked, count-of-reads.Learnt, own-reads.Asked, own-reads.Learnt, kept-below t, kept.Post, in-place-reads.Asked, in-place-reads.Learnt) (replace-at t) replace.Post
 replace-other-requires-2 t c κs = search needs
 
-replace-further-requires-3 : (t : ℕ) → replace-lts.Need-further-requires-3 (kind-of-reads.Asked, kind-of-reads.Learnt, further-reads.Asked, further-reads.Learnt, put-reads.Asked, put-reads.Learnt, other-reads.Asked, other-reads.Learnt, in-seq-below t, in-seq.Post, in-par-below t, in-par.Post, condition-below t, condition.Post, count-of-reads.Asked, count-of-reads.Learnt, kept-below t, kept.Post, in-place-reads.Asked, in-place-reads.Learnt) (replace-at t) replace.Post
-replace-further-requires-3 t c κs = search needs
+replace-own-requires-2 : (t : ℕ) → replace-lts.Need-own-requires-2 (nowhere-reads.Asked, nowhere-reads.Learnt, kind-of-reads.Asked, kind-of-reads.Learnt, nil-reads.Asked, nil-reads.Learnt, other-reads.Asked, other-reads.Learnt, in-seq-below t, in-seq.Post, in-par-below t, in-par.Post, condition-below t, condition.Post, count-of-reads.Asked, count-of-reads.Learnt, own-reads.Asked, own-reads.Learnt, kept-below t, kept.Post, in-place-reads.Asked, in-place-reads.Learnt) (replace-at t) replace.Post
+replace-own-requires-2 t c κs = search needs
 
-replace-sub-kept-2 : (t : ℕ) → replace-lts.Need-sub-kept-2 (kind-of-reads.Asked, kind-of-reads.Learnt, further-reads.Asked, further-reads.Learnt, put-reads.Asked, put-reads.Learnt, other-reads.Asked, other-reads.Learnt, in-seq-below t, in-seq.Post, in-par-below t, in-par.Post, condition-below t, condition.Post, count-of-reads.Asked, count-of-reads.Learnt, kept-below t, kept.Post, in-place-reads.Asked, in-place-reads.Learnt) (replace-at t) replace.Post
+replace-sub-kept-2 : (t : ℕ) → replace-lts.Need-sub-kept-2 (nowhere-reads.Asked, nowhere-reads.Learnt, kind-of-reads.Asked, kind-of-reads.Learnt, nil-reads.Asked, nil-reads.Learnt, other-reads.Asked, other-reads.Learnt, in-seq-below t, in-seq.Post, in-par-below t, in-par.Post, condition-below t, condition.Post, count-of-reads.Asked, count-of-reads.Learnt, own-reads.Asked, own-reads.Learnt, kept-below t, kept.Post, in-place-reads.Asked, in-place-reads.Learnt) (replace-at t) replace.Post
 replace-sub-kept-2 t c = search needs
 
-replace-kept-requires-2 : (t : ℕ) → replace-lts.Need-kept-requires-2 (kind-of-reads.Asked, kind-of-reads.Learnt, further-reads.Asked, further-reads.Learnt, put-reads.Asked, put-reads.Learnt, other-reads.Asked, other-reads.Learnt, in-seq-below t, in-seq.Post, in-par-below t, in-par.Post, condition-below t, condition.Post, count-of-reads.Asked, count-of-reads.Learnt, kept-below t, kept.Post, in-place-reads.Asked, in-place-reads.Learnt) (replace-at t) replace.Post
+replace-kept-requires-2 : (t : ℕ) → replace-lts.Need-kept-requires-2 (nowhere-reads.Asked, nowhere-reads.Learnt, kind-of-reads.Asked, kind-of-reads.Learnt, nil-reads.Asked, nil-reads.Learnt, other-reads.Asked, other-reads.Learnt, in-seq-below t, in-seq.Post, in-par-below t, in-par.Post, condition-below t, condition.Post, count-of-reads.Asked, count-of-reads.Learnt, own-reads.Asked, own-reads.Learnt, kept-below t, kept.Post, in-place-reads.Asked, in-place-reads.Learnt) (replace-at t) replace.Post
 replace-kept-requires-2 t c κs = search needs
 
-replace-other-requires-3 : (t : ℕ) → replace-lts.Need-other-requires-3 (kind-of-reads.Asked, kind-of-reads.Learnt, further-reads.Asked, further-reads.Learnt, put-reads.Asked, put-reads.Learnt, other-reads.Asked, other-reads.Learnt, in-seq-below t, in-seq.Post, in-par-below t, in-par.Post, condition-below t, condition.Post, count-of-reads.Asked, count-of-reads.Learnt, kept-below t, kept.Post, in-place-reads.Asked, in-place-reads.Learnt) (replace-at t) replace.Post
+replace-other-requires-3 : (t : ℕ) → replace-lts.Need-other-requires-3 (nowhere-reads.Asked, nowhere-reads.Learnt, kind-of-reads.Asked, kind-of-reads.Learnt, nil-reads.Asked, nil-reads.Learnt, other-reads.Asked, other-reads.Learnt, in-seq-below t, in-seq.Post, in-par-below t, in-par.Post, condition-below t, condition.Post, count-of-reads.Asked, count-of-reads.Learnt, own-reads.Asked, own-reads.Learnt, kept-below t, kept.Post, in-place-reads.Asked, in-place-reads.Learnt) (replace-at t) replace.Post
 replace-other-requires-3 t c κs = search needs
 
-replace-other-requires-4 : (t : ℕ) → replace-lts.Need-other-requires-4 (kind-of-reads.Asked, kind-of-reads.Learnt, further-reads.Asked, further-reads.Learnt, put-reads.Asked, put-reads.Learnt, other-reads.Asked, other-reads.Learnt, in-seq-below t, in-seq.Post, in-par-below t, in-par.Post, condition-below t, condition.Post, count-of-reads.Asked, count-of-reads.Learnt, kept-below t, kept.Post, in-place-reads.Asked, in-place-reads.Learnt) (replace-at t) replace.Post
+replace-other-requires-4 : (t : ℕ) → replace-lts.Need-other-requires-4 (nowhere-reads.Asked, nowhere-reads.Learnt, kind-of-reads.Asked, kind-of-reads.Learnt, nil-reads.Asked, nil-reads.Learnt, other-reads.Asked, other-reads.Learnt, in-seq-below t, in-seq.Post, in-par-below t, in-par.Post, condition-below t, condition.Post, count-of-reads.Asked, count-of-reads.Learnt, own-reads.Asked, own-reads.Learnt, kept-below t, kept.Post, in-place-reads.Asked, in-place-reads.Learnt) (replace-at t) replace.Post
 replace-other-requires-4 t c κs = search needs
 
-replace-further-requires-4 : (t : ℕ) → replace-lts.Need-further-requires-4 (kind-of-reads.Asked, kind-of-reads.Learnt, further-reads.Asked, further-reads.Learnt, put-reads.Asked, put-reads.Learnt, other-reads.Asked, other-reads.Learnt, in-seq-below t, in-seq.Post, in-par-below t, in-par.Post, condition-below t, condition.Post, count-of-reads.Asked, count-of-reads.Learnt, kept-below t, kept.Post, in-place-reads.Asked, in-place-reads.Learnt) (replace-at t) replace.Post
-replace-further-requires-4 t c κs = search needs
+replace-own-requires-3 : (t : ℕ) → replace-lts.Need-own-requires-3 (nowhere-reads.Asked, nowhere-reads.Learnt, kind-of-reads.Asked, kind-of-reads.Learnt, nil-reads.Asked, nil-reads.Learnt, other-reads.Asked, other-reads.Learnt, in-seq-below t, in-seq.Post, in-par-below t, in-par.Post, condition-below t, condition.Post, count-of-reads.Asked, count-of-reads.Learnt, own-reads.Asked, own-reads.Learnt, kept-below t, kept.Post, in-place-reads.Asked, in-place-reads.Learnt) (replace-at t) replace.Post
+replace-own-requires-3 t c κs = search needs
 
-replace-sub-kept-3 : (t : ℕ) → replace-lts.Need-sub-kept-3 (kind-of-reads.Asked, kind-of-reads.Learnt, further-reads.Asked, further-reads.Learnt, put-reads.Asked, put-reads.Learnt, other-reads.Asked, other-reads.Learnt, in-seq-below t, in-seq.Post, in-par-below t, in-par.Post, condition-below t, condition.Post, count-of-reads.Asked, count-of-reads.Learnt, kept-below t, kept.Post, in-place-reads.Asked, in-place-reads.Learnt) (replace-at t) replace.Post
+replace-sub-kept-3 : (t : ℕ) → replace-lts.Need-sub-kept-3 (nowhere-reads.Asked, nowhere-reads.Learnt, kind-of-reads.Asked, kind-of-reads.Learnt, nil-reads.Asked, nil-reads.Learnt, other-reads.Asked, other-reads.Learnt, in-seq-below t, in-seq.Post, in-par-below t, in-par.Post, condition-below t, condition.Post, count-of-reads.Asked, count-of-reads.Learnt, own-reads.Asked, own-reads.Learnt, kept-below t, kept.Post, in-place-reads.Asked, in-place-reads.Learnt) (replace-at t) replace.Post
 replace-sub-kept-3 t c = search needs
 
-replace-kept-requires-3 : (t : ℕ) → replace-lts.Need-kept-requires-3 (kind-of-reads.Asked, kind-of-reads.Learnt, further-reads.Asked, further-reads.Learnt, put-reads.Asked, put-reads.Learnt, other-reads.Asked, other-reads.Learnt, in-seq-below t, in-seq.Post, in-par-below t, in-par.Post, condition-below t, condition.Post, count-of-reads.Asked, count-of-reads.Learnt, kept-below t, kept.Post, in-place-reads.Asked, in-place-reads.Learnt) (replace-at t) replace.Post
+replace-kept-requires-3 : (t : ℕ) → replace-lts.Need-kept-requires-3 (nowhere-reads.Asked, nowhere-reads.Learnt, kind-of-reads.Asked, kind-of-reads.Learnt, nil-reads.Asked, nil-reads.Learnt, other-reads.Asked, other-reads.Learnt, in-seq-below t, in-seq.Post, in-par-below t, in-par.Post, condition-below t, condition.Post, count-of-reads.Asked, count-of-reads.Learnt, own-reads.Asked, own-reads.Learnt, kept-below t, kept.Post, in-place-reads.Asked, in-place-reads.Learnt) (replace-at t) replace.Post
 replace-kept-requires-3 t c κs = search needs
 
-replace-other-requires-5 : (t : ℕ) → replace-lts.Need-other-requires-5 (kind-of-reads.Asked, kind-of-reads.Learnt, further-reads.Asked, further-reads.Learnt, put-reads.Asked, put-reads.Learnt, other-reads.Asked, other-reads.Learnt, in-seq-below t, in-seq.Post, in-par-below t, in-par.Post, condition-below t, condition.Post, count-of-reads.Asked, count-of-reads.Learnt, kept-below t, kept.Post, in-place-reads.Asked, in-place-reads.Learnt) (replace-at t) replace.Post
+replace-other-requires-5 : (t : ℕ) → replace-lts.Need-other-requires-5 (nowhere-reads.Asked, nowhere-reads.Learnt, kind-of-reads.Asked, kind-of-reads.Learnt, nil-reads.Asked, nil-reads.Learnt, other-reads.Asked, other-reads.Learnt, in-seq-below t, in-seq.Post, in-par-below t, in-par.Post, condition-below t, condition.Post, count-of-reads.Asked, count-of-reads.Learnt, own-reads.Asked, own-reads.Learnt, kept-below t, kept.Post, in-place-reads.Asked, in-place-reads.Learnt) (replace-at t) replace.Post
 replace-other-requires-5 t c κs = search needs
 
-replace-other-requires-6 : (t : ℕ) → replace-lts.Need-other-requires-6 (kind-of-reads.Asked, kind-of-reads.Learnt, further-reads.Asked, further-reads.Learnt, put-reads.Asked, put-reads.Learnt, other-reads.Asked, other-reads.Learnt, in-seq-below t, in-seq.Post, in-par-below t, in-par.Post, condition-below t, condition.Post, count-of-reads.Asked, count-of-reads.Learnt, kept-below t, kept.Post, in-place-reads.Asked, in-place-reads.Learnt) (replace-at t) replace.Post
+replace-other-requires-6 : (t : ℕ) → replace-lts.Need-other-requires-6 (nowhere-reads.Asked, nowhere-reads.Learnt, kind-of-reads.Asked, kind-of-reads.Learnt, nil-reads.Asked, nil-reads.Learnt, other-reads.Asked, other-reads.Learnt, in-seq-below t, in-seq.Post, in-par-below t, in-par.Post, condition-below t, condition.Post, count-of-reads.Asked, count-of-reads.Learnt, own-reads.Asked, own-reads.Learnt, kept-below t, kept.Post, in-place-reads.Asked, in-place-reads.Learnt) (replace-at t) replace.Post
 replace-other-requires-6 t c κs = search needs
 
-replace-other-requires-7 : (t : ℕ) → replace-lts.Need-other-requires-7 (kind-of-reads.Asked, kind-of-reads.Learnt, further-reads.Asked, further-reads.Learnt, put-reads.Asked, put-reads.Learnt, other-reads.Asked, other-reads.Learnt, in-seq-below t, in-seq.Post, in-par-below t, in-par.Post, condition-below t, condition.Post, count-of-reads.Asked, count-of-reads.Learnt, kept-below t, kept.Post, in-place-reads.Asked, in-place-reads.Learnt) (replace-at t) replace.Post
+replace-other-requires-7 : (t : ℕ) → replace-lts.Need-other-requires-7 (nowhere-reads.Asked, nowhere-reads.Learnt, kind-of-reads.Asked, kind-of-reads.Learnt, nil-reads.Asked, nil-reads.Learnt, other-reads.Asked, other-reads.Learnt, in-seq-below t, in-seq.Post, in-par-below t, in-par.Post, condition-below t, condition.Post, count-of-reads.Asked, count-of-reads.Learnt, own-reads.Asked, own-reads.Learnt, kept-below t, kept.Post, in-place-reads.Asked, in-place-reads.Learnt) (replace-at t) replace.Post
 replace-other-requires-7 t c κs = search needs
 
-replace-in-place-requires : (t : ℕ) → replace-lts.Need-in-place-requires (kind-of-reads.Asked, kind-of-reads.Learnt, further-reads.Asked, further-reads.Learnt, put-reads.Asked, put-reads.Learnt, other-reads.Asked, other-reads.Learnt, in-seq-below t, in-seq.Post, in-par-below t, in-par.Post, condition-below t, condition.Post, count-of-reads.Asked, count-of-reads.Learnt, kept-below t, kept.Post, in-place-reads.Asked, in-place-reads.Learnt) (replace-at t) replace.Post
+replace-in-place-requires : (t : ℕ) → replace-lts.Need-in-place-requires (nowhere-reads.Asked, nowhere-reads.Learnt, kind-of-reads.Asked, kind-of-reads.Learnt, nil-reads.Asked, nil-reads.Learnt, other-reads.Asked, other-reads.Learnt, in-seq-below t, in-seq.Post, in-par-below t, in-par.Post, condition-below t, condition.Post, count-of-reads.Asked, count-of-reads.Learnt, own-reads.Asked, own-reads.Learnt, kept-below t, kept.Post, in-place-reads.Asked, in-place-reads.Learnt) (replace-at t) replace.Post
 replace-in-place-requires t c κs = search needs
 
-replace-other-requires-8 : (t : ℕ) → replace-lts.Need-other-requires-8 (kind-of-reads.Asked, kind-of-reads.Learnt, further-reads.Asked, further-reads.Learnt, put-reads.Asked, put-reads.Learnt, other-reads.Asked, other-reads.Learnt, in-seq-below t, in-seq.Post, in-par-below t, in-par.Post, condition-below t, condition.Post, count-of-reads.Asked, count-of-reads.Learnt, kept-below t, kept.Post, in-place-reads.Asked, in-place-reads.Learnt) (replace-at t) replace.Post
+replace-other-requires-8 : (t : ℕ) → replace-lts.Need-other-requires-8 (nowhere-reads.Asked, nowhere-reads.Learnt, kind-of-reads.Asked, kind-of-reads.Learnt, nil-reads.Asked, nil-reads.Learnt, other-reads.Asked, other-reads.Learnt, in-seq-below t, in-seq.Post, in-par-below t, in-par.Post, condition-below t, condition.Post, count-of-reads.Asked, count-of-reads.Learnt, own-reads.Asked, own-reads.Learnt, kept-below t, kept.Post, in-place-reads.Asked, in-place-reads.Learnt) (replace-at t) replace.Post
 replace-other-requires-8 t c κs = search needs
 
-replace-same-length : (t : ℕ) → replace-lts.Need-same-length (kind-of-reads.Asked, kind-of-reads.Learnt, further-reads.Asked, further-reads.Learnt, put-reads.Asked, put-reads.Learnt, other-reads.Asked, other-reads.Learnt, in-seq-below t, in-seq.Post, in-par-below t, in-par.Post, condition-below t, condition.Post, count-of-reads.Asked, count-of-reads.Learnt, kept-below t, kept.Post, in-place-reads.Asked, in-place-reads.Learnt) (replace-at t) replace.Post
+replace-same-length : (t : ℕ) → replace-lts.Need-same-length (nowhere-reads.Asked, nowhere-reads.Learnt, kind-of-reads.Asked, kind-of-reads.Learnt, nil-reads.Asked, nil-reads.Learnt, other-reads.Asked, other-reads.Learnt, in-seq-below t, in-seq.Post, in-par-below t, in-par.Post, condition-below t, condition.Post, count-of-reads.Asked, count-of-reads.Learnt, own-reads.Asked, own-reads.Learnt, kept-below t, kept.Post, in-place-reads.Asked, in-place-reads.Learnt) (replace-at t) replace.Post
 replace-same-length t c = search needs
 
-replace-returns-3 : (t : ℕ) → replace-lts.Need-returns-3 (kind-of-reads.Asked, kind-of-reads.Learnt, further-reads.Asked, further-reads.Learnt, put-reads.Asked, put-reads.Learnt, other-reads.Asked, other-reads.Learnt, in-seq-below t, in-seq.Post, in-par-below t, in-par.Post, condition-below t, condition.Post, count-of-reads.Asked, count-of-reads.Learnt, kept-below t, kept.Post, in-place-reads.Asked, in-place-reads.Learnt) (replace-at t) replace.Post
+replace-returns-3 : (t : ℕ) → replace-lts.Need-returns-3 (nowhere-reads.Asked, nowhere-reads.Learnt, kind-of-reads.Asked, kind-of-reads.Learnt, nil-reads.Asked, nil-reads.Learnt, other-reads.Asked, other-reads.Learnt, in-seq-below t, in-seq.Post, in-par-below t, in-par.Post, condition-below t, condition.Post, count-of-reads.Asked, count-of-reads.Learnt, own-reads.Asked, own-reads.Learnt, kept-below t, kept.Post, in-place-reads.Asked, in-place-reads.Learnt) (replace-at t) replace.Post
 unfolding nodeW seqW afterFirst parW parAfter closePar conditionW keptW nilW
 replace-returns-3 t c =
-    let f0 = c .before .before .before .before .before .match .keys1 in
-    let f1 = c .before .before .before .before .before .before .before .before .if2 .left in
-    let f2 = c .before .before .before .before .before .before .before .before .before .if1 .left in
-    (simp (tests, replace-step, ← (c .before .before .put .ensures .0), ← (c .before .before .put .ensures .1), ← (c .before .before .before .before .further .ensures), f0, ← (c .before .before .before .before .before .before .kind-of .ensures .0), f1, f2), simp (tests, replace-step, ← (c .before .before .put .ensures .0), ← (c .before .before .put .ensures .1), ← (c .before .before .before .before .further .ensures), f0, ← (c .before .before .before .before .before .before .kind-of .ensures .0), f1, f2))
+    let f0 = c .before .before .before .before .match .keys1 in
+    let f1 = c .before .before .before .before .before .before .before .if2 .left in
+    let f2 = c .before .before .before .before .before .before .before .before .if1 .left in
+    (simp (← (c .before .before .nil .ensures .0), tests, replace-step, f0, ← (c .before .before .before .before .before .kind-of .ensures .0), f1, f2), simp (← (c .before .before .nil .ensures .1), tests, replace-step, f0, ← (c .before .before .before .before .before .kind-of .ensures .0), f1, f2))
 
-replace-same-length-2 : (t : ℕ) → replace-lts.Need-same-length-2 (kind-of-reads.Asked, kind-of-reads.Learnt, further-reads.Asked, further-reads.Learnt, put-reads.Asked, put-reads.Learnt, other-reads.Asked, other-reads.Learnt, in-seq-below t, in-seq.Post, in-par-below t, in-par.Post, condition-below t, condition.Post, count-of-reads.Asked, count-of-reads.Learnt, kept-below t, kept.Post, in-place-reads.Asked, in-place-reads.Learnt) (replace-at t) replace.Post
+replace-same-length-2 : (t : ℕ) → replace-lts.Need-same-length-2 (nowhere-reads.Asked, nowhere-reads.Learnt, kind-of-reads.Asked, kind-of-reads.Learnt, nil-reads.Asked, nil-reads.Learnt, other-reads.Asked, other-reads.Learnt, in-seq-below t, in-seq.Post, in-par-below t, in-par.Post, condition-below t, condition.Post, count-of-reads.Asked, count-of-reads.Learnt, own-reads.Asked, own-reads.Learnt, kept-below t, kept.Post, in-place-reads.Asked, in-place-reads.Learnt) (replace-at t) replace.Post
 replace-same-length-2 t c = search needs
 
-replace-returns-4 : (t : ℕ) → replace-lts.Need-returns-4 (kind-of-reads.Asked, kind-of-reads.Learnt, further-reads.Asked, further-reads.Learnt, put-reads.Asked, put-reads.Learnt, other-reads.Asked, other-reads.Learnt, in-seq-below t, in-seq.Post, in-par-below t, in-par.Post, condition-below t, condition.Post, count-of-reads.Asked, count-of-reads.Learnt, kept-below t, kept.Post, in-place-reads.Asked, in-place-reads.Learnt) (replace-at t) replace.Post
+replace-returns-4 : (t : ℕ) → replace-lts.Need-returns-4 (nowhere-reads.Asked, nowhere-reads.Learnt, kind-of-reads.Asked, kind-of-reads.Learnt, nil-reads.Asked, nil-reads.Learnt, other-reads.Asked, other-reads.Learnt, in-seq-below t, in-seq.Post, in-par-below t, in-par.Post, condition-below t, condition.Post, count-of-reads.Asked, count-of-reads.Learnt, own-reads.Asked, own-reads.Learnt, kept-below t, kept.Post, in-place-reads.Asked, in-place-reads.Learnt) (replace-at t) replace.Post
 unfolding nodeW seqW afterFirst parW parAfter closePar conditionW keptW nilW
 replace-returns-4 t c =
     let f0 = c .before .before .before .before .match .keys2 in
@@ -383,10 +391,10 @@ replace-returns-4 t c =
     let f2 = c .before .before .before .before .before .before .before .before .if1 .left in
     (simp (tests, replace-step, ← (c .before .before .other .ensures .0), f0, ← (c .before .before .before .before .before .kind-of .ensures .0), f1, f2), simp (tests, replace-step, ← (c .before .before .other .ensures .1), f0, ← (c .before .before .before .before .before .kind-of .ensures .0), f1, f2))
 
-replace-same-length-3 : (t : ℕ) → replace-lts.Need-same-length-3 (kind-of-reads.Asked, kind-of-reads.Learnt, further-reads.Asked, further-reads.Learnt, put-reads.Asked, put-reads.Learnt, other-reads.Asked, other-reads.Learnt, in-seq-below t, in-seq.Post, in-par-below t, in-par.Post, condition-below t, condition.Post, count-of-reads.Asked, count-of-reads.Learnt, kept-below t, kept.Post, in-place-reads.Asked, in-place-reads.Learnt) (replace-at t) replace.Post
+replace-same-length-3 : (t : ℕ) → replace-lts.Need-same-length-3 (nowhere-reads.Asked, nowhere-reads.Learnt, kind-of-reads.Asked, kind-of-reads.Learnt, nil-reads.Asked, nil-reads.Learnt, other-reads.Asked, other-reads.Learnt, in-seq-below t, in-seq.Post, in-par-below t, in-par.Post, condition-below t, condition.Post, count-of-reads.Asked, count-of-reads.Learnt, own-reads.Asked, own-reads.Learnt, kept-below t, kept.Post, in-place-reads.Asked, in-place-reads.Learnt) (replace-at t) replace.Post
 replace-same-length-3 t c = search needs
 
-replace-returns-5 : (t : ℕ) → replace-lts.Need-returns-5 (kind-of-reads.Asked, kind-of-reads.Learnt, further-reads.Asked, further-reads.Learnt, put-reads.Asked, put-reads.Learnt, other-reads.Asked, other-reads.Learnt, in-seq-below t, in-seq.Post, in-par-below t, in-par.Post, condition-below t, condition.Post, count-of-reads.Asked, count-of-reads.Learnt, kept-below t, kept.Post, in-place-reads.Asked, in-place-reads.Learnt) (replace-at t) replace.Post
+replace-returns-5 : (t : ℕ) → replace-lts.Need-returns-5 (nowhere-reads.Asked, nowhere-reads.Learnt, kind-of-reads.Asked, kind-of-reads.Learnt, nil-reads.Asked, nil-reads.Learnt, other-reads.Asked, other-reads.Learnt, in-seq-below t, in-seq.Post, in-par-below t, in-par.Post, condition-below t, condition.Post, count-of-reads.Asked, count-of-reads.Learnt, own-reads.Asked, own-reads.Learnt, kept-below t, kept.Post, in-place-reads.Asked, in-place-reads.Learnt) (replace-at t) replace.Post
 unfolding nodeW seqW afterFirst parW parAfter closePar conditionW keptW nilW
 replace-returns-5 t c =
     let f0 = c .before .before .before .before .match .keys3 in
@@ -394,10 +402,10 @@ replace-returns-5 t c =
     let f2 = c .before .before .before .before .before .before .before .before .if1 .left in
     (simp (tests, replace-step, ← (c .before .before .in-seq .ensures .0), f0, ← (c .before .before .before .before .before .kind-of .ensures .0), f1, f2), simp (tests, replace-step, ← (c .before .before .in-seq .ensures .1), f0, ← (c .before .before .before .before .before .kind-of .ensures .0), f1, f2))
 
-replace-same-length-4 : (t : ℕ) → replace-lts.Need-same-length-4 (kind-of-reads.Asked, kind-of-reads.Learnt, further-reads.Asked, further-reads.Learnt, put-reads.Asked, put-reads.Learnt, other-reads.Asked, other-reads.Learnt, in-seq-below t, in-seq.Post, in-par-below t, in-par.Post, condition-below t, condition.Post, count-of-reads.Asked, count-of-reads.Learnt, kept-below t, kept.Post, in-place-reads.Asked, in-place-reads.Learnt) (replace-at t) replace.Post
+replace-same-length-4 : (t : ℕ) → replace-lts.Need-same-length-4 (nowhere-reads.Asked, nowhere-reads.Learnt, kind-of-reads.Asked, kind-of-reads.Learnt, nil-reads.Asked, nil-reads.Learnt, other-reads.Asked, other-reads.Learnt, in-seq-below t, in-seq.Post, in-par-below t, in-par.Post, condition-below t, condition.Post, count-of-reads.Asked, count-of-reads.Learnt, own-reads.Asked, own-reads.Learnt, kept-below t, kept.Post, in-place-reads.Asked, in-place-reads.Learnt) (replace-at t) replace.Post
 replace-same-length-4 t c = search needs
 
-replace-returns-6 : (t : ℕ) → replace-lts.Need-returns-6 (kind-of-reads.Asked, kind-of-reads.Learnt, further-reads.Asked, further-reads.Learnt, put-reads.Asked, put-reads.Learnt, other-reads.Asked, other-reads.Learnt, in-seq-below t, in-seq.Post, in-par-below t, in-par.Post, condition-below t, condition.Post, count-of-reads.Asked, count-of-reads.Learnt, kept-below t, kept.Post, in-place-reads.Asked, in-place-reads.Learnt) (replace-at t) replace.Post
+replace-returns-6 : (t : ℕ) → replace-lts.Need-returns-6 (nowhere-reads.Asked, nowhere-reads.Learnt, kind-of-reads.Asked, kind-of-reads.Learnt, nil-reads.Asked, nil-reads.Learnt, other-reads.Asked, other-reads.Learnt, in-seq-below t, in-seq.Post, in-par-below t, in-par.Post, condition-below t, condition.Post, count-of-reads.Asked, count-of-reads.Learnt, own-reads.Asked, own-reads.Learnt, kept-below t, kept.Post, in-place-reads.Asked, in-place-reads.Learnt) (replace-at t) replace.Post
 unfolding nodeW seqW afterFirst parW parAfter closePar conditionW keptW nilW
 replace-returns-6 t c =
     let f0 = c .before .before .before .before .match .keys4 in
@@ -405,10 +413,10 @@ replace-returns-6 t c =
     let f2 = c .before .before .before .before .before .before .before .before .if1 .left in
     (simp (tests, replace-step, ← (c .before .before .in-par .ensures .0), f0, ← (c .before .before .before .before .before .kind-of .ensures .0), f1, f2), simp (tests, replace-step, ← (c .before .before .in-par .ensures .1), f0, ← (c .before .before .before .before .before .kind-of .ensures .0), f1, f2))
 
-replace-same-length-5 : (t : ℕ) → replace-lts.Need-same-length-5 (kind-of-reads.Asked, kind-of-reads.Learnt, further-reads.Asked, further-reads.Learnt, put-reads.Asked, put-reads.Learnt, other-reads.Asked, other-reads.Learnt, in-seq-below t, in-seq.Post, in-par-below t, in-par.Post, condition-below t, condition.Post, count-of-reads.Asked, count-of-reads.Learnt, kept-below t, kept.Post, in-place-reads.Asked, in-place-reads.Learnt) (replace-at t) replace.Post
+replace-same-length-5 : (t : ℕ) → replace-lts.Need-same-length-5 (nowhere-reads.Asked, nowhere-reads.Learnt, kind-of-reads.Asked, kind-of-reads.Learnt, nil-reads.Asked, nil-reads.Learnt, other-reads.Asked, other-reads.Learnt, in-seq-below t, in-seq.Post, in-par-below t, in-par.Post, condition-below t, condition.Post, count-of-reads.Asked, count-of-reads.Learnt, own-reads.Asked, own-reads.Learnt, kept-below t, kept.Post, in-place-reads.Asked, in-place-reads.Learnt) (replace-at t) replace.Post
 replace-same-length-5 t c = search needs
 
-replace-returns-7 : (t : ℕ) → replace-lts.Need-returns-7 (kind-of-reads.Asked, kind-of-reads.Learnt, further-reads.Asked, further-reads.Learnt, put-reads.Asked, put-reads.Learnt, other-reads.Asked, other-reads.Learnt, in-seq-below t, in-seq.Post, in-par-below t, in-par.Post, condition-below t, condition.Post, count-of-reads.Asked, count-of-reads.Learnt, kept-below t, kept.Post, in-place-reads.Asked, in-place-reads.Learnt) (replace-at t) replace.Post
+replace-returns-7 : (t : ℕ) → replace-lts.Need-returns-7 (nowhere-reads.Asked, nowhere-reads.Learnt, kind-of-reads.Asked, kind-of-reads.Learnt, nil-reads.Asked, nil-reads.Learnt, other-reads.Asked, other-reads.Learnt, in-seq-below t, in-seq.Post, in-par-below t, in-par.Post, condition-below t, condition.Post, count-of-reads.Asked, count-of-reads.Learnt, own-reads.Asked, own-reads.Learnt, kept-below t, kept.Post, in-place-reads.Asked, in-place-reads.Learnt) (replace-at t) replace.Post
 unfolding nodeW seqW afterFirst parW parAfter closePar conditionW keptW nilW
 replace-returns-7 t c =
     let f0 = c .before .before .before .before .match .keys5 in
@@ -416,10 +424,10 @@ replace-returns-7 t c =
     let f2 = c .before .before .before .before .before .before .before .before .if1 .left in
     (simp (tests, replace-step, ← (c .before .before .condition .ensures .0), f0, ← (c .before .before .before .before .before .kind-of .ensures .0), f1, f2), simp (tests, replace-step, ← (c .before .before .condition .ensures .1), f0, ← (c .before .before .before .before .before .kind-of .ensures .0), f1, f2))
 
-replace-same-length-6 : (t : ℕ) → replace-lts.Need-same-length-6 (kind-of-reads.Asked, kind-of-reads.Learnt, further-reads.Asked, further-reads.Learnt, put-reads.Asked, put-reads.Learnt, other-reads.Asked, other-reads.Learnt, in-seq-below t, in-seq.Post, in-par-below t, in-par.Post, condition-below t, condition.Post, count-of-reads.Asked, count-of-reads.Learnt, kept-below t, kept.Post, in-place-reads.Asked, in-place-reads.Learnt) (replace-at t) replace.Post
+replace-same-length-6 : (t : ℕ) → replace-lts.Need-same-length-6 (nowhere-reads.Asked, nowhere-reads.Learnt, kind-of-reads.Asked, kind-of-reads.Learnt, nil-reads.Asked, nil-reads.Learnt, other-reads.Asked, other-reads.Learnt, in-seq-below t, in-seq.Post, in-par-below t, in-par.Post, condition-below t, condition.Post, count-of-reads.Asked, count-of-reads.Learnt, own-reads.Asked, own-reads.Learnt, kept-below t, kept.Post, in-place-reads.Asked, in-place-reads.Learnt) (replace-at t) replace.Post
 replace-same-length-6 t c = search needs
 
-replace-returns-8 : (t : ℕ) → replace-lts.Need-returns-8 (kind-of-reads.Asked, kind-of-reads.Learnt, further-reads.Asked, further-reads.Learnt, put-reads.Asked, put-reads.Learnt, other-reads.Asked, other-reads.Learnt, in-seq-below t, in-seq.Post, in-par-below t, in-par.Post, condition-below t, condition.Post, count-of-reads.Asked, count-of-reads.Learnt, kept-below t, kept.Post, in-place-reads.Asked, in-place-reads.Learnt) (replace-at t) replace.Post
+replace-returns-8 : (t : ℕ) → replace-lts.Need-returns-8 (nowhere-reads.Asked, nowhere-reads.Learnt, kind-of-reads.Asked, kind-of-reads.Learnt, nil-reads.Asked, nil-reads.Learnt, other-reads.Asked, other-reads.Learnt, in-seq-below t, in-seq.Post, in-par-below t, in-par.Post, condition-below t, condition.Post, count-of-reads.Asked, count-of-reads.Learnt, own-reads.Asked, own-reads.Learnt, kept-below t, kept.Post, in-place-reads.Asked, in-place-reads.Learnt) (replace-at t) replace.Post
 unfolding nodeW seqW afterFirst parW parAfter closePar conditionW keptW nilW
 replace-returns-8 t c =
     let f0 = c .before .before .before .before .match .keys6 in
@@ -427,21 +435,21 @@ replace-returns-8 t c =
     let f2 = c .before .before .before .before .before .before .before .before .if1 .left in
     (simp (tests, replace-step, ← (c .before .before .condition2 .ensures .0), f0, ← (c .before .before .before .before .before .kind-of .ensures .0), f1, f2), simp (tests, replace-step, ← (c .before .before .condition2 .ensures .1), f0, ← (c .before .before .before .before .before .kind-of .ensures .0), f1, f2))
 
-replace-same-length-7 : (t : ℕ) → replace-lts.Need-same-length-7 (kind-of-reads.Asked, kind-of-reads.Learnt, further-reads.Asked, further-reads.Learnt, put-reads.Asked, put-reads.Learnt, other-reads.Asked, other-reads.Learnt, in-seq-below t, in-seq.Post, in-par-below t, in-par.Post, condition-below t, condition.Post, count-of-reads.Asked, count-of-reads.Learnt, kept-below t, kept.Post, in-place-reads.Asked, in-place-reads.Learnt) (replace-at t) replace.Post
+replace-same-length-7 : (t : ℕ) → replace-lts.Need-same-length-7 (nowhere-reads.Asked, nowhere-reads.Learnt, kind-of-reads.Asked, kind-of-reads.Learnt, nil-reads.Asked, nil-reads.Learnt, other-reads.Asked, other-reads.Learnt, in-seq-below t, in-seq.Post, in-par-below t, in-par.Post, condition-below t, condition.Post, count-of-reads.Asked, count-of-reads.Learnt, own-reads.Asked, own-reads.Learnt, kept-below t, kept.Post, in-place-reads.Asked, in-place-reads.Learnt) (replace-at t) replace.Post
 replace-same-length-7 t c = search needs
 
-replace-returns-9 : (t : ℕ) → replace-lts.Need-returns-9 (kind-of-reads.Asked, kind-of-reads.Learnt, further-reads.Asked, further-reads.Learnt, put-reads.Asked, put-reads.Learnt, other-reads.Asked, other-reads.Learnt, in-seq-below t, in-seq.Post, in-par-below t, in-par.Post, condition-below t, condition.Post, count-of-reads.Asked, count-of-reads.Learnt, kept-below t, kept.Post, in-place-reads.Asked, in-place-reads.Learnt) (replace-at t) replace.Post
+replace-returns-9 : (t : ℕ) → replace-lts.Need-returns-9 (nowhere-reads.Asked, nowhere-reads.Learnt, kind-of-reads.Asked, kind-of-reads.Learnt, nil-reads.Asked, nil-reads.Learnt, other-reads.Asked, other-reads.Learnt, in-seq-below t, in-seq.Post, in-par-below t, in-par.Post, condition-below t, condition.Post, count-of-reads.Asked, count-of-reads.Learnt, own-reads.Asked, own-reads.Learnt, kept-below t, kept.Post, in-place-reads.Asked, in-place-reads.Learnt) (replace-at t) replace.Post
 unfolding nodeW seqW afterFirst parW parAfter closePar conditionW keptW nilW
 replace-returns-9 t c =
     let f0 = c .before .before .before .before .before .before .before .match .keys7 in
     let f1 = c .before .before .before .before .before .before .before .before .before .before .if2 .left in
     let f2 = c .before .before .before .before .before .before .before .before .before .before .before .if1 .left in
-    (simp (tests, replace-step, ← (c .before .before .kept .ensures .0), ← (c .before .before .before .before .before .before .further2 .ensures), ← (c .before .before .before .before .count-of .ensures .0), f0, ← (c .before .before .before .before .before .before .before .before .kind-of .ensures .0), f1, f2), simp (tests, replace-step, ← (c .before .before .kept .ensures .1), ← (c .before .before .before .before .before .before .further2 .ensures), ← (c .before .before .before .before .count-of .ensures .0), f0, ← (c .before .before .before .before .before .before .before .before .kind-of .ensures .0), f1, f2))
+    (c .before .before .kept .ensures .0 ∙ simp (tests, replace-step, c .before .before .before .before .own .ensures, ← (c .before .before .before .before .before .count-of .ensures .0), f0, ← (c .before .before .before .before .before .before .before .before .kind-of .ensures .0), f1, f2), c .before .before .kept .ensures .1 ∙ simp (tests, replace-step, c .before .before .before .before .own .ensures, ← (c .before .before .before .before .before .count-of .ensures .0), f0, ← (c .before .before .before .before .before .before .before .before .kind-of .ensures .0), f1, f2))
 
-replace-same-length-8 : (t : ℕ) → replace-lts.Need-same-length-8 (kind-of-reads.Asked, kind-of-reads.Learnt, further-reads.Asked, further-reads.Learnt, put-reads.Asked, put-reads.Learnt, other-reads.Asked, other-reads.Learnt, in-seq-below t, in-seq.Post, in-par-below t, in-par.Post, condition-below t, condition.Post, count-of-reads.Asked, count-of-reads.Learnt, kept-below t, kept.Post, in-place-reads.Asked, in-place-reads.Learnt) (replace-at t) replace.Post
+replace-same-length-8 : (t : ℕ) → replace-lts.Need-same-length-8 (nowhere-reads.Asked, nowhere-reads.Learnt, kind-of-reads.Asked, kind-of-reads.Learnt, nil-reads.Asked, nil-reads.Learnt, other-reads.Asked, other-reads.Learnt, in-seq-below t, in-seq.Post, in-par-below t, in-par.Post, condition-below t, condition.Post, count-of-reads.Asked, count-of-reads.Learnt, own-reads.Asked, own-reads.Learnt, kept-below t, kept.Post, in-place-reads.Asked, in-place-reads.Learnt) (replace-at t) replace.Post
 replace-same-length-8 t c = search needs
 
-replace-returns-10 : (t : ℕ) → replace-lts.Need-returns-10 (kind-of-reads.Asked, kind-of-reads.Learnt, further-reads.Asked, further-reads.Learnt, put-reads.Asked, put-reads.Learnt, other-reads.Asked, other-reads.Learnt, in-seq-below t, in-seq.Post, in-par-below t, in-par.Post, condition-below t, condition.Post, count-of-reads.Asked, count-of-reads.Learnt, kept-below t, kept.Post, in-place-reads.Asked, in-place-reads.Learnt) (replace-at t) replace.Post
+replace-returns-10 : (t : ℕ) → replace-lts.Need-returns-10 (nowhere-reads.Asked, nowhere-reads.Learnt, kind-of-reads.Asked, kind-of-reads.Learnt, nil-reads.Asked, nil-reads.Learnt, other-reads.Asked, other-reads.Learnt, in-seq-below t, in-seq.Post, in-par-below t, in-par.Post, condition-below t, condition.Post, count-of-reads.Asked, count-of-reads.Learnt, own-reads.Asked, own-reads.Learnt, kept-below t, kept.Post, in-place-reads.Asked, in-place-reads.Learnt) (replace-at t) replace.Post
 unfolding nodeW seqW afterFirst parW parAfter closePar conditionW keptW nilW
 replace-returns-10 t c =
     let f0 = c .before .before .before .before .match .keys8 in
@@ -449,21 +457,21 @@ replace-returns-10 t c =
     let f2 = c .before .before .before .before .before .before .before .before .if1 .left in
     (simp (tests, replace-step, ← (c .before .before .other2 .ensures .0), f0, ← (c .before .before .before .before .before .kind-of .ensures .0), f1, f2), simp (tests, replace-step, ← (c .before .before .other2 .ensures .1), f0, ← (c .before .before .before .before .before .kind-of .ensures .0), f1, f2))
 
-replace-same-length-9 : (t : ℕ) → replace-lts.Need-same-length-9 (kind-of-reads.Asked, kind-of-reads.Learnt, further-reads.Asked, further-reads.Learnt, put-reads.Asked, put-reads.Learnt, other-reads.Asked, other-reads.Learnt, in-seq-below t, in-seq.Post, in-par-below t, in-par.Post, condition-below t, condition.Post, count-of-reads.Asked, count-of-reads.Learnt, kept-below t, kept.Post, in-place-reads.Asked, in-place-reads.Learnt) (replace-at t) replace.Post
+replace-same-length-9 : (t : ℕ) → replace-lts.Need-same-length-9 (nowhere-reads.Asked, nowhere-reads.Learnt, kind-of-reads.Asked, kind-of-reads.Learnt, nil-reads.Asked, nil-reads.Learnt, other-reads.Asked, other-reads.Learnt, in-seq-below t, in-seq.Post, in-par-below t, in-par.Post, condition-below t, condition.Post, count-of-reads.Asked, count-of-reads.Learnt, own-reads.Asked, own-reads.Learnt, kept-below t, kept.Post, in-place-reads.Asked, in-place-reads.Learnt) (replace-at t) replace.Post
 replace-same-length-9 t c = search needs
 
-replace-returns-11 : (t : ℕ) → replace-lts.Need-returns-11 (kind-of-reads.Asked, kind-of-reads.Learnt, further-reads.Asked, further-reads.Learnt, put-reads.Asked, put-reads.Learnt, other-reads.Asked, other-reads.Learnt, in-seq-below t, in-seq.Post, in-par-below t, in-par.Post, condition-below t, condition.Post, count-of-reads.Asked, count-of-reads.Learnt, kept-below t, kept.Post, in-place-reads.Asked, in-place-reads.Learnt) (replace-at t) replace.Post
+replace-returns-11 : (t : ℕ) → replace-lts.Need-returns-11 (nowhere-reads.Asked, nowhere-reads.Learnt, kind-of-reads.Asked, kind-of-reads.Learnt, nil-reads.Asked, nil-reads.Learnt, other-reads.Asked, other-reads.Learnt, in-seq-below t, in-seq.Post, in-par-below t, in-par.Post, condition-below t, condition.Post, count-of-reads.Asked, count-of-reads.Learnt, own-reads.Asked, own-reads.Learnt, kept-below t, kept.Post, in-place-reads.Asked, in-place-reads.Learnt) (replace-at t) replace.Post
 unfolding nodeW seqW afterFirst parW parAfter closePar conditionW keptW nilW
 replace-returns-11 t c =
     let f0 = c .before .before .before .before .before .match .keys9 in
     let f1 = c .before .before .before .before .before .before .before .before .if2 .left in
     let f2 = c .before .before .before .before .before .before .before .before .before .if1 .left in
-    (simp (tests, replace-step, ← (c .before .before .kept2 .ensures .0), ← (c .before .before .before .before .further3 .ensures), f0, ← (c .before .before .before .before .before .before .kind-of .ensures .0), f1, f2), simp (tests, replace-step, ← (c .before .before .kept2 .ensures .1), ← (c .before .before .before .before .further3 .ensures), f0, ← (c .before .before .before .before .before .before .kind-of .ensures .0), f1, f2))
+    (c .before .before .kept2 .ensures .0 ∙ simp (tests, replace-step, c .before .before .before .before .own2 .ensures, f0, ← (c .before .before .before .before .before .before .kind-of .ensures .0), f1, f2), c .before .before .kept2 .ensures .1 ∙ simp (tests, replace-step, c .before .before .before .before .own2 .ensures, f0, ← (c .before .before .before .before .before .before .kind-of .ensures .0), f1, f2))
 
-replace-same-length-10 : (t : ℕ) → replace-lts.Need-same-length-10 (kind-of-reads.Asked, kind-of-reads.Learnt, further-reads.Asked, further-reads.Learnt, put-reads.Asked, put-reads.Learnt, other-reads.Asked, other-reads.Learnt, in-seq-below t, in-seq.Post, in-par-below t, in-par.Post, condition-below t, condition.Post, count-of-reads.Asked, count-of-reads.Learnt, kept-below t, kept.Post, in-place-reads.Asked, in-place-reads.Learnt) (replace-at t) replace.Post
+replace-same-length-10 : (t : ℕ) → replace-lts.Need-same-length-10 (nowhere-reads.Asked, nowhere-reads.Learnt, kind-of-reads.Asked, kind-of-reads.Learnt, nil-reads.Asked, nil-reads.Learnt, other-reads.Asked, other-reads.Learnt, in-seq-below t, in-seq.Post, in-par-below t, in-par.Post, condition-below t, condition.Post, count-of-reads.Asked, count-of-reads.Learnt, own-reads.Asked, own-reads.Learnt, kept-below t, kept.Post, in-place-reads.Asked, in-place-reads.Learnt) (replace-at t) replace.Post
 replace-same-length-10 t c = search needs
 
-replace-returns-12 : (t : ℕ) → replace-lts.Need-returns-12 (kind-of-reads.Asked, kind-of-reads.Learnt, further-reads.Asked, further-reads.Learnt, put-reads.Asked, put-reads.Learnt, other-reads.Asked, other-reads.Learnt, in-seq-below t, in-seq.Post, in-par-below t, in-par.Post, condition-below t, condition.Post, count-of-reads.Asked, count-of-reads.Learnt, kept-below t, kept.Post, in-place-reads.Asked, in-place-reads.Learnt) (replace-at t) replace.Post
+replace-returns-12 : (t : ℕ) → replace-lts.Need-returns-12 (nowhere-reads.Asked, nowhere-reads.Learnt, kind-of-reads.Asked, kind-of-reads.Learnt, nil-reads.Asked, nil-reads.Learnt, other-reads.Asked, other-reads.Learnt, in-seq-below t, in-seq.Post, in-par-below t, in-par.Post, condition-below t, condition.Post, count-of-reads.Asked, count-of-reads.Learnt, own-reads.Asked, own-reads.Learnt, kept-below t, kept.Post, in-place-reads.Asked, in-place-reads.Learnt) (replace-at t) replace.Post
 unfolding nodeW seqW afterFirst parW parAfter closePar conditionW keptW nilW
 replace-returns-12 t c =
     let f0 = c .before .before .before .before .match .keys10 in
@@ -471,10 +479,10 @@ replace-returns-12 t c =
     let f2 = c .before .before .before .before .before .before .before .before .if1 .left in
     (simp (tests, replace-step, ← (c .before .before .other3 .ensures .0), f0, ← (c .before .before .before .before .before .kind-of .ensures .0), f1, f2), simp (tests, replace-step, ← (c .before .before .other3 .ensures .1), f0, ← (c .before .before .before .before .before .kind-of .ensures .0), f1, f2))
 
-replace-same-length-11 : (t : ℕ) → replace-lts.Need-same-length-11 (kind-of-reads.Asked, kind-of-reads.Learnt, further-reads.Asked, further-reads.Learnt, put-reads.Asked, put-reads.Learnt, other-reads.Asked, other-reads.Learnt, in-seq-below t, in-seq.Post, in-par-below t, in-par.Post, condition-below t, condition.Post, count-of-reads.Asked, count-of-reads.Learnt, kept-below t, kept.Post, in-place-reads.Asked, in-place-reads.Learnt) (replace-at t) replace.Post
+replace-same-length-11 : (t : ℕ) → replace-lts.Need-same-length-11 (nowhere-reads.Asked, nowhere-reads.Learnt, kind-of-reads.Asked, kind-of-reads.Learnt, nil-reads.Asked, nil-reads.Learnt, other-reads.Asked, other-reads.Learnt, in-seq-below t, in-seq.Post, in-par-below t, in-par.Post, condition-below t, condition.Post, count-of-reads.Asked, count-of-reads.Learnt, own-reads.Asked, own-reads.Learnt, kept-below t, kept.Post, in-place-reads.Asked, in-place-reads.Learnt) (replace-at t) replace.Post
 replace-same-length-11 t c = search needs
 
-replace-returns-13 : (t : ℕ) → replace-lts.Need-returns-13 (kind-of-reads.Asked, kind-of-reads.Learnt, further-reads.Asked, further-reads.Learnt, put-reads.Asked, put-reads.Learnt, other-reads.Asked, other-reads.Learnt, in-seq-below t, in-seq.Post, in-par-below t, in-par.Post, condition-below t, condition.Post, count-of-reads.Asked, count-of-reads.Learnt, kept-below t, kept.Post, in-place-reads.Asked, in-place-reads.Learnt) (replace-at t) replace.Post
+replace-returns-13 : (t : ℕ) → replace-lts.Need-returns-13 (nowhere-reads.Asked, nowhere-reads.Learnt, kind-of-reads.Asked, kind-of-reads.Learnt, nil-reads.Asked, nil-reads.Learnt, other-reads.Asked, other-reads.Learnt, in-seq-below t, in-seq.Post, in-par-below t, in-par.Post, condition-below t, condition.Post, count-of-reads.Asked, count-of-reads.Learnt, own-reads.Asked, own-reads.Learnt, kept-below t, kept.Post, in-place-reads.Asked, in-place-reads.Learnt) (replace-at t) replace.Post
 unfolding nodeW seqW afterFirst parW parAfter closePar conditionW keptW nilW
 replace-returns-13 t c =
     let f0 = c .before .before .before .before .match .keys11 in
@@ -482,21 +490,21 @@ replace-returns-13 t c =
     let f2 = c .before .before .before .before .before .before .before .before .if1 .left in
     (simp (tests, replace-step, ← (c .before .before .other4 .ensures .0), f0, ← (c .before .before .before .before .before .kind-of .ensures .0), f1, f2), simp (tests, replace-step, ← (c .before .before .other4 .ensures .1), f0, ← (c .before .before .before .before .before .kind-of .ensures .0), f1, f2))
 
-replace-same-length-12 : (t : ℕ) → replace-lts.Need-same-length-12 (kind-of-reads.Asked, kind-of-reads.Learnt, further-reads.Asked, further-reads.Learnt, put-reads.Asked, put-reads.Learnt, other-reads.Asked, other-reads.Learnt, in-seq-below t, in-seq.Post, in-par-below t, in-par.Post, condition-below t, condition.Post, count-of-reads.Asked, count-of-reads.Learnt, kept-below t, kept.Post, in-place-reads.Asked, in-place-reads.Learnt) (replace-at t) replace.Post
+replace-same-length-12 : (t : ℕ) → replace-lts.Need-same-length-12 (nowhere-reads.Asked, nowhere-reads.Learnt, kind-of-reads.Asked, kind-of-reads.Learnt, nil-reads.Asked, nil-reads.Learnt, other-reads.Asked, other-reads.Learnt, in-seq-below t, in-seq.Post, in-par-below t, in-par.Post, condition-below t, condition.Post, count-of-reads.Asked, count-of-reads.Learnt, own-reads.Asked, own-reads.Learnt, kept-below t, kept.Post, in-place-reads.Asked, in-place-reads.Learnt) (replace-at t) replace.Post
 replace-same-length-12 t c = search needs
 
-replace-returns-14 : (t : ℕ) → replace-lts.Need-returns-14 (kind-of-reads.Asked, kind-of-reads.Learnt, further-reads.Asked, further-reads.Learnt, put-reads.Asked, put-reads.Learnt, other-reads.Asked, other-reads.Learnt, in-seq-below t, in-seq.Post, in-par-below t, in-par.Post, condition-below t, condition.Post, count-of-reads.Asked, count-of-reads.Learnt, kept-below t, kept.Post, in-place-reads.Asked, in-place-reads.Learnt) (replace-at t) replace.Post
+replace-returns-14 : (t : ℕ) → replace-lts.Need-returns-14 (nowhere-reads.Asked, nowhere-reads.Learnt, kind-of-reads.Asked, kind-of-reads.Learnt, nil-reads.Asked, nil-reads.Learnt, other-reads.Asked, other-reads.Learnt, in-seq-below t, in-seq.Post, in-par-below t, in-par.Post, condition-below t, condition.Post, count-of-reads.Asked, count-of-reads.Learnt, own-reads.Asked, own-reads.Learnt, kept-below t, kept.Post, in-place-reads.Asked, in-place-reads.Learnt) (replace-at t) replace.Post
 unfolding nodeW seqW afterFirst parW parAfter closePar conditionW keptW nilW
 replace-returns-14 t c =
     let f0 = c .before .before .before .before .before .match .keys12 in
     let f1 = c .before .before .before .before .before .before .before .before .if2 .left in
     let f2 = c .before .before .before .before .before .before .before .before .before .if1 .left in
-    (simp (tests, replace-step, ← (c .before .before .kept3 .ensures .0), ← (c .before .before .before .before .further4 .ensures), f0, ← (c .before .before .before .before .before .before .kind-of .ensures .0), f1, f2), simp (tests, replace-step, ← (c .before .before .kept3 .ensures .1), ← (c .before .before .before .before .further4 .ensures), f0, ← (c .before .before .before .before .before .before .kind-of .ensures .0), f1, f2))
+    (c .before .before .kept3 .ensures .0 ∙ simp (tests, replace-step, c .before .before .before .before .own3 .ensures, f0, ← (c .before .before .before .before .before .before .kind-of .ensures .0), f1, f2), c .before .before .kept3 .ensures .1 ∙ simp (tests, replace-step, c .before .before .before .before .own3 .ensures, f0, ← (c .before .before .before .before .before .before .kind-of .ensures .0), f1, f2))
 
-replace-same-length-13 : (t : ℕ) → replace-lts.Need-same-length-13 (kind-of-reads.Asked, kind-of-reads.Learnt, further-reads.Asked, further-reads.Learnt, put-reads.Asked, put-reads.Learnt, other-reads.Asked, other-reads.Learnt, in-seq-below t, in-seq.Post, in-par-below t, in-par.Post, condition-below t, condition.Post, count-of-reads.Asked, count-of-reads.Learnt, kept-below t, kept.Post, in-place-reads.Asked, in-place-reads.Learnt) (replace-at t) replace.Post
+replace-same-length-13 : (t : ℕ) → replace-lts.Need-same-length-13 (nowhere-reads.Asked, nowhere-reads.Learnt, kind-of-reads.Asked, kind-of-reads.Learnt, nil-reads.Asked, nil-reads.Learnt, other-reads.Asked, other-reads.Learnt, in-seq-below t, in-seq.Post, in-par-below t, in-par.Post, condition-below t, condition.Post, count-of-reads.Asked, count-of-reads.Learnt, own-reads.Asked, own-reads.Learnt, kept-below t, kept.Post, in-place-reads.Asked, in-place-reads.Learnt) (replace-at t) replace.Post
 replace-same-length-13 t c = search needs
 
-replace-returns-15 : (t : ℕ) → replace-lts.Need-returns-15 (kind-of-reads.Asked, kind-of-reads.Learnt, further-reads.Asked, further-reads.Learnt, put-reads.Asked, put-reads.Learnt, other-reads.Asked, other-reads.Learnt, in-seq-below t, in-seq.Post, in-par-below t, in-par.Post, condition-below t, condition.Post, count-of-reads.Asked, count-of-reads.Learnt, kept-below t, kept.Post, in-place-reads.Asked, in-place-reads.Learnt) (replace-at t) replace.Post
+replace-returns-15 : (t : ℕ) → replace-lts.Need-returns-15 (nowhere-reads.Asked, nowhere-reads.Learnt, kind-of-reads.Asked, kind-of-reads.Learnt, nil-reads.Asked, nil-reads.Learnt, other-reads.Asked, other-reads.Learnt, in-seq-below t, in-seq.Post, in-par-below t, in-par.Post, condition-below t, condition.Post, count-of-reads.Asked, count-of-reads.Learnt, own-reads.Asked, own-reads.Learnt, kept-below t, kept.Post, in-place-reads.Asked, in-place-reads.Learnt) (replace-at t) replace.Post
 unfolding nodeW seqW afterFirst parW parAfter closePar conditionW keptW nilW
 replace-returns-15 t c =
     let f0 = c .before .before .before .before .match .keys13 in
@@ -504,10 +512,10 @@ replace-returns-15 t c =
     let f2 = c .before .before .before .before .before .before .before .before .if1 .left in
     (simp (tests, replace-step, ← (c .before .before .other5 .ensures .0), f0, ← (c .before .before .before .before .before .kind-of .ensures .0), f1, f2), simp (tests, replace-step, ← (c .before .before .other5 .ensures .1), f0, ← (c .before .before .before .before .before .kind-of .ensures .0), f1, f2))
 
-replace-same-length-14 : (t : ℕ) → replace-lts.Need-same-length-14 (kind-of-reads.Asked, kind-of-reads.Learnt, further-reads.Asked, further-reads.Learnt, put-reads.Asked, put-reads.Learnt, other-reads.Asked, other-reads.Learnt, in-seq-below t, in-seq.Post, in-par-below t, in-par.Post, condition-below t, condition.Post, count-of-reads.Asked, count-of-reads.Learnt, kept-below t, kept.Post, in-place-reads.Asked, in-place-reads.Learnt) (replace-at t) replace.Post
+replace-same-length-14 : (t : ℕ) → replace-lts.Need-same-length-14 (nowhere-reads.Asked, nowhere-reads.Learnt, kind-of-reads.Asked, kind-of-reads.Learnt, nil-reads.Asked, nil-reads.Learnt, other-reads.Asked, other-reads.Learnt, in-seq-below t, in-seq.Post, in-par-below t, in-par.Post, condition-below t, condition.Post, count-of-reads.Asked, count-of-reads.Learnt, own-reads.Asked, own-reads.Learnt, kept-below t, kept.Post, in-place-reads.Asked, in-place-reads.Learnt) (replace-at t) replace.Post
 replace-same-length-14 t c = search needs
 
-replace-returns-16 : (t : ℕ) → replace-lts.Need-returns-16 (kind-of-reads.Asked, kind-of-reads.Learnt, further-reads.Asked, further-reads.Learnt, put-reads.Asked, put-reads.Learnt, other-reads.Asked, other-reads.Learnt, in-seq-below t, in-seq.Post, in-par-below t, in-par.Post, condition-below t, condition.Post, count-of-reads.Asked, count-of-reads.Learnt, kept-below t, kept.Post, in-place-reads.Asked, in-place-reads.Learnt) (replace-at t) replace.Post
+replace-returns-16 : (t : ℕ) → replace-lts.Need-returns-16 (nowhere-reads.Asked, nowhere-reads.Learnt, kind-of-reads.Asked, kind-of-reads.Learnt, nil-reads.Asked, nil-reads.Learnt, other-reads.Asked, other-reads.Learnt, in-seq-below t, in-seq.Post, in-par-below t, in-par.Post, condition-below t, condition.Post, count-of-reads.Asked, count-of-reads.Learnt, own-reads.Asked, own-reads.Learnt, kept-below t, kept.Post, in-place-reads.Asked, in-place-reads.Learnt) (replace-at t) replace.Post
 unfolding nodeW seqW afterFirst parW parAfter closePar conditionW keptW nilW
 replace-returns-16 t c =
     let f0 = c .before .before .before .before .match .keys14 in
@@ -515,10 +523,10 @@ replace-returns-16 t c =
     let f2 = c .before .before .before .before .before .before .before .before .if1 .left in
     (simp (tests, replace-step, ← (c .before .before .other6 .ensures .0), f0, ← (c .before .before .before .before .before .kind-of .ensures .0), f1, f2), simp (tests, replace-step, ← (c .before .before .other6 .ensures .1), f0, ← (c .before .before .before .before .before .kind-of .ensures .0), f1, f2))
 
-replace-same-length-15 : (t : ℕ) → replace-lts.Need-same-length-15 (kind-of-reads.Asked, kind-of-reads.Learnt, further-reads.Asked, further-reads.Learnt, put-reads.Asked, put-reads.Learnt, other-reads.Asked, other-reads.Learnt, in-seq-below t, in-seq.Post, in-par-below t, in-par.Post, condition-below t, condition.Post, count-of-reads.Asked, count-of-reads.Learnt, kept-below t, kept.Post, in-place-reads.Asked, in-place-reads.Learnt) (replace-at t) replace.Post
+replace-same-length-15 : (t : ℕ) → replace-lts.Need-same-length-15 (nowhere-reads.Asked, nowhere-reads.Learnt, kind-of-reads.Asked, kind-of-reads.Learnt, nil-reads.Asked, nil-reads.Learnt, other-reads.Asked, other-reads.Learnt, in-seq-below t, in-seq.Post, in-par-below t, in-par.Post, condition-below t, condition.Post, count-of-reads.Asked, count-of-reads.Learnt, own-reads.Asked, own-reads.Learnt, kept-below t, kept.Post, in-place-reads.Asked, in-place-reads.Learnt) (replace-at t) replace.Post
 replace-same-length-15 t c = search needs
 
-replace-returns-17 : (t : ℕ) → replace-lts.Need-returns-17 (kind-of-reads.Asked, kind-of-reads.Learnt, further-reads.Asked, further-reads.Learnt, put-reads.Asked, put-reads.Learnt, other-reads.Asked, other-reads.Learnt, in-seq-below t, in-seq.Post, in-par-below t, in-par.Post, condition-below t, condition.Post, count-of-reads.Asked, count-of-reads.Learnt, kept-below t, kept.Post, in-place-reads.Asked, in-place-reads.Learnt) (replace-at t) replace.Post
+replace-returns-17 : (t : ℕ) → replace-lts.Need-returns-17 (nowhere-reads.Asked, nowhere-reads.Learnt, kind-of-reads.Asked, kind-of-reads.Learnt, nil-reads.Asked, nil-reads.Learnt, other-reads.Asked, other-reads.Learnt, in-seq-below t, in-seq.Post, in-par-below t, in-par.Post, condition-below t, condition.Post, count-of-reads.Asked, count-of-reads.Learnt, own-reads.Asked, own-reads.Learnt, kept-below t, kept.Post, in-place-reads.Asked, in-place-reads.Learnt) (replace-at t) replace.Post
 unfolding nodeW seqW afterFirst parW parAfter closePar conditionW keptW nilW
 replace-returns-17 t c =
     let f0 = c .before .before .before .before .match .keys15 in
@@ -526,10 +534,10 @@ replace-returns-17 t c =
     let f2 = c .before .before .before .before .before .before .before .before .if1 .left in
     (simp (tests, replace-step, ← (c .before .before .other7 .ensures .0), f0, ← (c .before .before .before .before .before .kind-of .ensures .0), f1, f2), simp (tests, replace-step, ← (c .before .before .other7 .ensures .1), f0, ← (c .before .before .before .before .before .kind-of .ensures .0), f1, f2))
 
-replace-same-length-16 : (t : ℕ) → replace-lts.Need-same-length-16 (kind-of-reads.Asked, kind-of-reads.Learnt, further-reads.Asked, further-reads.Learnt, put-reads.Asked, put-reads.Learnt, other-reads.Asked, other-reads.Learnt, in-seq-below t, in-seq.Post, in-par-below t, in-par.Post, condition-below t, condition.Post, count-of-reads.Asked, count-of-reads.Learnt, kept-below t, kept.Post, in-place-reads.Asked, in-place-reads.Learnt) (replace-at t) replace.Post
+replace-same-length-16 : (t : ℕ) → replace-lts.Need-same-length-16 (nowhere-reads.Asked, nowhere-reads.Learnt, kind-of-reads.Asked, kind-of-reads.Learnt, nil-reads.Asked, nil-reads.Learnt, other-reads.Asked, other-reads.Learnt, in-seq-below t, in-seq.Post, in-par-below t, in-par.Post, condition-below t, condition.Post, count-of-reads.Asked, count-of-reads.Learnt, own-reads.Asked, own-reads.Learnt, kept-below t, kept.Post, in-place-reads.Asked, in-place-reads.Learnt) (replace-at t) replace.Post
 replace-same-length-16 t c = search needs
 
-replace-returns-18 : (t : ℕ) → replace-lts.Need-returns-18 (kind-of-reads.Asked, kind-of-reads.Learnt, further-reads.Asked, further-reads.Learnt, put-reads.Asked, put-reads.Learnt, other-reads.Asked, other-reads.Learnt, in-seq-below t, in-seq.Post, in-par-below t, in-par.Post, condition-below t, condition.Post, count-of-reads.Asked, count-of-reads.Learnt, kept-below t, kept.Post, in-place-reads.Asked, in-place-reads.Learnt) (replace-at t) replace.Post
+replace-returns-18 : (t : ℕ) → replace-lts.Need-returns-18 (nowhere-reads.Asked, nowhere-reads.Learnt, kind-of-reads.Asked, kind-of-reads.Learnt, nil-reads.Asked, nil-reads.Learnt, other-reads.Asked, other-reads.Learnt, in-seq-below t, in-seq.Post, in-par-below t, in-par.Post, condition-below t, condition.Post, count-of-reads.Asked, count-of-reads.Learnt, own-reads.Asked, own-reads.Learnt, kept-below t, kept.Post, in-place-reads.Asked, in-place-reads.Learnt) (replace-at t) replace.Post
 unfolding nodeW seqW afterFirst parW parAfter closePar conditionW keptW nilW
 replace-returns-18 t c =
     let f0 = c .before .before .before .before .match .keys16 in
@@ -537,10 +545,10 @@ replace-returns-18 t c =
     let f2 = c .before .before .before .before .before .before .before .before .if1 .left in
     (simp (tests, replace-step, ← (c .before .before .in-place .ensures .0), f0, ← (c .before .before .before .before .before .kind-of .ensures .0), f1, f2), simp (tests, replace-step, ← (c .before .before .in-place .ensures .1), f0, ← (c .before .before .before .before .before .kind-of .ensures .0), f1, f2))
 
-replace-same-length-17 : (t : ℕ) → replace-lts.Need-same-length-17 (kind-of-reads.Asked, kind-of-reads.Learnt, further-reads.Asked, further-reads.Learnt, put-reads.Asked, put-reads.Learnt, other-reads.Asked, other-reads.Learnt, in-seq-below t, in-seq.Post, in-par-below t, in-par.Post, condition-below t, condition.Post, count-of-reads.Asked, count-of-reads.Learnt, kept-below t, kept.Post, in-place-reads.Asked, in-place-reads.Learnt) (replace-at t) replace.Post
+replace-same-length-17 : (t : ℕ) → replace-lts.Need-same-length-17 (nowhere-reads.Asked, nowhere-reads.Learnt, kind-of-reads.Asked, kind-of-reads.Learnt, nil-reads.Asked, nil-reads.Learnt, other-reads.Asked, other-reads.Learnt, in-seq-below t, in-seq.Post, in-par-below t, in-par.Post, condition-below t, condition.Post, count-of-reads.Asked, count-of-reads.Learnt, own-reads.Asked, own-reads.Learnt, kept-below t, kept.Post, in-place-reads.Asked, in-place-reads.Learnt) (replace-at t) replace.Post
 replace-same-length-17 t c = search needs
 
-replace-returns-19 : (t : ℕ) → replace-lts.Need-returns-19 (kind-of-reads.Asked, kind-of-reads.Learnt, further-reads.Asked, further-reads.Learnt, put-reads.Asked, put-reads.Learnt, other-reads.Asked, other-reads.Learnt, in-seq-below t, in-seq.Post, in-par-below t, in-par.Post, condition-below t, condition.Post, count-of-reads.Asked, count-of-reads.Learnt, kept-below t, kept.Post, in-place-reads.Asked, in-place-reads.Learnt) (replace-at t) replace.Post
+replace-returns-19 : (t : ℕ) → replace-lts.Need-returns-19 (nowhere-reads.Asked, nowhere-reads.Learnt, kind-of-reads.Asked, kind-of-reads.Learnt, nil-reads.Asked, nil-reads.Learnt, other-reads.Asked, other-reads.Learnt, in-seq-below t, in-seq.Post, in-par-below t, in-par.Post, condition-below t, condition.Post, count-of-reads.Asked, count-of-reads.Learnt, own-reads.Asked, own-reads.Learnt, kept-below t, kept.Post, in-place-reads.Asked, in-place-reads.Learnt) (replace-at t) replace.Post
 unfolding nodeW
 replace-returns-19 t c =
     let f0 = c .before .before .before .before .before .before .before .if2 .left in
@@ -645,12 +653,12 @@ pub +condition+in-par+in-seq+kept+replace-spec : {M : Type 1} → statement M
     (kept-same-length t)
     (kept-returns t))
     λ t. replace-lts.spec (
+      nowhere-reads.Asked,
+      nowhere-reads.Learnt,
       kind-of-reads.Asked,
       kind-of-reads.Learnt,
-      further-reads.Asked,
-      further-reads.Learnt,
-      put-reads.Asked,
-      put-reads.Learnt,
+      nil-reads.Asked,
+      nil-reads.Learnt,
       other-reads.Asked,
       other-reads.Learnt,
       in-seq-below t,
@@ -661,6 +669,8 @@ pub +condition+in-par+in-seq+kept+replace-spec : {M : Type 1} → statement M
       condition.Post,
       count-of-reads.Asked,
       count-of-reads.Learnt,
+      own-reads.Asked,
+      own-reads.Learnt,
       kept-below t,
       kept.Post,
       in-place-reads.Asked,
@@ -668,13 +678,14 @@ pub +condition+in-par+in-seq+kept+replace-spec : {M : Type 1} → statement M
     )
     (replace-at t)
     replace.Post
+    (replace-nowhere-requires t)
     (replace-returns t)
+    (replace-nowhere-requires-2 t)
     (replace-returns-2 t)
     (replace-mul-kind-of t)
     (replace-shared-slice-read-kind-of t)
     (replace-kind-of-requires t)
-    (replace-further-requires t)
-    (replace-put-requires t)
+    (replace-nil-requires t)
     (replace-other-requires t)
     (replace-sub-in-seq t)
     (replace-in-seq-requires t)
@@ -684,20 +695,20 @@ pub +condition+in-par+in-seq+kept+replace-spec : {M : Type 1} → statement M
     (replace-condition-requires t)
     (replace-sub-condition-2 t)
     (replace-condition-requires-2 t)
-    (replace-further-requires-2 t)
     (replace-mul-count-of t)
     (replace-shared-slice-read-count-of t)
     (replace-count-of-requires t)
-    (replace-mul-kept t)
+    (replace-mul-count t)
+    (replace-own-requires t)
     (replace-sub-kept t)
     (replace-kept-requires t)
     (replace-other-requires-2 t)
-    (replace-further-requires-3 t)
+    (replace-own-requires-2 t)
     (replace-sub-kept-2 t)
     (replace-kept-requires-2 t)
     (replace-other-requires-3 t)
     (replace-other-requires-4 t)
-    (replace-further-requires-4 t)
+    (replace-own-requires-3 t)
     (replace-sub-kept-3 t)
     (replace-kept-requires-3 t)
     (replace-other-requires-5 t)

@@ -1,4 +1,4 @@
--- `in_place` of `handling::replace` meets its contract: the code is its mirror in specs/.
+-- `handling::replace::in_place`: the old process stands for cH.
 -- Assumes nothing.
 use Rattle.handling.specs.Replacing.{cHW}
 use Rattle.sock.proofs.Tests.{tests}

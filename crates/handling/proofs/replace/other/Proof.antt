@@ -1,4 +1,4 @@
--- `other` of `handling::replace` meets its contract: the code is its mirror in specs/.
+-- `handling::replace::other`: a process without cH is copied.
 -- Assumes nothing.
 use Rattle.handling.specs.Replacing.{otherW}
 use Rattle.sock.proofs.Tests.{tests}

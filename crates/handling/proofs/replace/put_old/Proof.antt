@@ -1,4 +1,4 @@
--- `put_old` of `handling::replace` meets its contract: the code is its mirror in specs/.
+-- `handling::replace::put_old`: nil, or a copy.
 -- Assumes nothing.
 use Rattle.handling.specs.Replacing.{oldEnd, oldOut}
 use Rattle.sock.proofs.Tests.{tests}

@@ -1,4 +1,4 @@
--- `less_if` of `handling::take` meets its contract: the code is its mirror in specs/.
+-- `handling::take::less_if`: one less where an entry was taken.
 -- Assumes nothing.
 use Rattle.handling.specs.Taking.{lessIf}
 use Rattle.sock.proofs.Tests.{tests}

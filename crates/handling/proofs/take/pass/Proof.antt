@@ -1,4 +1,4 @@
--- `pass` of `handling::take` meets its contract: the code is its mirror in specs/.
+-- `handling::take::pass`: an entry is taken out, or copied.
 -- Assumes nothing.
 use Rattle.handling.specs.Taking.{passW}
 use Rattle.sock.proofs.Tests.{tests}

@@ -1,4 +1,5 @@
--- `take` of `handling::take` meets its contract: the code is its mirror in specs/.
+-- `handling::take::take`. The loop's invariant: the entries left, passed from here on, give what all give from the start, and the output keeps
+-- its length. Its measure: the entries left.
 -- Assumes nothing.
 use mathlib.Core.Path.{_≡_, refl, sym, ap, _∙_}
 use lib.ListN.{length}

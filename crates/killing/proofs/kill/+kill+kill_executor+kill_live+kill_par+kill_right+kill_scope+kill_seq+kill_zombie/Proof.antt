@@ -1,4 +1,5 @@
--- `killing::kill::kill` and the functions it goes round with meet their contracts: each is its mirror. The measure is the depth.
+-- `killing::kill::kill` and the functions for single kinds that it goes round with. The measure is the depth left, times 4: `kill` goes to a
+-- kind's function with one level less, and that back to `kill` with the same; a par and a scope go through one more function.
 -- Assumes nothing.
 use borrow.Author.Needs.{needs}
 use Rattle.killing.specs.Killing.{Killed, goes, kindW, killW, seqOn, seqW, rightOn, rightW, leftOn, parW, zombieOn, zombieW, liveOn, liveW, scopeAt, scopeW, executorOn, executorW}
@@ -66,7 +67,7 @@ abbrev μ-kill-executor : Measures 3 kill-executor-kinds.ps ℕ
 μ-kill-executor κs a = a .1 .1 .1 .1 .1 .0 * 4 + 1
 
 abbrev μ-kill-live : Measures 3 kill-live-kinds.ps ℕ
-μ-kill-live κs a = a .1 .1 .1 .1 .1 .1 .0 * 4 + 1
+μ-kill-live κs a = a .1 .1 .1 .1 .1 .0 * 4 + 1
 
 abbrev μ-kill-par : Measures 3 kill-par-kinds.ps ℕ
 μ-kill-par κs a = a .1 .1 .1 .1 .1 .0 * 4 + 2
@@ -81,7 +82,7 @@ abbrev μ-kill-seq : Measures 3 kill-seq-kinds.ps ℕ
 μ-kill-seq κs a = a .1 .1 .1 .1 .1 .0 * 4 + 1
 
 abbrev μ-kill-zombie : Measures 3 kill-zombie-kinds.ps ℕ
-μ-kill-zombie κs a = a .1 .1 .1 .1 .1 .1 .0 * 4 + 1
+μ-kill-zombie κs a = a .1 .1 .1 .1 .1 .0 * 4 + 1
 
 abbrev kill-at : ℕ → In 3 kill-kinds.ps
 kill-at t = and 3 kill-kinds.ps (is 3 kill-kinds.ps μ-kill t) kill.Pre
@@ -395,7 +396,7 @@ kill-live-same-length-2 t c = search needs
 kill-live-returns-2 : (t : ℕ) → kill-live-lts.Need-returns-2 (copy-reads.Asked, copy-reads.Learnt, kill-below t, kill.Post, stuck-reads.Asked, stuck-reads.Learnt, zombie-head-reads.Asked, zombie-head-reads.Learnt, put-reads.Asked, put-reads.Learnt) (kill-live-at t) kill-live.Post
 kill-live-returns-2 t c =
     let a = c .before .before .before .before .before .before .before .before .before .before .before .before .before .before .before .before .before .before .before .before .before .before .args in
-    let e = live-made (killW (a .depth) (a .ws .now) (a .notes .now) (a .fault) (a .hole)) (a .ws .now) (a .hole) (a .at) (a .body) (a .out .now) (a .to) _ _ _ _ _ _ _ _ (c .before .before .before .before .before .before .before .before .before .before .before .before .before .before .before .before .before .copy .ensures .0) (c .before .before .before .before .before .before .before .before .before .before .before .before .before .before .before .before .before .copy .ensures .1) (c .before .before .before .before .before .before .before .before .before .before .before .before .before .kill .ensures .0) (c .before .before .before .before .before .before .before .before .before .before .before .before .before .kill .ensures .1) (c .before .before .before .before .before .before .before .before .before .if1 .left) (c .before .before .before .before .before .before .before .zombie-head .ensures) (c .before .before .before .before .before .before .put .ensures .0) (c .before .before .before .before .before .before .put .ensures .1) (c .before .before .put2 .ensures .1) in
+    let e = live-made (killW (a .depth) (a .ws .now) (a .notes .now) (a .fault) (a .hole)) (a .ws .now) (a .hole) (a .s .at) (a .s .body) (a .out .now) (a .to) _ _ _ _ _ _ _ _ (c .before .before .before .before .before .before .before .before .before .before .before .before .before .before .before .before .before .copy .ensures .0) (c .before .before .before .before .before .before .before .before .before .before .before .before .before .before .before .before .before .copy .ensures .1) (c .before .before .before .before .before .before .before .before .before .before .before .before .before .kill .ensures .0) (c .before .before .before .before .before .before .before .before .before .before .before .before .before .kill .ensures .1) (c .before .before .before .before .before .before .before .before .before .if1 .left) (c .before .before .before .before .before .before .before .zombie-head .ensures) (c .before .before .before .before .before .before .put .ensures .0) (c .before .before .before .before .before .before .put .ensures .1) (c .before .before .put2 .ensures .1) in
     (ap moved e, ap output e)
 
 kill-par-gone-requires : (t : ℕ) → kill-par-lts.Need-gone-requires (gone-reads.Asked, gone-reads.Learnt, pass-reads.Asked, pass-reads.Learnt, kill-below t, kill.Post, put-reads.Asked, put-reads.Learnt, stuck-reads.Asked, stuck-reads.Learnt, kill-right-below t, kill-right.Post) (kill-par-at t) kill-par.Post
@@ -477,7 +478,7 @@ kill-right-same-length t c = search needs
 kill-right-returns : (t : ℕ) → kill-right-lts.Need-returns (gone-reads.Asked, gone-reads.Learnt, down-reads.Asked, down-reads.Learnt, pass-reads.Asked, pass-reads.Learnt, less-one-reads.Asked, less-one-reads.Learnt, kill-below t, kill.Post, stuck-reads.Asked, stuck-reads.Learnt) (kill-right-at t) kill-right.Post
 kill-right-returns t c =
     let a = c .before .before .before .before .before .before .before .before .before .before .before .args in
-    let e = right-gone (a .depth) (killW (a .depth) (a .ws .now) (a .notes .now) (a .fault) (a .hole)) (a .ws .now) (a .notes .now) (a .at) (a .out .now) (a .one) (a .to) _ _ _ (sym (c .before .before .before .before .before .before .before .gone .ensures) ∙ (c .before .before .before .before .before .before .if1 .taken)) (c .before .pass .ensures) (c .less-one .ensures) (c .before .before .before .before .down .ensures .1) in
+    let e = right-gone (a .depth) (killW (a .depth) (a .ws .now) (a .notes .now) (a .fault) (a .hole)) (a .ws .now) (a .notes .now) (a .left .end) (a .out .now) (a .one) (a .left .to) _ _ _ (sym (c .before .before .before .before .before .before .before .gone .ensures) ∙ (c .before .before .before .before .before .before .if1 .taken)) (c .before .pass .ensures) (c .less-one .ensures) (c .before .before .before .before .down .ensures .1) in
     (ap moved e, ap output e)
 
 kill-right-kill-requires : (t : ℕ) → kill-right-lts.Need-kill-requires (gone-reads.Asked, gone-reads.Learnt, down-reads.Asked, down-reads.Learnt, pass-reads.Asked, pass-reads.Learnt, less-one-reads.Asked, less-one-reads.Learnt, kill-below t, kill.Post, stuck-reads.Asked, stuck-reads.Learnt) (kill-right-at t) kill-right.Post
@@ -508,7 +509,7 @@ kill-right-same-length-3 t c = search needs
 kill-right-returns-3 : (t : ℕ) → kill-right-lts.Need-returns-3 (gone-reads.Asked, gone-reads.Learnt, down-reads.Asked, down-reads.Learnt, pass-reads.Asked, pass-reads.Learnt, less-one-reads.Asked, less-one-reads.Learnt, kill-below t, kill.Post, stuck-reads.Asked, stuck-reads.Learnt) (kill-right-at t) kill-right.Post
 kill-right-returns-3 t c =
     let a = c .before .before .before .before .before .before .before .before .before .before .before .before .before .before .before .before .before .before .args in
-    let e = right-nil (a .depth) (killW (a .depth) (a .ws .now) (a .notes .now) (a .fault) (a .hole)) (a .ws .now) (a .notes .now) (a .at) (a .out .now) (a .one) (a .to) _ _ (sym (c .before .before .before .before .before .before .before .before .before .before .before .before .before .before .gone .ensures) ∙ (c .before .before .before .before .before .before .before .before .before .before .before .before .before .if1 .left)) (c .before .before .before .before .before .before .before .before .before .before .before .kill .ensures .0) (c .before .before .before .before .before .before .before .before .before .before .before .kill .ensures .1) (c .before .before .before .before .before .before .before .if2 .left) _ _ (c .before .before .before .before .before .if3 .taken) (c .less-one2 .ensures) (c .before .before .before .down2 .ensures .1) in
+    let e = right-nil (a .depth) (killW (a .depth) (a .ws .now) (a .notes .now) (a .fault) (a .hole)) (a .ws .now) (a .notes .now) (a .left .end) (a .out .now) (a .one) (a .left .to) _ _ (sym (c .before .before .before .before .before .before .before .before .before .before .before .before .before .before .gone .ensures) ∙ (c .before .before .before .before .before .before .before .before .before .before .before .before .before .if1 .left)) (c .before .before .before .before .before .before .before .before .before .before .before .kill .ensures .0) (c .before .before .before .before .before .before .before .before .before .before .before .kill .ensures .1) (c .before .before .before .before .before .before .before .if2 .left) _ _ (c .before .before .before .before .before .if3 .taken) (c .less-one2 .ensures) (c .before .before .before .down2 .ensures .1) in
     (ap moved e, ap output e)
 
 kill-right-same-length-4 : (t : ℕ) → kill-right-lts.Need-same-length-4 (gone-reads.Asked, gone-reads.Learnt, down-reads.Asked, down-reads.Learnt, pass-reads.Asked, pass-reads.Learnt, less-one-reads.Asked, less-one-reads.Learnt, kill-below t, kill.Post, stuck-reads.Asked, stuck-reads.Learnt) (kill-right-at t) kill-right.Post
@@ -517,7 +518,7 @@ kill-right-same-length-4 t c = search needs
 kill-right-returns-4 : (t : ℕ) → kill-right-lts.Need-returns-4 (gone-reads.Asked, gone-reads.Learnt, down-reads.Asked, down-reads.Learnt, pass-reads.Asked, pass-reads.Learnt, less-one-reads.Asked, less-one-reads.Learnt, kill-below t, kill.Post, stuck-reads.Asked, stuck-reads.Learnt) (kill-right-at t) kill-right.Post
 kill-right-returns-4 t c =
     let a = c .before .before .before .before .before .before .before .before .before .before .before .before .before .args in
-    let e = right-stays (a .depth) (killW (a .depth) (a .ws .now) (a .notes .now) (a .fault) (a .hole)) (a .ws .now) (a .notes .now) (a .at) (a .out .now) (a .one) (a .to) _ _ (sym (c .before .before .before .before .before .before .before .before .before .gone .ensures) ∙ (c .before .before .before .before .before .before .before .before .if1 .left)) (c .before .before .before .before .before .before .kill .ensures .0) (c .before .before .before .before .before .before .kill .ensures .1) (c .before .before .if2 .left) (c .if3 .left) in
+    let e = right-stays (a .depth) (killW (a .depth) (a .ws .now) (a .notes .now) (a .fault) (a .hole)) (a .ws .now) (a .notes .now) (a .left .end) (a .out .now) (a .one) (a .left .to) _ _ (sym (c .before .before .before .before .before .before .before .before .before .gone .ensures) ∙ (c .before .before .before .before .before .before .before .before .if1 .left)) (c .before .before .before .before .before .before .kill .ensures .0) (c .before .before .before .before .before .before .kill .ensures .1) (c .before .before .if2 .left) (c .if3 .left) in
     (ap moved e, ap output e)
 
 kill-scope-stuck-requires : (t : ℕ) → kill-scope-lts.Need-stuck-requires (stuck-reads.Asked, stuck-reads.Learnt, pass-list-reads.Asked, pass-list-reads.Learnt, zombie-of-reads.Asked, zombie-of-reads.Learnt, kill-zombie-below t, kill-zombie.Post, kill-live-below t, kill-live.Post) (kill-scope-at t) kill-scope.Post

@@ -1,4 +1,4 @@
--- `killing::kill::keep` meets its contract.
+-- `killing::kill::keep`: a notice is copied.
 -- Assumes nothing.
 use Rattle.killing.specs.Killing.{keptW}
 use Rattle.sock.proofs.Tests.{tests}

@@ -1,4 +1,4 @@
--- `killing::kill::kill_waiter` meets its contract.
+-- `killing::kill::kill_waiter`: its words are copied, then the second of them is set.
 -- Assumes nothing.
 use Rattle.killing.specs.Killing.{waiterW}
 use Rattle.sock.proofs.Tests.{tests}

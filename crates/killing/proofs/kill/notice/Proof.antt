@@ -1,4 +1,4 @@
--- `killing::kill::notice` meets its contract.
+-- `killing::kill::notice`: three words one after the other.
 -- Assumes nothing.
 use mathlib.Core.Path.{ap}
 use Rattle.killing.proofs.Kills.{notice-made}

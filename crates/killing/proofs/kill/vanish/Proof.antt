@@ -1,4 +1,4 @@
--- `killing::kill::vanish` meets its contract.
+-- `killing::kill::vanish`: one word, nil.
 -- Assumes nothing.
 use Rattle.killing.specs.Killing.{vanishedW}
 use Rattle.sock.proofs.Tests.{tests}

@@ -1,4 +1,4 @@
--- `killing::kill::zombie_head` meets its contract.
+-- `killing::kill::zombie_head`: around the hole mark 0, else mark 2.
 -- Assumes nothing.
 use Rattle.killing.specs.Killing.{headFor}
 use Rattle.sock.proofs.Tests.{tests}

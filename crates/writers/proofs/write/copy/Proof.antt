@@ -1,4 +1,4 @@
--- `writers::write::copy` meets its contract.
+-- `writers::write::copy`: where words or room are missing the output stays, else it is what `copy_all` leaves.
 -- Assumes nothing.
 use borrow.Author.Tests.{lt-ltb, le-ltb}
 use Rattle.writers.specs.Writing.{pasted, pastedEnd}

@@ -1,4 +1,4 @@
--- `writers::write::copy_all` meets its contract. The loop's invariant: the first i words are over the output.
+-- `writers::write::copy_all`. The loop's invariant: the first i words are over the output. Its measure: the words left, n - i.
 -- Assumes nothing.
 use Prim.Native.Nat.{_+_, _-_, _≤_, _<_}
 use native.Mathlib.Omega.{arith}

@@ -1,4 +1,4 @@
--- `writers::write::down` meets its contract. The loop's invariant: the words before i have moved down by one.
+-- `writers::write::down`. The loop's invariant: the words before i have moved down by one. Its measure: the words left, upto - i.
 -- Assumes nothing.
 use Prim.Native.Nat.{_-_, _≤_, _<_, max}
 use native.Mathlib.Omega.{arith}

@@ -1,4 +1,4 @@
--- `writers::write::put` meets its contract: past the end nothing is set.
+-- `writers::write::put`: past the end nothing is set.
 -- Assumes nothing.
 use mathlib.Core.Path.{sym}
 use lib.Seq.{set-out}

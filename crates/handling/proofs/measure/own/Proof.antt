@@ -1,0 +1,15 @@
+-- `handling::measure::own`: one level.
+-- Assumes nothing.
+use borrow.Author.Needs.{needs}
+use Rattle.handling.proofs.measure.own.Statement.{statement}
+use Rattle.handling.proofs.measure.own.Tie as tie
+
+further-requires : tie.Need-further-requires
+further-requires c κs = search needs
+
+returns : tie.Need-returns
+returns c =
+    simp (c .further .ensures)
+
+pub own-spec : {M : Type 1} → statement M
+own-spec = tie.close (tie.spec further-requires returns)
