@@ -13,7 +13,7 @@ use Rattle.reading.specs.Walk.{at, when, exprEnd, endAfter, processEnd, 
 use Rattle.reading.proofs.Combining.{Words}
 use Rattle.reading.proofs.Masks.{no-context}
 use Rattle.reading.proofs.Surveys.{process-inside}
-use Rattle.reading.proofs.Tests.{tests}
+use Rattle.sock.proofs.Tests.{tests}
 
 -- a number from 65,536 on has no kind
 node-beyond : (ex : ℕ → ℕ) (sub : ℕ → ℕ → ℕ) (ws : List ℕ) (c bound h i : ℕ) → 65536 ≤ h → nodeEnd ex sub ws c bound h i ≡ 0

@@ -26,6 +26,5 @@ pub mod Standing
 pub mod Surveyed
 pub mod Surveys
 pub mod Tallied
-pub mod Tests
 pub mod Totals
 pub mod Walks

@@ -14,7 +14,7 @@ use Rattle.sock.specs.Reading.{allowed, placed}
 use Rattle.sock.proofs.Table.{table, table-at}
 use Rattle.reading.specs.Tables.{stratumOf, placeOf, spareOf, stands, headMask, placesOf, bitOf, bitsOf, maskOf}
 use Rattle.reading.proofs.Contexts.{allowed-kind}
-use Rattle.reading.proofs.Tests.{tests}
+use Rattle.sock.proofs.Tests.{tests}
 
 looked : ℕ → ℕ
 looked i = maskOf (i / 32) (i % 32)

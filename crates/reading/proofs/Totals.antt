@@ -25,7 +25,7 @@ use Rattle.reading.specs.Survey.{surveyed}
 use Rattle.reading.specs.Answers.{endCounts, noCounts}
 use Rattle.reading.specs.Tally.{tallyAt, totalFrom}
 use Rattle.reading.proofs.Combining.{Words}
-use Rattle.reading.proofs.Tests.{some-ltb}
+use Rattle.sock.proofs.Tests.{some-ltb}
 use Rattle.reading.proofs.Standing.{fits-at, stands-at}
 use Rattle.reading.proofs.Known.{Known, survey-known, survey-unknown, known-issued}
 use Rattle.reading.proofs.Tallied.{tallied}

@@ -3,7 +3,7 @@
 use mathlib.Core.Path.{sym}
 use lib.Seq.{length-take-le}
 use borrow.Author.Needs.{needs}
-use Rattle.reading.proofs.Tests.{tests}
+use Rattle.sock.proofs.Tests.{tests}
 use Rattle.step_cases.specs.Lent.{lentOutput}
 use Rattle.step_cases.proofs.lend.Statement.{statement}
 use Rattle.step_cases.proofs.lend.Tie as tie

@@ -9,7 +9,7 @@ use Rattle.sock.specs.Words.{kindOf}
 use Rattle.layout.specs.Contexts.{running}
 use Rattle.reading.specs.Walk.{processEnd}
 use Rattle.reading.specs.Tally.{after, seqTally, parTally, scopeTally, executorTally, nodeTally, tallyAt}
-use Rattle.reading.proofs.Tests.{tests}
+use Rattle.sock.proofs.Tests.{tests}
 use Prim.Native.Nat.{ℕ, _+_, _-_, _*_, _<_}
 use borrow.Fn.Kinds.{In}
 use borrow.Fn.PlainCycle.{Measures, is, falls, and}

@@ -1,7 +1,7 @@
 -- `count` of `reading::ends` meets its contract: nothing is counted where there is no end.
 -- Assumes nothing.
 use Rattle.reading.specs.Tally.{counted}
-use Rattle.reading.proofs.Tests.{tests}
+use Rattle.sock.proofs.Tests.{tests}
 use borrow.Author.Needs.{needs}
 use Rattle.reading.proofs.ends.count.Statement.{statement}
 use Rattle.reading.proofs.ends.count.Tie as tie

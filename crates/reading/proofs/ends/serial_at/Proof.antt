@@ -2,7 +2,7 @@
 -- Assumes nothing.
 use native.Mathlib.Omega.{arith}
 use Rattle.reading.specs.Tally.{serialAt}
-use Rattle.reading.proofs.Tests.{tests}
+use Rattle.sock.proofs.Tests.{tests}
 use borrow.Author.Needs.{needs}
 use Rattle.reading.proofs.ends.serial_at.Statement.{statement}
 use Rattle.reading.proofs.ends.serial_at.Tie as tie

@@ -6,7 +6,7 @@ use Rattle.reading.proofs.Others.{beyond}
 use borrow.Author.Needs.{needs}
 use Rattle.reading.specs.Walk.{exprEnd, exprAt, operationEnd, on, when}
 use Rattle.reading.proofs.Walks.{expr-step}
-use Rattle.reading.proofs.Tests.{tests}
+use Rattle.sock.proofs.Tests.{tests}
 use Prim.Native.Nat.{ℕ, _+_, _*_, _<_}
 use borrow.Fn.Kinds.{In}
 use borrow.Fn.PlainCycle.{Measures, is, falls, and}

@@ -1,7 +1,7 @@
 -- `constant` of `reading::reader` meets its contract: no bit behind the first three, and two words follow.
 -- Assumes nothing.
 use Rattle.reading.specs.Walk.{constantEnd, when}
-use Rattle.reading.proofs.Tests.{tests}
+use Rattle.sock.proofs.Tests.{tests}
 use borrow.Author.Needs.{needs}
 use Rattle.reading.proofs.reader.constant.Statement.{statement}
 use Rattle.reading.proofs.reader.constant.Tie as tie

@@ -1,7 +1,7 @@
 -- `end` of `reading::reader` meets its contract: the five tests in order, each passed where the next is made.
 -- Assumes nothing.
 use Rattle.reading.specs.Walk.{endAfter}
-use Rattle.reading.proofs.Tests.{tests}
+use Rattle.sock.proofs.Tests.{tests}
 use borrow.Author.Needs.{needs}
 use Rattle.reading.proofs.reader.end.Statement.{statement}
 use Rattle.reading.proofs.reader.end.Tie as tie

@@ -2,7 +2,7 @@
 -- Assumes nothing.
 use borrow.Author.Needs.{needs}
 use Rattle.reading.specs.Walk.{entryContext}
-use Rattle.reading.proofs.Tests.{tests}
+use Rattle.sock.proofs.Tests.{tests}
 use Rattle.reading.proofs.reader.entry_context.Statement.{statement}
 use Rattle.reading.proofs.reader.entry_context.Tie as tie
 

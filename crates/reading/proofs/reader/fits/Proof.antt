@@ -5,7 +5,7 @@ use native.Mathlib.Omega.{arith}
 use lib.Bits.{and-le-r}
 use Rattle.reading.specs.Walk.{fitsAt}
 use Rattle.reading.proofs.Fitting.{fits-not, fits-last}
-use Rattle.reading.proofs.Tests.{tests}
+use Rattle.sock.proofs.Tests.{tests}
 use borrow.Author.Needs.{needs}
 use Rattle.reading.proofs.reader.fits.Statement.{statement}
 use Rattle.reading.proofs.reader.fits.Tie as tie

@@ -1,7 +1,7 @@
 -- `fixed` of `reading::reader` meets its contract: the word stands, and its bits below the unit are 0.
 -- Assumes nothing.
 use Rattle.reading.specs.Walk.{fixedAfter}
-use Rattle.reading.proofs.Tests.{tests}
+use Rattle.sock.proofs.Tests.{tests}
 use borrow.Author.Needs.{needs}
 use Rattle.reading.proofs.reader.fixed.Statement.{statement}
 use Rattle.reading.proofs.reader.fixed.Tie as tie

@@ -1,7 +1,7 @@
 -- `key_at` of `reading::reader` meets its contract: the three tests in order; each that fails gives no key.
 -- Assumes nothing.
 use Rattle.reading.specs.Walk.{keyAt}
-use Rattle.reading.proofs.Tests.{tests}
+use Rattle.sock.proofs.Tests.{tests}
 use borrow.Author.Needs.{needs}
 use Rattle.reading.proofs.reader.key_at.Statement.{statement}
 use Rattle.reading.proofs.reader.key_at.Tie as tie

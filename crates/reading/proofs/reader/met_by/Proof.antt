@@ -1,6 +1,6 @@
 -- `met_by` of `reading::reader` meets its contract: a test without `||`.
 -- Assumes nothing.
-use Rattle.reading.proofs.Tests.{tests}
+use Rattle.sock.proofs.Tests.{tests}
 use borrow.Author.Needs.{needs}
 use Rattle.reading.proofs.reader.met_by.Statement.{statement}
 use Rattle.reading.proofs.reader.met_by.Tie as tie

@@ -1,7 +1,7 @@
 -- `notice` of `reading::reader` meets its contract: where its two words stand and fit, it ends three words on.
 -- Assumes nothing.
 use Rattle.reading.specs.Walk.{noticeEnd, when}
-use Rattle.reading.proofs.Tests.{tests}
+use Rattle.sock.proofs.Tests.{tests}
 use borrow.Author.Needs.{needs}
 use Rattle.reading.proofs.reader.notice.Statement.{statement}
 use Rattle.reading.proofs.reader.notice.Tie as tie

@@ -1,7 +1,7 @@
 -- `notify` of `reading::reader` meets its contract: where its word stands and is clear, it ends two words on.
 -- Assumes nothing.
 use Rattle.reading.specs.Walk.{notifyEnd, when}
-use Rattle.reading.proofs.Tests.{tests}
+use Rattle.sock.proofs.Tests.{tests}
 use borrow.Author.Needs.{needs}
 use Rattle.reading.proofs.reader.notify.Statement.{statement}
 use Rattle.reading.proofs.reader.notify.Tie as tie

@@ -1,6 +1,6 @@
 -- `ready` of `reading::reader` meets its contract: room to keep parts is tested first, then what stands there.
 -- Assumes nothing.
-use Rattle.reading.proofs.Tests.{tests}
+use Rattle.sock.proofs.Tests.{tests}
 use borrow.Author.Needs.{needs}
 use Rattle.reading.proofs.reader.ready.Statement.{statement}
 use Rattle.reading.proofs.reader.ready.Tie as tie

@@ -1,7 +1,7 @@
 -- `rest_context` of `reading::reader` meets its contract: below 8 the stratum stays, else it is code.
 -- Assumes nothing.
 use Rattle.reading.specs.Walk.{restOf}
-use Rattle.reading.proofs.Tests.{tests}
+use Rattle.sock.proofs.Tests.{tests}
 use borrow.Author.Needs.{needs}
 use Rattle.reading.proofs.reader.rest_context.Statement.{statement}
 use Rattle.reading.proofs.reader.rest_context.Tie as tie

@@ -1,7 +1,7 @@
 -- `slot` of `reading::reader` meets its contract: by kind, or behind all kinds by the first three bits of an expression.
 -- Assumes nothing.
 use Rattle.reading.specs.Walk.{slotOf}
-use Rattle.reading.proofs.Tests.{tests}
+use Rattle.sock.proofs.Tests.{tests}
 use borrow.Author.Needs.{needs}
 use Rattle.reading.proofs.reader.slot.Statement.{statement}
 use Rattle.reading.proofs.reader.slot.Tie as tie

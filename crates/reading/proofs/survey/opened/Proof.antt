@@ -1,7 +1,7 @@
 -- `opened` of `reading::survey` meets its contract: the four tests in order, each passed where the next is made.
 -- Assumes nothing.
 use Rattle.reading.specs.Survey.{opens}
-use Rattle.reading.proofs.Tests.{tests}
+use Rattle.sock.proofs.Tests.{tests}
 use borrow.Author.Needs.{needs}
 use Rattle.reading.proofs.survey.opened.Statement.{statement}
 use Rattle.reading.proofs.survey.opened.Tie as tie
