@@ -15,8 +15,7 @@ use Rattle.rules.specs.declared.edit.Edit.{Edit}
 use Rattle.rules.proofs.Edits.{Edits}
 use Rattle.layout.specs.declared.limit.Limits.{Limits}
 use Rattle.stepping.proofs.Modest.{Modest}
-use Rattle.stepping.specs.declared.answer.Answer.{Answer}
-use Rattle.stepping.specs.Answering.{answered, refusing, sizedW, lengthOf, writeOneW, oneW, writeTwoW, twoW}
+use Rattle.stepping.specs.Answering.{changed, answered, refusing, sizedW, lengthOf, writeOneW, oneW, writeTwoW, twoW}
 use Rattle.stepping.proofs.Goal.{given, fitted, fitted-deep, fitted-by}
 use Rattle.stepping.proofs.Writes.{valued}
 use Rattle.stepping.proofs.Results.{next-sized, next-few, next-fits, next-written}
@@ -86,21 +85,22 @@ module _ {limits : Limits} (modest : Modest limits) (c : Config) (fits : FitsCon
       (edits1 : Edits ws (startOf c e) (startOf c e + size (engineAt c e .process)) p1 f1 q1) (p2 : Edit) (f2 : List ℕ) (q2 : Run)
       (edits2 : Edits ws (startOf c i) (startOf c i + size (engineAt c i .process)) p2 f2 q2) (issued : ℕ) where
     pub two-given :
-        (a : Answer) (out : List ℕ) → issued ≤ 65535 → runDepth q1 ≤ limits .deepest → runDepth q2 ≤ limits .deepest → p1 .fresh ≤ limits .longest → p2 .fresh ≤ limits .longest →
-        twoW limits ws (startOf c e) (startOf c e + size (engineAt c e .process)) p1 f1 (startOf c i) (startOf c i + size (engineAt c i .process)) p2 f2 issued a out
+        (kind serial fault : ℕ) (out : List ℕ) → issued ≤ 65535 → runDepth q1 ≤ limits .deepest → runDepth q2 ≤ limits .deepest → p1 .fresh ≤ limits .longest → p2 .fresh ≤ limits .longest →
+        twoW limits ws (changed (startOf c e) (startOf c e + size (engineAt c e .process)) p1) f1 (changed (startOf c i) (startOf c i + size (engineAt c i .process)) p2) f2
+        (record { kind = kind; serial = serial; fault = fault; issued = issued }) out
         ≡ given
         (fitted limits (length out)
         (record {
           config = two.next c fits e i low high ws same p1 f1 q1 edits1 p2 f2 q2 edits2 issued;
-          kind = a .kind;
-          serial = a .serial;
-          fault = a .fault;
+          kind = kind;
+          serial = serial;
+          fault = fault;
         }))
         out
     unfolding twoW
-    two-given a out fine d1 d2 g1 g2 =
+    two-given kind serial fault out fine d1 d2 g1 g2 =
         let s = two.two-sized c fits e i low high ws same p1 f1 q1 edits1 p2 f2 q2 edits2 issued modest short g1 g2 in
-        fitted-by limits _ out (writeTwoW ws (startOf c e) (startOf c e + size (engineAt c e .process)) p1 f1 (startOf c i) (startOf c i + size (engineAt c i .process)) p2 f2 issued out)
+        fitted-by limits _ out (writeTwoW ws (changed (startOf c e) (startOf c e + size (engineAt c e .process)) p1) f1 (changed (startOf c i) (startOf c i + size (engineAt c i .process)) p2) f2 issued out)
         (sizedW limits (sizedW limits (length ws) p1) p2) (sizedW limits (sizedW limits (length ws) p1) p2 % 65536) fine
         (depth-set (set (c .engines) e _) i _ (limits .deepest) (depth-set (c .engines) e _ (limits .deepest) deep d1) d2) (ap (λ k. lengthOf limits k (length out)) s) λ x y.
         (ap (λ k. k % 65536) s ∙ told _ (omega (arith, x, modest .few)), two.two-written c fits e i low high ws same p1 f1 q1 edits1 p2 f2 q2 edits2 issued out (omega (arith, x, modest .few)) y)

@@ -37,8 +37,10 @@ use Rattle.rules.proofs.Outcomes.{Ruled, tooDeep, ruled, becomes-ruled}
 use Rattle.layout.specs.declared.limit.Limits.{Limits}
 use Rattle.layout.specs.Limits.{figures}
 use Rattle.stepping.proofs.Modest.{Modest}
-use Rattle.stepping.specs.declared.answer.Answer.{Answer}
-use Rattle.stepping.specs.Answering.{answered, refusing, accepting, twoW}
+use Rattle.stepping.specs.declared.answer.Told.{Told}
+use Rattle.stepping.specs.declared.bundles.Encounter.{Encounter}
+use Rattle.stepping.specs.declared.bundles.Side.{Side}
+use Rattle.stepping.specs.Answering.{changed, answered, refusing, accepting, twoW}
 use Rattle.stepping.specs.Meeting.{fitW, serialW, sendW, receiveW}
 use Rattle.stepping.specs.Exchanging.{blank, lent, senderW, receiverW, orderedW, nextOf, issuedOf, faultOf, carryW, spentW, meetW, betweenW}
 use Rattle.stepping.proofs.Goal.{given, given-refused, fitted, fitted-spent}
@@ -111,46 +113,61 @@ module _ (ws : List ℕ) (ok : Words ws) (s : Starts) {limits : Limits} (modest 
 
   module _ (e : ℕ) (he : e < length (c .engines)) (i : ℕ) (hi : i < length (c .engines)) (other : e ≡ i → ⊥) (p : Edit) (f : List ℕ) (qa : Run)
       (editsA : Edits ws (startOf c e) (end e) p f qa) (deepA : runDepth qa ≤ limits .deepest) (fewA : p .fresh ≤ limits .longest) (r : Edit) (g : List ℕ) (qb : Run)
-      (editsB : Edits ws (startOf c i) (end i) r g qb) (deepB : runDepth qb ≤ limits .deepest) (fewB : r .fresh ≤ limits .longest) (issued : ℕ) (fine : issued ≤ 65535) (told : Answer) (out : List ℕ) where
+      (editsB : Edits ws (startOf c i) (end i) r g qb) (deepB : runDepth qb ≤ limits .deepest) (fewB : r .fresh ≤ limits .longest) (issued : ℕ) (fine : issued ≤ 65535) (kd branch serial fault : ℕ) (sa sb : Site) (out : List ℕ) where
     abbrev va : List ℕ
     va = valued (engineAt c e .values) (p .store .variable) (p .store .value)
 
     abbrev vb : List ℕ
     vb = valued (engineAt c i .values) (r .store .variable) (r .store .value)
 
+    abbrev told : Told
+    told = record { kind = kd % 32; serial = serial; fault = fault; issued = issued }
+
+    abbrev met : Encounter
+    met =
+        record {
+          kind = kd;
+          engine = e;
+          second = i;
+          branch = branch;
+          sender = record { start = startOf c e; end = end e; site = sa };
+          receiver = record { start = startOf c i; end = end i; site = sb };
+        }
+
     ordered-law :
-        orderedW limits ws (s .starts) e i p f r g issued told out
+        orderedW limits ws met p f r g told out
         ≡ given
         (fitted limits (length out)
         (record {
           config = record { issued = issued; engines = withEngine i vb qb (withEngine e va qa (c .engines)) };
-          kind = told .kind;
-          serial = told .serial;
-          fault = told .fault;
+          kind = kd % 32;
+          serial = serial;
+          fault = fault;
         }))
         out
     unfolding orderedW
     ordered-law =
-        rw (starts-at e he .0, starts-at e he .1, starts-at i hi .0, starts-at i hi .1) (by (ltb e i) refl)
+        by (ltb e i) refl
       where
         by :
             (b : Bool) → ltb e i ≡ b →
-            cond b (twoW limits ws (startOf c e) (end e) p f (startOf c i) (end i) r g issued told out) (twoW limits ws (startOf c i) (end i) r g (startOf c e) (end e) p f issued told out)
+            cond b (twoW limits ws (changed (startOf c e) (end e) p) f (changed (startOf c i) (end i) r) g told out)
+            (twoW limits ws (changed (startOf c i) (end i) r) g (changed (startOf c e) (end e) p) f told out)
             ≡ given
             (fitted limits (length out)
             (record {
               config = record { issued = issued; engines = withEngine i vb qb (withEngine e va qa (c .engines)) };
-              kind = told .kind;
-              serial = told .serial;
-              fault = told .fault;
+              kind = kd % 32;
+              serial = serial;
+              fault = fault;
             }))
             out
         by true z =
-            two-given modest c (known .readable .fitting) (known .readable .shallow) ws (known .same) short e i (ltb-true e i z) hi p f qa editsA r g qb editsB issued told out fine deepA deepB
+            two-given modest c (known .readable .fitting) (known .readable .shallow) ws (known .same) short e i (ltb-true e i z) hi p f qa editsA r g qb editsB issued (kd % 32) serial fault out fine deepA deepB
             fewA fewB
         by false z =
             let low : i < e = (let y : i ≤ e = ltb-false e i z in lt-of-le-ne y (λ w. other (sym w))) in
-            two-given modest c (known .readable .fitting) (known .readable .shallow) ws (known .same) short i e low he r g qb editsB p f qa editsA issued told out fine deepB deepA
+            two-given modest c (known .readable .fitting) (known .readable .shallow) ws (known .same) short i e low he r g qb editsB p f qa editsA issued (kd % 32) serial fault out fine deepB deepA
             fewB fewA
             ∙ same-stepped refl (set-comm (c .engines) i e _ _ (λ w. other (sym w))) refl refl refl out
 
@@ -211,6 +228,19 @@ module _ (ws : List ℕ) (ok : Words ws) (s : Starts) {limits : Limits} (modest 
     abbrev rest : List ℕ
     rest = lent (sb .at) (length ws) ws
 
+    -- the two, with their engines' processes at given places
+    abbrev two-at : Side → Side → Encounter
+    two-at x y = record { kind = kd; engine = e; second = i; branch = k .branch; sender = x; receiver = y }
+
+    abbrev both : Encounter
+    both = two-at (record { start = startOf c e; end = end e; site = sa }) (record { start = startOf c i; end = end i; site = sb })
+
+    -- where the survey says that they are
+    abbrev noted : Encounter
+    noted =
+        two-at (record { start = getD (s .starts) e 0; end = getD (s .starts) (e + 1) 0 - 64; site = sa })
+        (record { start = getD (s .starts) i 0; end = getD (s .starts) (i + 1) 0 - 64; site = sb })
+
     abbrev serial : ℕ
     serial = serialW part kd (suc (c .issued))
 
@@ -221,16 +251,16 @@ module _ (ws : List ℕ) (ok : Words ws) (s : Starts) {limits : Limits} (modest 
         (other : e ≡ i → ⊥) (x : Exchange) → spentW ws kd ≡ false →
         Trades (la .process) (lb .process) (engineAt c i .values) (issuedOf kd (c .issued) (suc (c .issued))) serial (faultOf kd) (sendW part kd i serial blank)
         (receiveW part values rest (offerW rest (k .branch)) kd e serial blank) x →
-        carryW limits ws part values rest (offerW rest (k .branch)) (s .starts) e i sa sb kd out ≡ given (fitted limits (length out) (exchanged c a b x)) out
+        carryW limits ws part values rest (offerW rest (k .branch)) both out ≡ given (fitted limits (length out) (exchanged c a b x)) out
     unfolding carryW senderW receiverW
     carry-law other x left t =
         let few1 = send-few blank blank-near (omega (arith, blank-length)) part kd i serial in
         let few2 = receive-few blank blank-near (omega (arith, blank-length)) part values rest (offerW rest (k .branch)) kd e serial in
         let p1 = rewritten-edits e ta la sa seenA (x .sender) _ _ (few1 .1 ∙ blank-length) (few1 .0) (t .sender .becomes) (t .sender .shallow) in
         let p2 = rewritten-edits i tb lb sb seenB (x .receiver) _ _ (few2 .1 ∙ blank-length) (few2 .0) (t .receiver) (t .shallow) in
-        rw (next-serial part kd left, next-issued part kd left, starts-at e (seenA .inside) .0, starts-at i (seenB .inside) .0)
+        rw (next-serial part kd left, next-issued part kd left)
         (ordered-law e (seenA .inside) i (seenB .inside) other _ _ (plug (la .frames) (x .sender)) (p1 .edits) (p1 .deep) (p1 .few) _ _ (plug (lb .frames) (x .receiver)) (p2 .edits)
-        (p2 .deep) (p2 .few) (issuedOf kd (c .issued) (suc (c .issued))) (issued-fine part kd left) (accepting (kd % 32) serial (faultOf kd) 0) out
+        (p2 .deep) (p2 .few) (issuedOf kd (c .issued) (suc (c .issued))) (issued-fine part kd left) kd (k .branch) serial (faultOf kd) sa sb out
         ∙ same-stepped (sym (t .issues))
         (ap₂ (λ (vs us : List ℕ). withEngine i vs (plug (lb .frames) (x .receiver)) (withEngine e us (plug (la .frames) (x .sender)) (c .engines)))
         (ap₂ (λ (y w : ℕ). valued (engineAt c i .values) y w) (p2 .x) (p2 .v) ∙ sym (t .values))
@@ -252,7 +282,7 @@ module _ (ws : List ℕ) (ok : Words ws) (s : Starts) {limits : Limits} (modest 
 
     meet-law :
         (other : e ≡ i → ⊥) →
-        meetW limits ws part values rest (s .starts) e i sa sb kd (k .branch) out ≡ given (pairOf limits c k a b m (length out)) out
+        meetW limits ws part values rest both out ≡ given (pairOf limits c k a b m (length out)) out
     unfolding meetW
     meet-law other =
         by (exchange (c .issued) e i (k .branch) (engineAt c i .values) (lb .process) m) refl
@@ -262,7 +292,7 @@ module _ (ws : List ℕ) (ok : Words ws) (s : Starts) {limits : Limits} (modest 
             (o : Option Exchange) → exchange (c .issued) e i (k .branch) (engineAt c i .values) (lb .process) m ≡ o →
             Pairs (c .issued) e i (k .branch) (la .process) (lb .process) (engineAt c i .values) part values rest kd blank o →
             cond (fitW part values rest (offerW rest (k .branch)) kd (k .branch) e i)
-            (cond (spentW ws kd) (answered (refusing 7) out) (carryW limits ws part values rest (offerW rest (k .branch)) (s .starts) e i sa sb kd out))
+            (cond (spentW ws kd) (answered (refusing 7) out) (carryW limits ws part values rest (offerW rest (k .branch)) both out))
             (answered (refusing 5) out)
             ≡ given (pairOf limits c k a b m (length out)) out
         by none q (misfit z) = rw (z, pair-none limits c k a (length out) b m other q) (sym (given-refused noFit out))
@@ -270,25 +300,28 @@ module _ (ws : List ℕ) (ok : Words ws) (s : Starts) {limits : Limits} (modest 
           where
             spend :
                 (y : Bool) → spentW ws kd ≡ y →
-                cond y (answered (refusing 7) out) (carryW limits ws part values rest (offerW rest (k .branch)) (s .starts) e i sa sb kd out)
+                cond y (answered (refusing 7) out) (carryW limits ws part values rest (offerW rest (k .branch)) both out)
                 ≡ given (fitted limits (length out) (exchanged c a b x)) out
             spend true f = spent-law x f (t .issues)
             spend false f = carry-law other x f t
 
     -- the answer and the output of a step between two
-    pub pair-law : betweenW limits ws (s .starts) e i sa sb kd (k .branch) out ≡ given (pairOf limits c k a b m (length out)) out
+    pub pair-law : betweenW limits ws noted out ≡ given (pairOf limits c k a b m (length out)) out
     unfolding betweenW
     pair-law = by (ℕ-discrete e i)
       where
         start-low : startOf c e ≤ length ws
         start-low = omega (arith, one-length c (known .readable .fitting) e (seenA .inside) ws (known .same))
 
-        by : Dec (e ≡ i) → betweenW limits ws (s .starts) e i sa sb kd (k .branch) out ≡ given (pairOf limits c k a b m (length out)) out
+        by : Dec (e ≡ i) → betweenW limits ws noted out ≡ given (pairOf limits c k a b m (length out)) out
         by (yes q) = rw (eq-eqb e i q, pair-same limits c k a (length out) b m q) (sym (given-refused noFit out))
         by (no q) =
             rw (
               ne-eqb e i q,
               starts-at e (seenA .inside) .0,
+              starts-at e (seenA .inside) .1,
+              starts-at i (seenB .inside) .0,
+              starts-at i (seenB .inside) .1,
               le-ltb (startOf c e) 64 (omega arith),
               le-ltb (length ws) (startOf c e) start-low,
               le-ltb (length ws) (sa .at) (partners.found-inside ws ok s modest known e (seenA .inside) ta la sa (seenA .spotted)),

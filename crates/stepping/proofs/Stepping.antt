@@ -16,8 +16,10 @@ use Rattle.finding.specs.declared.find.Found.the-variants.{Hit, Past}
 use Rattle.finding.specs.Find.{findW}
 use Rattle.rules.specs.Rewriting.{at}
 use Rattle.layout.specs.declared.limit.Limits.{Limits}
+use Rattle.stepping.specs.declared.bundles.Encounter.{Encounter}
 use Rattle.stepping.specs.declared.bundles.Engines.{Engines}
 use Rattle.stepping.specs.declared.bundles.Numbers.{Numbers}
+use Rattle.stepping.specs.Bundles.{encounterOf}
 use Rattle.stepping.specs.Answering.{answered, refusing}
 use Rattle.stepping.specs.Exchanging.{betweenW}
 use Rattle.stepping.specs.Stepping.{partnerW, receivingW, movingW, foundW, stepW}
@@ -34,10 +36,9 @@ module _
   receiving-past p q = ap (partnerW limits ws g k a kind out) (sym q) ∙ sought
 
   pub receiving-hit :
-      (b : Site) → f ≡ Hit b →
-      betweenW limits ws (g .starts) (k .engine) (k .second) a b kind (k .branch) out ≡ receivingW limits ws notes g k a kind out
+      (b : Site) (x : Encounter) → f ≡ Hit b → x ≡ encounterOf g k kind a b → betweenW limits ws x out ≡ receivingW limits ws notes g k a kind out
   unfolding partnerW
-  receiving-hit b q = ap (partnerW limits ws g k a kind out) (sym q) ∙ sought
+  receiving-hit b x q r = rw r (ap (partnerW limits ws g k a kind out) (sym q) ∙ sought)
 
 module _ (limits : Limits) (ws blank : List ℕ) (k : Numbers) (out : List ℕ) (s : Starts) (known : s ≡ surveyed (figures limits) 11 ws)
     (notes : List ℕ) (noted : notes ≡ surveyNotes (figures limits) ws blank) (some : s .engines ≡ 0 → ⊥) (few : s .engines ≤ 8)

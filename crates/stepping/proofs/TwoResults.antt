@@ -20,7 +20,7 @@ use Rattle.rules.proofs.Edits.{Edits, part-first, fresh-room}
 use Rattle.layout.specs.declared.limit.Limits.{Limits}
 use Rattle.stepping.proofs.Modest.{Modest}
 use Rattle.stepping.specs.Writing.{Written, engineW}
-use Rattle.stepping.specs.Answering.{sizedW, writeTwoW}
+use Rattle.stepping.specs.Answering.{changed, sizedW, writeTwoW}
 use Rattle.stepping.proofs.Overs.{over-length, over-then, Wrote, wrote-copy}
 use Rattle.stepping.proofs.Writes.{valued, engine-wrote}
 use Rattle.stepping.proofs.Results.{edit-sized, fresh-few, engines-set, one-split, one-length, one-front, one-behind}
@@ -208,7 +208,7 @@ module _ (c : Config) (fits : FitsConfig c) (e i : ℕ) (low : e < i) (high : i 
     -- and what is written
     pub two-written :
         (out : List ℕ) → length (encode next) ≤ 8192 → length (encode next) ≤ length out →
-        writeTwoW ws s1 e1 p1 f1 s2 e2 p2 f2 issued out ≡ over (encode next) out
+        writeTwoW ws (changed s1 e1 p1) f1 (changed s2 e2 p2) f2 issued out ≡ over (encode next) out
     unfolding writeTwoW size
     two-written out few room =
         let near : Near 8192 = near-of 8192 (lit< tt) in

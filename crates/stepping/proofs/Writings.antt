@@ -7,7 +7,7 @@ use lib.ListN.{length, set}
 use Rattle.writers.specs.Writing.{pasted, pastedEnd}
 use Rattle.rules.specs.declared.edit.Edit.{Edit}
 use Rattle.stepping.specs.Writing.{written, copyW, valueW, lentW, engineW}
-use Rattle.stepping.specs.Answering.{writeTwoW}
+use Rattle.stepping.specs.Answering.{changed, writeTwoW}
 
 pub engine-made :
     (ws : List ℕ) (from start end : ℕ) (p : Edit) (fresh out : List ℕ) (to : ℕ) (t : ℕ) (o1 o2 : List ℕ) →
@@ -22,6 +22,6 @@ pub two-made :
     t ≡ engineW ws 0 start end p fresh out 0 .to → o1 ≡ engineW ws 0 start end p fresh out 0 .out →
     u ≡ engineW ws end start2 end2 p2 fresh2 o1 t .to → o2 ≡ engineW ws end start2 end2 p2 fresh2 o1 t .out →
     o3 ≡ pasted ws end2 (length ws) o2 u →
-    set o3 1 issued ≡ writeTwoW ws start end p fresh start2 end2 p2 fresh2 issued out
+    set o3 1 issued ≡ writeTwoW ws (changed start end p) fresh (changed start2 end2 p2) fresh2 issued out
 unfolding writeTwoW copyW
 two-made ws start end p fresh start2 end2 p2 fresh2 issued out t u o1 o2 o3 e1 e2 e3 e4 e5 = rw (e5, e4, e3, e2, e1)

@@ -8,6 +8,8 @@ use Rattle.layout.specs.Positions.{onward}
 use Rattle.rules.specs.declared.edit.Edit.{Edit}
 use Rattle.layout.specs.declared.limit.Limits.{Limits}
 use Rattle.stepping.specs.declared.answer.Answer.{Answer}
+use Rattle.stepping.specs.declared.answer.Change.{Change}
+use Rattle.stepping.specs.declared.answer.Told.{Told}
 use Rattle.stepping.specs.Writing.{Written, written, copyW, engineW}
 
 -- an answer, and the output afterwards
@@ -42,14 +44,17 @@ oneW limits ws start end p kind fresh out =
     (answered (refusing (lengthOf limits size (length out))) out))
     (answered (refusing (p .number)) out)
 
-unfoldable pub writeTwoW : List ℕ → ℕ → ℕ → Edit → List ℕ → ℕ → ℕ → Edit → List ℕ → ℕ → List ℕ → List ℕ
-writeTwoW ws start end p fresh start2 end2 p2 fresh2 issued out =
-    let w = engineW ws 0 start end p fresh out 0 in
-    set (copyW ws end2 (length ws) (engineW ws end start2 end2 p2 fresh2 (w .out) (w .to)) .out) 1 issued
+abbrev pub changed : ℕ → ℕ → Edit → Change
+changed start end p = record { start = start; end = end; edit = p }
 
-unfoldable pub twoW : Limits → List ℕ → ℕ → ℕ → Edit → List ℕ → ℕ → ℕ → Edit → List ℕ → ℕ → Answer → List ℕ → Answered
-twoW limits ws start end p fresh start2 end2 p2 fresh2 issued a out =
-    let size = sizedW limits (sizedW limits (length ws) p) p2 in
+unfoldable pub writeTwoW : List ℕ → Change → List ℕ → Change → List ℕ → ℕ → List ℕ → List ℕ
+writeTwoW ws p fresh q fresh2 issued out =
+    let w = engineW ws 0 (p .start) (p .end) (p .edit) fresh out 0 in
+    set (copyW ws (q .end) (length ws) (engineW ws (p .end) (q .start) (q .end) (q .edit) fresh2 (w .out) (w .to)) .out) 1 issued
+
+unfoldable pub twoW : Limits → List ℕ → Change → List ℕ → Change → List ℕ → Told → List ℕ → Answered
+twoW limits ws p fresh q fresh2 told out =
+    let size = sizedW limits (sizedW limits (length ws) (p .edit)) (q .edit) in
     cond (eqb (lengthOf limits size (length out)) 0)
-    (answered (accepting (a .kind) (a .serial) (a .fault) (size % 65536)) (writeTwoW ws start end p fresh start2 end2 p2 fresh2 issued out))
+    (answered (accepting (told .kind) (told .serial) (told .fault) (size % 65536)) (writeTwoW ws p fresh q fresh2 (told .issued) out))
     (answered (refusing (lengthOf limits size (length out))) out)

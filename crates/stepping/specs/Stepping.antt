@@ -19,7 +19,7 @@ use Rattle.rules.specs.Rewriting.{at}
 use Rattle.layout.specs.declared.limit.Limits.{Limits}
 use Rattle.stepping.specs.declared.bundles.Engines.{Engines}
 use Rattle.stepping.specs.declared.bundles.Numbers.{Numbers}
-use Rattle.stepping.specs.Bundles.{startAt, sideOf, boundOf}
+use Rattle.stepping.specs.Bundles.{startAt, sideOf, boundOf, encounterOf}
 use Rattle.stepping.specs.Answering.{Answered, answered, refusing}
 use Rattle.stepping.specs.Exchanging.{betweenW}
 use Rattle.stepping.specs.Alone.{aloneW}
@@ -44,7 +44,7 @@ movesW ws notes i kind =
 
 unfoldable pub partnerW : Limits → List ℕ → Engines → Numbers → Site → ℕ → List ℕ → Found → Answered
 partnerW limits ws g k a kind out (Past p) = answered (refusing 4) out
-partnerW limits ws g k a kind out (Hit b) = betweenW limits ws (g .starts) (k .engine) (k .second) a b kind (k .branch) out
+partnerW limits ws g k a kind out (Hit b) = betweenW limits ws (encounterOf g k kind a b) out
 
 unfoldable pub receivingW : Limits → List ℕ → List ℕ → Engines → Numbers → Site → ℕ → List ℕ → Answered
 receivingW limits ws notes g k a kind out =

@@ -101,24 +101,37 @@ pub fn one(
     accept(kind, 0, 0, (length % 65536) as u16)
 }
 
+// A process start..end, and the edit of it.
+pub struct Change {
+    pub start: usize,
+    pub end: usize,
+    pub edit: Edit,
+}
+
+// What an exchange answers, and the serials issued after it.
+pub struct Told {
+    pub kind: u8,
+    pub serial: u16,
+    pub fault: u8,
+    pub issued: u16,
+}
+
 fn write_two(
     ws: &[u16],
-    start: usize,
-    end: usize,
-    p: Edit,
+    p: Change,
     fresh: &[u16],
-    start2: usize,
-    end2: usize,
-    p2: Edit,
+    q: Change,
     fresh2: &[u16],
     issued: u16,
     out: &mut [u16],
 ) -> usize
-    ensures { λ r. ⌜ (r ≡ 0) × (now (out .exit) ≡ writeTwoW (now (ws .entry)) start end p (now (fresh .entry)) start2 end2 p2 (now (fresh2 .entry)) issued (now (out .entry))) ⌝ }
+    ensures { λ r. ⌜ (r ≡ 0) × (now (out .exit) ≡ writeTwoW (now (ws .entry)) p (now (fresh .entry)) q (now (fresh2 .entry)) issued (now (out .entry))) ⌝ }
 {
-    let t = engine(ws, 0, start, end, p, fresh, out, 0);
-    let u = engine(ws, end, start2, end2, p2, fresh2, out, t);
-    copy(ws, end2, ws.len(), out, u);
+    let first = p.edit;
+    let second = q.edit;
+    let t = engine(ws, 0, p.start, p.end, first, fresh, out, 0);
+    let u = engine(ws, p.end, q.start, q.end, second, fresh2, out, t);
+    copy(ws, q.end, ws.len(), out, u);
     put(out, 1, issued);
     0
 }
@@ -126,43 +139,23 @@ fn write_two(
 // Two engines' processes under an edit each, in the order of the words, and the serials issued.
 pub fn two(
     ws: &[u16],
-    start: usize,
-    end: usize,
-    p: Edit,
+    p: Change,
     fresh: &[u16],
-    start2: usize,
-    end2: usize,
-    p2: Edit,
+    q: Change,
     fresh2: &[u16],
-    issued: u16,
-    accepted: Answer,
+    told: Told,
     limits: Limits,
     out: &mut [u16],
 ) -> Answer
-    ensures { λ r. ⌜ (r ≡ twoW limits (now (ws .entry)) start end p (now (fresh .entry)) start2 end2 p2 (now (fresh2 .entry)) issued accepted (now (out .entry)) .answer) × (now (out .exit) ≡ twoW limits (now (ws .entry)) start end p (now (fresh .entry)) start2 end2 p2 (now (fresh2 .entry)) issued accepted (now (out .entry)) .out) ⌝ }
+    ensures { λ r. ⌜ (r ≡ twoW limits (now (ws .entry)) p (now (fresh .entry)) q (now (fresh2 .entry)) told (now (out .entry)) .answer) × (now (out .exit) ≡ twoW limits (now (ws .entry)) p (now (fresh .entry)) q (now (fresh2 .entry)) told (now (out .entry)) .out) ⌝ }
 {
-    let length = sized(limits, sized(limits, ws.len(), p), p2);
+    let first = p.edit;
+    let second = q.edit;
+    let length = sized(limits, sized(limits, ws.len(), first), second);
     let n = fitting(limits, length, out.len());
     if n != 0 {
         return refuse(n);
     }
-    write_two(
-        ws,
-        start,
-        end,
-        p,
-        fresh,
-        start2,
-        end2,
-        p2,
-        fresh2,
-        issued,
-        out,
-    );
-    accept(
-        accepted.kind,
-        accepted.serial,
-        accepted.fault,
-        (length % 65536) as u16,
-    )
+    write_two(ws, p, fresh, q, fresh2, told.issued, out);
+    accept(told.kind, told.serial, told.fault, (length % 65536) as u16)
 }

@@ -4,7 +4,7 @@ use layout::limit::VALUES;
 use layout::number::wide;
 ghost use mathlib.Core.Path.{_≡_};
 ghost use Prim.Native.Nat.{_-_, _≤_, _<_};
-ghost use Rattle.stepping.specs.Bundles.{boundOf, sideOf};
+ghost use Rattle.stepping.specs.Bundles.{boundOf, sideOf, encounterOf};
 
 // Engine and position of the process that moves; a second engine, a position there, and a branch.
 pub struct Numbers {
@@ -53,4 +53,31 @@ pub fn side_in(g: Engines, engine: u16, site: Site) -> Side
     let start = starts[e];
     let end = end_before(starts[e + 1]);
     Side { start, end, site }
+}
+
+// Two processes that may exchange something: the kind of the one that sends, both engines, the branch, and where the two were found.
+pub struct Encounter {
+    pub kind: usize,
+    pub engine: u16,
+    pub second: u16,
+    pub branch: usize,
+    pub sender: Side,
+    pub receiver: Side,
+}
+
+pub fn meeting_of(g: Engines, k: Numbers, kind: usize, a: Site, b: Site) -> Encounter
+    requires { ⌜ (k .engine < 8) × (k .second < 8) ⌝ }
+    ensures { λ r. ⌜ r ≡ encounterOf g k kind a b ⌝ }
+{
+    let sender = side_in(g, k.engine, a);
+    let receiver = side_in(g, k.second, b);
+    let branch = wide(k.branch);
+    Encounter {
+        kind,
+        engine: k.engine,
+        second: k.second,
+        branch,
+        sender,
+        receiver,
+    }
 }

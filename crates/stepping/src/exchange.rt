@@ -1,16 +1,15 @@
 // A step between two different engines, the sender's and the receiver's.
 use crate::answer::Answer;
-use crate::answer::accept;
+use crate::answer::Change;
+use crate::answer::Told;
 use crate::answer::refuse;
 use crate::answer::two;
-use crate::bundles::Engines;
-use crate::bundles::Numbers;
-use crate::bundles::end_before;
+use crate::bundles::Encounter;
+use crate::bundles::Side;
 use crate::meeting::fit;
 use crate::meeting::receive;
 use crate::meeting::send;
 use crate::meeting::serial_of;
-use finding::find::Site;
 use layout::kind;
 use layout::limit::Limits;
 use layout::limit::VALUES;
@@ -21,23 +20,19 @@ use rules::edit::plain;
 use rules::pair::Offer;
 use rules::pair::offered;
 ghost use mathlib.Core.Path.{_≡_};
-ghost use Prim.Native.Nat.{_+_, _-_, _≤_, _<_};
-ghost use lib.ListN.{length, getD};
-ghost use Rattle.stepping.specs.Exchanging.{senderW, receiverW, orderedW, nextOf, issuedOf, faultOf, carryW, spentW, meetW, betweenW};
+ghost use Rattle.stepping.specs.Answering.{changed};
+ghost use Rattle.stepping.specs.Exchanging.{senderW, receiverW, nextOf, issuedOf, faultOf, carryW, spentW, meetW, betweenW};
 
-fn sender(
-    part: &[u16],
-    s: Site,
-    start: usize,
-    kind: usize,
-    server: u16,
-    serial: u16,
-    fresh: &mut [u16],
-) -> Edit
-    ensures { λ r. ⌜ (r ≡ senderW (now (part .entry)) s start kind server serial (now (fresh .entry)) .edit) × (now (fresh .exit) ≡ senderW (now (part .entry)) s start kind server serial (now (fresh .entry)) .fresh) ⌝ }
+// Scratch: no process that sends or receives turns into more than a few words that are new.
+const SCRATCH: usize = 64;
+
+fn sender(part: &[u16], x: Encounter, serial: u16, fresh: &mut [u16]) -> Edit
+    ensures { λ r. ⌜ (r ≡ senderW (now (part .entry)) x serial (now (fresh .entry)) .edit) × (now (fresh .exit) ≡ senderW (now (part .entry)) x serial (now (fresh .entry)) .fresh) ⌝ }
 {
-    let t = send(part, kind, server, serial, fresh);
-    plain(s, start, t, fresh)
+    let t = send(part, x.kind, x.second, serial, fresh);
+    let m = x.sender;
+    let s = m.site;
+    plain(s, m.start, t, fresh)
 }
 
 fn receiver(
@@ -45,73 +40,27 @@ fn receiver(
     values: &[u16],
     other: &[u16],
     o: Offer,
-    s: Site,
-    start: usize,
-    kind: usize,
-    client: u16,
+    x: Encounter,
     serial: u16,
     fresh: &mut [u16],
 ) -> Edit
-    ensures { λ r. ⌜ (r ≡ receiverW (now (part .entry)) (now (values .entry)) (now (other .entry)) o s start kind client serial (now (fresh .entry)) .edit) × (now (fresh .exit) ≡ receiverW (now (part .entry)) (now (values .entry)) (now (other .entry)) o s start kind client serial (now (fresh .entry)) .fresh) ⌝ }
+    ensures { λ r. ⌜ (r ≡ receiverW (now (part .entry)) (now (values .entry)) (now (other .entry)) o x serial (now (fresh .entry)) .edit) × (now (fresh .exit) ≡ receiverW (now (part .entry)) (now (values .entry)) (now (other .entry)) o x serial (now (fresh .entry)) .fresh) ⌝ }
 {
-    let t = receive(part, values, other, o, kind, client, serial, fresh);
-    plain(s, start, t, fresh)
+    let t = receive(part, values, other, o, x.kind, x.engine, serial, fresh);
+    let m = x.receiver;
+    let s = m.site;
+    plain(s, m.start, t, fresh)
 }
 
-// The two edits in the order of the engines.
-fn ordered(
-    ws: &[u16],
-    starts: [usize; 9],
-    e: usize,
-    i: usize,
-    p: Edit,
-    fresh: &[u16],
-    q: Edit,
-    fresh2: &[u16],
-    issued: u16,
-    accepted: Answer,
-    limits: Limits,
-    out: &mut [u16],
-) -> Answer
-    requires { ⌜ (e < 8) × (i < 8) ⌝ }
-    ensures { λ r. ⌜ (r ≡ orderedW limits (now (ws .entry)) starts e i p (now (fresh .entry)) q (now (fresh2 .entry)) issued accepted (now (out .entry)) .answer) × (now (out .exit) ≡ orderedW limits (now (ws .entry)) starts e i p (now (fresh .entry)) q (now (fresh2 .entry)) issued accepted (now (out .entry)) .out) ⌝ }
+// An edit of the process of one side.
+fn change(m: Side, edit: Edit) -> Change
+    ensures { λ r. ⌜ r ≡ changed (m .start) (m .end) edit ⌝ }
 {
-    let a = starts[e];
-    let b = end_before(starts[e + 1]);
-    let c = starts[i];
-    let d = end_before(starts[i + 1]);
-    if e < i {
-        return two(
-            ws,
-            a,
-            b,
-            p,
-            fresh,
-            c,
-            d,
-            q,
-            fresh2,
-            issued,
-            accepted,
-            limits,
-            out,
-        );
+    Change {
+        start: m.start,
+        end: m.end,
+        edit,
     }
-    two(
-        ws,
-        c,
-        d,
-        q,
-        fresh2,
-        a,
-        b,
-        p,
-        fresh,
-        issued,
-        accepted,
-        limits,
-        out,
-    )
 }
 
 // The serial that a solicit takes.
@@ -133,60 +82,40 @@ fn fault_of(kind: usize) -> u8
     if kind == kind::NOTICE { 1 } else { 0 }
 }
 
-// The two fit.
+// The two fit. Their edits are carried out in the order of the engines.
 fn carry(
     ws: &[u16],
     part: &[u16],
     values: &[u16],
     other: &[u16],
     o: Offer,
-    starts: [usize; 9],
-    engine: u16,
-    second: u16,
-    a: Site,
-    b: Site,
-    kind: usize,
+    x: Encounter,
     limits: Limits,
     out: &mut [u16],
 ) -> Answer
-    requires { ⌜ (engine < 8) × (second < 8) ⌝ }
-    ensures { λ r. ⌜ (r ≡ carryW limits (now (ws .entry)) (now (part .entry)) (now (values .entry)) (now (other .entry)) o starts engine second a b kind (now (out .entry)) .answer) × (now (out .exit) ≡ carryW limits (now (ws .entry)) (now (part .entry)) (now (values .entry)) (now (other .entry)) o starts engine second a b kind (now (out .entry)) .out) ⌝ }
+    ensures { λ r. ⌜ (r ≡ carryW limits (now (ws .entry)) (now (part .entry)) (now (values .entry)) (now (other .entry)) o x (now (out .entry)) .answer) × (now (out .exit) ≡ carryW limits (now (ws .entry)) (now (part .entry)) (now (values .entry)) (now (other .entry)) o x (now (out .entry)) .out) ⌝ }
 {
-    let e = wide(engine);
-    let i = wide(second);
     let issued = word(ws, 1);
     let next = next_of(issued);
-    let serial = serial_of(part, kind, next);
-    let mut fresh = [0u16; 64];
-    let mut fresh2 = [0u16; 64];
-    let p = sender(part, a, starts[e], kind, second, serial, &mut fresh);
-    let q = receiver(
-        part,
-        values,
-        other,
-        o,
-        b,
-        starts[i],
-        kind,
-        engine,
+    let serial = serial_of(part, x.kind, next);
+    let mut fresh = [0u16; SCRATCH];
+    let first = sender(part, x, serial, &mut fresh);
+    let mut fresh2 = [0u16; SCRATCH];
+    let second = receiver(part, values, other, o, x, serial, &mut fresh2);
+    let told = Told {
+        kind: (x.kind % 32) as u8,
         serial,
-        &mut fresh2,
-    );
-    let accepted = accept((kind % 32) as u8, serial, fault_of(kind), 0);
-    ordered(
-        ws,
-        starts,
-        e,
-        i,
-        p,
-        &fresh,
-        q,
-        &fresh2,
-        issued_of(kind, issued, next),
-        accepted,
-        limits,
-        out,
-    )
+        fault: fault_of(x.kind),
+        issued: issued_of(x.kind, issued, next),
+    };
+    let a = x.sender;
+    let b = x.receiver;
+    let p = change(a, first);
+    let q = change(b, second);
+    if x.engine < x.second {
+        return two(ws, p, &fresh, q, &fresh2, told, limits, out);
+    }
+    two(ws, q, &fresh2, p, &fresh, told, limits, out)
 }
 
 // Whether a solicit finds no serial left.
@@ -205,74 +134,41 @@ fn meet(
     part: &[u16],
     values: &[u16],
     other: &[u16],
-    starts: [usize; 9],
-    engine: u16,
-    second: u16,
-    a: Site,
-    b: Site,
-    kind: usize,
-    branch: usize,
+    x: Encounter,
     limits: Limits,
     out: &mut [u16],
 ) -> Answer
-    requires { ⌜ (engine < 8) × (second < 8) ⌝ }
-    ensures { λ r. ⌜ (r ≡ meetW limits (now (ws .entry)) (now (part .entry)) (now (values .entry)) (now (other .entry)) starts engine second a b kind branch (now (out .entry)) .answer) × (now (out .exit) ≡ meetW limits (now (ws .entry)) (now (part .entry)) (now (values .entry)) (now (other .entry)) starts engine second a b kind branch (now (out .entry)) .out) ⌝ }
+    ensures { λ r. ⌜ (r ≡ meetW limits (now (ws .entry)) (now (part .entry)) (now (values .entry)) (now (other .entry)) x (now (out .entry)) .answer) × (now (out .exit) ≡ meetW limits (now (ws .entry)) (now (part .entry)) (now (values .entry)) (now (other .entry)) x (now (out .entry)) .out) ⌝ }
 {
-    let o = offered(other, branch);
+    let o = offered(other, x.branch);
     if fit(
         part,
         values,
         other,
         o,
-        kind,
-        branch,
-        wide(engine),
-        wide(second),
+        x.kind,
+        x.branch,
+        wide(x.engine),
+        wide(x.second),
     ) {
-        if spent(ws, kind) {
+        if spent(ws, x.kind) {
             return refuse(7);
         }
-        return carry(
-            ws,
-            part,
-            values,
-            other,
-            o,
-            starts,
-            engine,
-            second,
-            a,
-            b,
-            kind,
-            limits,
-            out,
-        );
+        return carry(ws, part, values, other, o, x, limits, out);
     }
     refuse(5)
 }
 
-// The sender a stands in the first engine, the receiver b in the second. That the places are inside is known of all that was found.
-pub(crate) fn between(
-    ws: &[u16],
-    g: Engines,
-    k: Numbers,
-    a: Site,
-    b: Site,
-    kind: usize,
-    limits: Limits,
-    out: &mut [u16],
-) -> Answer
-    requires { ⌜ (k .engine < 8) × (k .second < 8) ⌝ }
-    ensures { λ r. ⌜ (r ≡ betweenW limits (now (ws .entry)) (g .starts) (k .engine) (k .second) a b kind (k .branch) (now (out .entry)) .answer) × (now (out .exit) ≡ betweenW limits (now (ws .entry)) (g .starts) (k .engine) (k .second) a b kind (k .branch) (now (out .entry)) .out) ⌝ }
+// That the places are inside is known of all that was found.
+pub(crate) fn between(ws: &[u16], x: Encounter, limits: Limits, out: &mut [u16]) -> Answer
+    ensures { λ r. ⌜ (r ≡ betweenW limits (now (ws .entry)) x (now (out .entry)) .answer) × (now (out .exit) ≡ betweenW limits (now (ws .entry)) x (now (out .entry)) .out) ⌝ }
 {
-    let engine = k.engine;
-    let second = k.second;
-    let e = wide(engine);
-    let starts = g.starts;
-    let start = starts[e];
-    let at = a.at;
-    let to = b.at;
-    if engine == second {
+    let a = x.sender;
+    let b = x.receiver;
+    let start = a.start;
+    let at = a.site.at;
+    let to = b.site.at;
+    if x.engine == x.second {
         return refuse(5);
     }
     if start < VALUES {
@@ -288,19 +184,5 @@ pub(crate) fn between(
         return refuse(5);
     }
     let from = start - VALUES;
-    meet(
-        ws,
-        &ws[at..],
-        &ws[from..start],
-        &ws[to..],
-        starts,
-        engine,
-        second,
-        a,
-        b,
-        kind,
-        wide(k.branch),
-        limits,
-        out,
-    )
+    meet(ws, &ws[at..], &ws[from..start], &ws[to..], x, limits, out)
 }

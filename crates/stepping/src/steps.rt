@@ -5,6 +5,7 @@ use crate::answer::refuse;
 use crate::bundles::Engines;
 use crate::bundles::Numbers;
 use crate::bundles::bound;
+use crate::bundles::meeting_of;
 use crate::bundles::side_in;
 use crate::exchange::between;
 use finding::find::Found;
@@ -121,7 +122,7 @@ fn receiving(
         1,
     ) {
         Found::Past(e) => refuse(4),
-        Found::Hit(b) => between(ws, g, k, a, b, kind, limits, out),
+        Found::Hit(b) => between(ws, meeting_of(g, k, kind, a, b), limits, out),
     }
 }
 

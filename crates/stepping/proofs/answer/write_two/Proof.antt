@@ -1,5 +1,6 @@
 -- `write_two` of `stepping::answer` meets its contract: the code is its mirror in specs/.
 -- Assumes nothing.
+use Rattle.sock.proofs.Tests.{tests}
 use mathlib.Core.Path.{refl, _∙_}
 use Rattle.stepping.proofs.Writings.{two-made}
 use borrow.Author.Needs.{needs}
@@ -23,14 +24,20 @@ same-length c = search needs
 
 returns : tie.Need-returns
 returns c =
-    let a = c .before .before .before .before .before .before .before .before .before .before .before .before .before .before .before .before .before .before .before .before .args in (
+    let a = c .before .before .before .before .before .before .before .before .before .before .before .before .before .before .before .before .before .before .before .before .before .before .args in (
       refl,
       c .before .before .put .ensures .1
-          ∙ two-made (a .ws .now) (a .start) (a .end) (a .p) (a .fresh .now) (a .start2) (a .end2) (a .p2) (a .fresh2 .now) (a .issued) (a .out .now) _ _ _ _ _
+          ∙ two-made (a .ws .now) (a .p .start) (a .p .end) (a .p .edit) (a .fresh .now) (a .q .start) (a .q .end) (a .q .edit) (a .fresh2 .now) (a .issued) (a .out .now) _ _ _ _ _
           (c .before .before .before .before .before .before .before .before .before .before .before .before .before .before .engine .ensures .0) (c .before .before .before .before .before .before .before .before .before .before .before .before .before .before .engine .ensures .1) (c .before .before .before .before .before .before .before .before .before .before .engine2 .ensures .0) (c .before .before .before .before .before .before .before .before .before .before .engine2 .ensures .1) (c .before .before .before .before .before .before .copy .ensures .1),
     )
 
 pub write-two-spec : {M : Type 1} → statement M
 write-two-spec =
     tie.close
-    (tie.spec engine-requires engine-requires-2 copy-requires put-requires same-length returns)
+    (tie.spec
+    engine-requires
+    engine-requires-2
+    copy-requires
+    put-requires
+    same-length
+    returns)

@@ -1,22 +1,10 @@
 -- `between` of `stepping::exchange` meets its contract: the code is its mirror in specs/.
 -- Assumes nothing.
-use mathlib.Core.Path.{ap, _∙_}
-use Rattle.stepping.specs.Answering.{Answered}
 use Rattle.stepping.specs.Exchanging.{betweenW}
-use Rattle.stepping.proofs.Carrying.{between-made}
 use Rattle.sock.proofs.Tests.{tests}
 use borrow.Author.Needs.{needs}
 use Rattle.stepping.proofs.exchange.between.Statement.{statement}
 use Rattle.stepping.proofs.exchange.between.Tie as tie
-
-wide-requires : tie.Need-wide-requires
-wide-requires c κs = search needs
-
-mul-start : tie.Need-mul-start
-mul-start c = search needs
-
-array-read-start : tie.Need-array-read-start
-array-read-start c = search needs
 
 refuse-requires : tie.Need-refuse-requires
 refuse-requires c κs = search needs
@@ -25,7 +13,7 @@ returns : tie.Need-returns
 unfolding betweenW
 returns c =
     let f0 = c .before .if1 .taken in
-    (simp (tests, ← (c .refuse .ensures), f0, ← (c .before .before .before .wide .ensures .0)), simp (tests, ← (c .refuse .ensures), f0, ← (c .before .before .before .wide .ensures .0)))
+    (simp (tests, ← (c .refuse .ensures), f0), simp (tests, ← (c .refuse .ensures), f0))
 
 refuse-requires-2 : tie.Need-refuse-requires-2
 refuse-requires-2 c κs = search needs
@@ -35,7 +23,7 @@ unfolding betweenW
 returns-2 c =
     let f0 = c .before .if2 .taken in
     let f1 = c .before .before .if1 .left in
-    (simp (tests, ← (c .refuse2 .ensures), f0, f1, ← (c .before .before .before .before .wide .ensures .0)), simp (tests, ← (c .refuse2 .ensures), f0, f1, ← (c .before .before .before .before .wide .ensures .0)))
+    (simp (tests, ← (c .refuse2 .ensures), f0, f1), simp (tests, ← (c .refuse2 .ensures), f0, f1))
 
 refuse-requires-3 : tie.Need-refuse-requires-3
 refuse-requires-3 c κs = search needs
@@ -46,7 +34,7 @@ returns-3 c =
     let f0 = c .before .if3 .taken in
     let f1 = c .before .before .if2 .left in
     let f2 = c .before .before .before .if1 .left in
-    (simp (tests, ← (c .refuse3 .ensures), f0, f1, f2, ← (c .before .before .before .before .before .wide .ensures .0)), simp (tests, ← (c .refuse3 .ensures), f0, f1, f2, ← (c .before .before .before .before .before .wide .ensures .0)))
+    (simp (tests, ← (c .refuse3 .ensures), f0, f1, f2), simp (tests, ← (c .refuse3 .ensures), f0, f1, f2))
 
 refuse-requires-4 : tie.Need-refuse-requires-4
 refuse-requires-4 c κs = search needs
@@ -58,7 +46,7 @@ returns-4 c =
     let f1 = c .before .before .if3 .left in
     let f2 = c .before .before .before .if2 .left in
     let f3 = c .before .before .before .before .if1 .left in
-    (simp (tests, ← (c .refuse4 .ensures), f0, f1, f2, f3, ← (c .before .before .before .before .before .before .wide .ensures .0)), simp (tests, ← (c .refuse4 .ensures), f0, f1, f2, f3, ← (c .before .before .before .before .before .before .wide .ensures .0)))
+    (simp (tests, ← (c .refuse4 .ensures), f0, f1, f2, f3), simp (tests, ← (c .refuse4 .ensures), f0, f1, f2, f3))
 
 refuse-requires-5 : tie.Need-refuse-requires-5
 refuse-requires-5 c κs = search needs
@@ -71,7 +59,7 @@ returns-5 c =
     let f2 = c .before .before .before .if3 .left in
     let f3 = c .before .before .before .before .if2 .left in
     let f4 = c .before .before .before .before .before .if1 .left in
-    (simp (tests, ← (c .refuse5 .ensures), f0, f1, f2, f3, f4, ← (c .before .before .before .before .before .before .before .wide .ensures .0)), simp (tests, ← (c .refuse5 .ensures), f0, f1, f2, f3, f4, ← (c .before .before .before .before .before .before .before .wide .ensures .0)))
+    (simp (tests, ← (c .refuse5 .ensures), f0, f1, f2, f3, f4), simp (tests, ← (c .refuse5 .ensures), f0, f1, f2, f3, f4))
 
 mul-meet : tie.Need-mul-meet
 mul-meet c = search needs
@@ -109,9 +97,6 @@ part-meet-start-3 c = search needs
 part-meet-end-3 : tie.Need-part-meet-end-3
 part-meet-end-3 c = search needs
 
-wide-requires-2 : tie.Need-wide-requires-2
-wide-requires-2 c κs = search needs
-
 meet-requires : tie.Need-meet-requires
 meet-requires c κs = search needs
 
@@ -119,20 +104,19 @@ same-length : tie.Need-same-length
 same-length c = search needs
 
 returns-6 : tie.Need-returns-6
+unfolding betweenW
 returns-6 c =
-    let a = c .before .before .before .before .before .before .before .before .before .before .before .before .before .before .before .before .before .args in
-    let e =
-    between-made _ (a .ws .now) _ (a .k .engine) (a .k .second) (a .a) (a .b) (a .kind) (a .k .branch) (a .out .now) _ _
-    (c .before .before .before .before .before .before .before .before .before .before .before .before .before .before .wide .ensures .0) (c .before .before .before .before .wide2 .ensures .0) (c .before .before .before .before .before .before .before .before .before .before .before .before .if1 .left) (c .before .before .before .before .before .before .before .before .before .before .before .if2 .left) (c .before .before .before .before .before .before .before .before .before .before .if3 .left) (c .before .before .before .before .before .before .before .before .before .if4 .left) (c .before .before .before .before .before .before .before .before .if5 .left) in
-    (c .before .before .meet .ensures .0 ∙ ap (λ (w : Answered). w .answer) e, c .before .before .meet .ensures .1 ∙ ap (λ (w : Answered). w .out) e)
+    let f0 = c .before .before .before .before .before .before .before .if5 .left in
+    let f1 = c .before .before .before .before .before .before .before .before .if4 .left in
+    let f2 = c .before .before .before .before .before .before .before .before .before .if3 .left in
+    let f3 = c .before .before .before .before .before .before .before .before .before .before .if2 .left in
+    let f4 = c .before .before .before .before .before .before .before .before .before .before .before .if1 .left in
+    (simp (tests, ← (c .before .before .meet .ensures .0), ← (c .before .before .meet .ensures .1), f0, f1, f2, f3, f4), simp (tests, ← (c .before .before .meet .ensures .0), ← (c .before .before .meet .ensures .1), f0, f1, f2, f3, f4))
 
 pub between-spec : {M : Type 1} → statement M
 between-spec =
     tie.close
     (tie.spec
-    wide-requires
-    mul-start
-    array-read-start
     refuse-requires
     returns
     refuse-requires-2
@@ -155,7 +139,6 @@ between-spec =
     sub-meet-3
     part-meet-start-3
     part-meet-end-3
-    wide-requires-2
     meet-requires
     same-length
     returns-6)

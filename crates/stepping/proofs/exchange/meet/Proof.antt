@@ -1,9 +1,6 @@
 -- `meet` of `stepping::exchange` meets its contract: the code is its mirror in specs/.
 -- Assumes nothing.
-use mathlib.Core.Path.{ap, _∙_}
-use Rattle.stepping.specs.Answering.{Answered}
 use Rattle.stepping.specs.Exchanging.{meetW}
-use Rattle.stepping.proofs.Carrying.{meet-made}
 use Rattle.sock.proofs.Tests.{tests}
 use borrow.Author.Needs.{needs}
 use Rattle.stepping.proofs.exchange.meet.Statement.{statement}
@@ -41,13 +38,11 @@ same-length : tie.Need-same-length
 same-length c = search needs
 
 returns-2 : tie.Need-returns-2
+unfolding meetW
 returns-2 c =
-    let a = c .before .before .before .before .before .before .before .before .before .before .before .before .before .before .before .before .args in
-    let e =
-    meet-made _ (a .ws .now) (a .part .now) (a .values .now) (a .other .now) _ (a .engine) (a .second) (a .a) (a .b) (a .kind) (a .branch) (a .out .now) _ _ _ _ _
-    (c .before .before .before .before .before .before .before .before .before .before .offered .ensures) (c .before .before .before .before .before .before .before .before .before .wide .ensures .0) (c .before .before .before .before .before .before .before .before .wide2 .ensures .0) (c .before .before .before .before .before .before .before .fit .ensures) (c .before .before .before .before .before .before .if1 .taken) (c .before .before .before .before .before .spent .ensures)
-    (c .before .before .before .before .if2 .left) in
-    (c .before .before .carry .ensures .0 ∙ ap (λ (w : Answered). w .answer) e, c .before .before .carry .ensures .1 ∙ ap (λ (w : Answered). w .out) e)
+    let f0 = c .before .before .before .before .if2 .left in
+    let f1 = c .before .before .before .before .before .before .if1 .taken in
+    (simp (tests, ← (c .before .before .carry .ensures .0), ← (c .before .before .carry .ensures .1), f0, ← (c .before .before .before .before .before .spent .ensures), f1, ← (c .before .before .before .before .before .before .before .fit .ensures), ← (c .before .before .before .before .before .before .before .before .wide2 .ensures .0), ← (c .before .before .before .before .before .before .before .before .before .wide .ensures .0), ← (c .before .before .before .before .before .before .before .before .before .before .offered .ensures)), simp (tests, ← (c .before .before .carry .ensures .0), ← (c .before .before .carry .ensures .1), f0, ← (c .before .before .before .before .before .spent .ensures), f1, ← (c .before .before .before .before .before .before .before .fit .ensures), ← (c .before .before .before .before .before .before .before .before .wide2 .ensures .0), ← (c .before .before .before .before .before .before .before .before .before .wide .ensures .0), ← (c .before .before .before .before .before .before .before .before .before .before .offered .ensures)))
 
 refuse-requires-2 : tie.Need-refuse-requires-2
 refuse-requires-2 c κs = search needs

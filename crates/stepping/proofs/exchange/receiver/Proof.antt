@@ -18,7 +18,13 @@ same-length c = search needs
 returns : tie.Need-returns
 unfolding receiverW
 returns c =
-    (simp (tests, ← (c .before .before .plain .ensures .0), ← (c .before .before .plain .ensures .1), ← (c .before .before .before .before .before .before .receive .ensures .0), ← (c .before .before .before .before .before .before .receive .ensures .1)), simp (tests, ← (c .before .before .plain .ensures .0), ← (c .before .before .plain .ensures .1), ← (c .before .before .before .before .before .before .receive .ensures .0), ← (c .before .before .before .before .before .before .receive .ensures .1)))
+    (simp (tests, ← (c .before .before .plain .ensures .0), ← (c .before .before .plain .ensures .1), ← (c .before .before .before .before .before .before .before .before .receive .ensures .0), ← (c .before .before .before .before .before .before .before .before .receive .ensures .1)), simp (tests, ← (c .before .before .plain .ensures .0), ← (c .before .before .plain .ensures .1), ← (c .before .before .before .before .before .before .before .before .receive .ensures .0), ← (c .before .before .before .before .before .before .before .before .receive .ensures .1)))
 
 pub receiver-spec : {M : Type 1} → statement M
-receiver-spec = tie.close (tie.spec receive-requires plain-requires same-length returns)
+receiver-spec =
+    tie.close
+    (tie.spec
+    receive-requires
+    plain-requires
+    same-length
+    returns)

@@ -18,7 +18,13 @@ same-length c = search needs
 returns : tie.Need-returns
 unfolding senderW
 returns c =
-    (simp (tests, ← (c .before .before .plain .ensures .0), ← (c .before .before .plain .ensures .1), ← (c .before .before .before .before .before .before .send .ensures .0), ← (c .before .before .before .before .before .before .send .ensures .1)), simp (tests, ← (c .before .before .plain .ensures .0), ← (c .before .before .plain .ensures .1), ← (c .before .before .before .before .before .before .send .ensures .0), ← (c .before .before .before .before .before .before .send .ensures .1)))
+    (simp (tests, ← (c .before .before .plain .ensures .0), ← (c .before .before .plain .ensures .1), ← (c .before .before .before .before .before .before .before .before .send .ensures .0), ← (c .before .before .before .before .before .before .before .before .send .ensures .1)), simp (tests, ← (c .before .before .plain .ensures .0), ← (c .before .before .plain .ensures .1), ← (c .before .before .before .before .before .before .before .before .send .ensures .0), ← (c .before .before .before .before .before .before .before .before .send .ensures .1)))
 
 pub sender-spec : {M : Type 1} → statement M
-sender-spec = tie.close (tie.spec send-requires plain-requires same-length returns)
+sender-spec =
+    tie.close
+    (tie.spec
+    send-requires
+    plain-requires
+    same-length
+    returns)

@@ -45,6 +45,9 @@ refuse-requires-2 c κs = search needs
 enum-known-b : tie.Need-enum-known-b
 enum-known-b c = search needs
 
+meeting-of-requires : tie.Need-meeting-of-requires
+meeting-of-requires c κs = search needs
+
 between-requires : tie.Need-between-requires
 between-requires c κs = search needs
 
@@ -61,10 +64,10 @@ same-length c = search needs
 
 returns-3 : tie.Need-returns-3
 returns-3 c =
-    let a = c .before .before .before .before .before .before .before .before .before .before .before .before .before .before .before .before .before .args in
+    let a = c .before .before .before .before .before .before .before .before .before .before .before .before .before .before .before .before .before .before .args in
     let e =
     receiving-hit _ (a .ws .now) (a .notes .now) (a .g) (a .k) (a .a) (a .kind) (a .out .now) _ _ _ _
-    (c .before .before .before .before .before .before .before .before .before .before .before .before .before .wide .ensures .0) (c .before .before .before .before .before .before .before .before .before .wide2 .ensures .0) (c .before .before .before .before .before .before .before .before .before .before .before .if1 .left) (c .before .before .before .before .before .before .before .before .further .ensures) (c .before .before .before .before .before .before .before .locate .ensures) _ (c .before .before .before .before .before .b .given .1) in
+    (c .before .before .before .before .before .before .before .before .before .before .before .before .before .before .wide .ensures .0) (c .before .before .before .before .before .before .before .before .before .before .wide2 .ensures .0) (c .before .before .before .before .before .before .before .before .before .before .before .before .if1 .left) (c .before .before .before .before .before .before .before .before .before .further .ensures) (c .before .before .before .before .before .before .before .before .locate .ensures) _ _ (c .before .before .before .before .before .before .b .given .1) (c .before .before .before .before .meeting-of .ensures) in
     (c .before .before .between .ensures .0 ∙ ap (λ (w : Answered). w .answer) e, c .before .before .between .ensures .1 ∙ ap (λ (w : Answered). w .out) e)
 
 pub receiving-spec : {M : Type 1} → statement M
@@ -82,6 +85,7 @@ receiving-spec =
     enum-known-e
     refuse-requires-2
     enum-known-b
+    meeting-of-requires
     between-requires
     returns-2
     same-length
