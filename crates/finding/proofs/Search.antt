@@ -131,7 +131,7 @@ module _ (n issued : ℕ) (few : n ≤ 8) (small : issued < 65536) (ws notes : L
       let h = node-head m rest in
       (head-on ws i (headWord m) (h .0) (e ∙ h .1), inside-on ws i (headWord m) (h .0) (e ∙ h .1))
 
-  at-run : {r : Run} → Sound n issued r → (i : ℕ) (rest : List ℕ) → drop i ws ≡ runWords r ++ rest → (getD ws i 0 / 2048 ≡ runKind r) × (i < length ws)
+  at-run : {r : Run} → Sound n issued r → (i : ℕ) (rest : List ℕ) → drop i ws ≡ runWords r ++ rest → (kindOf (getD ws i 0) ≡ runKind r) × (i < length ws)
   unfolding runWords
   at-run {r} s i rest e =
       let h = at-head (asNode r) i rest e in
@@ -167,7 +167,7 @@ module _ (n issued : ℕ) (few : n ≤ 8) (small : issued < 65536) (ws notes : L
       drop i ws ≡ runWords r ++ rest →
       ((i ≡ target → ⊥) →
       Agrees (faultAt ws target) target r i level (within r i target)
-      (nodeW (findW d ws notes target (level + 1)) d ws notes target level (getD ws i 0 / 2048) i)) →
+      (nodeW (findW d ws notes target (level + 1)) d ws notes target level (kindOf (getD ws i 0)) i)) →
       Agrees (faultAt ws target) target r i level (within r i target) (findW (suc d) ws notes target level i)
   unfolding findW
   opened {r} s d i level rest dp e k = rw (lt-ltb i (length ws) (at-run s i rest e .1)) (by (eqb i target) refl)
@@ -178,7 +178,7 @@ module _ (n issued : ℕ) (few : n ≤ 8) (small : issued < 65536) (ws notes : L
           Agrees (faultAt ws target) target r i level (within r i target)
           (cond b (hereW (suc d) ws notes level i)
           (cond (outsideW i target (noteAt notes i)) (Past (noteAt notes i))
-          (nodeW (findW d ws notes target (level + 1)) d ws notes target level (getD ws i 0 / 2048) i)))
+          (nodeW (findW d ws notes target (level + 1)) d ws notes target level (kindOf (getD ws i 0)) i)))
       by true q = here-agrees (faultAt ws target) target d i level (eqb-true i target q) (pass-run ws notes right n issued few small s (suc d) i dp rest e)
       by false q = by-mark (outsideW i target (noteAt notes i)) refl
         where
@@ -187,7 +187,7 @@ module _ (n issued : ℕ) (few : n ≤ 8) (small : issued < 65536) (ws notes : L
               outsideW i target (noteAt notes i) ≡ b →
               Agrees (faultAt ws target) target r i level (within r i target)
               (cond b (Past (noteAt notes i))
-              (nodeW (findW d ws notes target (level + 1)) d ws notes target level (getD ws i 0 / 2048) i))
+              (nodeW (findW d ws notes target (level + 1)) d ws notes target level (kindOf (getD ws i 0)) i))
           by-mark true o = outside-agrees s i level rest e o
           by-mark false o = k (eqb-false i target q)
 
@@ -209,7 +209,7 @@ module _ (n issued : ℕ) (few : n ≤ 8) (small : issued < 65536) (ws notes : L
       let kind = at-run s i rest e .0 in
       rw (
         w ne,
-        node-other (findW d ws notes target (level + 1)) d ws notes target level (getD ws i 0 / 2048) i (ap (λ k. eqb k 2) kind ∙ k2) (ap (λ k. eqb k 3) kind ∙ k3)
+        node-other (findW d ws notes target (level + 1)) d ws notes target level (kindOf (getD ws i 0)) i (ap (λ k. eqb k 2) kind ∙ k2) (ap (λ k. eqb k 3) kind ∙ k3)
             (ap (λ k. eqb k 11) kind ∙ k11) (ap (λ k. eqb k 16) kind ∙ k16),
       )
       (misses (pass-run ws notes right n issued few small s (suc d) i dp rest e))
@@ -226,7 +226,7 @@ module _ (n issued : ℕ) (few : n ≤ 8) (small : issued < 65536) (ws notes : L
       catchesW d ws i f ≡ catches f zombie h
   unfolding catchesW
   scope-catches d i f name mark zombie h rest named faulty fits dp head e =
-      let z : eqb (getD ws i 0 / 4 % 2) 1 ≡ zombie = ap (λ w. isOne (zombieOf w)) head ∙ (ap isOne (scope-zombie name mark zombie named) ∙ isOne-bit zombie) in
+      let z : eqb (zombieOf (getD ws i 0)) 1 ≡ zombie = ap (λ w. isOne (zombieOf w)) head ∙ (ap isOne (scope-zombie name mark zombie named) ∙ isOne-bit zombie) in
       let l : not (eqb (skipList d ws f (i + 2)) 0) ≡ holds f h =
       ap (λ k. not (eqb k 0)) (wanted-end ws f (omega arith) fits d (i + 2) dp rest e) ∙ catches-test (holds f h) (i + 2 + 1 + length (entriesWords h)) (omega arith) in
       rw (z, l)
@@ -264,7 +264,7 @@ module _ (n issued : ℕ) (few : n ≤ 8) (small : issued < 65536) (ws notes : L
       let head = at-head q (i + 1 + size a) rest second in
       rw (
         within-seq i target ne a q,
-        node-seq (findW d ws notes target (level + 1)) d ws notes target level (getD ws i 0 / 2048) i (at-run (seqSound g t coded) i rest e .0),
+        node-seq (findW d ws notes target (level + 1)) d ws notes target level (kindOf (getD ws i 0)) i (at-run (seqSound g t coded) i rest e .0),
       )
       (seq-agrees (faultAt ws target) target ws notes d i level a q coded (head .1) (head .0)
       (pass-code ws notes right coded d (i + 1 + size a) (omega arith) rest second)
@@ -274,7 +274,7 @@ module _ (n issued : ℕ) (few : n ≤ 8) (small : issued < 65536) (ws notes : L
       let deep : suc (max (runDepth a) (runDepth b)) ≤ suc d = rw (depth-par a b) at dp in
       rw (
         within-par i target ne a b,
-        node-par (findW d ws notes target (level + 1)) d ws notes target level (getD ws i 0 / 2048) i (at-run (parSound g t k u) i rest e .0),
+        node-par (findW d ws notes target (level + 1)) d ws notes target level (kindOf (getD ws i 0)) i (at-run (parSound g t k u) i rest e .0),
       )
       (par-agrees (faultAt ws target) target ws notes d i level a b t u (findW d ws notes target (level + 1))
       (finds g d (i + 1) (level + 1) (runWords b ++ rest) (omega arith) (omega arith) (inner ws rest (around-left a b i u) e))
@@ -289,7 +289,7 @@ module _ (n issued : ℕ) (few : n ≤ 8) (small : issued < 65536) (ws notes : L
       pass-entries ws notes right listed d (i + 2) (omega arith) (runWords a ++ rest) list ∙ omega arith in
       rw (
         within-scope i target ne name mark zombie h a,
-        node-scope (findW d ws notes target (level + 1)) d ws notes target level (getD ws i 0 / 2048) i
+        node-scope (findW d ws notes target (level + 1)) d ws notes target level (kindOf (getD ws i 0)) i
             (at-run (scopeSound {mark = mark} {zombie = zombie} named m listed g) i rest e .0),
         end,
       )
@@ -304,7 +304,7 @@ module _ (n issued : ℕ) (few : n ≤ 8) (small : issued < 65536) (ws notes : L
       let deep : suc (runDepth a) ≤ suc d = rw (depth-executor o y client serial a) at dp in
       rw (
         within-executor i target ne o y client serial a,
-        node-executor (findW d ws notes target (level + 1)) d ws notes target level (getD ws i 0 / 2048) i (at-run (executorSound bo by be g) i rest e .0),
+        node-executor (findW d ws notes target (level + 1)) d ws notes target level (kindOf (getD ws i 0)) i (at-run (executorSound bo by be g) i rest e .0),
       )
       (executor-agrees (faultAt ws target) target ws notes d i level o y client serial a
       (finds g d (i + 3) (level + 1) rest (omega arith) (omega arith) (inner ws rest (around-executor o y client serial a i) e)))

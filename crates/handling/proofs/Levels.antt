@@ -8,7 +8,9 @@ use mathlib.Core.Bool.{cond}
 use mathlib.Core.List.{List}
 use lib.Dec.{leb, eqb}
 use lib.ListN.{length, getD}
+use Rattle.sock.specs.Words.{tagOf}
 use Rattle.layout.specs.Positions.{onward}
+use Rattle.layout.specs.Tags
 use Rattle.handling.specs.Measuring.{measured, operandLevels, expressionLevels, partsLevels, entriesLevels, nodeLevels, codeLevels}
 use Rattle.handling.specs.declared.measure.Measured.{Measured}
 
@@ -17,8 +19,8 @@ pub expression-levels-step :
     (d ≡ 0 → ⊥) →
     expressionLevels d ws i
     ≡ cond (leb (length ws) i) (measured 0 0)
-    (cond (eqb (getD ws i 0 / 8192) 0) (measured (onward i 3) 1)
-    (cond (eqb (getD ws i 0 / 8192) 1) (measured (i + 1) 1) (operandLevels (expressionLevels (d - 1) ws) (i + 1))))
+    (cond (eqb (tagOf (getD ws i 0)) Tags.constant) (measured (onward i 3) 1)
+    (cond (eqb (tagOf (getD ws i 0)) Tags.variable) (measured (i + 1) 1) (operandLevels (expressionLevels (d - 1) ws) (i + 1))))
 unfolding expressionLevels
 expression-levels-step zero ws i h = absurd (h refl)
 expression-levels-step (suc d) ws i h = rw (sub-one (suc d))

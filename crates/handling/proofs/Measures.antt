@@ -10,7 +10,7 @@ use lib.ListN.{length, drop, length-append, length-drop}
 use borrow.Author.Tests.{lt-leb, ne-eqb}
 use Rattle.sock.specs.Kind
 use Rattle.sock.specs.Kind.{rows, rowOf}
-use Rattle.sock.specs.Words.{kindOf, countOf, markOf, zombieOf, firstName, highWord, lowWord, keyWord}
+use Rattle.sock.specs.Words.{kindOf, countOf, markOf, zombieOf, firstName, highWord, lowWord, keyWord, tagOf}
 use Rattle.sock.specs.Term.{Expr, constant, variable, apply, Node, node, Block, absent, list, Entries, noEntries, entry, Nodes, noParts, _&_, entriesOf, processesOf}
 use Rattle.sock.specs.Layout.{operatorTag, exprWords, exprDepth, exprsWords, exprsDepth, count, words, blockWords, entriesWords, nodesWords, depth, blockDepth, entriesDepth, nodesDepth}
 use Rattle.sock.specs.Reading.{code, Place, anywhere, allowed, nodeFits, restingFits, isEmpty, fixedAt, partStratum, partPlace}
@@ -21,6 +21,7 @@ use Rattle.sock.proofs.ByKind.{head-tests}
 use Rattle.sock.proofs.Positions.{At, at-head, at-past}
 use Rattle.handling.specs.declared.measure.Measured.{Measured}
 use Rattle.layout.specs.Positions.{onward}
+use Rattle.layout.specs.Tags
 use Rattle.handling.specs.Measuring.{measured, operandLevels, expressionLevels, partsLevels, expressedLevels, entriesLevels, listLevels, nodeLevels, codeLevels}
 use Rattle.writers.proofs.Laid.{Near, onward-near}
 
@@ -96,7 +97,7 @@ module _ (ws : List ℕ) (near : Near (length ws)) where
   expression-level :
       (d i : ℕ) {w : ℕ} {rest : List ℕ} → At ws i w rest →
       expressionLevels (suc d) ws i
-      ≡ cond (eqb (w / 8192) 0) (measured (onward i 3) 1) (cond (eqb (w / 8192) 1) (measured (i + 1) 1) (operandLevels (expressionLevels d ws) (i + 1)))
+      ≡ cond (eqb (tagOf w) Tags.constant) (measured (onward i 3) 1) (cond (eqb (tagOf w) Tags.variable) (measured (i + 1) 1) (operandLevels (expressionLevels d ws) (i + 1)))
   unfolding expressionLevels
   expression-level d i h = simp (lt-leb (length ws) i (h .inside), h .word)
 

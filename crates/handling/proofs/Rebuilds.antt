@@ -10,7 +10,7 @@ use lib.ListN.{length, drop, length-append, length-drop, length-set}
 use borrow.Author.Tests.{eqb-true}
 use Rattle.sock.specs.Kind
 use Rattle.sock.specs.Kind.{rows, rowOf}
-use Rattle.sock.specs.Words.{kindOf}
+use Rattle.sock.specs.Words.{kindOf, countOf}
 use Rattle.sock.specs.Term.{Expr, Node, node, Block, Nodes, isNil, processesOf}
 use Rattle.sock.specs.Layout.{exprsWords, words, nodesWords, depth, nodesDepth}
 use Rattle.sock.specs.Reading.{Stratum, code, Place, anywhere, partStratum, partPlace}
@@ -42,11 +42,11 @@ relabel a b c d s x = rw (a, b, c, d, s) at x
 -- ---- nil
 
 nil-word : (h : ℕ) {f : List ℕ} {es : List Expr} {b : Block} {ps : Nodes} {s : Stratum} {o : Bool} →
-    kindOf h ≡ 0 → T (eqb (h % 2048) 0) → FitsFixed [] f → FitsExprs 0 es → FitsBlock o 0 b → FitsParts s 0 0 ps →
+    kindOf h ≡ 0 → T (eqb (countOf h) 0) → FitsFixed [] f → FitsExprs 0 es → FitsBlock o 0 b → FitsParts s 0 0 ps →
     words (node h f es b ps) ≡ 0 ∷ []
 unfolding words exprsWords
 nil-word h q t noFixed noExprs noList noPart =
-    let z : h % 2048 ≡ 0 = eqb→eq (h % 2048) 0 t in
+    let z : countOf h ≡ 0 = eqb→eq (countOf h) 0 t in
     let y : h ≡ 0 = omega arith in
     ap (λ (n : ℕ). n ∷ []) y
 

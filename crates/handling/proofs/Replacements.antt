@@ -8,6 +8,8 @@ use mathlib.Core.Bool.{true, false, cond}
 use mathlib.Core.List.{List}
 use lib.Dec.{leb}
 use lib.ListN.{length, getD, set}
+use Rattle.sock.specs.Kind
+use Rattle.sock.specs.Words.{headOf}
 use Rattle.layout.specs.Positions.{onward}
 use Rattle.writers.specs.Writing.{lowered}
 use Rattle.handling.specs.Measuring.{expressionLevels, codeLevels}
@@ -44,7 +46,7 @@ parts-end sub (suc n) levels i out to h = absurd (omega arith)
 -- the first part of a par, and the second behind it, neither of which became nil, or the second of which did
 module _
     (sub : Walk) (i to : ℕ) (out : List ℕ) (t x : ℕ) (o1 : List ℕ) (p q : Rebuilt) (o2 o3 : List ℕ)
-    (a : t ≡ onward to 1) (b : o1 ≡ set out to 6144) (c : x ≡ onward i 1)
+    (a : t ≡ onward to 1) (b : o1 ≡ set out to (headOf Kind.par 0)) (c : x ≡ onward i 1)
     (d : p ≡ sub x o1 t .answer) (e : o2 ≡ sub x o1 t .out) (f : p .nil ≡ false)
     (g : q ≡ sub (p .end) o2 (p .to) .answer) (h : o3 ≡ sub (p .end) o2 (p .to) .out)
   where

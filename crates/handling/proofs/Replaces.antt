@@ -52,7 +52,7 @@ becomes-old o h f es b ps q = rw q
 
 -- a head without fields
 head-of : (h k : ℕ) → kindOf h ≡ k → T (clear 2048 h) → h ≡ k * 2048
-head-of h k q t = let z : h % 2048 ≡ 0 = eqb→eq (h % 2048) 0 t in omega arith
+head-of h k q t = let z : countOf h ≡ 0 = eqb→eq (countOf h) 0 t in omega arith
 
 three-words :
     (h : ℕ) {f : List ℕ} {es : List Expr} {b : Block} {m : ℕ} {l : Bool} → FitsFixed (m ∷ []) f → FitsExprs 0 es → FitsBlock l 1 b →

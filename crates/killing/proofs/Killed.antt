@@ -10,6 +10,7 @@ use mathlib.Core.List.{List, [], _∷_, _++_, append-assoc}
 use lib.Dec.{T, eqb}
 use lib.ListN.{length, getD, drop}
 use borrow.Author.Tests.{lt-leb, ne-eqb}
+use Rattle.sock.specs.Words.{kindOf}
 use Rattle.sock.specs.Term.{Node, node, Entries, headWord, kind}
 use Rattle.sock.specs.Layout.{count, words, entriesWords, depth, entriesDepth}
 use Rattle.sock.specs.Running.{Mark, Run, nil, seq, par, scope, executor, waiter, notice, act, asNode, runWords, size, runDepth}
@@ -27,6 +28,7 @@ use Rattle.killing.specs.Killing.{goneKind, goneW, stuckW, vanishedW, ki
 use Rattle.writers.proofs.Laid.{Near}
 use Rattle.sock.proofs.Positions.{stands-within, word-at, at-past, drop-after}
 use Rattle.sock.proofs.Around.{killed, Throws, free, killed-climb}
+use Rattle.killing.proofs.Kills.{gone-at}
 use Rattle.killing.proofs.Gives.{Gives, stops, Does, Vanishes, seq-gives, par-gives}
 use Rattle.killing.proofs.Noticed.{vanish-gives, kept-gives, waiter-gives, executor-gives}
 use Rattle.killing.proofs.Zombies.{dead-gives, turned-gives}
@@ -56,14 +58,14 @@ module _ (ws rest : List ℕ) (at : ℕ) (r : Run) (e : drop at ws ≡ runWords 
       let p = size-positive r in
       ap (λ n. getD ws n 0) (let q : at ≡ at + 0 = omega arith in q) ∙ word-at ws (runWords r) rest at e 0 p ∙ words-head (asNode r)
 
-  run-kind : {n issued : ℕ} → Sound n issued r → getD ws at 0 / 2048 ≡ runKind r
-  run-kind s = ap (λ w. w / 2048) run-head ∙ kind-asNode s
+  run-kind : {n issued : ℕ} → Sound n issued r → kindOf (getD ws at 0) ≡ runKind r
+  run-kind s = ap kindOf run-head ∙ kind-asNode s
 
 -- it is 0 where the process is nil
 module _ {n issued : ℕ} where
   live-head : {r : Run} → Sound n issued r → isDone r ≡ false → eqb (headWord (asNode r)) 0 ≡ isDone r
   live-head {r} s e =
-      let k : headWord (asNode r) / 2048 ≡ runKind r = kind-asNode s in
+      let k : kindOf (headWord (asNode r)) ≡ runKind r = kind-asNode s in
       let d : eqb (runKind r) 0 ≡ false = sym (done-kind s) ∙ e in
       ne-eqb (headWord (asNode r)) 0 (λ q. let z : runKind r ≡ 0 = omega arith in absurd (eqb-zero (runKind r) z d)) ∙ sym e
     where
@@ -86,7 +88,7 @@ module _ {n issued : ℕ} where
 
 module _ (ws notes : List ℕ) (f hole d : ℕ) where
   kill-at :
-      (at : ℕ) (out : List ℕ) (to k : ℕ) → at < length ws → getD ws at 0 / 2048 ≡ k →
+      (at : ℕ) (out : List ℕ) (to k : ℕ) → at < length ws → kindOf (getD ws at 0) ≡ k →
       killW (suc d) ws notes f hole at out to ≡ kindW (suc d) d (killW d ws notes f hole) ws notes f hole k at out to
   unfolding killW
   kill-at at out to k h e = rw (lt-leb (length ws) at h, e)
@@ -100,9 +102,8 @@ module _ (ws notes : List ℕ) (f hole d : ℕ) where
       rw (a, b, c, ne-eqb k 16 (λ q. omega arith), ne-eqb k 17 (λ q. omega arith), ne-eqb k 18 (λ q. omega arith))
 
 -- what just becomes nil, by its kind; an inst does not
-gone-kind : (ws : List ℕ) (at k : ℕ) → at < length ws → getD ws at 0 / 2048 ≡ k → goneW ws at ≡ true → goneKind k ≡ true
-unfolding goneW
-gone-kind ws at k h e g = rw (lt-leb (length ws) at h, e) at g
+gone-kind : (ws : List ℕ) (at k : ℕ) → at < length ws → kindOf (getD ws at 0) ≡ k → goneW ws at ≡ true → goneKind k ≡ true
+gone-kind ws at k h e g = gone-at ws at k h (sym e) ∙ g
 
 not-inst : (k : ℕ) → goneKind k ≡ true → eqb k 12 ≡ false
 unfolding goneKind
