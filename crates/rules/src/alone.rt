@@ -43,7 +43,8 @@ pub fn branch(part: &[u16], values: &[u16]) -> Rewriting
 
 // The body, from..end, then the while itself.
 fn unroll(part: &[u16], from: usize, end: usize, fresh: &mut [u16]) -> Rewriting
-    ensures { λ r. ⌜ (r ≡ unrollW (now (part .entry)) from end (now (fresh .entry)) .rewriting) × (now (fresh .exit) ≡ unrollW (now (part .entry)) from end (now (fresh .entry)) .fresh) ⌝ }
+    ensures rewritten { λ r. ⌜ r ≡ unrollW (now (part .entry)) from end (now (fresh .entry)) .rewriting ⌝ }
+    ensures fresh { λ r. ⌜ now (fresh .exit) ≡ unrollW (now (part .entry)) from end (now (fresh .entry)) .fresh ⌝ }
 {
     put(fresh, 0, head::SEQ);
     let g = copy(part, from, end, fresh, 1);
@@ -59,7 +60,8 @@ pub fn repeat(
     limits: Limits,
     fresh: &mut [u16],
 ) -> Rewriting
-    ensures { λ r. ⌜ (r ≡ repeatW limits level bound (now (part .entry)) (now (values .entry)) (now (fresh .entry)) .rewriting) × (now (fresh .exit) ≡ repeatW limits level bound (now (part .entry)) (now (values .entry)) (now (fresh .entry)) .fresh) ⌝ }
+    ensures rewritten { λ r. ⌜ r ≡ repeatW limits level bound (now (part .entry)) (now (values .entry)) (now (fresh .entry)) .rewriting ⌝ }
+    ensures fresh { λ r. ⌜ now (fresh .exit) ≡ repeatW limits level bound (now (part .entry)) (now (values .entry)) (now (fresh .entry)) .fresh ⌝ }
 {
     let e = evaluate(part, values, 1, FUEL);
     let body = e.end;

@@ -42,7 +42,8 @@ pub fn refuse(number: u8) -> Edit
 
 // A nil behind the first `f` fresh words, if one is to stand there.
 fn hollow(hollow: bool, f: usize, fresh: &mut [u16]) -> usize
-    ensures { λ r. ⌜ (r ≡ hollowW hollow f (now (fresh .entry)) .to) × (now (fresh .exit) ≡ hollowW hollow f (now (fresh .entry)) .fresh) ⌝ }
+    ensures place { λ r. ⌜ r ≡ hollowW hollow f (now (fresh .entry)) .to ⌝ }
+    ensures fresh { λ r. ⌜ now (fresh .exit) ≡ hollowW hollow f (now (fresh .entry)) .fresh ⌝ }
 {
     if hollow {
         return put(fresh, f, 0);
@@ -52,7 +53,8 @@ fn hollow(hollow: bool, f: usize, fresh: &mut [u16]) -> usize
 
 // The process becomes nil, and the list l..m the first `f` fresh words.
 pub fn become_nil(s: Site, l: usize, m: usize, f: usize, store: Store, fresh: &mut [u16]) -> Edit
-    ensures { λ r. ⌜ (r ≡ nilW s l m f store (now (fresh .entry)) .edit) × (now (fresh .exit) ≡ nilW s l m f store (now (fresh .entry)) .fresh) ⌝ }
+    ensures edited { λ r. ⌜ r ≡ nilW s l m f store (now (fresh .entry)) .edit ⌝ }
+    ensures fresh { λ r. ⌜ now (fresh .exit) ≡ nilW s l m f store (now (fresh .entry)) .fresh ⌝ }
 {
     let g = hollow(s.hollow, f, fresh);
     Edit {
@@ -71,7 +73,8 @@ pub fn become_nil(s: Site, l: usize, m: usize, f: usize, store: Store, fresh: &m
 
 // The process turns into what `t` says; no list changes. The engine's process begins at `start`.
 pub fn plain(s: Site, start: usize, t: Rewriting, fresh: &mut [u16]) -> Edit
-    ensures { λ r. ⌜ (r ≡ plainW s start t (now (fresh .entry)) .edit) × (now (fresh .exit) ≡ plainW s start t (now (fresh .entry)) .fresh) ⌝ }
+    ensures edited { λ r. ⌜ r ≡ plainW s start t (now (fresh .entry)) .edit ⌝ }
+    ensures fresh { λ r. ⌜ now (fresh .exit) ≡ plainW s start t (now (fresh .entry)) .fresh ⌝ }
 {
     let store = t.store;
     if t.nil {

@@ -143,7 +143,8 @@ pub fn hear(part: &[u16], o: Offer, v: u32) -> Rewriting
 
 // The head of a seq, where a process follows.
 fn seq_first(next: usize, fresh: &mut [u16]) -> usize
-    ensures { λ r. ⌜ (r ≡ seqFirst next (now (fresh .entry)) .to) × (now (fresh .exit) ≡ seqFirst next (now (fresh .entry)) .fresh) ⌝ }
+    ensures place { λ r. ⌜ r ≡ seqFirst next (now (fresh .entry)) .to ⌝ }
+    ensures fresh { λ r. ⌜ now (fresh .exit) ≡ seqFirst next (now (fresh .entry)) .fresh ⌝ }
 {
     if next == 0 {
         return 0;
@@ -153,7 +154,8 @@ fn seq_first(next: usize, fresh: &mut [u16]) -> usize
 
 // Three words from a place on.
 fn three(fresh: &mut [u16], to: usize, a: u16, b: u16, c: u16) -> usize
-    ensures { λ r. ⌜ (r ≡ threeTo to) × (now (fresh .exit) ≡ threeW (now (fresh .entry)) to a b c) ⌝ }
+    ensures place { λ r. ⌜ r ≡ threeTo to ⌝ }
+    ensures fresh { λ r. ⌜ now (fresh .exit) ≡ threeW (now (fresh .entry)) to a b c ⌝ }
 {
     let t = put(fresh, to, a);
     let u = put(fresh, t, b);
@@ -169,7 +171,8 @@ pub fn serve(
     v: u32,
     fresh: &mut [u16],
 ) -> Rewriting
-    ensures { λ r. ⌜ (r ≡ serveW (now (part .entry)) o client serial v (now (fresh .entry)) .rewriting) × (now (fresh .exit) ≡ serveW (now (part .entry)) o client serial v (now (fresh .entry)) .fresh) ⌝ }
+    ensures rewritten { λ r. ⌜ r ≡ serveW (now (part .entry)) o client serial v (now (fresh .entry)) .rewriting ⌝ }
+    ensures fresh { λ r. ⌜ now (fresh .exit) ≡ serveW (now (part .entry)) o client serial v (now (fresh .entry)) .fresh ⌝ }
 {
     let h = word(part, o.guard);
     let y = word(part, further(o.guard, 1));
@@ -186,7 +189,8 @@ pub fn serve(
 
 // A solicit becomes a waiter.
 pub fn ask(part: &[u16], server: u16, serial: u16, fresh: &mut [u16]) -> Rewriting
-    ensures { λ r. ⌜ (r ≡ askW (now (part .entry)) server serial (now (fresh .entry)) .rewriting) × (now (fresh .exit) ≡ askW (now (part .entry)) server serial (now (fresh .entry)) .fresh) ⌝ }
+    ensures rewritten { λ r. ⌜ r ≡ askW (now (part .entry)) server serial (now (fresh .entry)) .rewriting ⌝ }
+    ensures fresh { λ r. ⌜ now (fresh .exit) ≡ askW (now (part .entry)) server serial (now (fresh .entry)) .fresh ⌝ }
 {
     let g = three(
         fresh,
@@ -231,7 +235,8 @@ pub fn awaits(
 
 // A reply: x takes v, and the waiter becomes inst of its list.
 pub fn answer(part: &[u16], v: u32, fresh: &mut [u16]) -> Rewriting
-    ensures { λ r. ⌜ (r ≡ answerW (now (part .entry)) v (now (fresh .entry)) .rewriting) × (now (fresh .exit) ≡ answerW (now (part .entry)) v (now (fresh .entry)) .fresh) ⌝ }
+    ensures rewritten { λ r. ⌜ r ≡ answerW (now (part .entry)) v (now (fresh .entry)) .rewriting ⌝ }
+    ensures fresh { λ r. ⌜ now (fresh .exit) ≡ answerW (now (part .entry)) v (now (fresh .entry)) .fresh ⌝ }
 {
     let g = put(fresh, 0, head::INST);
     let end = skip(part, 0, FUEL);
@@ -240,7 +245,8 @@ pub fn answer(part: &[u16], v: u32, fresh: &mut [u16]) -> Rewriting
 
 // A fault, from the word w of its notice: a live waiter becomes throw, a dead one nil.
 pub fn fail(part: &[u16], w: u16, fresh: &mut [u16]) -> Rewriting
-    ensures { λ r. ⌜ (r ≡ failW (now (part .entry)) w (now (fresh .entry)) .rewriting) × (now (fresh .exit) ≡ failW (now (part .entry)) w (now (fresh .entry)) .fresh) ⌝ }
+    ensures rewritten { λ r. ⌜ r ≡ failW (now (part .entry)) w (now (fresh .entry)) .rewriting ⌝ }
+    ensures fresh { λ r. ⌜ now (fresh .exit) ≡ failW (now (part .entry)) w (now (fresh .entry)) .fresh ⌝ }
 {
     if dead_of(word(part, 1)) == 1 {
         return to_nil(nothing());

@@ -13,14 +13,13 @@ use Rattle.rules.specs.Storing.{unchanged}
 use Rattle.rules.specs.declared.store.Store.{Store}
 use Rattle.rules.specs.Editing.{edited}
 use Rattle.scopes.specs.Installing.{updatedW}
-use Rattle.layout.specs.Heads.{clearedHead}
-use Rattle.scopes.specs.Ending.{takeBehindW, takenTo, takenW, resumedW, promotedTo, promotedW, endingW}
+use Rattle.scopes.specs.Ending.{resumedHead, takeBehindW, takenTo, takenW, resumedW, promotedTo, promotedW, endingW}
 
 module _ (ws notes : List ℕ) where
   pub resumed-made :
       (start at key : ℕ) (fresh : List ℕ) (w h : ℕ) (o1 o2 : List ℕ) (l : ℕ) (t : Taken) (o3 : List ℕ) (to g : ℕ) (o4 : List ℕ)
       (m end : ℕ) (st : Store) →
-      w ≡ getD ws at 0 → h ≡ clearedHead w → o1 ≡ set fresh 0 h → o2 ≡ set o1 1 0 → l ≡ onward at 2 →
+      w ≡ getD ws at 0 → h ≡ resumedHead w → o1 ≡ set fresh 0 h → o2 ≡ set o1 1 0 → l ≡ onward at 2 →
       t ≡ takeBehindW ws l key o2 .answer → o3 ≡ takeBehindW ws l key o2 .out → to ≡ onward 2 (t .to) → g ≡ takenTo ws t to → o4 ≡ takenW ws t o3 to →
       m ≡ passList 64 ws notes l → end ≡ onward m 1 → st ≡ unchanged →
       resumedW ws notes start at key fresh

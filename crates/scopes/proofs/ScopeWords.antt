@@ -25,9 +25,8 @@ use Rattle.finding.proofs.Spots.{Spotted}
 use Rattle.finding.proofs.Edits.{process-at}
 use Rattle.layout.specs.Positions.{onward}
 use Rattle.writers.proofs.Laid.{Near, onward-near}
-use Rattle.layout.specs.Heads.{clearedHead}
 use Rattle.rules.proofs.Depths.{Shallow, shallow}
-use Rattle.scopes.specs.Ending.{keyAtW}
+use Rattle.scopes.specs.Ending.{resumedHead, keyAtW}
 use Rattle.scopes.proofs.ScopeLists.{whole-inside, frames-deep, process-inside}
 
 -- ---- what is in frames is sound if the whole is
@@ -82,7 +81,7 @@ module _ (name : ℕ) (mark : Mark) (zombie : Bool) (low : name < 64) where
   pub head-name : scopeHead name mark zombie / 32 % 64 ≡ name
   head-name = omega (arith, bit-small zombie, mark-small mark)
 
-  pub head-cleared : clearedHead (scopeHead name mark zombie) ≡ scopeHead name unmarked zombie
+  pub head-cleared : resumedHead (scopeHead name mark zombie) ≡ scopeHead name unmarked zombie
   head-cleared = omega (arith, bit-small zombie, mark-small mark)
 
 -- the key of the handler it runs or hands on

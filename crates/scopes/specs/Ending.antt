@@ -17,6 +17,10 @@ use Rattle.rules.specs.Storing.{unchanged}
 use Rattle.rules.specs.Editing.{Edited, edited, nilW}
 use Rattle.scopes.specs.Installing.{updatedW}
 
+-- the head of a scope that runs its handler
+abbrev pub resumedHead : ℕ → ℕ
+resumedHead h = clearedHead h
+
 unfoldable pub keyAtW : List ℕ → ℕ → ℕ
 keyAtW ws at =
     cond (eqb (markOf (getD ws at 0)) 1) (firstName (getD ws (onward at 1) 0)) (scopeKey (nameOf (getD ws at 0)))
@@ -39,7 +43,7 @@ takenW ws t fresh to = cond (eqb (t .upto) 0) (set fresh to 0) (pasted ws (t .fr
 
 unfoldable pub resumedW : List ℕ → List ℕ → ℕ → ℕ → ℕ → List ℕ → Edited
 resumedW ws notes start at key fresh =
-    let t = takeBehindW ws (onward at 2) key (set (set fresh 0 (clearedHead (getD ws at 0))) 1 0) in
+    let t = takeBehindW ws (onward at 2) key (set (set fresh 0 (resumedHead (getD ws at 0))) 1 0) in
     let end = onward (passList 64 ws notes (onward at 2)) 1 in
     edited
     (record {

@@ -20,7 +20,8 @@ ghost use Rattle.scopes.specs.Compensating.{movedW, compensatedW};
 
 // What was taken out of the list stands in the place of the process; the list without it is in the first fresh words.
 fn moved(ws: &[u16], notes: &[u16], s: Site, t: Taken, fresh: &mut [u16]) -> Edit
-    ensures { λ r. ⌜ (r ≡ movedW (now (ws .entry)) (now (notes .entry)) s t (now (fresh .entry)) .edit) × (now (fresh .exit) ≡ movedW (now (ws .entry)) (now (notes .entry)) s t (now (fresh .entry)) .fresh) ⌝ }
+    ensures edited { λ r. ⌜ r ≡ movedW (now (ws .entry)) (now (notes .entry)) s t (now (fresh .entry)) .edit ⌝ }
+    ensures fresh { λ r. ⌜ now (fresh .exit) ≡ movedW (now (ws .entry)) (now (notes .entry)) s t (now (fresh .entry)) .fresh ⌝ }
 {
     let l = further(s.scope, 2);
     let m = pass_list(ws, notes, l, FUEL);
@@ -54,7 +55,8 @@ pub fn compensated(
     limits: Limits,
     fresh: &mut [u16],
 ) -> Edit
-    ensures { λ r. ⌜ (r ≡ compensatedW limits bound (now (ws .entry)) (now (notes .entry)) start s (now (fresh .entry)) .edit) × (now (fresh .exit) ≡ compensatedW limits bound (now (ws .entry)) (now (notes .entry)) start s (now (fresh .entry)) .fresh) ⌝ }
+    ensures edited { λ r. ⌜ r ≡ compensatedW limits bound (now (ws .entry)) (now (notes .entry)) start s (now (fresh .entry)) .edit ⌝ }
+    ensures fresh { λ r. ⌜ now (fresh .exit) ≡ compensatedW limits bound (now (ws .entry)) (now (notes .entry)) start s (now (fresh .entry)) .fresh ⌝ }
 {
     if s.scope == 0 {
         return become_nil(s, start, start, 0, nothing(), fresh);

@@ -20,7 +20,14 @@ use skipping::pass::pass_list;
 use writers::write::copy;
 use writers::write::put;
 ghost use mathlib.Core.Path.{_≡_};
-ghost use Rattle.scopes.specs.Ending.{keyAtW, takeBehindW, takenTo, takenW, resumedW, promotedTo, promotedW, endingW, endedW};
+ghost use Rattle.scopes.specs.Ending.{resumedHead, keyAtW, takeBehindW, takenTo, takenW, resumedW, promotedTo, promotedW, endingW, endedW};
+
+// The head of a scope that runs its handler: no mark is left.
+fn resumed_head(h: u16) -> u16
+    ensures { λ r. ⌜ r ≡ resumedHead h ⌝ }
+{
+    head::cleared(h)
+}
 
 // The key of the handler it runs or hands on: the fault with mark 1, else its own name.
 fn key_at(ws: &[u16], at: usize) -> usize
@@ -35,7 +42,8 @@ fn key_at(ws: &[u16], at: usize) -> usize
 
 // The list without the entry of a key, behind two words.
 fn take_behind(ws: &[u16], list: usize, key: usize, fresh: &mut [u16]) -> Taken
-    ensures { λ r. ⌜ (r ≡ takeBehindW (now (ws .entry)) list key (now (fresh .entry)) .answer) × (now (fresh .exit) ≡ takeBehindW (now (ws .entry)) list key (now (fresh .entry)) .out) ⌝ }
+    ensures answered { λ r. ⌜ r ≡ takeBehindW (now (ws .entry)) list key (now (fresh .entry)) .answer ⌝ }
+    ensures fresh { λ r. ⌜ now (fresh .exit) ≡ takeBehindW (now (ws .entry)) list key (now (fresh .entry)) .out ⌝ }
 {
     if fresh.len() < 2 {
         return Taken {
@@ -49,7 +57,8 @@ fn take_behind(ws: &[u16], list: usize, key: usize, fresh: &mut [u16]) -> Taken
 
 // What was taken out, or nil where nothing was; the place behind it.
 fn put_taken(ws: &[u16], t: Taken, fresh: &mut [u16], to: usize) -> usize
-    ensures { λ r. ⌜ (r ≡ takenTo (now (ws .entry)) t to) × (now (fresh .exit) ≡ takenW (now (ws .entry)) t (now (fresh .entry)) to) ⌝ }
+    ensures place { λ r. ⌜ r ≡ takenTo (now (ws .entry)) t to ⌝ }
+    ensures fresh { λ r. ⌜ now (fresh .exit) ≡ takenW (now (ws .entry)) t (now (fresh .entry)) to ⌝ }
 {
     let upto = t.upto;
     if upto == 0 {
@@ -68,9 +77,10 @@ fn resumed(
     key: usize,
     fresh: &mut [u16],
 ) -> Edit
-    ensures { λ r. ⌜ (r ≡ resumedW (now (ws .entry)) (now (notes .entry)) start at key (now (fresh .entry)) .edit) × (now (fresh .exit) ≡ resumedW (now (ws .entry)) (now (notes .entry)) start at key (now (fresh .entry)) .fresh) ⌝ }
+    ensures edited { λ r. ⌜ r ≡ resumedW (now (ws .entry)) (now (notes .entry)) start at key (now (fresh .entry)) .edit ⌝ }
+    ensures fresh { λ r. ⌜ now (fresh .exit) ≡ resumedW (now (ws .entry)) (now (notes .entry)) start at key (now (fresh .entry)) .fresh ⌝ }
 {
-    let h = head::cleared(word(ws, at));
+    let h = resumed_head(word(ws, at));
     put(fresh, 0, h);
     put(fresh, 1, 0);
     let l = further(at, 2);
@@ -94,7 +104,8 @@ fn resumed(
 
 // The list at `l` updated by what was taken out under the key, from 0 on; the place behind it.
 fn promoted(ws: &[u16], l: usize, t: Taken, key: usize, fresh: &mut [u16]) -> usize
-    ensures { λ r. ⌜ (r ≡ promotedTo (now (ws .entry)) l t key (now (fresh .entry))) × (now (fresh .exit) ≡ promotedW (now (ws .entry)) l t key (now (fresh .entry))) ⌝ }
+    ensures place { λ r. ⌜ r ≡ promotedTo (now (ws .entry)) l t key (now (fresh .entry)) ⌝ }
+    ensures fresh { λ r. ⌜ now (fresh .exit) ≡ promotedW (now (ws .entry)) l t key (now (fresh .entry)) ⌝ }
 {
     if t.upto == 0 {
         let u = take(ws, l, key, FUEL, fresh);
@@ -106,7 +117,8 @@ fn promoted(ws: &[u16], l: usize, t: Taken, key: usize, fresh: &mut [u16]) -> us
 
 // The scope becomes nil, and the nearest is updated by its name and the handler under it.
 fn ending(ws: &[u16], notes: &[u16], s: Site, key: usize, fresh: &mut [u16]) -> Edit
-    ensures { λ r. ⌜ (r ≡ endingW (now (ws .entry)) (now (notes .entry)) s key (now (fresh .entry)) .edit) × (now (fresh .exit) ≡ endingW (now (ws .entry)) (now (notes .entry)) s key (now (fresh .entry)) .fresh) ⌝ }
+    ensures edited { λ r. ⌜ r ≡ endingW (now (ws .entry)) (now (notes .entry)) s key (now (fresh .entry)) .edit ⌝ }
+    ensures fresh { λ r. ⌜ now (fresh .exit) ≡ endingW (now (ws .entry)) (now (notes .entry)) s key (now (fresh .entry)) .fresh ⌝ }
 {
     let t = take(ws, further(s.at, 2), key, FUEL, fresh);
     let l = further(s.scope, 2);
@@ -116,7 +128,8 @@ fn ending(ws: &[u16], notes: &[u16], s: Site, key: usize, fresh: &mut [u16]) -> 
 
 // The scope with nil body at `s`, in the engine's process that begins at `start`.
 pub fn ended(ws: &[u16], notes: &[u16], start: usize, s: Site, fresh: &mut [u16]) -> Edit
-    ensures { λ r. ⌜ (r ≡ endedW (now (ws .entry)) (now (notes .entry)) start s (now (fresh .entry)) .edit) × (now (fresh .exit) ≡ endedW (now (ws .entry)) (now (notes .entry)) start s (now (fresh .entry)) .fresh) ⌝ }
+    ensures edited { λ r. ⌜ r ≡ endedW (now (ws .entry)) (now (notes .entry)) start s (now (fresh .entry)) .edit ⌝ }
+    ensures fresh { λ r. ⌜ now (fresh .exit) ≡ endedW (now (ws .entry)) (now (notes .entry)) start s (now (fresh .entry)) .fresh ⌝ }
 {
     let at = s.at;
     let h = word(ws, at);

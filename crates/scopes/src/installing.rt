@@ -24,7 +24,8 @@ fn too_deep(limits: Limits, level: usize, levels: usize) -> bool
 
 // The list at `l` becomes the first `f` fresh words, the process nil.
 pub fn updated(ws: &[u16], notes: &[u16], s: Site, l: usize, f: usize, fresh: &mut [u16]) -> Edit
-    ensures { λ r. ⌜ (r ≡ updatedW (now (ws .entry)) (now (notes .entry)) s l f (now (fresh .entry)) .edit) × (now (fresh .exit) ≡ updatedW (now (ws .entry)) (now (notes .entry)) s l f (now (fresh .entry)) .fresh) ⌝ }
+    ensures edited { λ r. ⌜ r ≡ updatedW (now (ws .entry)) (now (notes .entry)) s l f (now (fresh .entry)) .edit ⌝ }
+    ensures fresh { λ r. ⌜ now (fresh .exit) ≡ updatedW (now (ws .entry)) (now (notes .entry)) s l f (now (fresh .entry)) .fresh ⌝ }
 {
     let m = pass_list(ws, notes, l, FUEL);
     become_nil(s, l, m, f, nothing(), fresh)
@@ -39,7 +40,8 @@ pub fn installed(
     limits: Limits,
     fresh: &mut [u16],
 ) -> Edit
-    ensures { λ r. ⌜ (r ≡ installedW limits (now (ws .entry)) (now (notes .entry)) start s (now (fresh .entry)) .edit) × (now (fresh .exit) ≡ installedW limits (now (ws .entry)) (now (notes .entry)) start s (now (fresh .entry)) .fresh) ⌝ }
+    ensures edited { λ r. ⌜ r ≡ installedW limits (now (ws .entry)) (now (notes .entry)) start s (now (fresh .entry)) .edit ⌝ }
+    ensures fresh { λ r. ⌜ now (fresh .exit) ≡ installedW limits (now (ws .entry)) (now (notes .entry)) start s (now (fresh .entry)) .fresh ⌝ }
 {
     if s.scope == 0 {
         return become_nil(s, start, start, 0, nothing(), fresh);

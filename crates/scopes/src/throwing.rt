@@ -55,7 +55,8 @@ fn uncaught(
     at: usize,
     fresh: &mut [u16],
 ) -> Edit
-    ensures { λ r. ⌜ (r ≡ uncaughtW (now (ws .entry)) (now (notes .entry)) start fault at (now (fresh .entry)) .edit) × (now (fresh .exit) ≡ uncaughtW (now (ws .entry)) (now (notes .entry)) start fault at (now (fresh .entry)) .fresh) ⌝ }
+    ensures edited { λ r. ⌜ r ≡ uncaughtW (now (ws .entry)) (now (notes .entry)) start fault at (now (fresh .entry)) .edit ⌝ }
+    ensures fresh { λ r. ⌜ now (fresh .exit) ≡ uncaughtW (now (ws .entry)) (now (notes .entry)) start fault at (now (fresh .entry)) .fresh ⌝ }
 {
     let k = kill(ws, notes, start, fault, at, FUEL, fresh, 0);
     cleared(start, start, k)
@@ -73,7 +74,8 @@ fn listed(ws: &[u16], c: usize, fault: u16) -> bool
 
 // The first two words of the scope at `c`, which stops the fault: marked with it, if its list has it.
 fn marked(ws: &[u16], c: usize, fault: u16, fresh: &mut [u16]) -> usize
-    ensures { λ r. ⌜ (r ≡ 2) × (now (fresh .exit) ≡ markedW (now (ws .entry)) c fault (now (fresh .entry))) ⌝ }
+    ensures place { λ r. ⌜ r ≡ 2 ⌝ }
+    ensures fresh { λ r. ⌜ now (fresh .exit) ≡ markedW (now (ws .entry)) c fault (now (fresh .entry)) ⌝ }
 {
     if listed(ws, c, fault) {
         put(fresh, 0, head::faulted(word(ws, c)));
@@ -94,7 +96,8 @@ fn body_at(ws: &[u16], notes: &[u16], c: usize) -> usize
 
 // All of it but the body.
 fn opened(ws: &[u16], c: usize, body: usize, fault: u16, fresh: &mut [u16]) -> usize
-    ensures { λ r. ⌜ (r ≡ openedTo (now (ws .entry)) c body) × (now (fresh .exit) ≡ openedW (now (ws .entry)) c body fault (now (fresh .entry))) ⌝ }
+    ensures place { λ r. ⌜ r ≡ openedTo (now (ws .entry)) c body ⌝ }
+    ensures fresh { λ r. ⌜ now (fresh .exit) ≡ openedW (now (ws .entry)) c body fault (now (fresh .entry)) ⌝ }
 {
     marked(ws, c, fault, fresh);
     copy(ws, further(c, 2), body, fresh, 2)
@@ -110,7 +113,8 @@ fn caught(
     at: usize,
     fresh: &mut [u16],
 ) -> Edit
-    ensures { λ r. ⌜ (r ≡ caughtW (now (ws .entry)) (now (notes .entry)) start c fault at (now (fresh .entry)) .edit) × (now (fresh .exit) ≡ caughtW (now (ws .entry)) (now (notes .entry)) start c fault at (now (fresh .entry)) .fresh) ⌝ }
+    ensures edited { λ r. ⌜ r ≡ caughtW (now (ws .entry)) (now (notes .entry)) start c fault at (now (fresh .entry)) .edit ⌝ }
+    ensures fresh { λ r. ⌜ now (fresh .exit) ≡ caughtW (now (ws .entry)) (now (notes .entry)) start c fault at (now (fresh .entry)) .fresh ⌝ }
 {
     let body = body_at(ws, notes, c);
     let t = opened(ws, c, body, fault, fresh);
@@ -119,7 +123,8 @@ fn caught(
 }
 
 pub fn thrown(ws: &[u16], notes: &[u16], start: usize, s: Site, fresh: &mut [u16]) -> Edit
-    ensures { λ r. ⌜ (r ≡ thrownW (now (ws .entry)) (now (notes .entry)) start s (now (fresh .entry)) .edit) × (now (fresh .exit) ≡ thrownW (now (ws .entry)) (now (notes .entry)) start s (now (fresh .entry)) .fresh) ⌝ }
+    ensures edited { λ r. ⌜ r ≡ thrownW (now (ws .entry)) (now (notes .entry)) start s (now (fresh .entry)) .edit ⌝ }
+    ensures fresh { λ r. ⌜ now (fresh .exit) ≡ thrownW (now (ws .entry)) (now (notes .entry)) start s (now (fresh .entry)) .fresh ⌝ }
 {
     let fault = fault_at(ws, s.at);
     if s.catcher == 0 {

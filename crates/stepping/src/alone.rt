@@ -40,7 +40,8 @@ fn rewritten(
     limits: Limits,
     fresh: &mut [u16],
 ) -> Rewriting
-    ensures { λ r. ⌜ (r ≡ rewrittenW limits (now (part .entry)) (now (values .entry)) level kind bound (now (fresh .entry)) .rewriting) × (now (fresh .exit) ≡ rewrittenW limits (now (part .entry)) (now (values .entry)) level kind bound (now (fresh .entry)) .fresh) ⌝ }
+    ensures rewritten { λ r. ⌜ r ≡ rewrittenW limits (now (part .entry)) (now (values .entry)) level kind bound (now (fresh .entry)) .rewriting ⌝ }
+    ensures fresh { λ r. ⌜ now (fresh .exit) ≡ rewrittenW limits (now (part .entry)) (now (values .entry)) level kind bound (now (fresh .entry)) .fresh ⌝ }
 {
     if kind == kind::ASSIGN {
         return assign(part, values);
@@ -61,7 +62,8 @@ fn valued(
     limits: Limits,
     fresh: &mut [u16],
 ) -> Rewriting
-    ensures { λ r. ⌜ (r ≡ valuedW limits (now (ws .entry)) start s kind bound (now (fresh .entry)) .rewriting) × (now (fresh .exit) ≡ valuedW limits (now (ws .entry)) start s kind bound (now (fresh .entry)) .fresh) ⌝ }
+    ensures rewritten { λ r. ⌜ r ≡ valuedW limits (now (ws .entry)) start s kind bound (now (fresh .entry)) .rewriting ⌝ }
+    ensures fresh { λ r. ⌜ now (fresh .exit) ≡ valuedW limits (now (ws .entry)) start s kind bound (now (fresh .entry)) .fresh ⌝ }
 {
     let at = s.at;
     if start < VALUES {
@@ -96,7 +98,8 @@ fn scoped(
     limits: Limits,
     fresh: &mut [u16],
 ) -> Edit
-    ensures { λ r. ⌜ (r ≡ scopedW limits (now (ws .entry)) (now (notes .entry)) start s kind bound (now (fresh .entry)) .edit) × (now (fresh .exit) ≡ scopedW limits (now (ws .entry)) (now (notes .entry)) start s kind bound (now (fresh .entry)) .fresh) ⌝ }
+    ensures edited { λ r. ⌜ r ≡ scopedW limits (now (ws .entry)) (now (notes .entry)) start s kind bound (now (fresh .entry)) .edit ⌝ }
+    ensures fresh { λ r. ⌜ now (fresh .exit) ≡ scopedW limits (now (ws .entry)) (now (notes .entry)) start s kind bound (now (fresh .entry)) .fresh ⌝ }
 {
     if kind == kind::SCOPE {
         return ended(ws, notes, start, s, fresh);
@@ -120,7 +123,8 @@ fn rule(
     limits: Limits,
     fresh: &mut [u16],
 ) -> Edit
-    ensures { λ r. ⌜ (r ≡ ruleW limits (now (ws .entry)) (now (notes .entry)) m kind bound (now (fresh .entry)) .edit) × (now (fresh .exit) ≡ ruleW limits (now (ws .entry)) (now (notes .entry)) m kind bound (now (fresh .entry)) .fresh) ⌝ }
+    ensures edited { λ r. ⌜ r ≡ ruleW limits (now (ws .entry)) (now (notes .entry)) m kind bound (now (fresh .entry)) .edit ⌝ }
+    ensures fresh { λ r. ⌜ now (fresh .exit) ≡ ruleW limits (now (ws .entry)) (now (notes .entry)) m kind bound (now (fresh .entry)) .fresh ⌝ }
 {
     let s = m.site;
     let start = m.start;
@@ -158,7 +162,8 @@ fn roomy(
     limits: Limits,
     out: &mut [u16],
 ) -> Answer
-    ensures { λ r. ⌜ (r ≡ loneW limits (now (ws .entry)) (now (notes .entry)) m kind bound large (now (out .entry)) .answer) × (now (out .exit) ≡ loneW limits (now (ws .entry)) (now (notes .entry)) m kind bound large (now (out .entry)) .out) ⌝ }
+    ensures answered { λ r. ⌜ r ≡ loneW limits (now (ws .entry)) (now (notes .entry)) m kind bound large (now (out .entry)) .answer ⌝ }
+    ensures written { λ r. ⌜ now (out .exit) ≡ loneW limits (now (ws .entry)) (now (notes .entry)) m kind bound large (now (out .entry)) .out ⌝ }
 {
     let mut fresh = [0u16; LARGE];
     lone(ws, notes, m, kind, bound, limits, &mut fresh, out)
@@ -195,7 +200,8 @@ pub fn alone(
     limits: Limits,
     out: &mut [u16],
 ) -> Answer
-    ensures { λ r. ⌜ (r ≡ aloneW limits (now (ws .entry)) (now (notes .entry)) m kind bound (now (out .entry)) .answer) × (now (out .exit) ≡ aloneW limits (now (ws .entry)) (now (notes .entry)) m kind bound (now (out .entry)) .out) ⌝ }
+    ensures answered { λ r. ⌜ r ≡ aloneW limits (now (ws .entry)) (now (notes .entry)) m kind bound (now (out .entry)) .answer ⌝ }
+    ensures written { λ r. ⌜ now (out .exit) ≡ aloneW limits (now (ws .entry)) (now (notes .entry)) m kind bound (now (out .entry)) .out ⌝ }
 {
     if SHORT < ws.len() {
         return roomy(ws, notes, m, kind, bound, limits, out);

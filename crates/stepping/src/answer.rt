@@ -57,7 +57,8 @@ fn sized(limits: Limits, words: usize, p: Edit) -> usize
 }
 
 fn write_one(ws: &[u16], start: usize, end: usize, p: Edit, fresh: &[u16], out: &mut [u16]) -> usize
-    ensures { λ r. ⌜ (r ≡ writeOneW (now (ws .entry)) start end p (now (fresh .entry)) (now (out .entry)) .to) × (now (out .exit) ≡ writeOneW (now (ws .entry)) start end p (now (fresh .entry)) (now (out .entry)) .out) ⌝ }
+    ensures place { λ r. ⌜ r ≡ writeOneW (now (ws .entry)) start end p (now (fresh .entry)) (now (out .entry)) .to ⌝ }
+    ensures written { λ r. ⌜ now (out .exit) ≡ writeOneW (now (ws .entry)) start end p (now (fresh .entry)) (now (out .entry)) .out ⌝ }
 {
     let t = engine(ws, 0, start, end, p, fresh, out, 0);
     copy(ws, end, ws.len(), out, t)
@@ -87,7 +88,8 @@ pub fn one(
     fresh: &[u16],
     out: &mut [u16],
 ) -> Answer
-    ensures { λ r. ⌜ (r ≡ oneW limits (now (ws .entry)) start end p kind (now (fresh .entry)) (now (out .entry)) .answer) × (now (out .exit) ≡ oneW limits (now (ws .entry)) start end p kind (now (fresh .entry)) (now (out .entry)) .out) ⌝ }
+    ensures answered { λ r. ⌜ r ≡ oneW limits (now (ws .entry)) start end p kind (now (fresh .entry)) (now (out .entry)) .answer ⌝ }
+    ensures written { λ r. ⌜ now (out .exit) ≡ oneW limits (now (ws .entry)) start end p kind (now (fresh .entry)) (now (out .entry)) .out ⌝ }
 {
     if p.number != 0 {
         return refuse(p.number);
@@ -125,7 +127,8 @@ fn write_two(
     issued: u16,
     out: &mut [u16],
 ) -> usize
-    ensures { λ r. ⌜ (r ≡ 0) × (now (out .exit) ≡ writeTwoW (now (ws .entry)) p (now (fresh .entry)) q (now (fresh2 .entry)) issued (now (out .entry))) ⌝ }
+    ensures nothing { λ r. ⌜ r ≡ 0 ⌝ }
+    ensures written { λ r. ⌜ now (out .exit) ≡ writeTwoW (now (ws .entry)) p (now (fresh .entry)) q (now (fresh2 .entry)) issued (now (out .entry)) ⌝ }
 {
     let first = p.edit;
     let second = q.edit;
@@ -147,7 +150,8 @@ pub fn two(
     limits: Limits,
     out: &mut [u16],
 ) -> Answer
-    ensures { λ r. ⌜ (r ≡ twoW limits (now (ws .entry)) p (now (fresh .entry)) q (now (fresh2 .entry)) told (now (out .entry)) .answer) × (now (out .exit) ≡ twoW limits (now (ws .entry)) p (now (fresh .entry)) q (now (fresh2 .entry)) told (now (out .entry)) .out) ⌝ }
+    ensures answered { λ r. ⌜ r ≡ twoW limits (now (ws .entry)) p (now (fresh .entry)) q (now (fresh2 .entry)) told (now (out .entry)) .answer ⌝ }
+    ensures written { λ r. ⌜ now (out .exit) ≡ twoW limits (now (ws .entry)) p (now (fresh .entry)) q (now (fresh2 .entry)) told (now (out .entry)) .out ⌝ }
 {
     let first = p.edit;
     let second = q.edit;

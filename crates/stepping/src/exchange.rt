@@ -27,7 +27,8 @@ ghost use Rattle.stepping.specs.Exchanging.{senderW, receiverW, nextOf, 
 const SCRATCH: usize = 64;
 
 fn sender(part: &[u16], x: Encounter, serial: u16, fresh: &mut [u16]) -> Edit
-    ensures { λ r. ⌜ (r ≡ senderW (now (part .entry)) x serial (now (fresh .entry)) .edit) × (now (fresh .exit) ≡ senderW (now (part .entry)) x serial (now (fresh .entry)) .fresh) ⌝ }
+    ensures edited { λ r. ⌜ r ≡ senderW (now (part .entry)) x serial (now (fresh .entry)) .edit ⌝ }
+    ensures fresh { λ r. ⌜ now (fresh .exit) ≡ senderW (now (part .entry)) x serial (now (fresh .entry)) .fresh ⌝ }
 {
     let t = send(part, x.kind, x.second, serial, fresh);
     let m = x.sender;
@@ -44,7 +45,8 @@ fn receiver(
     serial: u16,
     fresh: &mut [u16],
 ) -> Edit
-    ensures { λ r. ⌜ (r ≡ receiverW (now (part .entry)) (now (values .entry)) (now (other .entry)) o x serial (now (fresh .entry)) .edit) × (now (fresh .exit) ≡ receiverW (now (part .entry)) (now (values .entry)) (now (other .entry)) o x serial (now (fresh .entry)) .fresh) ⌝ }
+    ensures edited { λ r. ⌜ r ≡ receiverW (now (part .entry)) (now (values .entry)) (now (other .entry)) o x serial (now (fresh .entry)) .edit ⌝ }
+    ensures fresh { λ r. ⌜ now (fresh .exit) ≡ receiverW (now (part .entry)) (now (values .entry)) (now (other .entry)) o x serial (now (fresh .entry)) .fresh ⌝ }
 {
     let t = receive(part, values, other, o, x.kind, x.engine, serial, fresh);
     let m = x.receiver;
@@ -93,7 +95,8 @@ fn carry(
     limits: Limits,
     out: &mut [u16],
 ) -> Answer
-    ensures { λ r. ⌜ (r ≡ carryW limits (now (ws .entry)) (now (part .entry)) (now (values .entry)) (now (other .entry)) o x (now (out .entry)) .answer) × (now (out .exit) ≡ carryW limits (now (ws .entry)) (now (part .entry)) (now (values .entry)) (now (other .entry)) o x (now (out .entry)) .out) ⌝ }
+    ensures answered { λ r. ⌜ r ≡ carryW limits (now (ws .entry)) (now (part .entry)) (now (values .entry)) (now (other .entry)) o x (now (out .entry)) .answer ⌝ }
+    ensures written { λ r. ⌜ now (out .exit) ≡ carryW limits (now (ws .entry)) (now (part .entry)) (now (values .entry)) (now (other .entry)) o x (now (out .entry)) .out ⌝ }
 {
     let issued = word(ws, 1);
     let next = next_of(issued);
@@ -138,7 +141,8 @@ fn meet(
     limits: Limits,
     out: &mut [u16],
 ) -> Answer
-    ensures { λ r. ⌜ (r ≡ meetW limits (now (ws .entry)) (now (part .entry)) (now (values .entry)) (now (other .entry)) x (now (out .entry)) .answer) × (now (out .exit) ≡ meetW limits (now (ws .entry)) (now (part .entry)) (now (values .entry)) (now (other .entry)) x (now (out .entry)) .out) ⌝ }
+    ensures answered { λ r. ⌜ r ≡ meetW limits (now (ws .entry)) (now (part .entry)) (now (values .entry)) (now (other .entry)) x (now (out .entry)) .answer ⌝ }
+    ensures written { λ r. ⌜ now (out .exit) ≡ meetW limits (now (ws .entry)) (now (part .entry)) (now (values .entry)) (now (other .entry)) x (now (out .entry)) .out ⌝ }
 {
     let o = offered(other, x.branch);
     if fit(
@@ -161,7 +165,8 @@ fn meet(
 
 // That the places are inside is known of all that was found.
 pub(crate) fn between(ws: &[u16], x: Encounter, limits: Limits, out: &mut [u16]) -> Answer
-    ensures { λ r. ⌜ (r ≡ betweenW limits (now (ws .entry)) x (now (out .entry)) .answer) × (now (out .exit) ≡ betweenW limits (now (ws .entry)) x (now (out .entry)) .out) ⌝ }
+    ensures answered { λ r. ⌜ r ≡ betweenW limits (now (ws .entry)) x (now (out .entry)) .answer ⌝ }
+    ensures written { λ r. ⌜ now (out .exit) ≡ betweenW limits (now (ws .entry)) x (now (out .entry)) .out ⌝ }
 {
     let a = x.sender;
     let b = x.receiver;

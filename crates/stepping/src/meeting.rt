@@ -110,7 +110,8 @@ pub(crate) fn send(
     serial: u16,
     fresh: &mut [u16],
 ) -> Rewriting
-    ensures { λ r. ⌜ (r ≡ sendW (now (part .entry)) kind server serial (now (fresh .entry)) .rewriting) × (now (fresh .exit) ≡ sendW (now (part .entry)) kind server serial (now (fresh .entry)) .fresh) ⌝ }
+    ensures rewritten { λ r. ⌜ r ≡ sendW (now (part .entry)) kind server serial (now (fresh .entry)) .rewriting ⌝ }
+    ensures fresh { λ r. ⌜ now (fresh .exit) ≡ sendW (now (part .entry)) kind server serial (now (fresh .entry)) .fresh ⌝ }
 {
     if kind == kind::SOLICIT {
         return ask(part, server, serial, fresh);
@@ -129,7 +130,8 @@ pub(crate) fn receive(
     serial: u16,
     fresh: &mut [u16],
 ) -> Rewriting
-    ensures { λ r. ⌜ (r ≡ receiveW (now (part .entry)) (now (values .entry)) (now (other .entry)) o kind client serial (now (fresh .entry)) .rewriting) × (now (fresh .exit) ≡ receiveW (now (part .entry)) (now (values .entry)) (now (other .entry)) o kind client serial (now (fresh .entry)) .fresh) ⌝ }
+    ensures rewritten { λ r. ⌜ r ≡ receiveW (now (part .entry)) (now (values .entry)) (now (other .entry)) o kind client serial (now (fresh .entry)) .rewriting ⌝ }
+    ensures fresh { λ r. ⌜ now (fresh .exit) ≡ receiveW (now (part .entry)) (now (values .entry)) (now (other .entry)) o kind client serial (now (fresh .entry)) .fresh ⌝ }
 {
     let v = variable(values, second_of(word(part, 0)));
     if kind == kind::NOTIFY {

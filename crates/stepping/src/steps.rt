@@ -105,7 +105,8 @@ fn receiving(
     out: &mut [u16],
 ) -> Answer
     requires { ⌜ (g .count ≤ 8) × (k .engine < 8) ⌝ }
-    ensures { λ r. ⌜ (r ≡ receivingW limits (now (ws .entry)) (now (notes .entry)) g k a kind (now (out .entry)) .answer) × (now (out .exit) ≡ receivingW limits (now (ws .entry)) (now (notes .entry)) g k a kind (now (out .entry)) .out) ⌝ }
+    ensures answered { λ r. ⌜ r ≡ receivingW limits (now (ws .entry)) (now (notes .entry)) g k a kind (now (out .entry)) .answer ⌝ }
+    ensures written { λ r. ⌜ now (out .exit) ≡ receivingW limits (now (ws .entry)) (now (notes .entry)) g k a kind (now (out .entry)) .out ⌝ }
 {
     let i = wide(k.second);
     if g.count <= i {
@@ -150,7 +151,8 @@ fn moving(
     out: &mut [u16],
 ) -> Answer
     requires { ⌜ (g .count ≤ 8) × (k .engine < 8) ⌝ }
-    ensures { λ r. ⌜ (r ≡ movingW limits (now (ws .entry)) (now (notes .entry)) g k a (now (out .entry)) .answer) × (now (out .exit) ≡ movingW limits (now (ws .entry)) (now (notes .entry)) g k a (now (out .entry)) .out) ⌝ }
+    ensures answered { λ r. ⌜ r ≡ movingW limits (now (ws .entry)) (now (notes .entry)) g k a (now (out .entry)) .answer ⌝ }
+    ensures written { λ r. ⌜ now (out .exit) ≡ movingW limits (now (ws .entry)) (now (notes .entry)) g k a (now (out .entry)) .out ⌝ }
 {
     let kind = kind_of(word(ws, a.at));
     let m = moves(ws, notes, a.at, kind);
@@ -205,7 +207,8 @@ fn stepped(ws: &[u16], notes: &mut [u16], k: Numbers, limits: Limits, out: &mut 
 
 // With room for the notes of any configuration.
 fn with_notes(ws: &[u16], k: Numbers, limits: Limits, out: &mut [u16]) -> Answer
-    ensures { λ r. ⌜ (r ≡ stepW limits (now (ws .entry)) manyNotes k (now (out .entry)) .answer) × (now (out .exit) ≡ stepW limits (now (ws .entry)) manyNotes k (now (out .entry)) .out) ⌝ }
+    ensures answered { λ r. ⌜ r ≡ stepW limits (now (ws .entry)) manyNotes k (now (out .entry)) .answer ⌝ }
+    ensures written { λ r. ⌜ now (out .exit) ≡ stepW limits (now (ws .entry)) manyNotes k (now (out .entry)) .out ⌝ }
 {
     let mut notes = [0u16; MANY];
     stepped(ws, &mut notes, k, limits, out)

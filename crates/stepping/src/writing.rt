@@ -12,7 +12,8 @@ ghost use Rattle.stepping.specs.Writing.{frontW, backW, processW, valueW
 
 // What an edit puts in front: up to its second fresh words.
 fn front(ws: &[u16], start: usize, p: Edit, fresh: &[u16], out: &mut [u16]) -> usize
-    ensures { λ r. ⌜ (r ≡ frontW (now (ws .entry)) start p (now (fresh .entry)) (now (out .entry)) .to) × (now (out .exit) ≡ frontW (now (ws .entry)) start p (now (fresh .entry)) (now (out .entry)) .out) ⌝ }
+    ensures place { λ r. ⌜ r ≡ frontW (now (ws .entry)) start p (now (fresh .entry)) (now (out .entry)) .to ⌝ }
+    ensures written { λ r. ⌜ now (out .exit) ≡ frontW (now (ws .entry)) start p (now (fresh .entry)) (now (out .entry)) .out ⌝ }
 {
     let t = copy(ws, start, p.list, out, 0);
     let u = copy(fresh, 0, p.listed, out, t);
@@ -21,7 +22,8 @@ fn front(ws: &[u16], start: usize, p: Edit, fresh: &[u16], out: &mut [u16]) -> u
 
 // And behind, from a place on.
 fn back(ws: &[u16], end: usize, p: Edit, fresh: &[u16], out: &mut [u16], to: usize) -> usize
-    ensures { λ r. ⌜ (r ≡ backW (now (ws .entry)) end p (now (fresh .entry)) (now (out .entry)) to .to) × (now (out .exit) ≡ backW (now (ws .entry)) end p (now (fresh .entry)) (now (out .entry)) to .out) ⌝ }
+    ensures place { λ r. ⌜ r ≡ backW (now (ws .entry)) end p (now (fresh .entry)) (now (out .entry)) to .to ⌝ }
+    ensures written { λ r. ⌜ now (out .exit) ≡ backW (now (ws .entry)) end p (now (fresh .entry)) (now (out .entry)) to .out ⌝ }
 {
     let t = copy(fresh, p.listed, p.fresh, out, to);
     let u = copy(ws, p.upto, p.gap, out, t);
@@ -37,7 +39,8 @@ pub fn process_words(
     fresh: &[u16],
     out: &mut [u16],
 ) -> usize
-    ensures { λ r. ⌜ (r ≡ processW (now (ws .entry)) start end p (now (fresh .entry)) (now (out .entry)) .to) × (now (out .exit) ≡ processW (now (ws .entry)) start end p (now (fresh .entry)) (now (out .entry)) .out) ⌝ }
+    ensures place { λ r. ⌜ r ≡ processW (now (ws .entry)) start end p (now (fresh .entry)) (now (out .entry)) .to ⌝ }
+    ensures written { λ r. ⌜ now (out .exit) ≡ processW (now (ws .entry)) start end p (now (fresh .entry)) (now (out .entry)) .out ⌝ }
 {
     let t = front(ws, start, p, fresh, out);
     back(ws, end, p, fresh, out, t)
@@ -45,7 +48,8 @@ pub fn process_words(
 
 // Variable x of the values that end at `to` takes v, if there is one.
 fn value(out: &mut [u16], to: usize, x: usize, v: u32) -> usize
-    ensures { λ r. ⌜ (r ≡ 0) × (now (out .exit) ≡ valueW (now (out .entry)) to x v) ⌝ }
+    ensures nothing { λ r. ⌜ r ≡ 0 ⌝ }
+    ensures written { λ r. ⌜ now (out .exit) ≡ valueW (now (out .entry)) to x v ⌝ }
 {
     if VARIABLES <= x {
         return 0;
@@ -72,7 +76,8 @@ fn lend(
     out: &mut [u16],
     to: usize,
 ) -> usize
-    ensures { λ r. ⌜ (r ≡ lentW (now (ws .entry)) start end p (now (fresh .entry)) (now (out .entry)) to .to) × (now (out .exit) ≡ lentW (now (ws .entry)) start end p (now (fresh .entry)) (now (out .entry)) to .out) ⌝ }
+    ensures place { λ r. ⌜ r ≡ lentW (now (ws .entry)) start end p (now (fresh .entry)) (now (out .entry)) to .to ⌝ }
+    ensures written { λ r. ⌜ now (out .exit) ≡ lentW (now (ws .entry)) start end p (now (fresh .entry)) (now (out .entry)) to .out ⌝ }
 {
     if out.len() < to {
         return to;
@@ -92,7 +97,8 @@ pub fn engine(
     out: &mut [u16],
     to: usize,
 ) -> usize
-    ensures { λ r. ⌜ (r ≡ engineW (now (ws .entry)) from start end p (now (fresh .entry)) (now (out .entry)) to .to) × (now (out .exit) ≡ engineW (now (ws .entry)) from start end p (now (fresh .entry)) (now (out .entry)) to .out) ⌝ }
+    ensures place { λ r. ⌜ r ≡ engineW (now (ws .entry)) from start end p (now (fresh .entry)) (now (out .entry)) to .to ⌝ }
+    ensures written { λ r. ⌜ now (out .exit) ≡ engineW (now (ws .entry)) from start end p (now (fresh .entry)) (now (out .entry)) to .out ⌝ }
 {
     let t = copy(ws, from, start, out, to);
     value(out, t, p.store.variable, p.store.value);

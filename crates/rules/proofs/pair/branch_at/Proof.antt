@@ -1,4 +1,4 @@
--- `branch_at` of `rules::pair` meets its contract: the branch sought is that of what is left to pass.
+-- `branch_at` of `rules::pair` meets its contract: the branch sought is that of what is left to pass. The measure is how many are left.
 -- Assumes nothing.
 use Prim.Native.Nat.{_-_, _<_}
 use native.Mathlib.Omega.{arith}

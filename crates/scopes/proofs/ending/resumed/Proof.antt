@@ -11,8 +11,8 @@ use Rattle.scopes.proofs.ending.resumed.Tie as tie
 word-requires : tie.Need-word-requires
 word-requires c κs = search needs
 
-cleared-requires : tie.Need-cleared-requires
-cleared-requires c κs = search needs
+resumed-head-requires : tie.Need-resumed-head-requires
+resumed-head-requires c κs = search needs
 
 put-requires : tie.Need-put-requires
 put-requires c κs = search needs
@@ -46,7 +46,7 @@ same-length c = search needs
 
 returns : tie.Need-returns
 returns c =
-    let e = resumed-made _ _ _ _ _ _ _ _ _ _ _ _ _ _ _ _ _ _ _ (c .before .before .before .before .before .before .before .before .before .before .before .before .before .before .before .before .before .before .before .before .before .before .word .ensures) (c .before .before .before .before .before .before .before .before .before .before .before .before .before .before .before .before .before .before .before .before .before .cleared .ensures) (c .before .before .before .before .before .before .before .before .before .before .before .before .before .before .before .before .before .before .before .put .ensures .1) (c .before .before .before .before .before .before .before .before .before .before .before .before .before .before .before .put2 .ensures .1)
+    let e = resumed-made _ _ _ _ _ _ _ _ _ _ _ _ _ _ _ _ _ _ _ (c .before .before .before .before .before .before .before .before .before .before .before .before .before .before .before .before .before .before .before .before .before .before .word .ensures) (c .before .before .before .before .before .before .before .before .before .before .before .before .before .before .before .before .before .before .before .before .before .resumed-head .ensures) (c .before .before .before .before .before .before .before .before .before .before .before .before .before .before .before .before .before .before .before .put .ensures .1) (c .before .before .before .before .before .before .before .before .before .before .before .before .before .before .before .put2 .ensures .1)
     (c .before .before .before .before .before .before .before .before .before .before .before .before .further .ensures) (c .before .before .before .before .before .before .before .before .before .before .take-behind .ensures .0) (c .before .before .before .before .before .before .before .before .before .before .take-behind .ensures .1) (c .before .before .before .before .before .before .before .further2 .ensures)
     (c .before .before .before .before .before .put-taken .ensures .0) (c .before .before .before .before .before .put-taken .ensures .1) (c .before .before .pass-list .ensures) (c .before .further3 .ensures) (c .nothing .ensures) in
     (sym (ap (λ (u : Edited). u .edit) e), sym (ap (λ (u : Edited). u .fresh) e))
@@ -56,7 +56,7 @@ resumed-spec =
     tie.close
     (tie.spec
     word-requires
-    cleared-requires
+    resumed-head-requires
     put-requires
     put-requires-2
     further-requires
