@@ -34,10 +34,10 @@ extern "C" {
 #endif
 
 /* This header's version. The first number rises when a call, an answer or the format changes, the second when something is added. */
-#define SOCK_VERSION_MAJOR 1
-#define SOCK_VERSION_MINOR 2
+#define SOCK_VERSION_MAJOR 2
+#define SOCK_VERSION_MINOR 0
 #define SOCK_VERSION_PATCH 0
-#define SOCK_VERSION "1.2.0"
+#define SOCK_VERSION "2.0.0"
 
 /* The most words and bytes that a configuration has. */
 #define SOCK_WORDS 8192
@@ -145,7 +145,8 @@ static inline size_t sock_put(uint8_t *config, size_t word, uint16_t content)
     return word + 1;
 }
 
-/* A value, which is two words, the high one first. */
+/* A value, which is two words, the high one first. The operator less of expressions reads values with sign, in two's complement: 0xffffffff
+ * is -1. All else takes them as they are. */
 static inline uint32_t sock_get_value(const uint8_t *config, size_t word)
 {
     return (uint32_t)sock_get(config, word) << 16 | sock_get(config, word + 1);

@@ -4,7 +4,9 @@ use mathlib.Core.Bool.{cond}
 use mathlib.Core.List.{List}
 use lib.Dec.{ltb, eqb}
 use lib.ListN.{length, getD}
+use lib.Signed.{ltZ}
 use Rattle.sock.specs.Words.{tagOf, readVariable, valueOf, bit}
+use Rattle.sock.specs.Evaluation.{signed}
 use Rattle.layout.specs.Tags
 use Rattle.evaluating.specs.declared.evaluate.Evaluated.{Evaluated}
 
@@ -15,11 +17,15 @@ at ws i = getD ws i 0
 unfoldable pub valueIn : List ℕ → ℕ → ℕ
 valueIn vs x = valueOf (at vs (x * 2)) (at vs (x * 2 + 1))
 
+-- the top bit turned
+abbrev pub biased : ℕ → ℕ
+biased v = (v + 2147483648) % 4294967296
+
 unfoldable pub operated : ℕ → ℕ → ℕ → ℕ
 operated tag a b =
     cond (eqb tag Tags.sum) ((a + b) % 4294967296)
     (cond (eqb tag Tags.difference) ((a + 4294967296 - b) % 4294967296)
-    (cond (eqb tag Tags.less) (bit (ltb a b)) (bit (eqb a b))))
+    (cond (eqb tag Tags.less) (bit (ltZ (signed a) (signed b))) (bit (eqb a b))))
 
 abbrev nowhere : Evaluated
 nowhere = record { end = 0; value = 0 }

@@ -1,4 +1,4 @@
-// Values and expressions on words. Sum and difference run round.
+// Values and expressions on words. Sum and difference run round; less reads its operands with sign.
 use layout::field::read_variable;
 use layout::field::tag_of;
 use layout::field::value_of;
@@ -7,7 +7,10 @@ use layout::tag;
 ghost use mathlib.Core.Path.{_≡_};
 ghost use Prim.Native.Nat.{_<_};
 ghost use lib.ListN.{length};
-ghost use Rattle.evaluating.specs.Evaluating.{valueIn, operated, constantAt, evaluated};
+ghost use lib.Signed.{ltZ};
+ghost use Rattle.sock.specs.Words.{bit};
+ghost use Rattle.sock.specs.Evaluation.{signed};
+ghost use Rattle.evaluating.specs.Evaluating.{valueIn, biased, operated, constantAt, evaluated};
 
 // Where an expression ends, and its value.
 pub struct Evaluated {
@@ -25,6 +28,19 @@ pub fn variable(values: &[u16], x: usize) -> u32
     value_of(word(values, x * 2), word(values, x * 2 + 1))
 }
 
+// A value with its top bit turned: the order of these is that of the values read with sign.
+fn bias(v: u32) -> u32
+    ensures { λ r. ⌜ r ≡ biased v ⌝ }
+{
+    std::num::wrapping_add_u32(v, 2147483648)
+}
+
+fn less(a: u32, b: u32) -> u32
+    ensures { λ r. ⌜ r ≡ bit (ltZ (signed a) (signed b)) ⌝ }
+{
+    if bias(a) < bias(b) { 1 } else { 0 }
+}
+
 fn operate(operator: usize, a: u32, b: u32) -> u32
     ensures { λ r. ⌜ r ≡ operated operator a b ⌝ }
 {
@@ -35,10 +51,7 @@ fn operate(operator: usize, a: u32, b: u32) -> u32
         return std::num::wrapping_sub_u32(a, b);
     }
     if operator == tag::LESS {
-        if a < b {
-            return 1;
-        }
-        return 0;
+        return less(a, b);
     }
     if a == b { 1 } else { 0 }
 }

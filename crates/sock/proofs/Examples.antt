@@ -160,9 +160,14 @@ cases =
     }
     -- M9 comp of an absent name: nil
     ∷ record { given = single noEntries (act P'); steps = at 0 3 ∷ []; number = 0; gives = single noEntries nil }
-    -- M10 4,294,967,295 plus 1 is 0; 0 less 4,294,967,295 is 1
+    -- M10 4,294,967,295 plus 1 is 0; 0 less 4,294,967,295 is 0, as that value is -1 (document 02, a)
     ∷ values 9 (apply sum (constant 4294967295) (constant 1)) 0
-    ∷ values 9 (apply less (constant 0) (constant 4294967295)) 1
+    ∷ values 9 (apply less (constant 0) (constant 4294967295)) 0
+    -- and -1 less 0, -2,147,483,648 less 2,147,483,647 and not the other way round, -2,147,483,648 less -1
+    ∷ values 9 (apply less (constant 4294967295) (constant 0)) 1
+    ∷ values 9 (apply less (constant 2147483648) (constant 2147483647)) 1
+    ∷ values 9 (apply less (constant 2147483647) (constant 2147483648)) 0
+    ∷ values 9 (apply less (constant 2147483648) (constant 4294967295)) 1
     -- and what document 01 says of the other two operators: 0 minus 4,294,967,295 is 1; equal gives 1 or 0
     ∷ values 9 (apply difference (constant 0) (constant 4294967295)) 1
     ∷ values 9 (apply equal (constant 7) (constant 7)) 1
@@ -171,4 +176,4 @@ cases =
 
 pub examples : Every Shown cases
 unfolding computed then outcome cases leaf P P' B R cH both one zeros engine single double at to assigned values live zombie waits
-examples = (refl, (refl, (refl, (refl, (refl, (refl, (refl, (refl, (refl, (refl, (refl, (refl, (refl, (refl, tt))))))))))))))
+examples = (refl, (refl, (refl, (refl, (refl, (refl, (refl, (refl, (refl, (refl, (refl, (refl, (refl, (refl, (refl, (refl, (refl, (refl, tt))))))))))))))))))

@@ -30,6 +30,7 @@ pub mod Rooms
 pub mod Rules
 pub mod Running
 pub mod Shrinking
+pub mod Signs
 pub mod Slips
 pub mod Steps
 pub mod Table

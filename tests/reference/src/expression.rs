@@ -21,12 +21,12 @@ pub enum Expression {
 }
 
 impl Operator {
-    /// Sum and difference count round; less compares without sign.
+    /// Sum and difference count round; less compares with sign, in two's complement (document 02, a).
     pub fn apply(self, left: u32, right: u32) -> u32 {
         match self {
             Operator::Sum => left.wrapping_add(right),
             Operator::Difference => left.wrapping_sub(right),
-            Operator::Less => u32::from(left < right),
+            Operator::Less => u32::from((left as i32) < (right as i32)),
             Operator::Equal => u32::from(left == right),
         }
     }

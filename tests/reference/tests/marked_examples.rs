@@ -112,11 +112,13 @@ fn m9_comp_of_an_absent_name_is_nil() {
 }
 
 #[test]
-fn m10_sums_count_round_and_less_has_no_sign() {
+fn m10_sums_count_round_and_less_has_a_sign() {
     let cases = [
         (Operator::Sum, u32::MAX, 1, 0),
-        (Operator::Less, 0, u32::MAX, 1),
-        (Operator::Less, u32::MAX, 0, 0),
+        (Operator::Less, 0, u32::MAX, 0),
+        (Operator::Less, u32::MAX, 0, 1),
+        (Operator::Less, 0x8000_0000, 0x7fff_ffff, 1),
+        (Operator::Less, 0x7fff_ffff, 0x8000_0000, 0),
         (Operator::Difference, 0, 1, u32::MAX),
         (Operator::Equal, 7, 7, 1),
         (Operator::Equal, 7, 8, 0),
@@ -124,6 +126,7 @@ fn m10_sums_count_round_and_less_has_no_sign() {
     for (operator, left, right, result) in cases {
         let expression = binary(operator, constant(left), variable(3));
         let mut before = root(List::new(), assign(1, expression));
+        before.engines[0].values[1] = 9;
         before.engines[0].values[3] = right;
         assert_eq!(run(&before, 1).engines[0].values[1], result, "{operator:?}");
     }

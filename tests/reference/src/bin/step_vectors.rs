@@ -534,6 +534,26 @@ fn of_values(cases: &mut Cases) {
     }
 }
 
+/// Less at the ends of the signed values, in assign, if and while. The variable assigned holds 9 before, so that neither
+/// 0 nor 1 is left over.
+fn of_signs(cases: &mut Cases) {
+    let ends = [0, 0x7fff_ffff, 0x8000_0000, 0xffff_ffff];
+    for (left, right) in ends.iter().flat_map(|l| ends.iter().map(move |r| (*l, *r))) {
+        let less = build::binary(Operator::Less, build::variable(31), build::constant(right));
+        let processes = [
+            build::assign(30, less.clone()),
+            build::if_else(less.clone(), build::comp(1), build::throw(1)),
+            build::while_true(less, build::comp(1)),
+        ];
+        for process in processes {
+            let mut before = build::configuration(0, vec![build::scope(1, process)]);
+            before.engines[0].values[30] = 9;
+            before.engines[0].values[31] = left;
+            cases.edge(&before, alone(3), 100, 0);
+        }
+    }
+}
+
 /// The first and the last name as keys, and where they come in a list.
 fn of_keys(cases: &mut Cases) {
     for name in [0, 63] {
@@ -584,6 +604,7 @@ fn main() -> std::io::Result<()> {
     of_places(&mut cases);
     of_deep_places(&mut cases);
     of_values(&mut cases);
+    of_signs(&mut cases);
     of_keys(&mut cases);
     of_damage(&mut cases);
     for words in [&[][..], &[1], &[1, 0]] {

@@ -28,20 +28,22 @@ returns-2 c =
     simp (tests, f0, f1)
     (wrapped (c .wrapping-sub-u32 .result) (a .a) (a .b) (search needs) (search needs) (search needs) (c .wrapping-sub-u32 .ensures))
 
+less-requires : tie.Need-less-requires
+less-requires c κs = search needs
+
 returns-3 : tie.Need-returns-3
 unfolding operated
 returns-3 c =
-    let f0 = c .if4 .taken in
-    let f1 = c .before .if3 .taken in
-    let f2 = c .before .before .if2 .left in
-    let f3 = c .before .before .before .if1 .left in
-    simp (tests, f0, f1, f2, f3)
+    let f0 = c .before .if3 .taken in
+    let f1 = c .before .before .if2 .left in
+    let f2 = c .before .before .before .if1 .left in
+    simp (tests, ← (c .less .ensures), f0, f1, f2)
 
 returns-4 : tie.Need-returns-4
 unfolding operated
 returns-4 c =
-    let f0 = c .if4 .left in
-    let f1 = c .before .if3 .taken in
+    let f0 = c .if4 .taken in
+    let f1 = c .before .if3 .left in
     let f2 = c .before .before .if2 .left in
     let f3 = c .before .before .before .if1 .left in
     simp (tests, f0, f1, f2, f3)
@@ -49,16 +51,7 @@ returns-4 c =
 returns-5 : tie.Need-returns-5
 unfolding operated
 returns-5 c =
-    let f0 = c .if5 .taken in
-    let f1 = c .before .if3 .left in
-    let f2 = c .before .before .if2 .left in
-    let f3 = c .before .before .before .if1 .left in
-    simp (tests, f0, f1, f2, f3)
-
-returns-6 : tie.Need-returns-6
-unfolding operated
-returns-6 c =
-    let f0 = c .if5 .left in
+    let f0 = c .if4 .left in
     let f1 = c .before .if3 .left in
     let f2 = c .before .before .if2 .left in
     let f3 = c .before .before .before .if1 .left in
@@ -66,13 +59,4 @@ returns-6 c =
 
 pub operate-spec : {M : Type 1} → statement M
 operate-spec =
-    tie.close
-    (tie.spec
-    wrapping-add-u32-requires
-    returns
-    wrapping-sub-u32-requires
-    returns-2
-    returns-3
-    returns-4
-    returns-5
-    returns-6)
+    tie.close (tie.spec wrapping-add-u32-requires returns wrapping-sub-u32-requires returns-2 less-requires returns-3 returns-4 returns-5)
