@@ -34,10 +34,10 @@ extern "C" {
 #endif
 
 /* This header's version. The first number rises when a call, an answer or the format changes, the second when something is added. */
-#define SOCK_VERSION_MAJOR 2
+#define SOCK_VERSION_MAJOR 3
 #define SOCK_VERSION_MINOR 0
 #define SOCK_VERSION_PATCH 0
-#define SOCK_VERSION "2.0.0"
+#define SOCK_VERSION "3.0.0"
 
 /* The most words and bytes that a configuration has. */
 #define SOCK_WORDS 8192
@@ -72,6 +72,7 @@ enum sock_number {
     SOCK_SHORT_PAPER = 10,    /* the output is shorter than the result */
     SOCK_NOT_FRESH = 11,      /* start check: readable, but not a start */
     SOCK_UNKNOWN_SERIAL = 12, /* ends: the serial is 0 or above issued */
+    SOCK_NOT_DECIMAL = 13,    /* assign, if or while: an operand of a decimal operator has a digit above 9; after 5 and before 6 */
     SOCK_WINDOW_WIDTH = 18,   /* window: a width that is not 1 to 1,024, an operation above 63, or a window that no run gives */
     SOCK_RATE_TOO_HIGH = 19,  /* bill: a rate is above 1,000,000, or the rates are not 256 bytes */
     SOCK_LIST_UNFIT = 20,     /* bill: list cut or too long, operation above 63 or engine above 7; or totals of fewer than 64 bytes */
@@ -118,6 +119,7 @@ static inline const char *sock_word(unsigned number)
     case SOCK_SHORT_PAPER: return "short paper";
     case SOCK_NOT_FRESH: return "not fresh";
     case SOCK_UNKNOWN_SERIAL: return "unknown serial";
+    case SOCK_NOT_DECIMAL: return "not decimal";
     case SOCK_WINDOW_WIDTH: return "window width";
     case SOCK_RATE_TOO_HIGH: return "rate too high";
     case SOCK_LIST_UNFIT: return "list cut or too long, operation above 63 or engine above 7";
@@ -146,7 +148,7 @@ static inline size_t sock_put(uint8_t *config, size_t word, uint16_t content)
 }
 
 /* A value, which is two words, the high one first. The operator less of expressions reads values with sign, in two's complement: 0xffffffff
- * is -1. All else takes them as they are. */
+ * is -1. Decimal sum and decimal difference read them as eight digits of four bits. All else takes them as they are. */
 static inline uint32_t sock_get_value(const uint8_t *config, size_t word)
 {
     return (uint32_t)sock_get(config, word) << 16 | sock_get(config, word + 1);
@@ -166,7 +168,7 @@ static inline size_t sock_put_value(uint8_t *config, size_t word, uint32_t value
  *
  * Accepted: the next configuration stands in the first words of `out`, as many as the answer's length says; the bytes behind keep what
  * they were. Refused: no byte of `out` has changed, and all fields of the answer but the number are 0. An output has room for half its
- * bytes in words, rounded down. Refusals 1 to 10, the first that applies.
+ * bytes in words, rounded down. Refusals 1 to 5, 13, 6 to 10, the first that applies.
  */
 uint64_t sock_step(uint16_t engine, uint16_t position, uint16_t second, uint16_t second_position, uint16_t branch,
                    const uint8_t *config, size_t config_length, uint8_t *out, size_t out_length);

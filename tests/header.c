@@ -79,7 +79,7 @@ static void inline_and_raw(size_t length)
     check(sock_test_readable(out, sock_bytes(taken.length)).number == SOCK_ACCEPTED, "readable");
     check(sock_test_readable(config, length - 1).number == SOCK_UNREADABLE, "odd length");
     check(strcmp(sock_word(sock_check_readable(config, length - 1)), "unreadable") == 0, "the word for a raw answer");
-    check(strcmp(sock_word(12), "unknown serial") == 0 && strcmp(sock_word(13), "") == 0, "words at the end of their table");
+    check(strcmp(sock_word(12), "unknown serial") == 0 && strcmp(sock_word(13), "not decimal") == 0 && strcmp(sock_word(14), "") == 0, "words at the end of their table");
     check(strcmp(sock_word(SOCK_OVERLAP), "overlap") == 0, "the word for overlap");
 }
 
@@ -128,7 +128,7 @@ static void bills(void)
     check(bill.number == SOCK_LIST_UNFIT && bill.totals[5] == 0, "an engine that is none");
     sock_put_value(rates, 0, 1000001);
     check(sock_charge(rates, reply, 1).number == SOCK_RATE_TOO_HIGH, "a rate too high, before all else");
-    check(strcmp(sock_word(19), "rate too high") == 0 && *sock_word(13) == 0, "the words of numbers");
+    check(strcmp(sock_word(19), "rate too high") == 0 && *sock_word(14) == 0, "the words of numbers");
 }
 
 static void windows(void)

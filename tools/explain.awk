@@ -1,7 +1,7 @@
 # Says in words what each line of the program handover means. Two files, with part=lines between their names: the input as bytes in decimal,
 # from which each step's numbers are taken, and the program's lines.
 BEGIN {
-    split("unreadable,nobody there,no move,no partner,no fit,installing,serials spent,deep,long,short paper,not fresh,unknown serial", word, ",")
+    split("unreadable,nobody there,no move,no partner,no fit,installing,serials spent,deep,long,short paper,not fresh,unknown serial,not decimal", word, ",")
 }
 
 part == "" {
@@ -24,6 +24,7 @@ function why(number, i) {
     if (number == 8) return "the result would nest deeper than 64"
     if (number == 9) return "the result would be longer than 8,192 words"
     if (number == 10) return "the output is shorter than the result"
+    if (number == 13) return "a decimal operator at word " given(i, 1) " of engine " given(i, 0) " has an operand with a digit above 9"
     return "the configuration cannot be read"
 }
 

@@ -1,2 +1,3 @@
 pub mod Evaluates
 pub mod Evaluations
+pub mod Operands

@@ -1,2 +1,3 @@
 // Values of variables and expressions.
+pub mod digits;
 pub mod evaluate;

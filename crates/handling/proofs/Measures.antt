@@ -125,7 +125,7 @@ module _ (ws : List ℕ) (near : Near (length ws)) where
       let db : exprDepth b ≤ d = omega arith in
       let ea = expression-measured f d da (i + 1) (exprWords b ++ rest) x in
       let eb = expression-measured g d db (i + 1 + length (exprWords a)) rest y in
-      let t : (2 ≤ operatorTag o) × (operatorTag o ≤ 5) = operator-tag o in
+      let t : (2 ≤ operatorTag o) × (operatorTag o ≤ 7) = operator-tag o in
       let k : operatorTag o * 8192 / 8192 ≡ operatorTag o = omega arith in
       let n0 : operatorTag o ≡ 0 → ⊥ = λ q. omega arith in
       let n1 : operatorTag o ≡ 1 → ⊥ = λ q. omega arith in

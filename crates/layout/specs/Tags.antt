@@ -20,3 +20,9 @@ less = operatorTag term.less
 
 abbrev pub equal : ℕ
 equal = operatorTag term.equal
+
+abbrev pub decimalSum : ℕ
+decimalSum = operatorTag term.decimalSum
+
+abbrev pub decimalDifference : ℕ
+decimalDifference = operatorTag term.decimalDifference

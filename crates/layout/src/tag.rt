@@ -10,3 +10,7 @@ pub const DIFFERENCE: usize = 3;
 pub const LESS: usize = 4;
 
 pub const EQUAL: usize = 5;
+
+pub const DECIMAL_SUM: usize = 6;
+
+pub const DECIMAL_DIFFERENCE: usize = 7;

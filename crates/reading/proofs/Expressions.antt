@@ -8,7 +8,7 @@ use mathlib.Core.List.{List, _∷_}
 use lib.Dec.{eqb, ltb}
 use lib.ListN.{length, drop}
 use Rattle.sock.specs.Words.{isWord, clear, tagOf, valueOf}
-use Rattle.sock.specs.Term.{Operator, Expr, sum, difference, less, equal}
+use Rattle.sock.specs.Term.{Operator, Expr, sum, difference, less, equal, decimalSum, decimalDifference}
 use Rattle.sock.specs.Reading.{Got, got, check, wide, operands, exprBy, expr}
 use Rattle.sock.proofs.Reading.{tests, split, both}
 use Rattle.reading.specs.Walk.{when, at, constantEnd, operationEnd, exprAt, exprEnd}
@@ -64,7 +64,9 @@ module _ (ws : List ℕ) (ok : Words ws) where
   by-tag d below i w (suc (suc (suc zero))) e h = rw e (operands-ends (expr d) (exprEnd d ws) below difference w i h)
   by-tag d below i w (suc (suc (suc (suc zero)))) e h = rw e (operands-ends (expr d) (exprEnd d ws) below less w i h)
   by-tag d below i w (suc (suc (suc (suc (suc zero))))) e h = rw e (operands-ends (expr d) (exprEnd d ws) below equal w i h)
-  by-tag d below i w (suc (suc (suc (suc (suc (suc t)))))) e h = rw e fails
+  by-tag d below i w (suc (suc (suc (suc (suc (suc zero)))))) e h = rw e (operands-ends (expr d) (exprEnd d ws) below decimalSum w i h)
+  by-tag d below i w (suc (suc (suc (suc (suc (suc (suc zero))))))) e h = rw e (operands-ends (expr d) (exprEnd d ws) below decimalDifference w i h)
+  by-tag d below i w (suc (suc (suc (suc (suc (suc (suc (suc t)))))))) e h = rw e fails
 
 pub expr-ends : (ws : List ℕ) → Words ws → (d i : ℕ) → Ends ws i (expr d (drop i ws)) (exprEnd d ws i)
 unfolding expr exprEnd

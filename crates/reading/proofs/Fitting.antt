@@ -90,10 +90,10 @@ fits-known ws i c t e =
 -- ---- computed for all
 
 -- behind the kinds and the expressions nothing has a shape
-pub shape-beyond : (slot : ℕ) → 25 ≤ slot → shapeOf slot ≡ 1
+pub shape-beyond : (slot : ℕ) → 27 ≤ slot → shapeOf slot ≡ 1
 unfolding shapeOf
 shape-beyond slot h =
-    let far : 6 ≤ slot - 19 = omega arith in
+    let far : 8 ≤ slot - 19 = omega arith in
     rw (le-ltb slot 19 (omega arith)) (simp List·getD-eq-default)
 
 -- two tables that are the same, at a pair

@@ -237,17 +237,19 @@ module _ (ws : List ℕ) (bound d i : ℕ) where
   operation-5 e f =
       rw e (ap (λ a. cond a (on (exprEnd d ws (i + 1)) (exprEnd d ws)) 0) (eq-eqb (at ws i % 8192) 0 (head-8192 (at ws i) (f .head))))
 
-  none-6 : Step-expression 6
-  unfolding shapeOf bitOf spareOf allowed placed rowOf rows
-  none-6 e f = absurd (f .stands refl)
+  operation-6 : Step-expression 6
+  unfolding exprAt operationEnd shapeOf when partOf exprEnd itemEnd bitOf spareOf allowed placed rowOf rows
+  operation-6 e f =
+      rw e (ap (λ a. cond a (on (exprEnd d ws (i + 1)) (exprEnd d ws)) 0) (eq-eqb (at ws i % 8192) 0 (head-8192 (at ws i) (f .head))))
 
-  none-7 : Step-expression 7
-  unfolding shapeOf bitOf spareOf allowed placed rowOf rows
-  none-7 e f = absurd (f .stands refl)
+  operation-7 : Step-expression 7
+  unfolding exprAt operationEnd shapeOf when partOf exprEnd itemEnd bitOf spareOf allowed placed rowOf rows
+  operation-7 e f =
+      rw e (ap (λ a. cond a (on (exprEnd d ws (i + 1)) (exprEnd d ws)) 0) (eq-eqb (at ws i % 8192) 0 (head-8192 (at ws i) (f .head))))
 
   by-bits : From Step-expression 8 0
   by-bits =
-      constant-step then variable-step then operation-2 then operation-3 then operation-4 then operation-5 then none-6 then none-7 then end
+      constant-step then variable-step then operation-2 then operation-3 then operation-4 then operation-5 then operation-6 then operation-7 then end
 
   expression-parts :
       at ws i / 8192 < 8 → Fit ws i 12 (shapeOf (19 + at ws i / 8192)) →

@@ -106,14 +106,14 @@ kindShape k =
     (spareOf 0 k - 1) (middleOf k) (cond (eqb (length (rowOf k .fixed)) 0) 0 (rowOf k .lists))
     (bitsOf (λ c. stands c k && (not (eqb k Kind.scope) || ltb c Contexts.running)) contexts)
 
--- of an expression by its first three bits: a constant, a variable, the four operations
+-- of an expression by its first three bits: a constant, a variable, the six operations
 abbrev pub expressionShape : ℕ → ℕ
 expressionShape tag =
     let operation = packed 1 2 expressionPart expressionPart (Units.tag - 1) 0 0 (bitOf Contexts.expression) in
     getD
     (packed 3 0 0 0 (Units.tag - 1) 0 0 (bitOf Contexts.expression)
     ∷ packed 1 0 0 0 (Units.readVariable - 1) 0 0 (bitOf Contexts.expression)
-    ∷ operation ∷ operation ∷ operation ∷ operation
+    ∷ operation ∷ operation ∷ operation ∷ operation ∷ operation ∷ operation
     ∷ [])
     tag 1
 

@@ -39,6 +39,8 @@ exprAt sub ws i w =
     ∷ operationEnd sub i w
     ∷ operationEnd sub i w
     ∷ operationEnd sub i w
+    ∷ operationEnd sub i w
+    ∷ operationEnd sub i w
     ∷ [])
     (tagOf w) 0
 

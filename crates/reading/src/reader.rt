@@ -58,6 +58,8 @@ pub fn expression(ws: &[u16], at: usize, depth: usize) -> usize
         tag::DIFFERENCE => operation(ws, at, depth - 1, w),
         tag::LESS => operation(ws, at, depth - 1, w),
         tag::EQUAL => operation(ws, at, depth - 1, w),
+        tag::DECIMAL_SUM => operation(ws, at, depth - 1, w),
+        tag::DECIMAL_DIFFERENCE => operation(ws, at, depth - 1, w),
         _ => 0,
     }
 }

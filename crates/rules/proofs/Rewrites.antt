@@ -23,7 +23,9 @@ use Rattle.sock.proofs.Running.{enable-asNode, enable-done}
 use Rattle.sock.proofs.Measures.{words-act, words-seq, depth-nil, depth-seq, depth-act}
 use Rattle.reading.proofs.Combining.{Words}
 use Rattle.skipping.proofs.Skips.{code-end}
-use Rattle.evaluating.specs.Evaluating.{evaluated}
+use Rattle.evaluating.specs.declared.evaluate.Evaluated.{Evaluated}
+use Rattle.evaluating.specs.Valuing.{goodValue, valueAs}
+use Rattle.evaluating.specs.Evaluating.{ended, evaluated}
 use Rattle.evaluating.proofs.Evaluates.{evaluates}
 use Rattle.writers.proofs.Laid.{Near, Laid, laid-put, laid-then, laid-copy, copy-end}
 use Rattle.rules.specs.Storing.{takes, unchanged}
@@ -121,6 +123,10 @@ module _ (ws rest : List ℕ) (r : Run) (p : Node) (f : Fits (code false) anywhe
 
 -- ---- assign, if, while, at the words of the process
 
+-- the expression behind the head h, evaluated
+abbrev pub valuedAt : ℕ → Expr → ℕ → Evaluated
+valuedAt h e v = ended (length (h ∷ exprWords e)) (goodValue v)
+
 module _ (n issued : ℕ) (ws : List ℕ) (ok : Words ws) (few : n ≤ 8) (small : issued < 65536) (vs : List ℕ) (below : AllBelow 4294967296 vs) (rest : List ℕ) where
   abbrev bound : ℕ
   bound = n * 65536 + issued
@@ -135,20 +141,20 @@ module _ (n issued : ℕ) (ws : List ℕ) (ok : Words ws) (few : n ≤ 8) (small
     expr-stands : drop 1 ws ≡ exprWords e ++ (nodesWords ps ++ rest)
     expr-stands = ap (drop 1) (stands ∙ ap (λ l. l ++ rest) expr-words) ∙ append-assoc (exprWords e) (nodesWords ps) rest
 
-    expr-value : evaluated 64 ws (valuesWords vs) 1 ≡ record { end = length (h ∷ exprWords e); value = evaluate vs e }
+    pub expr-value : evaluated 64 ws (valuesWords vs) 1 ≡ ended (length (h ∷ exprWords e)) (valueAs (evaluate vs e))
     unfolding depth exprsDepth
     expr-value =
         evaluates vs below ws g 64 (omega arith) 1 (nodesWords ps ++ rest) expr-stands
-        ∙ ap (λ (k : ℕ). record { end = k; value = evaluate vs e }) (let z : 1 + length (exprWords e) ≡ suc (length (exprWords e)) = omega arith in z)
+        ∙ ap (λ (k : ℕ). ended k (valueAs (evaluate vs e))) (let z : 1 + length (exprWords e) ≡ suc (length (exprWords e)) = omega arith in z)
 
     expr-head : at ws 0 ≡ h
     expr-head = ap (λ l. getD l 0 0) (stands ∙ ap (λ l. l ++ rest) expr-words)
 
   pub assign-rewrites :
       (h : ℕ) (e : Expr) → FitsExpr e → depth (node h [] (e ∷ []) absent noParts) ≤ 64 → ws ≡ words (node h [] (e ∷ []) absent noParts) ++ rest →
-      assignW ws (valuesWords vs) ≡ vanishing (takes (variableOf h) (evaluate vs e))
+      (v : ℕ) → assignW ws (valuedAt h e v) ≡ vanishing (takes (variableOf h) v)
   unfolding assignW
-  assign-rewrites h e g deep stands = rw (expr-value h e noParts g deep stands, expr-head h e noParts g deep stands)
+  assign-rewrites h e g deep stands v = rw (expr-head h e noParts g deep stands)
 
   -- code that stands at a position ends there
   ends-at : (i : ℕ) (m : Node) (more : List ℕ) → Fits (code false) anywhere m → depth m ≤ 64 → drop i ws ≡ words m ++ more → partEnd ws i ≡ i + length (words m)
@@ -185,10 +191,10 @@ module _ (n issued : ℕ) (ws : List ℕ) (ok : Words ws) (few : n ≤ 8) (small
         ends-at (length (h ∷ exprWords e) + length (words p)) q rest fq (omega arith)
         (rw (← long) (part-stands ws rest (act m) q fq ((h ∷ exprWords e) ++ words p) [] stands-act again 32 0 fresh))
 
-    pub branch-rewrites : Becomes (act m) (enable (cond (isTrue (evaluate vs e)) p q)) (branchW ws (valuesWords vs)) fresh
+    pub branch-rewrites : (v : ℕ) → Becomes (act m) (enable (cond (isTrue v) p q)) (branchW ws (valuedAt h e v)) fresh
     unfolding branchW isTrue
-    branch-rewrites =
-        rw (expr-value h e (p & q & noParts) g deep stands, first-ends, second-ends) (by (eqb (evaluate vs e) 0))
+    branch-rewrites v =
+        rw (first-ends, second-ends) (by (eqb v 0))
       where
         by :
             (b : Bool) →
@@ -311,13 +317,13 @@ module _ (n issued : ℕ) (ws : List ℕ) (ok : Words ws) (few : n ≤ 8) (small
 
     -- the rule: false, nothing is left; true, the body and the while again, where the body is not nil
     pub repeat-rewrites :
-        level + depth w ≤ suc (limits .deepest) → level ≤ limits .deepest →
-        (let u = repeatW limits level bound ws (valuesWords vs) fresh in
-        Outcome (limits .deepest) (act w) level (cond (isTrue (evaluate vs e)) (seqOf (enable p) w) nil) (u .rewriting) (u .fresh))
+        level + depth w ≤ suc (limits .deepest) → level ≤ limits .deepest → (v : ℕ) →
+        (let u = repeatW limits level bound ws (valuedAt h e v) fresh in
+        Outcome (limits .deepest) (act w) level (cond (isTrue v) (seqOf (enable p) w) nil) (u .rewriting) (u .fresh))
     unfolding repeatW isTrue seqOf isDone size depth
-    repeat-rewrites low few-levels =
-        rw (expr-value h e (p & noParts) g deep stands, body-ends, body-head, code-fits ws ok n issued small fm (limits .deepest - level) 0 rest stands, enable-done fp)
-        (by (eqb (evaluate vs e) 0) (isNil p))
+    repeat-rewrites low few-levels v =
+        rw (body-ends, body-head, code-fits ws ok n issued small fm (limits .deepest - level) 0 rest stands, enable-done fp)
+        (by (eqb v 0) (isNil p))
       where
         by :
             (a b : Bool) →

@@ -9,7 +9,7 @@ use Rattle.layout.specs.declared.limit.Limits.{Limits}
 use Rattle.reading.specs.Walk.{processEnd}
 use Rattle.skipping.specs.Skip.{skipEnd}
 use Rattle.writers.specs.Writing.{pasted, pastedEnd}
-use Rattle.evaluating.specs.Evaluating.{evaluated}
+use Rattle.evaluating.specs.declared.evaluate.Evaluated.{Evaluated}
 use Rattle.rules.specs.Storing.{takes, unchanged}
 use Rattle.rules.specs.declared.store.Store.{Store}
 use Rattle.rules.specs.declared.rewriting.Rewriting.{Rewriting}
@@ -37,16 +37,15 @@ at ws i = getD ws i 0
 unfoldable pub partW : List ℕ → ℕ → ℕ → ℕ → Store → Rewriting
 partW ws from upto end s = cond (eqb (at ws from) 0) (vanishing s) (keeping 0 from upto end s)
 
-unfoldable pub assignW : List ℕ → List ℕ → Rewriting
-assignW ws vs = vanishing (takes (variableOf (at ws 0)) (evaluated 64 ws vs 1 .value))
+unfoldable pub assignW : List ℕ → Evaluated → Rewriting
+assignW ws e = vanishing (takes (variableOf (at ws 0)) (e .value))
 
 -- where the process at a position ends
 abbrev pub partEnd : List ℕ → ℕ → ℕ
 partEnd ws i = skipEnd 64 ws i
 
-unfoldable pub branchW : List ℕ → List ℕ → Rewriting
-branchW ws vs =
-    let e = evaluated 64 ws vs 1 in
+unfoldable pub branchW : List ℕ → Evaluated → Rewriting
+branchW ws e =
     let q = partEnd ws (e .end) in
     let end = partEnd ws q in
     cond (eqb (e .value) 0) (partW ws q end end unchanged) (partW ws (e .end) q end unchanged)
@@ -54,9 +53,8 @@ branchW ws vs =
 unfoldable pub unrollW : List ℕ → ℕ → ℕ → List ℕ → Rewritten
 unrollW ws from end fresh = rewritten (keeping (pastedEnd ws from end 1) 0 end end unchanged) (pasted ws from end (set fresh 0 4096) 1)
 
-unfoldable pub repeatW : Limits → ℕ → ℕ → List ℕ → List ℕ → List ℕ → Rewritten
-repeatW limits level bound ws vs fresh =
-    let e = evaluated 64 ws vs 1 in
+unfoldable pub repeatW : Limits → ℕ → ℕ → List ℕ → Evaluated → List ℕ → Rewritten
+repeatW limits level bound ws e fresh =
     let end = partEnd ws (e .end) in
     cond (eqb (e .value) 0) (rewritten (vanishing unchanged) fresh)
     (cond (eqb (at ws (e .end)) 0) (rewritten (keeping 0 0 end end unchanged) fresh)

@@ -1,4 +1,4 @@
-// Assign, if and while. A rule is handed the words from the process's position on.
+// Assign, if and while. A rule is handed the words from the process's position on, and its expression evaluated, which has a value.
 use crate::rewriting::Rewriting;
 use crate::rewriting::keep;
 use crate::rewriting::refusal;
@@ -6,7 +6,7 @@ use crate::rewriting::to_nil;
 use crate::rewriting::to_part;
 use crate::store::nothing;
 use crate::store::one;
-use evaluating::evaluate::evaluate;
+use evaluating::evaluate::Evaluated;
 use layout::field::variable_of;
 use layout::head;
 use layout::limit::FUEL;
@@ -21,18 +21,16 @@ ghost use mathlib.Core.Path.{_≡_};
 ghost use Rattle.rules.specs.Rewriting.{assignW, branchW, unrollW, repeatW};
 
 // x takes the expression's value.
-pub fn assign(part: &[u16], values: &[u16]) -> Rewriting
-    ensures { λ r. ⌜ r ≡ assignW (now (part .entry)) (now (values .entry)) ⌝ }
+pub fn assign(part: &[u16], e: Evaluated) -> Rewriting
+    ensures { λ r. ⌜ r ≡ assignW (now (part .entry)) e ⌝ }
 {
-    let e = evaluate(part, values, 1, FUEL);
     to_nil(one(variable_of(word(part, 0)), e.value))
 }
 
 // An if becomes its first process, or its second.
-pub fn branch(part: &[u16], values: &[u16]) -> Rewriting
-    ensures { λ r. ⌜ r ≡ branchW (now (part .entry)) (now (values .entry)) ⌝ }
+pub fn branch(part: &[u16], e: Evaluated) -> Rewriting
+    ensures { λ r. ⌜ r ≡ branchW (now (part .entry)) e ⌝ }
 {
-    let e = evaluate(part, values, 1, FUEL);
     let q = skip(part, e.end, FUEL);
     let end = skip(part, q, FUEL);
     if e.value == 0 {
@@ -54,16 +52,15 @@ fn unroll(part: &[u16], from: usize, end: usize, fresh: &mut [u16]) -> Rewriting
 // A true while becomes its body, then itself, which is then one level deeper; a nil body is dropped, so nothing changes.
 pub fn repeat(
     part: &[u16],
-    values: &[u16],
+    e: Evaluated,
     level: usize,
     bound: usize,
     limits: Limits,
     fresh: &mut [u16],
 ) -> Rewriting
-    ensures rewritten { λ r. ⌜ r ≡ repeatW limits level bound (now (part .entry)) (now (values .entry)) (now (fresh .entry)) .rewriting ⌝ }
-    ensures fresh { λ r. ⌜ now (fresh .exit) ≡ repeatW limits level bound (now (part .entry)) (now (values .entry)) (now (fresh .entry)) .fresh ⌝ }
+    ensures rewritten { λ r. ⌜ r ≡ repeatW limits level bound (now (part .entry)) e (now (fresh .entry)) .rewriting ⌝ }
+    ensures fresh { λ r. ⌜ now (fresh .exit) ≡ repeatW limits level bound (now (part .entry)) e (now (fresh .entry)) .fresh ⌝ }
 {
-    let e = evaluate(part, values, 1, FUEL);
     let body = e.end;
     let end = skip(part, body, FUEL);
     if e.value == 0 {

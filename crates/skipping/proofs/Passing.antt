@@ -10,7 +10,7 @@ use borrow.Author.Tests.{lt-ltb}
 use lib.Dec.{leb, eqb}
 use lib.ListN.{length, drop, length-append}
 use Rattle.sock.specs.Words.{kindOf, keyWord}
-use Rattle.sock.specs.Term.{Expr, apply, Operator, sum, difference, less, equal, Node, node, Block, Entries, Nodes, processesOf}
+use Rattle.sock.specs.Term.{Expr, apply, Operator, sum, difference, less, equal, decimalSum, decimalDifference, Node, node, Block, Entries, Nodes, processesOf}
 use Rattle.sock.specs.Layout.{operatorTag, exprWords, exprsWords, count, words, blockWords, entriesWords, nodesWords, depth, blockDepth, entriesDepth, nodesDepth}
 use Rattle.sock.specs.Reading.{Stratum, Place, holds}
 use Rattle.sock.proofs.Fits.{FitsExpr, constantFits, variableFits, applyFits, FitsExprs, noExprs, oneExpr, Fits, fits, FitsBlock, noList, aList, FitsEntries, emptyFits, entryFitsOn, FitsParts, noPart, onePart}
@@ -75,6 +75,8 @@ module _ (ws : List ℕ) where
   operator-form difference = refl
   operator-form less = refl
   operator-form equal = refl
+  operator-form decimalSum = refl
+  operator-form decimalDifference = refl
 
   expr-pass :
       {a : Expr} → FitsExpr a → {left x e : ℕ} (rest : List ℕ) →

@@ -9,7 +9,7 @@ use lib.Dec.{T, eqb}
 use lib.ListN.{length, drop}
 use lib.Seq.{take-append-seam}
 use Rattle.sock.specs.Configuration.{Limits, encode}
-use Rattle.sock.specs.Calls.{Refusal, unreadable, nobodyThere, noMove, noPartner, noFit, installing, serialsSpent, deep, long, short, notFresh, unknownSerial, number, Result, refused, done, Stepped, step, Answer, answerOf, outputOf, stepAnswer, stepOutput, over}
+use Rattle.sock.specs.Calls.{Refusal, unreadable, nobodyThere, noMove, noPartner, noFit, installing, serialsSpent, deep, long, short, notFresh, unknownSerial, notDecimal, number, Result, refused, done, Stepped, step, Answer, answerOf, outputOf, stepAnswer, stepOutput, over}
 use Rattle.sock.specs.Runs.{Call, accepted, nextWords}
 
 -- no refusal has number 0
@@ -26,6 +26,7 @@ number-positive long = refl
 number-positive short = refl
 number-positive notFresh = refl
 number-positive unknownSerial = refl
+number-positive notDecimal = refl
 
 module _ (limits : Limits) (ws : List ℕ) (k : Call) where
   abbrev result : Result Stepped

@@ -8,7 +8,7 @@ use lib.Dec.{T, leb, lit<}
 use lib.ListN.{length}
 use Rattle.sock.specs.Kind
 use Rattle.sock.specs.Words.{isWord, clear, kindOf, keyWord, highWord, lowWord}
-use Rattle.sock.specs.Term.{Operator, sum, difference, less, equal, Expr, Node, Block, Entries, Nodes}
+use Rattle.sock.specs.Term.{Operator, sum, difference, less, equal, decimalSum, decimalDifference, Expr, Node, Block, Entries, Nodes}
 use Rattle.sock.specs.Layout.{operatorTag, exprWords, exprsWords, count, words, blockWords, entriesWords, nodesWords}
 use Rattle.sock.specs.Reading.{Stratum, running, code, Place, anywhere, allowed, headFits}
 use Rattle.sock.specs.Running.{Run, runWords}
@@ -33,6 +33,8 @@ tag-word sum = lit< tt
 tag-word difference = lit< tt
 tag-word less = lit< tt
 tag-word equal = lit< tt
+tag-word decimalSum = lit< tt
+tag-word decimalDifference = lit< tt
 
 pub expr-words : {e : Expr} → FitsExpr e → AllBelow 65536 (exprWords e)
 unfolding exprWords

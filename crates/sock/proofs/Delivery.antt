@@ -125,7 +125,7 @@ module _ (limits : Limits) (ws : List ℕ) (k : Numbers) (room : ℕ) {c : Confi
       enabledAt c (k .engine) (k .position) ≡ some a →
       movable k (moveOf (a .values) (a .frames) (a .process)) ≡ some m →
       partner c k a m ≡ some b →
-      effect c k a b m ≡ some x →
+      effect c k a b m ≡ some (some x) →
       carriedOut c a b x ≡ some st →
       st .config .issued ≤ 65535 →
       enginesDepth (st .config .engines) ≤ limits .deepest →
@@ -139,6 +139,7 @@ module _ (limits : Limits) (ws : List ℕ) (k : Numbers) (room : ℕ) {c : Confi
       ∙ given _ _ moves
       ∙ given _ _ with-partner
       ∙ given _ _ has-effect
+      ∙ given _ _ refl
       ∙ given _ _ carried
       ∙ unless-true _ (leb (st .config .issued) 65535) _ (le→leb _ _ issued)
       ∙ unless-true _ (leb (enginesDepth (st .config .engines)) (limits .deepest)) _ (le→leb _ _ shallow)
@@ -184,7 +185,7 @@ module _ (limits : Limits) (c : Config) (r : Readable limits c) (s e p e' p' : �
       let different : T (not (eqb e e')) = not-T (eqb e e') λ t. apart (eqb→eq e e' t) in
       let k : Numbers = delivery e p e' p' in
       let st : Stepped = record { config = record { issued = g .issued; engines = es }; kind = kind (asNode (a .process)); serial = g .serial; fault = g .fault } in
-      let made : effect c k a b (sends (d .message)) ≡ some (between g) = rw (x .engine, y .engine, d .taken) (passed (not (eqb e e')) different) in
+      let made : effect c k a b (sends (d .message)) ≡ some (some (between g)) = rw (x .engine, y .engine, d .taken) (passed (not (eqb e e')) different) in
       let carried : carriedOut c a b (between g) ≡ some st = rw (x .engine, y .engine) in
       let issued : g .issued ≤ 65535 = omega (arith, d .kept, f .word) in
       let shallow : enginesDepth es ≤ limits .deepest = omega (arith, r .shallow) in

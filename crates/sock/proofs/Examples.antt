@@ -8,7 +8,7 @@ use mathlib.Core.List.{List, [], _∷_, _++_}
 use lib.ListN.{replicate, set}
 use Rattle.sock.specs.Kind
 use Rattle.sock.specs.Words.{headOf, scopeKey}
-use Rattle.sock.specs.Term.{Operator, sum, difference, less, equal, Expr, constant, apply, Node, node, absent, list, Entries, noEntries, entry, noParts, _&_, nilNode}
+use Rattle.sock.specs.Term.{Operator, sum, difference, less, equal, decimalSum, decimalDifference, Expr, constant, apply, Node, node, absent, list, Entries, noEntries, entry, noParts, _&_, nilNode}
 use Rattle.sock.specs.Running.{Mark, unmarked, ownName, Run, nil, seq, par, scope, executor, waiter, notice, act}
 use Rattle.sock.specs.Configuration.{Engine, Config, encode, standard}
 use Rattle.sock.specs.Rules.{instOf, throwOf}
@@ -107,6 +107,12 @@ values before e after =
       gives = record { issued = 0; engines = engine (set zeros 0 after) (live nil) ∷ [] };
     }
 
+-- an assign whose expression has no value
+senseless : Expr → Case
+senseless e =
+    let c : Config = record { issued = 0; engines = engine zeros (live (assigned e)) ∷ [] } in
+    record { given = c; steps = at 0 3 ∷ []; number = 13; gives = c }
+
 unfoldable pub waits : Bool → Run
 waits dead = waiter 4 6 dead 1 1 (one 3 P)
 
@@ -172,8 +178,16 @@ cases =
     ∷ values 9 (apply difference (constant 0) (constant 4294967295)) 1
     ∷ values 9 (apply equal (constant 7) (constant 7)) 1
     ∷ values 9 (apply equal (constant 7) (constant 8)) 0
+    -- packed digits (document 02, d): 99,999,999 plus 1 is 0, 99,995 plus 5 is 100,000; 0 minus 1 is 99,999,999
+    ∷ values 9 (apply decimalSum (constant 2576980377) (constant 1)) 0
+    ∷ values 9 (apply decimalSum (constant 629141) (constant 5)) 1048576
+    ∷ values 9 (apply decimalDifference (constant 0) (constant 1)) 2576980377
+    -- a digit above 9 is refused with 13, in the first operand and in the second, and also where the result would not matter
+    ∷ senseless (apply decimalSum (constant 10) (constant 1))
+    ∷ senseless (apply decimalDifference (constant 1) (constant 2684354560))
+    ∷ senseless (apply equal (constant 1) (apply decimalSum (constant 1) (constant 10)))
     ∷ []
 
 pub examples : Every Shown cases
-unfolding computed then outcome cases leaf P P' B R cH both one zeros engine single double at to assigned values live zombie waits
-examples = (refl, (refl, (refl, (refl, (refl, (refl, (refl, (refl, (refl, (refl, (refl, (refl, (refl, (refl, (refl, (refl, (refl, (refl, tt))))))))))))))))))
+unfolding computed then outcome cases leaf P P' B R cH both one zeros engine single double at to assigned values senseless live zombie waits
+examples = (refl, (refl, (refl, (refl, (refl, (refl, (refl, (refl, (refl, (refl, (refl, (refl, (refl, (refl, (refl, (refl, (refl, (refl, (refl, (refl, (refl, (refl, (refl, (refl, tt))))))))))))))))))))))))

@@ -9,7 +9,7 @@ use borrow.Author.Tests.{eq-eqb, ne-eqb, eqb-true, eqb-false}
 use lib.Dec.{T, eqb, eqb→eq, leb, ltb, leb→le, ltb→lt, le→leb, lt→ltb}
 use lib.Ieee.Fits.{and-i, and-l, and-r}
 use Rattle.sock.specs.Words.{kindOf, nameOf, secondOf, markOf, zombieOf, firstName, executorsClient, deadOf, waitersServer, noticesClient, bit, isOne, headOf, nameFields, isWord, clear}
-use Rattle.sock.specs.Term.{Operator, sum, difference, less, equal, Entries}
+use Rattle.sock.specs.Term.{Operator, sum, difference, less, equal, decimalSum, decimalDifference, Entries}
 use Rattle.sock.specs.Layout.{operatorTag}
 use Rattle.sock.specs.Reading.{scopeFits, restingFits, isEmpty, endFits}
 use Rattle.sock.specs.Running.{Mark, unmarked, faulted, ownName, markNumber, markedFault, markBy, scopeHead}
@@ -214,8 +214,10 @@ end-fits {n} {issued} {engine} {serial} e =
 
 -- ---- expressions
 
-pub operator-tag : (o : Operator) → (2 ≤ operatorTag o) × (operatorTag o ≤ 5)
+pub operator-tag : (o : Operator) → (2 ≤ operatorTag o) × (operatorTag o ≤ 7)
 operator-tag sum = (omega arith, omega arith)
 operator-tag difference = (omega arith, omega arith)
 operator-tag less = (omega arith, omega arith)
 operator-tag equal = (omega arith, omega arith)
+operator-tag decimalSum = (omega arith, omega arith)
+operator-tag decimalDifference = (omega arith, omega arith)

@@ -6,6 +6,7 @@ pub mod ByKind
 pub mod ByteWords
 pub mod Computed
 pub mod Configuration
+pub mod Decimals
 pub mod Delivery
 pub mod Edges
 pub mod Examples

@@ -5,7 +5,7 @@ use Prim.Native.Nat.{ℕ, zero, suc, _+_, _*_, _<_}
 use native.Mathlib.Omega.{arith}
 use mathlib.Core.Path.{_≡_, refl, sym, _∙_}
 use mathlib.Core.Bool.{Bool, true, false, not, cond}
-use mathlib.Core.Option.{Option, some}
+use mathlib.Core.Option.{Option, none, some}
 use mathlib.Core.List.{List, [], _∷_}
 use lib.Dec.{eqb, lit<}
 use lib.ListN.{getD}
@@ -18,7 +18,7 @@ use Rattle.sock.specs.Running.{Mark, unmarked, faulted, ownName, markNum
 use Rattle.sock.specs.Evaluation.{evaluate, isTrue}
 use Rattle.sock.specs.Handlers.{handler, without, update}
 use Rattle.sock.specs.Frames.{Frame, seqFrame, leftFrame, rightFrame, scopeFrame, executorFrame, isDone, seqOf, parOf, plug, nearest, onNearest}
-use Rattle.sock.specs.Rules.{kill, climb, Action, still, assign, branch, repeat, notify, solicit, install, throw, compensate, action, notification, solicitation, reply, failure, Move, stuck, alone, sends, ending, acting, onceDone, moveOf}
+use Rattle.sock.specs.Rules.{kill, climb, Action, still, assign, branch, repeat, notify, solicit, install, throw, compensate, action, notification, solicitation, reply, failure, Move, stuck, alone, unvalued, sends, valued, ending, acting, onceDone, moveOf}
 use Rattle.sock.specs.Calls.{End, working, tally, works}
 use Rattle.sock.specs.Runs.{isSolicit, carries}
 use Rattle.sock.proofs.Logic.{cond-case, All, allSome, all-also, all-guarded}
@@ -146,6 +146,7 @@ Endless = Holds (λ t. 0)
 -- what the process p does in its frames
 pub data Moves (fs : List Frame) (p : Run) : Move → Type 0 where
   stuckMoves : Moves fs p stuck
+  unvaluedMoves : Moves fs p unvalued
   aloneMoves : {vs : List ℕ} {o : Option Run} → Quiet p → All (Holds (λ t. around t fs + tally t p)) o → Moves fs p (alone vs o)
   notifies : {o v z : ℕ} → Quiet p → Endless p → Moves fs p (sends (notification o v z))
   asking :
@@ -183,15 +184,22 @@ module _ (vs : List ℕ) (fs : List Frame) where
   unfolding isSolicit asNode carries
   quiet-act p e = record { asks = e; delivers = λ s. refl }
 
+  valued-moves : {p : Run} (o : Option ℕ) {move : ℕ → Move} → ((w : ℕ) → Moves fs p (move w)) → Moves fs p (valued o move)
+  unfolding valued
+  valued-moves none f = unvaluedMoves
+  valued-moves (some w) f = f w
+
   acting-moves : (p : Node) (a : Action) → eqb (kind p) Kind.solicit ≡ asks a → Moves fs (act p) (acting vs fs p a)
   unfolding acting tally isSolicit asNode carries
   acting-moves p still e = stuckMoves
-  acting-moves p (assign x v) e = lone-moves nil (quiet-act p e) (λ t. refl)
+  acting-moves p (assign x v) e = valued-moves (evaluate vs v) λ w. lone-moves nil (quiet-act p e) (λ t. refl)
   acting-moves p (branch v q r) e =
-      lone-moves (enable (cond (isTrue (evaluate vs v)) q r)) (quiet-act p e) (λ t. enable-tally t (cond (isTrue (evaluate vs v)) q r))
+      valued-moves (evaluate vs v) λ w.
+      lone-moves (enable (cond (isTrue w) q r)) (quiet-act p e) (λ t. enable-tally t (cond (isTrue w) q r))
   acting-moves p (repeat v q) e =
-      lone-moves (cond (isTrue (evaluate vs v)) (seqOf (enable q) p) nil) (quiet-act p e) λ t.
-      cond-case (λ r. tally t r ≡ 0) (isTrue (evaluate vs v)) (λ u. seqOf-tally t (enable q) p ∙ enable-tally t q) (λ u. refl)
+      valued-moves (evaluate vs v) λ w.
+      lone-moves (cond (isTrue w) (seqOf (enable q) p) nil) (quiet-act p e) λ t.
+      cond-case (λ r. tally t r ≡ 0) (isTrue w) (λ u. seqOf-tally t (enable q) p ∙ enable-tally t q) (λ u. refl)
   acting-moves p (install l) e = changed-moves (λ h. update h l) nil (quiet-act p e) (λ t. refl)
   acting-moves p (compensate q) e =
       changed-moves (without (scopeKey q)) (enable (handler (scopeKey q) (nearest fs))) (quiet-act p e) (λ t. enable-tally t (handler (scopeKey q) (nearest fs)))

@@ -10,7 +10,7 @@ use lib.Dec.{T, eqb, leb, eqb→eq, leb→le, ltb→lt, le→leb, lt→ltb, eqb-
 use Rattle.sock.specs.Kind
 use Rattle.sock.specs.Kind.{rowOf}
 use Rattle.sock.specs.Words.{isWord, clear, kindOf, keyOf, keyWord, tagOf, readVariable, valueOf, highWord, lowWord}
-use Rattle.sock.specs.Term.{Operator, sum, difference, less, equal, Expr, constant, variable, apply, Node, node, Block, absent, list, Entries, noEntries, entry, Nodes, noParts, _&_, processesOf}
+use Rattle.sock.specs.Term.{Operator, sum, difference, less, equal, decimalSum, decimalDifference, Expr, constant, variable, apply, Node, node, Block, absent, list, Entries, noEntries, entry, Nodes, noParts, _&_, processesOf}
 use Rattle.sock.specs.Layout.{operatorTag, exprWords, exprsWords, count, words, blockWords, entriesWords, nodesWords, exprDepth, exprsDepth, depth, blockDepth, entriesDepth, nodesDepth}
 use Rattle.sock.specs.Reading.{Got, fail, got, andThen, check, Stratum, Place, anywhere, headFits, nodeFits, entryFits, entryStratum, partStratum, partPlace, fixedWords, wide, operands, exprBy, expr, exprs, entries, block, parts, partBy, nodeBy, process}
 use Rattle.sock.proofs.Fits.{FitsExpr, constantFits, variableFits, applyFits, FitsExprs, noExprs, oneExpr, FitsFixed, noFixed, oneFixed, Fits, fits, FitsBlock, noList, aList, FitsEntries, emptyFits, entryFitsOn, FitsParts, noPart, onePart}
@@ -115,7 +115,9 @@ module _ (d : ℕ) (sub : List ℕ → Got Expr) (below : (ws : List ℕ) → Ho
   exprBy-found (suc (suc (suc zero))) w ws e = operands-found difference w ws e
   exprBy-found (suc (suc (suc (suc zero)))) w ws e = operands-found less w ws e
   exprBy-found (suc (suc (suc (suc (suc zero))))) w ws e = operands-found equal w ws e
-  exprBy-found (suc (suc (suc (suc (suc (suc tag)))))) w ws e = nothing
+  exprBy-found (suc (suc (suc (suc (suc (suc zero)))))) w ws e = operands-found decimalSum w ws e
+  exprBy-found (suc (suc (suc (suc (suc (suc (suc zero))))))) w ws e = operands-found decimalDifference w ws e
+  exprBy-found (suc (suc (suc (suc (suc (suc (suc (suc tag)))))))) w ws e = nothing
 
 expr-found : (d : ℕ) (ws : List ℕ) → Holds (ExprFound d ws) (expr d ws)
 unfolding expr
@@ -218,6 +220,8 @@ by-operator sub sum w ws = refl
 by-operator sub difference w ws = refl
 by-operator sub less w ws = refl
 by-operator sub equal w ws = refl
+by-operator sub decimalSum w ws = refl
+by-operator sub decimalDifference w ws = refl
 
 module _ (d : ℕ) (sub : List ℕ → Got Expr) (below : FindsExpr d sub) where
   operands-finds :

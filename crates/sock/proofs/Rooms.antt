@@ -69,7 +69,7 @@ module _ (limits : Limits) (room half : ℕ) (below : room ≤ half) where
   pub step-agrees : (ws : List ℕ) (k : Numbers) → Agree (limits .longest) room half (step limits ws k room) (step limits ws k half)
   unfolding step
   step-agrees ws k =
-      bind-agrees _ _ _ λ c. bind-agrees _ _ _ λ a. bind-agrees _ _ _ λ m. bind-agrees _ _ _ λ b. bind-agrees _ _ _ λ x. bind-agrees _ _ _ λ s.
+      bind-agrees _ _ _ λ c. bind-agrees _ _ _ λ a. bind-agrees _ _ _ λ m. bind-agrees _ _ _ λ b. bind-agrees _ _ _ λ o. bind-agrees _ _ _ λ x. bind-agrees _ _ _ λ s.
       then-agrees _ _ _ (then-agrees _ _ _ (long-agrees s _ refl))
 
 -- ---- what is left of an output

@@ -9,16 +9,19 @@ use mathlib.Core.Option.{Option, none, some}
 use mathlib.Core.List.{List, [], _∷_}
 use lib.Dec.{T, leb, ltb, eqb, ltb→lt, lt→ltb, leb→le, le→leb, lit<}
 use lib.ListN.{length, getD, set, length-set}
+use lib.Signed.{ltZ}
 use Rattle.sock.specs.Kind
 use Rattle.sock.specs.Words.{kindOf, variableOf, nameOf, secondOf, faultKey, firstVariable, nextVariable, scopeKey, bit}
-use Rattle.sock.specs.Term.{Operator, sum, difference, less, equal, Expr, constant, variable, apply, Node, node, Entries, noEntries, entry, kind, partAt, firstExpr, entriesOf}
+use Rattle.sock.specs.Term.{Operator, sum, difference, less, equal, decimalSum, decimalDifference, Expr, constant, variable, apply, Node, node, Entries, noEntries, entry, kind, partAt, firstExpr, entriesOf}
 use Rattle.sock.specs.Reading.{code, anywhere, allowed, endFits, entryFits, fixedAt, holds}
 use Rattle.sock.specs.Running.{Mark, unmarked, faulted, ownName, Run, nil, seq, par, scope, executor, waiter, notice, act, enable}
 use Rattle.sock.specs.Configuration.{guarded, isScope}
-use Rattle.sock.specs.Evaluation.{valueAt, operate, evaluate, isTrue}
+use Rattle.sock.specs.Evaluation.{valueAt, signed, ofDigits, operate, evaluate, isTrue}
+use Rattle.sock.specs.Digits.{decimal, packedOf, power}
+use Rattle.sock.proofs.Decimals.{packed-below}
 use Rattle.sock.specs.Handlers.{handler, without, update}
 use Rattle.sock.specs.Frames.{Frame, seqFrame, leftFrame, rightFrame, scopeFrame, executorFrame, isDone, seqOf, parOf, plug, nearest, onNearest}
-use Rattle.sock.specs.Rules.{also, kill, climb, Action, still, assign, branch, repeat, notify, solicit, install, throw, compensate, action, Message, notification, solicitation, reply, failure, Move, stuck, alone, sends, ending, acting, onceDone, moveOf}
+use Rattle.sock.specs.Rules.{also, kill, climb, Action, still, assign, branch, repeat, notify, solicit, install, throw, compensate, action, Message, notification, solicitation, reply, failure, Move, stuck, alone, unvalued, sends, valued, ending, acting, onceDone, moveOf}
 use Rattle.sock.proofs.Logic.{and-left, and-right, and-both, cond-case, All, allNone, allSome, all-also, all-any, all-guarded, all-map}
 use Rattle.sock.proofs.Fits.{FitsExpr, constantFits, variableFits, applyFits, Fits, fits, FitsEntries, emptyFits, entryFitsOn, MarkFits, Sound, nilSound, seqSound, parSound, scopeSound, executorSound, waiterSound, noticeSound, actSound, rootable, SoundFrame, seqFrameSound, leftFrameSound, rightFrameSound, scopeFrameSound, executorFrameSound, SoundFrames, noFrames, oneFrame, AllBelow, noneBelow, oneBelow}
 use Rattle.sock.proofs.Nodes.{part-fits, expr-fits, entries-fit, code-more}
@@ -99,18 +102,31 @@ bit-below : (b : Bool) → bit b < 4294967296
 bit-below true = lit< tt
 bit-below false = lit< tt
 
-operate-below : (o : Operator) (a b : ℕ) → operate o a b < 4294967296
-unfolding operate
-operate-below sum a b = mod-lt _ (lit< tt)
-operate-below difference a b = mod-lt _ (lit< tt)
-operate-below less a b = search bit-below
-operate-below equal a b = search bit-below
+abbrev Below : ℕ → Type 0
+Below v = v < 4294967296
 
-pub evaluate-below : {vs : List ℕ} → FitValues vs → {e : Expr} → FitsExpr e → evaluate vs e < 4294967296
+packed-word : (v : ℕ) → Below (packedOf 8 v)
+unfolding power
+packed-word v = packed-below 8 v
+
+of-digits-below : (a b v : ℕ) → Below (packedOf 8 v) → All Below (ofDigits a b (packedOf 8 v))
+unfolding ofDigits
+of-digits-below a b v h = all-guarded (decimal 8 a && decimal 8 b) (λ t. allSome h)
+
+operate-below : (o : Operator) (a b : ℕ) → All Below (operate o a b)
+unfolding operate
+operate-below sum a b = allSome (mod-lt _ (lit< tt))
+operate-below difference a b = allSome (mod-lt _ (lit< tt))
+operate-below less a b = allSome (bit-below (ltZ (signed a) (signed b)))
+operate-below equal a b = allSome (bit-below (eqb a b))
+operate-below decimalSum a b = of-digits-below a b _ (packed-word _)
+operate-below decimalDifference a b = of-digits-below a b _ (packed-word _)
+
+pub evaluate-below : {vs : List ℕ} → FitValues vs → {e : Expr} → FitsExpr e → All Below (evaluate vs e)
 unfolding evaluate
-evaluate-below g (constantFits h) = h
-evaluate-below g (variableFits {x = x} h) = value-below g x
-evaluate-below {vs} g (applyFits {o = o} {a = a} {b = b} x y) = operate-below o (evaluate vs a) (evaluate vs b)
+evaluate-below g (constantFits h) = allSome h
+evaluate-below g (variableFits {x = x} h) = allSome (value-below g x)
+evaluate-below g (applyFits {o = o} x y) = all-also (evaluate-below g x) λ v p. all-also (evaluate-below g y) λ w q. operate-below o v w
 
 -- ---- what a process does
 
@@ -180,6 +196,7 @@ pub data FitsMessage : Message → Type 0 where
 
 pub data FitsMove (n issued : ℕ) : Move → Type 0 where
   stuckFits : FitsMove n issued stuck
+  unvaluedFits : FitsMove n issued unvalued
   aloneFits : {vs : List ℕ} {o : Option Run} → FitValues vs → All (Sound n issued) o → All Rootable o → FitsMove n issued (alone vs o)
   sendsFits : {m : Message} → FitsMessage m → FitsMove n issued (sends m)
 
@@ -236,17 +253,25 @@ module _ {n issued : ℕ} {vs : List ℕ} (v : FitValues vs) {fs : List Frame} (
   ending-fits unmarked true a c t = done-alone v k nilSound t
   ending-fits unmarked false a c t = changed-alone v (update-keeps (promoted a c)) k nilSound t
 
+  valued-fits : {o : Option ℕ} {move : ℕ → Move} → All Below o → ((w : ℕ) → Below w → FitsMove n issued (move w)) → FitsMove n issued (valued o move)
+  unfolding valued
+  valued-fits allNone f = unvaluedFits
+  valued-fits (allSome {a = w} h) f = f w h
+
   pub acting-fits : {p : Node} → Fits (code false) anywhere p → T (based fs false) → {a : Action} → FitsAction a → FitsMove n issued (acting vs fs p a)
   unfolding acting
   acting-fits g t stillFits = stuckFits
-  acting-fits g t (assignFits {x = x} b e) = done-alone (values-set v (evaluate-below v e) x) k nilSound (based-any fs (rootable nil) t)
+  acting-fits g t (assignFits {x = x} b e) =
+      valued-fits (evaluate-below v e) λ w h. done-alone (values-set v h x) k nilSound (based-any fs (rootable nil) t)
   acting-fits g t (branchFits {e = e} {p = p} {q = q} b x y) =
-      let c : Node = cond (isTrue (evaluate vs e)) p q in
-      let f : Fits (code false) anywhere c = cond-case (λ m. Fits (code false) anywhere m) (isTrue (evaluate vs e)) (λ u. x) (λ u. y) in
+      valued-fits (evaluate-below v b) λ w h.
+      let c : Node = cond (isTrue w) p q in
+      let f : Fits (code false) anywhere c = cond-case (λ m. Fits (code false) anywhere m) (isTrue w) (λ u. x) (λ u. y) in
       done-alone v k (enable-sound n issued f) (based-any fs (rootable (enable c)) t)
   acting-fits {p} g t (repeatFits {e = e} {p = q} b x) =
-      let r : Run = cond (isTrue (evaluate vs e)) (seqOf (enable q) p) nil in
-      let f : Sound n issued r = cond-case (λ m. Sound n issued m) (isTrue (evaluate vs e)) (λ u. seqOf-sound (enable-sound n issued x) g) (λ u. nilSound) in
+      valued-fits (evaluate-below v b) λ w h.
+      let r : Run = cond (isTrue w) (seqOf (enable q) p) nil in
+      let f : Sound n issued r = cond-case (λ m. Sound n issued m) (isTrue w) (λ u. seqOf-sound (enable-sound n issued x) g) (λ u. nilSound) in
       done-alone v k f (based-any fs (rootable r) t)
   acting-fits g t (notifyFits {y = y} o) = sendsFits (notificationFits o (value-below v y))
   acting-fits g t (solicitFits {y = y} o x l) = sendsFits (solicitationFits o (value-below v y) x l)

@@ -12,12 +12,12 @@ use lib.ListN.{length, getD, set, length-set}
 use Rattle.sock.specs.Running.{Run, nil, seq, par, scope, executor, waiter, notice, act}
 use Rattle.sock.specs.Configuration.{Limits, Engine, Config, encode, enginesDepth, guarded, isScope, readConfig}
 use Rattle.sock.specs.Frames.{Frame, Located, locate, isDone, plug}
-use Rattle.sock.specs.Rules.{also, Message, notification, solicitation, reply, failure, Move, stuck, alone, sends, moveOf, acting, still, assign, branch, repeat, notify, solicit, install, throw, compensate, Action, action, onceDone, Exchange, exchange, notified, solicited, awaited, offer, offered}
+use Rattle.sock.specs.Rules.{also, Message, notification, solicitation, reply, failure, Move, stuck, alone, unvalued, sends, moveOf, acting, still, assign, branch, repeat, notify, solicit, install, throw, compensate, Action, action, onceDone, Exchange, exchange, notified, solicited, awaited, offer, offered}
 use Rattle.sock.specs.Calls.{Refusal, unreadable, nobodyThere, noMove, noPartner, noFit, installing, serialsSpent, deep, long, short, Result, refused, done, _>>=_, _>>_, _!_, _unless_, Numbers, Spot, engineAt, enabledAt, movable, partner, Effect, lone, between, effect, Stepped, withEngine, carriedOut, step}
 use Rattle.sock.proofs.Logic.{cond-case, test-false, All, allNone, allSome, all-also, all-any, all-guarded, all-map, all-some}
 use Rattle.sock.proofs.Fits.{Sound, SoundFrames, noFrames, rootable, AllBelow, FitsEngine, FitsEngines, noEngines, oneEngine, FitsConfig, Readable}
 use Rattle.sock.proofs.Frames.{Stands, locate-sound, based, based-any, Based, locate-based, plug-sound, plug-rootable}
-use Rattle.sock.proofs.Rules.{Rootable, FitValues, FitsMessage, FitsMove, stuckFits, aloneFits, sendsFits, move-fits}
+use Rattle.sock.proofs.Rules.{Rootable, FitValues, FitsMessage, FitsMove, stuckFits, unvaluedFits, aloneFits, sendsFits, move-fits}
 use Rattle.sock.proofs.Configuration.{config-found, config-finds}
 use Rattle.sock.proofs.Exchange.{sound-later, frames-later, FitsExchange, exchange-fits}
 
@@ -109,11 +109,13 @@ enabled-fits {c} g e p =
 abbrev Inner : Run → Move → Type 0
 Inner p stuck = Unit {0}
 Inner p (alone vs o) = Unit {0}
+Inner p unvalued = Unit {0}
 Inner p (sends m) = T (not (rootable p))
 
 inner : (p : Run) (m : Move) → T (not (rootable p)) → Inner p m
 inner p stuck t = tt
 inner p (alone vs o) t = tt
+inner p unvalued t = tt
 inner p (sends m) t = t
 
 sender-inner : (vs : List ℕ) (fs : List Frame) (p : Run) → Inner p (moveOf vs fs p)
@@ -170,6 +172,8 @@ unfolding movable
 movable-fits k stuckFits t = allNone
 movable-fits k (aloneFits v g r) t =
     all-guarded (eqb (k .second) 0 && eqb (k .secondPosition) 0 && eqb (k .branch) 0) λ u. allSome (aloneFits v g r, t)
+movable-fits k unvaluedFits t =
+    all-guarded (eqb (k .second) 0 && eqb (k .secondPosition) 0 && eqb (k .branch) 0) λ u. allSome (unvaluedFits, t)
 movable-fits k (sendsFits g) t = allSome (sendsFits g, t)
 
 module _ {c : Config} (g : FitsConfig c) (k : Numbers) {a : Spot} (x : FitsSpot c a) where
@@ -177,16 +181,18 @@ module _ {c : Config} (g : FitsConfig c) (k : Numbers) {a : Spot} (x : FitsSpot 
   unfolding partner
   partner-fits stuck = allNone
   partner-fits (alone vs p) = allSome x
+  partner-fits unvalued = allSome x
   partner-fits (sends m) = enabled-fits g (k .second) (k .secondPosition)
 
-  effect-fits : {b : Spot} → FitsSpot c b → {m : Move} → FitsMove (length (c .engines)) (c .issued) m → Inner (a .process) m → All (FitsEffect c a b) (effect c k a b m)
+  effect-fits : {b : Spot} → FitsSpot c b → {m : Move} → FitsMove (length (c .engines)) (c .issued) m → Inner (a .process) m → All (All (FitsEffect c a b)) (effect c k a b m)
   unfolding effect
   effect-fits y stuckFits t = allNone
-  effect-fits y (aloneFits v s r) t = allSome (loneFits v s r)
+  effect-fits y (aloneFits v s r) t = allSome (allSome (loneFits v s r))
+  effect-fits y unvaluedFits t = allSome allNone
   effect-fits {b} y (sendsFits {m = m} f) t =
       all-guarded (not (eqb (a .engine) (b .engine))) λ u.
       all-also (all-both (exchange-fits (y .values) (k .branch) (x .below) (y .below) (y .process) f) (receiver-inner (c .issued) (a .engine) (b .engine) (k .branch) (b .values) (b .process) m)) λ e z.
-      allSome (betweenFits (z .0) t (z .1))
+      allSome (allSome (betweenFits (z .0) t (z .1)))
 
 -- all that fits but the count of serials, which is looked at next
 record Next (c : Config) : Type 0 where
@@ -246,7 +252,8 @@ step-fits limits ws k room =
     sure-then (sure-given nobodyThere (enabled-fits g (k .engine) (k .position))) λ a x.
     sure-then (sure-given noMove (movable-fits k {p = a .process} (move-fits (x .values) (x .frames) (x .process) (x .inside)) (sender-inner (a .values) (a .frames) (a .process)))) λ m y.
     sure-then (sure-given noPartner (partner-fits g k x m)) λ b z.
-    sure-then (sure-given noFit (effect-fits g k x z (y .0) (y .1))) λ e f.
+    sure-then (sure-given noFit (effect-fits g k x z (y .0) (y .1))) λ o w.
+    sure-then (sure-given _ w) λ e f.
     sure-then (sure-given installing (carried-fits g x z f)) λ s n.
     sure-unless serialsSpent (leb (s .config .issued) 65535) λ i.
     sure-unless deep (leb (enginesDepth (s .config .engines)) (limits .deepest)) λ d.

@@ -16,7 +16,7 @@ use Rattle.sock.specs.Words.{bit}
 use Rattle.sock.specs.Running.{Run, nil}
 use Rattle.sock.specs.Configuration.{Limits, Engine, Config, encode, enginesDepth, readConfig}
 use Rattle.sock.specs.Frames.{Frame, plug}
-use Rattle.sock.specs.Rules.{Message, Move, stuck, alone, sends, Exchange}
+use Rattle.sock.specs.Rules.{Message, Move, stuck, alone, unvalued, sends, Exchange}
 use Rattle.sock.specs.Calls.{unreadable, nobodyThere, noMove, noPartner, noFit, installing, serialsSpent, deep, long, short, Numbers, Spot, engineAt, enabledAt, movable, partner, Effect, lone, between, effect, Stepped, withEngine, carriedOut, step, End, waiting, working, tally}
 use Rattle.sock.specs.Runs.{isSolicit, carries}
 use Rattle.sock.proofs.Logic.{cond-case, All, allNone, allSome, all-also, all-guarded, all-map, all-some}
@@ -24,7 +24,7 @@ use Rattle.sock.proofs.Located.{all-equal}
 use Rattle.sock.proofs.Steps.{Sure, sureDone, sure-then, sure-given, sure-unless}
 use Rattle.sock.proofs.Tallies.{around, plug-tally, locate-tally}
 use Rattle.sock.proofs.Trades.{Trade, quietTrade, newTrade, lastTrade, exchange-trade}
-use Rattle.sock.proofs.Moves.{Holds, Quiet, Moves, stuckMoves, aloneMoves, notifies, asking, replies, faults, move-moves}
+use Rattle.sock.proofs.Moves.{Holds, Quiet, Moves, stuckMoves, unvaluedMoves, aloneMoves, notifies, asking, replies, faults, move-moves}
 
 -- ---- n at engine k, nothing at others
 
@@ -140,6 +140,7 @@ movable-moves : {fs : List Frame} {p : Run} (k : Numbers) {m : Move} → Moves f
 unfolding movable
 movable-moves k stuckMoves = allNone
 movable-moves k (aloneMoves u h) = all-guarded (eqb (k .second) 0 && eqb (k .secondPosition) 0 && eqb (k .branch) 0) λ g. allSome (aloneMoves u h)
+movable-moves k unvaluedMoves = all-guarded (eqb (k .second) 0 && eqb (k .secondPosition) 0 && eqb (k .branch) 0) λ g. allSome unvaluedMoves
 movable-moves k (notifies u z) = allSome (notifies u z)
 movable-moves k (asking u w z) = allSome (asking u w z)
 movable-moves k (replies u) = allSome (replies u)
@@ -150,19 +151,21 @@ module _ (c : Config) (k : Numbers) where
   unfolding partner
   partner-standing x stuck = allNone
   partner-standing x (alone vs p) = allSome x
+  partner-standing x unvalued = allSome x
   partner-standing x (sends m) = enabled-standing c (k .second) (k .secondPosition)
 
-  sends-effects : (a b : Spot) {m : Message} → Moves (a .frames) (a .process) (sends m) → All (Effects c a b) (effect c k a b (sends m))
+  sends-effects : (a b : Spot) {m : Message} → Moves (a .frames) (a .process) (sends m) → All (All (Effects c a b)) (effect c k a b (sends m))
   unfolding effect
   sends-effects a b h =
       all-guarded (not (eqb (a .engine) (b .engine))) λ g.
       all-also (exchange-trade (c .issued) (a .engine) (b .engine) (a .process) (b .process) (b .values) (k .branch) h) λ x z.
-      allSome (betweenEffects (λ e. T-not (eqb (a .engine) (b .engine)) g (subst T (sym (eq-eqb (a .engine) (b .engine) e)) tt)) z)
+      allSome (allSome (betweenEffects (λ e. T-not (eqb (a .engine) (b .engine)) g (subst T (sym (eq-eqb (a .engine) (b .engine) e)) tt)) z))
 
-  effect-effects : {a : Spot} → Standing c a → (b : Spot) {m : Move} → Moves (a .frames) (a .process) m → All (Effects c a b) (effect c k a b m)
+  effect-effects : {a : Spot} → Standing c a → (b : Spot) {m : Move} → Moves (a .frames) (a .process) m → All (All (Effects c a b)) (effect c k a b m)
   unfolding effect
   effect-effects x b stuckMoves = allNone
-  effect-effects x b (aloneMoves u h) = allSome (loneEffects u (all-map (λ r y t. y t ∙ x .ends t) h))
+  effect-effects x b (aloneMoves u h) = allSome (allSome (loneEffects u (all-map (λ r y t. y t ∙ x .ends t) h)))
+  effect-effects x b unvaluedMoves = allSome allNone
   effect-effects {a} x b (notifies u z) = sends-effects a b (notifies u z)
   effect-effects {a} x b (asking u w z) = sends-effects a b (asking u w z)
   effect-effects {a} x b (replies u) = sends-effects a b (replies u)
@@ -243,7 +246,8 @@ step-turns limits ws k room =
     let x : Standing c a = all-some (enabled-standing c (k .engine) (k .position)) e in
     sure-then (sure-given noMove (movable-moves k (move-moves (a .values) (a .frames) (a .process)))) λ m h.
     sure-then (sure-given noPartner (partner-standing c k x m)) λ b y.
-    sure-then (sure-given noFit (effect-effects c k x b h)) λ f g.
+    sure-then (sure-given noFit (effect-effects c k x b h)) λ o w.
+    sure-then (sure-given _ w) λ f g.
     sure-then (sure-given installing (carried-turn x y g)) λ s t.
     sure-unless serialsSpent (leb (s .config .issued) 65535) λ u1.
     sure-unless deep (leb (enginesDepth (s .config .engines)) (limits .deepest)) λ u2.

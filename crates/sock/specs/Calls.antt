@@ -10,7 +10,7 @@ use Rattle.sock.specs.Term.{kind}
 use Rattle.sock.specs.Running.{Run, nil, seq, par, scope, executor, waiter, notice, act, asNode, size}
 use Rattle.sock.specs.Configuration.{Limits, Engine, Config, encode, enginesWords, enginesDepth, guarded, readConfig, fresh}
 use Rattle.sock.specs.Frames.{Frame, Located, locate, plug}
-use Rattle.sock.specs.Rules.{also, Message, Move, stuck, alone, sends, moveOf, Exchange, exchange}
+use Rattle.sock.specs.Rules.{also, Message, Move, stuck, alone, unvalued, sends, moveOf, Exchange, exchange}
 
 -- The refusals, with the word that document 01 gives each
 pub data Refusal : Type 0 where
@@ -19,6 +19,7 @@ pub data Refusal : Type 0 where
   noMove : Refusal  -- 3 "no move": no rule begins with the process; or it moves alone and a second field or branch isn't 0
   noPartner : Refusal  -- 4 "no partner": second engine or position as in 2
   noFit : Refusal  -- 5 "no fit": rule for two not met, or the branch
+  notDecimal : Refusal  -- 13 "not decimal": an operand of a decimal sum or difference has a digit above 9; tried after 5 and before 6
   installing : Refusal  -- 6 "installing": the climb meets a side that can't be killed
   serialsSpent : Refusal  -- 7 "serials spent": solicit at issued 65,535
   deep : Refusal  -- 8 "deep": result beyond the depth
@@ -40,6 +41,7 @@ number long = 9
 number short = 10
 number notFresh = 11
 number unknownSerial = 12
+number notDecimal = 13
 
 pub data Result (A : Type 0) : Type 0 where
   refused : Refusal → Result A
@@ -96,25 +98,29 @@ enabledAt c e p =
 unfoldable pub movable : Numbers → Move → Option Move
 movable k stuck = none
 movable k (alone vs p) = guarded (eqb (k .second) 0 && eqb (k .secondPosition) 0 && eqb (k .branch) 0) (some (alone vs p))
+movable k unvalued = guarded (eqb (k .second) 0 && eqb (k .secondPosition) 0 && eqb (k .branch) 0) (some unvalued)
 movable k (sends m) = some (sends m)
 
 -- who receives; a process that moves alone is its own partner
 unfoldable pub partner : Config → Numbers → Spot → Move → Option Spot
 partner c k a stuck = none
 partner c k a (alone vs p) = some a
+partner c k a unvalued = some a
 partner c k a (sends m) = enabledAt c (k .second) (k .secondPosition)
 
--- what the rule makes of it: the engine's values and process, or an exchange between two different engines
+-- what the rule makes of it: the engine's values and process, or an exchange between two different engines; none where an expression has
+-- no value
 pub data Effect : Type 0 where
   lone : List ℕ → Option Run → Effect
   between : Exchange → Effect
 
-unfoldable pub effect : Config → Numbers → Spot → Spot → Move → Option Effect
+unfoldable pub effect : Config → Numbers → Spot → Spot → Move → Option (Option Effect)
 effect c k a b stuck = none
-effect c k a b (alone vs p) = some (lone vs p)
+effect c k a b (alone vs p) = some (some (lone vs p))
+effect c k a b unvalued = some none
 effect c k a b (sends m) =
     guarded (not (eqb (a .engine) (b .engine)))
-    (also (exchange (c .issued) (a .engine) (b .engine) (k .branch) (b .values) (b .process) m) λ x. some (between x))
+    (also (exchange (c .issued) (a .engine) (b .engine) (k .branch) (b .values) (b .process) m) λ x. some (some (between x)))
 
 -- the next configuration, with what the answer says of the step
 pub record Stepped : Type 0 where
@@ -158,7 +164,8 @@ step limits ws k room = do
   a ← nobodyThere ! enabledAt c (k .engine) (k .position)
   m ← noMove ! movable k (moveOf (a .values) (a .frames) (a .process))
   b ← noPartner ! partner c k a m
-  x ← noFit ! effect c k a b m
+  o ← noFit ! effect c k a b m
+  x ← notDecimal ! o
   s ← installing ! carriedOut c a b x
   serialsSpent unless leb (s .config .issued) 65535
   deep unless leb (enginesDepth (s .config .engines)) (limits .deepest)

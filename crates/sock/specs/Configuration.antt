@@ -68,6 +68,10 @@ unfoldable pub guarded : {A : Type 0} → Bool → Option A → Option A
 guarded true o = o
 guarded false o = none
 
+unfoldable pub also : {A B : Type 0} → Option A → (A → Option B) → Option B
+also none k = none
+also (some a) k = k a
+
 unfoldable pub readConfig : Limits → List ℕ → Option Config
 readConfig limits [] = none
 readConfig limits (n ∷ []) = none

@@ -2,7 +2,7 @@
 use Prim.Native.Nat.{ℕ, zero, suc, _+_, _*_, max}
 use mathlib.Core.List.{List, [], _∷_, _++_}
 use Rattle.sock.specs.Words.{keyWord, highWord, lowWord}
-use Rattle.sock.specs.Term.{Operator, sum, difference, less, equal, Expr, constant, variable, apply, Node, node, Block, absent, list, Entries, noEntries, entry, Nodes, noParts, _&_}
+use Rattle.sock.specs.Term.{Operator, sum, difference, less, equal, decimalSum, decimalDifference, Expr, constant, variable, apply, Node, node, Block, absent, list, Entries, noEntries, entry, Nodes, noParts, _&_}
 
 -- Expressions are prefix: 0 constant (two words follow), 1 variable, 2 sum, 3 difference, 4 less, 5 equal
 abbrev pub operatorTag : Operator → ℕ
@@ -10,6 +10,8 @@ operatorTag sum = 2
 operatorTag difference = 3
 operatorTag less = 4
 operatorTag equal = 5
+operatorTag decimalSum = 6
+operatorTag decimalDifference = 7
 
 unfoldable pub exprWords : Expr → List ℕ
 exprWords (constant v) = 0 ∷ highWord v ∷ lowWord v ∷ []

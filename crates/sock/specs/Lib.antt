@@ -5,6 +5,7 @@ pub mod Layout
 pub mod Reading
 pub mod Running
 pub mod Configuration
+pub mod Digits
 pub mod Evaluation
 pub mod Handlers
 pub mod Frames

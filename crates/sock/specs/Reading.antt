@@ -7,7 +7,7 @@ use lib.ListN.{getD}
 use Rattle.sock.specs.Kind
 use Rattle.sock.specs.Kind.{Row, rowOf}
 use Rattle.sock.specs.Words.{isWord, clear, kindOf, countOf, markOf, zombieOf, firstName, executorsClient, waitersServer, noticesClient, keyOf, tagOf, readVariable, valueOf}
-use Rattle.sock.specs.Term.{Operator, sum, difference, less, equal, Expr, constant, variable, apply, Node, node, Block, absent, list, Entries, noEntries, entry, Nodes, noParts, _&_, isNil, processesOf, entriesOf}
+use Rattle.sock.specs.Term.{Operator, sum, difference, less, equal, decimalSum, decimalDifference, Expr, constant, variable, apply, Node, node, Block, absent, list, Entries, noEntries, entry, Nodes, noParts, _&_, isNil, processesOf, entriesOf}
 
 -- What is read, and the words behind it
 pub data Got (A : Type 0) : Type 0 where
@@ -133,7 +133,9 @@ exprBy sub (suc (suc zero)) w ws = operands sub sum w ws
 exprBy sub (suc (suc (suc zero))) w ws = operands sub difference w ws
 exprBy sub (suc (suc (suc (suc zero)))) w ws = operands sub less w ws
 exprBy sub (suc (suc (suc (suc (suc zero))))) w ws = operands sub equal w ws
-exprBy sub (suc (suc (suc (suc (suc (suc tag)))))) w ws = fail
+exprBy sub (suc (suc (suc (suc (suc (suc zero)))))) w ws = operands sub decimalSum w ws
+exprBy sub (suc (suc (suc (suc (suc (suc (suc zero))))))) w ws = operands sub decimalDifference w ws
+exprBy sub (suc (suc (suc (suc (suc (suc (suc (suc tag)))))))) w ws = fail
 
 unfoldable pub expr : ℕ → List ℕ → Got Expr
 expr zero ws = fail

@@ -11,15 +11,12 @@ use Rattle.sock.specs.Term.{Expr, Node, node, Block, absent, list, Entri
 use Rattle.sock.specs.Reading.{holds, fixedAt}
 use Rattle.sock.specs.Running.{Mark, unmarked, faulted, ownName, Run, nil, seq, par, scope, executor, waiter, notice, act, enable}
 use Rattle.sock.specs.Configuration.{guarded}
+unfoldable pub use Rattle.sock.specs.Configuration.{also}
 use Rattle.sock.specs.Evaluation.{valueAt, evaluate, isTrue}
 use Rattle.sock.specs.Handlers.{handler, without, update}
 use Rattle.sock.specs.Frames.{Frame, seqFrame, leftFrame, rightFrame, scopeFrame, executorFrame, isDone, seqOf, parOf, plug, nearest, onNearest}
 
 -- ---- killing with f; none where something can't be killed
-
-unfoldable pub also : {A B : Type 0} → Option A → (A → Option B) → Option B
-also none k = none
-also (some a) k = k a
 
 unfoldable pub kill : ℕ → Run → Option Run
 -- a live scope with nil body can't be killed; with another it becomes a zombie, mark 2, body killed. A zombie stays, if its body can be killed
@@ -99,6 +96,7 @@ pub data Message : Type 0 where
 pub data Move : Type 0 where
   stuck : Move
   alone : List ℕ → Option Run → Move
+  unvalued : Move  -- it would move alone, but an expression of it has no value
   sends : Message → Move
 
 -- scope with nil body: mark 1 runs H(f) as body, drops f; mark 2 runs H of its own name, drops it; both clear the mark
@@ -110,12 +108,17 @@ ending name unmarked true h fs = plug fs nil
 ending name unmarked false h fs =
     plug (onNearest (λ outer. update outer (entry (scopeKey name) (handler (scopeKey name) h) noEntries)) fs) nil
 
+-- with the value of an expression
+unfoldable pub valued : Option ℕ → (ℕ → Move) → Move
+valued none k = unvalued
+valued (some v) k = k v
+
 unfoldable pub acting : List ℕ → List Frame → Node → Action → Move
 acting vs fs p still = stuck
 -- assign, if, while as usual; a true while becomes its body, then itself
-acting vs fs p (assign x e) = alone (set vs x (evaluate vs e)) (some (plug fs nil))
-acting vs fs p (branch e q r) = alone vs (some (plug fs (enable (cond (isTrue (evaluate vs e)) q r))))
-acting vs fs p (repeat e q) = alone vs (some (plug fs (cond (isTrue (evaluate vs e)) (seqOf (enable q) p) nil)))
+acting vs fs p (assign x e) = valued (evaluate vs e) λ v. alone (set vs x v) (some (plug fs nil))
+acting vs fs p (branch e q r) = valued (evaluate vs e) λ v. alone vs (some (plug fs (enable (cond (isTrue v) q r))))
+acting vs fs p (repeat e q) = valued (evaluate vs e) λ v. alone vs (some (plug fs (cond (isTrue v) (seqOf (enable q) p) nil)))
 -- inst updates the nearest H and becomes nil
 acting vs fs p (install l) = alone vs (some (plug (onNearest (λ h. update h l) fs) nil))
 -- comp(q) becomes H(q) of the nearest scope, which loses q

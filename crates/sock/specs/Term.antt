@@ -8,7 +8,7 @@ use Rattle.sock.specs.Kind.{rowOf}
 use Rattle.sock.specs.Words.{kindOf, countOf, headOf}
 
 pub data Operator : Type 0 where
-  sum difference less equal : Operator
+  sum difference less equal decimalSum decimalDifference : Operator
 
 pub data Expr : Type 0 where
   constant : ℕ → Expr

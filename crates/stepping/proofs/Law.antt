@@ -16,7 +16,7 @@ use Rattle.sock.specs.Running.{asNode, runWords}
 use Rattle.sock.specs.Configuration.{standard, Config}
 use Rattle.sock.specs.Frames.{Located}
 use Rattle.sock.specs.Rules.{Message, Move, sends, moveOf}
-use Rattle.sock.specs.Calls.{Spot as Place, unreadable, nobodyThere, noMove, noPartner, refused, _>>=_, _!_, Numbers as Asked, engineAt, enabledAt, step, stepAnswer, stepOutput}
+use Rattle.sock.specs.Calls.{Spot as Place, unreadable, nobodyThere, noMove, noPartner, notDecimal, refused, _>>=_, _!_, Numbers as Asked, engineAt, enabledAt, step, stepAnswer, stepOutput}
 use Rattle.sock.proofs.Located.{startOf}
 use Rattle.reading.specs.declared.survey.Starts.{Starts}
 use Rattle.reading.specs.Survey.{surveyed}
@@ -42,10 +42,10 @@ use Rattle.stepping.specs.Bundles.{numbersAs, boundOf, sideOf}
 use Rattle.stepping.specs.Alone.{aloneW}
 use Rattle.stepping.specs.Stepping.{movesW, partnerW, receivingW, noneElse, movingW, foundW, stepW}
 use Rattle.stepping.proofs.Goal.{given, given-refused}
-use Rattle.stepping.proofs.Whole.{after, step-read, loneOf, pairOf, after-stuck, after-alone, after-sends}
+use Rattle.stepping.proofs.Whole.{after, step-read, loneOf, pairOf, after-stuck, after-alone, after-unvalued, after-sends}
 use Rattle.stepping.proofs.Seeking.{Seen, placed, Seeks, unseen, seen, seeks, seeks-none}
-use Rattle.stepping.proofs.Movers.{Moving, stays, goes, asks, known-moving}
-use Rattle.stepping.proofs.LoneLaw.{lone-law}
+use Rattle.stepping.proofs.Movers.{Moving, stays, goes, lacks, asks, known-moving}
+use Rattle.stepping.proofs.LoneLaw.{unvalued-law, lone-law}
 use Rattle.stepping.proofs.PairLaw.{pair-law}
 use Rattle.stepping.proofs.Partners as partners
 
@@ -153,6 +153,14 @@ module _ {limits : Limits} (modest : Modest limits) (ws : List ℕ) (ok : Words 
                   cond b (aloneW limits ws notes (sideOf g (k .engine) sp) (kind (asNode (l .process))) (boundOf g) out) (answered (refusing 3) out)
                   ≡ given (cond b (loneOf limits c a vs o (length out)) (refused noMove)) out
               go true = lone-law ws ok s modest known (k .engine) target l sp found notes right vs o q kind-low out
+              go false = sym (given-refused noMove out)
+          by _ _ q lacks = rw (after-unvalued limits c asked a (length out) q) (go (noneElse (k .second) (k .«second_position») (k .branch)))
+            where
+              go :
+                  (b : Bool) →
+                  cond b (aloneW limits ws notes (sideOf g (k .engine) sp) (kind (asNode (l .process))) (boundOf g) out) (answered (refusing 3) out)
+                  ≡ given (cond b (refused notDecimal) (refused noMove)) out
+              go true = unvalued-law ws ok s modest known (k .engine) target l sp found notes right q kind-low out
               go false = sym (given-refused noMove out)
           by _ _ q (asks {m = m}) = rw (after-sends limits c asked a (length out) m q) (receiving-law m q)
 

@@ -4,15 +4,15 @@ use Prim.Native.Nat.{ℕ, zero, suc, _+_, _-_, _*_, _≤_, _<_}
 use native.Mathlib.Omega.{arith}
 use mathlib.Core.Path.{_≡_, refl, subst, sym, ap, _∙_}
 use mathlib.Core.Bool.{Bool, true, false, cond}
-use mathlib.Core.Option.{Option, some}
+use mathlib.Core.Option.{Option, none, some}
 use mathlib.Core.List.{List, [], _∷_, _++_}
 use borrow.Author.Tests.{le-ltb, lt-leb}
 use lib.Dec.{eqb, lit<}
 use lib.ListN.{length, getD, drop, set, length-drop, length-set}
 use lib.Seq.{take-all, getD-drop}
 use Rattle.sock.specs.Words.{kindOf, variableOf, nameOf, scopeKey}
-use Rattle.sock.specs.Term.{Expr, Node, node, absent, list, Entries, noParts, _&_, kind}
-use Rattle.sock.specs.Layout.{words, depth}
+use Rattle.sock.specs.Term.{Expr, Node, node, Nodes, absent, list, Entries, noParts, _&_, kind}
+use Rattle.sock.specs.Layout.{exprWords, words, depth}
 use Rattle.sock.specs.Reading.{code, anywhere}
 use Rattle.sock.specs.Running.{Mark, Run, nil, seq, par, scope, executor, waiter, notice, act, asNode, runWords, size, runDepth, enable}
 use Rattle.sock.specs.Configuration.{standard, Engine, Config, valuesWords, enginesDepth}
@@ -20,7 +20,7 @@ use Rattle.sock.specs.Calls.{engineAt}
 use Rattle.sock.specs.Evaluation.{valueAt, evaluate, isTrue}
 use Rattle.sock.specs.Frames.{Located, isDone, seqOf, plug, nearest, onNearest}
 use Rattle.sock.specs.Handlers.{handler, without, update}
-use Rattle.sock.specs.Rules.{climb, action, Message, reply, Move, stuck, alone, sends, ending, acting, onceDone, moveOf}
+use Rattle.sock.specs.Rules.{climb, action, Message, reply, Move, stuck, alone, unvalued, sends, ending, valued as valuing, acting, onceDone, moveOf}
 use Rattle.sock.proofs.Logic.{all-some}
 use Rattle.sock.proofs.Fits.{Fits, FitsExpr, FitsEntries, AllBelow, FitsEngine, Sound, actSound, noFrames}
 use Rattle.sock.proofs.Frames.{Stands, locate-sound}
@@ -34,7 +34,9 @@ use Rattle.reading.proofs.Known.{Known}
 use Rattle.reading.specs.Walk.{processEnd}
 use Rattle.skipping.proofs.Notes.{Right}
 use Rattle.writers.specs.Writing.{pasted, pastedEnd}
-use Rattle.evaluating.specs.Evaluating.{evaluated}
+use Rattle.evaluating.specs.declared.evaluate.Evaluated.{Evaluated}
+use Rattle.evaluating.specs.Valuing.{valueAs}
+use Rattle.evaluating.specs.Evaluating.{ended}
 use Rattle.writers.proofs.Laid.{Near, near-of, near-below}
 use Rattle.handling.proofs.Leaves.{pasted-keeps}
 use Rattle.finding.specs.declared.find.Site.{Site}
@@ -46,7 +48,7 @@ use Rattle.rules.specs.Storing.{takes, unchanged}
 use Rattle.rules.specs.declared.rewriting.Rewriting.{Rewriting}
 use Rattle.rules.specs.Rewriting.{rewritten, vanishing, keeping, refused, at, partW, assignW, partEnd, branchW, unrollW, repeatW}
 use Rattle.rules.specs.Editing.{Edited, plainW}
-use Rattle.rules.proofs.Rewrites.{Becomes, becomes-nil, Outcome, deepens, becomes, assign-rewrites, branch-rewrites, repeat-rewrites}
+use Rattle.rules.proofs.Rewrites.{Becomes, becomes-nil, Outcome, deepens, becomes, valuedAt, expr-value, assign-rewrites, branch-rewrites, repeat-rewrites}
 use Rattle.rules.proofs.Edits.{done-nil}
 use Rattle.rules.proofs.Shapes.{Shape, assigns, branches, repeats, chooses, hears, serves, notifies, solicits, installs, throws, compensates, shape}
 use Rattle.rules.proofs.Outcomes.{Ruled, becomes-ruled, outcome-ruled}
@@ -62,7 +64,7 @@ use Rattle.rules.proofs.Depths.{Shallow}
 use Rattle.stepping.specs.declared.bundles.Side.{Side}
 use Rattle.stepping.proofs.Modest.{Modest}
 use Rattle.stepping.specs.Exchanging.{lent}
-use Rattle.stepping.specs.Alone.{rewrittenW, valuedW, scopedW, ruleW}
+use Rattle.stepping.specs.Alone.{settledW, rewrittenW, valuedW, scopedW, ruleW}
 use Rattle.stepping.proofs.Writes.{valued}
 use Rattle.stepping.proofs.Results.{one-stands, one-behind, one-values}
 
@@ -87,13 +89,12 @@ part-none ws from upto end = by (eqb (at ws from) 0)
     by true = refl
     by false = refl
 
-branch-none : (ws values : List ℕ) → branchW ws values .store .variable ≡ 32
+branch-none : (ws : List ℕ) (e : Evaluated) → branchW ws e .store .variable ≡ 32
 unfolding branchW
-branch-none ws values = by (eqb (evaluated 64 ws values 1 .value) 0)
+branch-none ws e = by (eqb (e .value) 0)
   where
     by : (b : Bool) →
-        (let e = evaluated 64 ws values 1 in
-        let middle : ℕ = partEnd ws (e .end) in
+        (let middle : ℕ = partEnd ws (e .end) in
         let last : ℕ = partEnd ws middle in
         cond b (partW ws middle last last unchanged) (partW ws (e .end) middle last unchanged) .store .variable ≡ 32)
     by true = part-none ws _ _ _
@@ -104,15 +105,13 @@ unfolding plainW
 plain-number s start t fresh e = rw e
 
 -- a while keeps the scratch's length
-repeat-keeps : (limits : Limits) (level bound : ℕ) (ws values fresh : List ℕ) → length (repeatW limits level bound ws values fresh .fresh) ≡ length fresh
+repeat-keeps : (limits : Limits) (level bound : ℕ) (ws : List ℕ) (e : Evaluated) (fresh : List ℕ) → length (repeatW limits level bound ws e fresh .fresh) ≡ length fresh
 unfolding repeatW unrollW
-repeat-keeps limits level bound ws values fresh =
-    let e = evaluated 64 ws values 1 in
+repeat-keeps limits level bound ws e fresh =
     by (eqb (e .value) 0) (eqb (at ws (e .end)) 0) (eqb (processEnd (limits .deepest - level) ws bound 0 0) 0)
   where
     by : (a b c : Bool) →
-        (let e = evaluated 64 ws values 1 in
-        let end : ℕ = partEnd ws (e .end) in
+        (let end : ℕ = partEnd ws (e .end) in
         length
         (cond a (rewritten (vanishing unchanged) fresh)
         (cond b (rewritten (keeping 0 0 end end unchanged) fresh)
@@ -183,6 +182,7 @@ module _ (ws : List ℕ) (ok : Words ws) (n issued : ℕ) (few : n ≤ 8) (small
     Makes u stuck = Unit {0}
     Makes u (alone vs' q) =
         Ruled (limits .deepest) ws start (start + size r) (u .edit) (u .fresh) q × (u .edit .number ≡ 0 → vs' ≡ valued vs (u .edit .store .variable) (u .edit .store .value))
+    Makes u unvalued = u .edit .number ≡ 13
     Makes u (sends m) = Unit {0}
 
     -- no value changes
@@ -234,33 +234,51 @@ module _ (ws : List ℕ) (ok : Words ws) (n issued : ℕ) (few : n ≤ 8) (small
     node-deep : (m : Node) → l .process ≡ act m → s .level + depth m ≤ suc (limits .deepest)
     node-deep m is = omega (arith, process-deep, its-level, ap runDepth is ∙ depth-act m)
 
+    -- by the value of its expression; 13 where it has none
+    by-value : (k : ℕ) → k ≤ 6 → (h : ℕ) (e : Expr) (ps : Nodes) → FitsExpr e → l .process ≡ act (node h [] (e ∷ []) absent ps) → (move : ℕ → Move) →
+        ((v : ℕ) →
+        (let t = settledW limits (drop (s .at) ws) (valuedAt h e v) (s .level) k bound fresh in
+        Makes (plainW s start (t .rewriting) (t .fresh)) (move v))) →
+        Makes (ruleW limits ws notes side k bound fresh) (valuing (evaluate vs e) move)
+    unfolding rewrittenW settledW plainW valuing
+    by-value k low h e ps g is move settled =
+        let m : Node = node h [] (e ∷ []) absent ps in
+        let value = expr-value n issued (drop (s .at) ws) (words-part ws (s .at) ok) few small vs below rest h e ps g
+        (omega (arith, node-deep m is, deep .low)) (node-at m is) in
+        rw (plain-rule k low, value) (go (evaluate vs e))
+      where
+        go : (o : Option ℕ) →
+            (let t = settledW limits (drop (s .at) ws) (ended (length (h ∷ exprWords e)) (valueAs o)) (s .level) k bound fresh in
+            Makes (plainW s start (t .rewriting) (t .fresh)) (valuing o move))
+        go none = refl
+        go (some v) = settled v
+
     made-assign : (h : ℕ) (e : Expr) → FitsExpr e → l .process ≡ act (node h [] (e ∷ []) absent noParts) →
-        Makes (ruleW limits ws notes side 1 bound fresh) (alone (set vs (variableOf h) (evaluate vs e)) (some (plug (l .frames) nil)))
-    unfolding rewrittenW
+        Makes (ruleW limits ws notes side 1 bound fresh) (valuing (evaluate vs e) λ v. alone (set vs (variableOf h) v) (some (plug (l .frames) nil)))
+    unfolding settledW
     made-assign h e g is =
+        by-value 1 (omega arith) h e noParts g is _ λ v.
         let m : Node = node h [] (e ∷ []) absent noParts in
         let x : ℕ = variableOf h in
-        let v : ℕ = evaluate vs e in
-        let turn : assignW (drop (s .at) ws) (valuesWords vs) ≡ vanishing (takes x v) =
+        let turn : assignW (drop (s .at) ws) (valuedAt h e v) ≡ vanishing (takes x v) =
         assign-rewrites n issued (drop (s .at) ws) (words-part ws (s .at) ok) few small vs below rest h e g
-        (omega (arith, node-deep m is)) (node-at m is) in
+        (omega (arith, node-deep m is, deep .low)) (node-at m is) v in
         let u = becomes-ruled (faultAt ws target) target r start l s ws words-at spotted near (standing .frames) deep nil
         (vanishing (takes x v)) fresh (omega arith) big (becomes-nil (l .process) x v fresh) (omega (arith, depth-nil, level)) in
-        rw (plain-rule 1 (omega arith), turn)
-        (u .0, λ z. rw (u .1, u .2, lt-leb 32 x (omega arith)))
+        rw turn (u .0, λ z. rw (u .1, u .2, lt-leb 32 x (omega arith)))
 
     made-branch : (h : ℕ) (e : Expr) (p q : Node) → FitsExpr e → Fits (code false) anywhere p → Fits (code false) anywhere q →
         l .process ≡ act (node h [] (e ∷ []) absent (p & q & noParts)) →
-        Makes (ruleW limits ws notes side 4 bound fresh) (alone vs (some (plug (l .frames) (enable (cond (isTrue (evaluate vs e)) p q)))))
-    unfolding rewrittenW depth
+        Makes (ruleW limits ws notes side 4 bound fresh)
+        (valuing (evaluate vs e) λ v. alone vs (some (plug (l .frames) (enable (cond (isTrue v) p q)))))
+    unfolding settledW depth
     made-branch h e p q g fp fq is =
+        by-value 4 (omega arith) h e (p & q & noParts) g is _ λ v.
         let m : Node = node h [] (e ∷ []) absent (p & q & noParts) in
-        let high = node-deep m is in
         let b = branch-rewrites n issued (drop (s .at) ws) (words-part ws (s .at) ok) few small vs below rest h e p q g fp fq
-        (omega (arith, node-deep m is)) (node-at m is) fresh in
-        rw (plain-rule 4 (omega arith))
-        (turns (enable (cond (isTrue (evaluate vs e)) p q)) (branchW (drop (s .at) ws) (valuesWords vs)) fresh refl
-        (rw is b) (branch-none (drop (s .at) ws) (valuesWords vs)) (by (isTrue (evaluate vs e))))
+        (omega (arith, node-deep m is, deep .low)) (node-at m is) fresh v in
+        turns (enable (cond (isTrue v) p q)) (branchW (drop (s .at) ws) (valuedAt h e v)) fresh refl
+        (rw is b) (branch-none (drop (s .at) ws) (valuedAt h e v)) (by (isTrue v))
       where
         by : (b : Bool) → s .level + runDepth (enable (cond b p q)) ≤ suc (limits .deepest)
         by true = omega (arith, enabled-depth fp, node-deep (node h [] (e ∷ []) absent (p & q & noParts)) is)
@@ -270,17 +288,17 @@ module _ (ws : List ℕ) (ok : Words ws) (n issued : ℕ) (few : n ≤ 8) (small
         Fits (code false) anywhere (node h [] (e ∷ []) absent (p & noParts)) →
         l .process ≡ act (node h [] (e ∷ []) absent (p & noParts)) →
         Makes (ruleW limits ws notes side 5 bound fresh)
-        (alone vs
-        (some (plug (l .frames) (cond (isTrue (evaluate vs e)) (seqOf (enable p) (node h [] (e ∷ []) absent (p & noParts))) nil))))
-    unfolding rewrittenW
+        (valuing (evaluate vs e) λ v.
+        alone vs (some (plug (l .frames) (cond (isTrue v) (seqOf (enable p) (node h [] (e ∷ []) absent (p & noParts))) nil))))
+    unfolding settledW
     made-repeat h e p k g fp f is =
+        by-value 5 (omega arith) h e (p & noParts) g is _ λ v.
         let m : Node = node h [] (e ∷ []) absent (p & noParts) in
         let o = repeat-rewrites n issued (drop (s .at) ws) (words-part ws (s .at) ok) few small vs below rest h k e p g fp
-        (omega (arith, node-deep m is)) (node-at m is) f fresh (omega (arith, length-drop (s .at) ws)) big
-        limits (s .level) (node-deep m is) level in
-        rw (plain-rule 5 (omega arith))
-        (by (cond (isTrue (evaluate vs e)) (seqOf (enable p) m) nil) _ _
-        (repeat-keeps limits (s .level) bound (drop (s .at) ws) (valuesWords vs) fresh) (rw is o))
+        (omega (arith, node-deep m is, deep .low)) (node-at m is) f fresh (omega (arith, length-drop (s .at) ws)) big
+        limits (s .level) (node-deep m is) level v in
+        by (cond (isTrue v) (seqOf (enable p) m) nil) _ _
+        (repeat-keeps limits (s .level) bound (drop (s .at) ws) (valuedAt h e v) fresh) (rw is o)
       where
         by : (q : Run) (t : Rewriting) (made : List ℕ) → length made ≡ length fresh → Outcome (limits .deepest) (l .process) (s .level) q t made →
             Makes (plainW s start t made) (alone vs (some (plug (l .frames) q)))
@@ -354,6 +372,12 @@ module _ (ws : List ℕ) (ok : Words ws) (n issued : ℕ) (few : n ≤ 8) (small
         rw (kind-asNode (standing .process))
         (subst (Makes (ruleW limits ws notes side (runKind (l .process)) bound fresh)) e (made (l .process) refl (standing .process)))
 
+    pub none-made :
+        moveOf vs (l .frames) (l .process) ≡ unvalued → ruleW limits ws notes side (kind (asNode (l .process))) bound fresh .edit .number ≡ 13
+    none-made e =
+        rw (kind-asNode (standing .process))
+        (subst (Makes (ruleW limits ws notes side (runKind (l .process)) bound fresh)) e (made (l .process) refl (standing .process)))
+
 -- in a configuration that is known
 module _ (ws : List ℕ) (ok : Words ws) (starts : Starts) {limits : Limits} (modest : Modest limits) (known : Known (figures limits) ws starts) (e : ℕ)
     (h : e < length (known .config .engines)) where
@@ -395,6 +419,17 @@ module _ (ws : List ℕ) (ok : Words ws) (starts : Starts) {limits : Limits} (mo
         × (u .edit .number ≡ 0 → vs' ≡ valued (engineAt c e .values) (u .edit .store .variable) (u .edit .store .value)))
     known-lone end notes right fresh room wide big =
         lone ws ok (length (c .engines)) (c .issued) (known .readable .fitting .few) (known .readable .fitting .word) run (fit .sound)
+        (startOf c e) run-stands (omega arith) limits run-deep run-short target l s place spotted end (engineAt c e .values)
+        (fit .bounded) (one-values c (known .readable .fitting) e h ws (known .same))
+        notes right fresh room wide big
+
+    pub known-unvalued :
+        (end : ℕ) (notes : List ℕ) → Right ws notes → (fresh : List ℕ) → Roomy ws fresh →
+        Spacious (ruleW limits ws notes (record { start = startOf c e; end = end; site = s }) (kind (asNode (l .process))) (length (c .engines) * 65536 + c .issued) fresh) fresh →
+        Near (length fresh) → moveOf (engineAt c e .values) (l .frames) (l .process) ≡ unvalued →
+        ruleW limits ws notes (record { start = startOf c e; end = end; site = s }) (kind (asNode (l .process))) (length (c .engines) * 65536 + c .issued) fresh .edit .number ≡ 13
+    known-unvalued end notes right fresh room wide big =
+        none-made ws ok (length (c .engines)) (c .issued) (known .readable .fitting .few) (known .readable .fitting .word) run (fit .sound)
         (startOf c e) run-stands (omega arith) limits run-deep run-short target l s place spotted end (engineAt c e .values)
         (fit .bounded) (one-values c (known .readable .fitting) e h ws (known .same))
         notes right fresh room wide big

@@ -13,8 +13,8 @@ use Rattle.sock.specs.Term.{kind}
 use Rattle.sock.specs.Running.{Run, asNode, size}
 use Rattle.sock.specs.Configuration.{standard, Config}
 use Rattle.sock.specs.Frames.{Located}
-use Rattle.sock.specs.Rules.{alone, moveOf}
-use Rattle.sock.specs.Calls.{Spot as Place, installing, engineAt}
+use Rattle.sock.specs.Rules.{alone, unvalued, moveOf}
+use Rattle.sock.specs.Calls.{Spot as Place, notDecimal, installing, refused, engineAt}
 use Rattle.sock.proofs.Located.{startOf}
 use Rattle.reading.specs.declared.survey.Starts.{Starts}
 use Rattle.reading.proofs.Combining.{Words}
@@ -30,13 +30,13 @@ use Rattle.layout.specs.declared.limit.Limits.{Limits}
 use Rattle.layout.specs.Limits.{figures}
 use Rattle.stepping.specs.declared.bundles.Side.{Side}
 use Rattle.stepping.proofs.Modest.{Modest}
-use Rattle.stepping.specs.Answering.{answered, refusing, oneW}
+use Rattle.stepping.specs.Answering.{Answered, answered, refusing, oneW}
 use Rattle.stepping.specs.Alone.{ruleW, loneW, large, small, shortW, aloneW, surely}
 use Rattle.stepping.proofs.Goal.{given, given-refused}
 use Rattle.stepping.proofs.Given.{one-refused, one-deep, one-given}
 use Rattle.stepping.proofs.Writes.{valued}
 use Rattle.stepping.proofs.Whole.{loneOf}
-use Rattle.stepping.proofs.Lone.{known-lone}
+use Rattle.stepping.proofs.Lone.{known-lone, known-unvalued}
 use Rattle.stepping.proofs.Seeking.{Seen, placed}
 
 large-length : length large ≡ 16384
@@ -90,31 +90,31 @@ module _ (ws : List ℕ) (ok : Words ws) (s : Starts) {limits : Limits} (modest 
   kind-low : k < 32 → k % 32 ≡ k
   kind-low h = omega arith
 
-  -- the answer and the output of a step alone
-  pub lone-law :
-      (notes : List ℕ) → Right ws notes → (vs' : List ℕ) (q : Option Run) → moveOf (engineAt c e .values) (l .frames) (l .process) ≡ alone vs' q → k < 32 → (out : List ℕ) →
-      aloneW limits ws notes side k bound out ≡ given (loneOf limits c a vs' q (length out)) out
+  first : getD (s .starts) e 0 ≡ start
+  first = known .starts e (omega (arith, seen .inside))
+
+  last : getD (s .starts) (e + 1) 0 - 64 ≡ end
+  last =
+      let y : getD (s .starts) (e + 1) 0 ≡ startOf c (e + 1) = known .starts (e + 1) (omega (arith, seen .inside)) in
+      let z = start-next c (known .readable .fitting) e (seen .inside) in
+      omega arith
+
+  -- the answer and the output of a step alone, if they are the same whatever the scratch is that has room
+  by-scratch :
+      (notes : List ℕ) → k < 32 → (out : List ℕ) (answer : Answered) →
+      ((fresh : List ℕ) → Roomy ws fresh → Spacious (ruleW limits ws notes own k bound fresh) fresh → Near (length fresh) →
+      (let u = ruleW limits ws notes own k bound fresh in
+      oneW limits ws start end (u .edit) k (u .fresh) out ≡ answer)) →
+      aloneW limits ws notes side k bound out ≡ answer
   unfolding aloneW shortW loneW
-  lone-law notes right vs' q m low out = by (ltb 512 (length ws)) (ltb surely (ruleW limits ws notes side k bound small .edit .fresh)) refl refl
+  by-scratch notes low out answer rule = by (ltb 512 (length ws)) (ltb surely (ruleW limits ws notes side k bound small .edit .fresh)) refl refl
     where
-      first : getD (s .starts) e 0 ≡ start
-      first = known .starts e (omega (arith, seen .inside))
-
-      last : getD (s .starts) (e + 1) 0 - 64 ≡ end
-      last =
-          let y : getD (s .starts) (e + 1) 0 ≡ startOf c (e + 1) = known .starts (e + 1) (omega (arith, seen .inside)) in
-          let z = start-next c (known .readable .fitting) e (seen .inside) in
-          omega arith
-
-      -- whatever the scratch is, if it has room
       scratched :
           (fresh : List ℕ) → Roomy ws fresh → Spacious (ruleW limits ws notes own k bound fresh) fresh → Near (length fresh) →
-          loneW limits ws notes side k bound fresh out ≡ given (loneOf limits c a vs' q (length out)) out
-      scratched fresh room wide big =
-          let r = known-lone ws ok s modest known e (seen .inside) target l sp (seen .place) (seen .spotted) _ notes right fresh room wide big vs' q m in
-          rw (first, last, kind-low low) (by-rule (ruleW limits ws notes own k bound fresh) vs' q (r .0) (r .1) out)
+          loneW limits ws notes side k bound fresh out ≡ answer
+      scratched fresh room wide big = rw (first, last, kind-low low) (rule fresh room wide big)
 
-      in-large : loneW limits ws notes side k bound large out ≡ given (loneOf limits c a vs' q (length out)) out
+      in-large : loneW limits ws notes side k bound large out ≡ answer
       in-large =
           scratched large (record { twice = omega (arith, large-length, short, modest .few); few = omega (arith, large-length) })
           (λ h. omega (arith, large-length)) (rw large-length (near-of 16384 (lit< tt)))
@@ -124,7 +124,7 @@ module _ (ws : List ℕ) (ok : Words ws) (s : Starts) {limits : Limits} (modest 
           cond b (loneW limits ws notes side k bound large out)
           (cond d (loneW limits ws notes side k bound large out)
           (loneW limits ws notes side k bound small out))
-          ≡ given (loneOf limits c a vs' q (length out)) out
+          ≡ answer
       by true d p r = in-large
       by false true p r = in-large
       by false false p r =
@@ -133,3 +133,22 @@ module _ (ws : List ℕ) (ok : Words ws) (s : Starts) {limits : Limits} (modest 
           rw (first, last) at (ltb-false surely (ruleW limits ws notes side k bound small .edit .fresh) r) in
           scratched small (record { twice = omega (arith, small-length, few); few = omega (arith, small-length) })
           (λ h. omega (arith, spare, small-length)) (rw small-length (near-of 1024 (lit< tt)))
+
+  pub lone-law :
+      (notes : List ℕ) → Right ws notes → (vs' : List ℕ) (q : Option Run) → moveOf (engineAt c e .values) (l .frames) (l .process) ≡ alone vs' q → k < 32 → (out : List ℕ) →
+      aloneW limits ws notes side k bound out ≡ given (loneOf limits c a vs' q (length out)) out
+  lone-law notes right vs' q m low out =
+      by-scratch notes low out _ λ fresh room wide big.
+      let r = known-lone ws ok s modest known e (seen .inside) target l sp (seen .place) (seen .spotted) _ notes right fresh room wide big vs' q m in
+      by-rule (ruleW limits ws notes own k bound fresh) vs' q (r .0) (r .1) out
+
+  -- an expression that has no value
+  pub unvalued-law :
+      (notes : List ℕ) → Right ws notes → moveOf (engineAt c e .values) (l .frames) (l .process) ≡ unvalued → k < 32 → (out : List ℕ) →
+      aloneW limits ws notes side k bound out ≡ given (refused notDecimal) out
+  unvalued-law notes right m low out =
+      by-scratch notes low out _ λ fresh room wide big.
+      let u = ruleW limits ws notes own k bound fresh in
+      let z : u .edit .number ≡ 13 = known-unvalued ws ok s modest known e (seen .inside) target l sp (seen .place) (seen .spotted) _ notes right fresh room wide big m in
+      one-refused modest c (known .readable .fitting) (known .readable .shallow) ws (known .same) short e (seen .inside) (u .edit) (u .fresh) k out (λ y. omega (arith, y, z))
+      ∙ (ap (λ n. answered (refusing n) out) z ∙ sym (given-refused notDecimal out))

@@ -4,7 +4,7 @@ use Prim.Native.Nat.{ℕ, zero, suc, _+_, _*_, _≤_, _<_, max}
 use native.Mathlib.Omega.{arith}
 use mathlib.Core.Path.{_≡_, refl, sym, ap, _∙_}
 use mathlib.Core.Bool.{Bool, true, false, cond}
-use mathlib.Core.Option.{Option, some}
+use mathlib.Core.Option.{Option, some, none}
 use mathlib.Core.List.{List, _∷_, _++_, append-assoc}
 use borrow.Author.Tests.{ne-eqb, eqb-false}
 use lib.Dec.{eqb}
@@ -17,7 +17,7 @@ use Rattle.sock.specs.Configuration.{standard, Config}
 use Rattle.sock.specs.Calls.{engineAt}
 use Rattle.sock.specs.Evaluation.{valueAt}
 use Rattle.sock.specs.Frames.{Located, isDone}
-use Rattle.sock.specs.Rules.{action, Message, reply, Move, stuck, alone, sends, ending, acting, onceDone, moveOf}
+use Rattle.sock.specs.Rules.{action, Message, reply, Move, stuck, alone, sends, ending, acting, onceDone, moveOf, unvalued, valued}
 use Rattle.sock.proofs.Fits.{FitsEntries, FitsEngine, Sound, scopeSound, executorSound, actSound}
 use Rattle.sock.proofs.Located.{engine-fits, startOf}
 use Rattle.sock.proofs.Measures.{words-scope, words-executor, size-scope, size-executor, depth-scope}
@@ -49,23 +49,14 @@ use Rattle.stepping.proofs.Lone.{near, standing, rest, part-at, inside,
 pub data Moving : Move → ℕ → Type 0 where
   stays : Moving stuck 0
   goes : {vs : List ℕ} {q : Option Run} → Moving (alone vs q) 1
+  lacks : Moving unvalued 1
   asks : {m : Message} → Moving (sends m) 2
 
--- and the other way round
-pub stuck-of : {m : Move} {k : ℕ} → Moving m k → k ≡ 0 → m ≡ stuck
-stuck-of stays e = refl
-stuck-of goes e = absurd (omega arith)
-stuck-of asks e = absurd (omega arith)
-
-pub alone-of : {m : Move} {k : ℕ} → Moving m k → k ≡ 1 → (vs : List ℕ) × (q : Option Run) × (m ≡ alone vs q)
-alone-of stays e = absurd (omega arith)
-alone-of (goes {vs} {q}) e = (vs, q, refl)
-alone-of asks e = absurd (omega arith)
-
-pub sends-of : {m : Move} {k : ℕ} → Moving m k → k ≡ 2 → (message : Message) × (m ≡ sends message)
-sends-of stays e = absurd (omega arith)
-sends-of goes e = absurd (omega arith)
-sends-of (asks {m}) e = (m, refl)
+-- by the value of an expression
+valued-moving : (o : Option ℕ) {move : ℕ → Move} → ((v : ℕ) → Moving (move v) 1) → Moving (valued o move) 1
+unfolding valued
+valued-moving none f = lacks
+valued-moving (some v) f = f v
 
 once-moving : (b : Bool) (m : Move) (k : ℕ) → Moving m k → Moving (cond b m stuck) (cond b k 0)
 once-moving true m k g = g
@@ -148,9 +139,9 @@ module _ (ws : List ℕ) (ok : Words ws) (n issued : ℕ) (few : n ≤ 8) (small
 
   act-moves : (m : Node) → Shape m → Moving (acting vs (l .frames) m (action m)) (movesW ws notes (s .at) (kind m))
   unfolding action acting movesW byKind
-  act-moves m (assigns k g) = rw k goes
-  act-moves m (branches k g fp fq) = rw k goes
-  act-moves m (repeats k g fp) = rw k goes
+  act-moves m (assigns k g) = rw k (valued-moving _ λ v. goes)
+  act-moves m (branches k g fp fq) = rw k (valued-moving _ λ v. goes)
+  act-moves m (repeats k g fp) = rw k (valued-moving _ λ v. goes)
   act-moves m (chooses k c pt) = rw k stays
   act-moves m (hears k) = rw k stays
   act-moves m (serves k t fp) = rw k stays

@@ -17,7 +17,7 @@ use Rattle.sock.specs.Running.{Run, nil, executor, waiter, notice, act, asNode,
 use Rattle.sock.specs.Configuration.{guarded, valuesWords}
 use Rattle.sock.specs.Evaluation.{valueAt}
 use Rattle.sock.specs.Frames.{Frame, isDone}
-use Rattle.sock.specs.Rules.{Message, notification, solicitation, reply, failure, Move, stuck, alone, sends, action, acting, onceDone, moveOf, Exchange, exchange, awaited, notified, solicited, offer, replied, faulting}
+use Rattle.sock.specs.Rules.{Message, notification, solicitation, reply, failure, Move, stuck, alone, sends, action, acting, onceDone, moveOf, Exchange, exchange, awaited, notified, solicited, offer, replied, faulting, unvalued, valued as valuing}
 use Rattle.sock.proofs.Fits.{Fits, Sound, nilSound, seqSound, parSound, scopeSound, executorSound, waiterSound, noticeSound, actSound, AllBelow}
 use Rattle.sock.proofs.Fields.{name-of, second-of, client-of, noticed-fault, noticed-client, end-tests}
 use Rattle.sock.proofs.ByKind.{kind-asNode}
@@ -315,6 +315,7 @@ module _ (n issued : ℕ) (few : n ≤ 8) (small : issued < 65536) (e i branch :
   abbrev PairsBy : Run → Move → Type 0
   PairsBy a stuck = Unit {0}
   PairsBy a (alone vs p) = Unit {0}
+  PairsBy a unvalued = Unit {0}
   PairsBy a (sends m) = PairsOf a (kind (asNode a)) (exchange issued e i branch vb b m)
 
   kinded : {a : Run} {x : Option Exchange} {k j : ℕ} → k ≡ j → PairsOf a j x → PairsOf a k x
@@ -323,6 +324,11 @@ module _ (n issued : ℕ) (few : n ≤ 8) (small : issued < 65536) (e i branch :
   one-alone : (a : Run) (t : Bool) (vs : List ℕ) (q : Option Run) → PairsBy a (cond t (alone vs q) stuck)
   one-alone a true vs q = tt
   one-alone a false vs q = tt
+
+  one-valued : (a : Run) (o : Option ℕ) (move : ℕ → Move) → ((v : ℕ) → PairsBy a (move v)) → PairsBy a (valuing o move)
+  unfolding valuing
+  one-valued a none move f = tt
+  one-valued a (some v) move f = f v
 
   one-sends : (a : Run) (t : Bool) (m : Message) → PairsBy a (sends m) → PairsBy a (cond t (sends m) stuck)
   one-sends a true m y = y
@@ -334,9 +340,9 @@ module _ (n issued : ℕ) (few : n ≤ 8) (small : issued < 65536) (e i branch :
         {m : Node} → Shape m → Fits (code false) anywhere m → depth m ≤ 64 → part ≡ words m ++ rest →
         PairsBy (act m) (acting va fs m (action m))
     unfolding action acting words exprsWords asNode
-    act-pairs (assigns q x) f deep stands = rw q tt
-    act-pairs (branches q x y z) f deep stands = rw q tt
-    act-pairs (repeats q x y) f deep stands = rw q tt
+    act-pairs (assigns q x) f deep stands = rw q (one-valued _ _ _ λ v. tt)
+    act-pairs (branches q x y z) f deep stands = rw q (one-valued _ _ _ λ v. tt)
+    act-pairs (repeats q x y) f deep stands = rw q (one-valued _ _ _ λ v. tt)
     act-pairs (chooses q x y) f deep stands = rw q tt
     act-pairs (hears q) f deep stands = rw q tt
     act-pairs (serves q x y) f deep stands = rw q tt

@@ -1,4 +1,4 @@
--- The step's cases by the definitions, once a process is found: it is stuck, it moves alone, or it sends.
+-- The step's cases by the definitions, once a process is found: it is stuck, it moves alone, its expression has no value, or it sends.
 -- Assumes nothing.
 use Prim.Native.Nat.{ℕ, _-_}
 use mathlib.Core.Path.{_≡_, refl}
@@ -11,8 +11,8 @@ use Rattle.sock.specs.Term.{kind}
 use Rattle.sock.specs.Running.{Run, asNode}
 use Rattle.sock.specs.Configuration.{Config, guarded, readConfig}
 use Rattle.sock.specs.Frames.{plug}
-use Rattle.sock.specs.Rules.{also, Message, stuck, alone, sends, moveOf, Exchange, exchange}
-use Rattle.sock.specs.Calls.{unreadable, nobodyThere, noMove, noPartner, noFit, installing, Result, refused, _>>=_, _>>_, _!_, Numbers, Spot, enabledAt, movable, partner, effect, Stepped, withEngine, carriedOut, step}
+use Rattle.sock.specs.Rules.{also, Message, stuck, alone, unvalued, sends, moveOf, Exchange, exchange}
+use Rattle.sock.specs.Calls.{unreadable, nobodyThere, noMove, noPartner, noFit, notDecimal, installing, Result, refused, _>>=_, _>>_, _!_, Numbers, Spot, enabledAt, movable, partner, effect, Stepped, withEngine, carriedOut, step}
 use Rattle.layout.specs.declared.limit.Limits.{Limits}
 use Rattle.layout.specs.Limits.{figures}
 use Rattle.stepping.specs.Stepping.{noneElse}
@@ -23,7 +23,8 @@ unfoldable pub after : Limits → Config → Numbers → Spot → ℕ → Result
 after limits c k a room =
     (noMove ! movable k (moveOf (a .values) (a .frames) (a .process))) >>= λ m.
     (noPartner ! partner c k a m) >>= λ b.
-    (noFit ! effect c k a b m) >>= λ x.
+    (noFit ! effect c k a b m) >>= λ o.
+    (notDecimal ! o) >>= λ x.
     (installing ! carriedOut c a b x) >>= λ s. fitted limits room s
 
 pub step-read :
@@ -46,7 +47,8 @@ loneOf limits c a vs (some q) room =
 
 -- and a step of two
 unfoldable pub pairOf : Limits → Config → Numbers → Spot → Spot → Message → ℕ → Result Stepped
-pairOf limits c k a b m room = (noFit ! effect c k a b (sends m)) >>= λ x. (installing ! carriedOut c a b x) >>= λ s. fitted limits room s
+pairOf limits c k a b m room =
+    (noFit ! effect c k a b (sends m)) >>= λ o. (notDecimal ! o) >>= λ x. (installing ! carriedOut c a b x) >>= λ s. fitted limits room s
 
 abbrev pub exchanged : Config → Spot → Spot → Exchange → Stepped
 exchanged c a b x =
@@ -87,12 +89,30 @@ module _ (limits : Limits) (c : Config) (k : Numbers) (a : Spot) (room : ℕ) wh
           (b : Bool) (q : Option Run) →
           ((noMove ! guarded b (some (alone vs q))) >>= λ m.
           (noPartner ! partner c k a m) >>= λ b.
-          (noFit ! effect c k a b m) >>= λ x.
+          (noFit ! effect c k a b m) >>= λ o.
+          (notDecimal ! o) >>= λ x.
           (installing ! carriedOut c a b x) >>= λ s. fitted limits room s)
           ≡ cond b (loneOf limits c a vs q room) (refused noMove)
       by true none = refl
       by true (some q) = refl
       by false q = refl
+
+  pub after-unvalued :
+      moveOf (a .values) (a .frames) (a .process) ≡ unvalued →
+      after limits c k a room ≡ cond (noneElse (k .second) (k .secondPosition) (k .branch)) (refused notDecimal) (refused noMove)
+  unfolding after movable partner effect guarded _!_ _>>=_
+  after-unvalued e = rw (e, none-else (k .second) (k .secondPosition) (k .branch)) (by (noneElse (k .second) (k .secondPosition) (k .branch)))
+    where
+      by :
+          (b : Bool) →
+          ((noMove ! guarded b (some unvalued)) >>= λ m.
+          (noPartner ! partner c k a m) >>= λ b.
+          (noFit ! effect c k a b m) >>= λ o.
+          (notDecimal ! o) >>= λ x.
+          (installing ! carriedOut c a b x) >>= λ s. fitted limits room s)
+          ≡ cond b (refused notDecimal) (refused noMove)
+      by true = refl
+      by false = refl
 
   pub after-sends :
       (m : Message) → moveOf (a .values) (a .frames) (a .process) ≡ sends m →

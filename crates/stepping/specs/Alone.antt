@@ -5,6 +5,8 @@ use mathlib.Core.List.{List}
 use lib.Dec.{ltb, eqb}
 use lib.ListN.{length, replicate}
 use Rattle.sock.specs.Kind
+use Rattle.evaluating.specs.declared.evaluate.Evaluated.{Evaluated}
+use Rattle.evaluating.specs.Evaluating.{evaluated}
 use Rattle.finding.specs.declared.find.Site.{Site}
 use Rattle.rules.specs.Rewriting.{Rewritten, rewritten, refused, assignW, branchW, repeatW}
 use Rattle.rules.specs.Editing.{Edited, plainW}
@@ -17,10 +19,16 @@ use Rattle.stepping.specs.declared.bundles.Side.{Side}
 use Rattle.stepping.specs.Answering.{Answered, oneW}
 use Rattle.stepping.specs.Exchanging.{lent}
 
+-- assign, if or while, with its expression evaluated
+unfoldable pub settledW : Limits → List ℕ → Evaluated → ℕ → ℕ → ℕ → List ℕ → Rewritten
+settledW limits part e level kind bound fresh =
+    cond (e .good)
+    (cond (eqb kind Kind.assign) (rewritten (assignW part e) fresh)
+    (cond (eqb kind Kind.if) (rewritten (branchW part e) fresh) (repeatW limits level bound part e fresh)))
+    (rewritten (refused 13) fresh)
+
 unfoldable pub rewrittenW : Limits → List ℕ → List ℕ → ℕ → ℕ → ℕ → List ℕ → Rewritten
-rewrittenW limits part vs level kind bound fresh =
-    cond (eqb kind Kind.assign) (rewritten (assignW part vs) fresh)
-    (cond (eqb kind Kind.if) (rewritten (branchW part vs) fresh) (repeatW limits level bound part vs fresh))
+rewrittenW limits part vs level kind bound fresh = settledW limits part (evaluated 64 part vs 1) level kind bound fresh
 
 unfoldable pub valuedW : Limits → List ℕ → ℕ → Site → ℕ → ℕ → List ℕ → Rewritten
 valuedW limits ws start s kind bound fresh =

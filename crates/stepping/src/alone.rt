@@ -2,8 +2,10 @@
 use crate::answer::Answer;
 use crate::answer::one;
 use crate::bundles::Side;
+use evaluating::evaluate::evaluate;
 use finding::find::Site;
 use layout::kind;
+use layout::limit::FUEL;
 use layout::limit::Limits;
 use layout::limit::VALUES;
 use rules::alone::assign;
@@ -30,7 +32,7 @@ const SHORT: usize = 512;
 // So many fresh words find room in the short scratch, with 130 to spare.
 const SURELY: usize = 800;
 
-// Assign, if or while, handed the words from its position on and the engine's values.
+// Assign, if or while, handed the words from its position on and the engine's values. 13 where the expression has no value.
 fn rewritten(
     part: &[u16],
     values: &[u16],
@@ -43,13 +45,17 @@ fn rewritten(
     ensures rewritten { λ r. ⌜ r ≡ rewrittenW limits (now (part .entry)) (now (values .entry)) level kind bound (now (fresh .entry)) .rewriting ⌝ }
     ensures fresh { λ r. ⌜ now (fresh .exit) ≡ rewrittenW limits (now (part .entry)) (now (values .entry)) level kind bound (now (fresh .entry)) .fresh ⌝ }
 {
+    let e = evaluate(part, values, 1, FUEL);
+    if !e.good {
+        return refusal(13);
+    }
     if kind == kind::ASSIGN {
-        return assign(part, values);
+        return assign(part, e);
     }
     if kind == kind::IF {
-        return branch(part, values);
+        return branch(part, e);
     }
-    repeat(part, values, level, bound, limits, fresh)
+    repeat(part, e, level, bound, limits, fresh)
 }
 
 // That the places are inside is known of all that was found.

@@ -15,16 +15,18 @@ pub fn step(engine: &Engine, place: Place) -> Result<Engine, Refusal> {
     let Place { frames, process: acting } = place;
     let process = match &*acting {
         Process::Assign(variable, expression) => {
-            assign(&mut values, *variable, expression.evaluate(&engine.values));
+            let value = expression.evaluate(&engine.values).ok_or(Refusal::NotDecimal)?;
+            assign(&mut values, *variable, value);
             plug(frames, nil())
         }
         Process::If(condition, yes, no) => {
-            let chosen = if condition.is_true(&values) { yes } else { no };
+            let holds = condition.is_true(&values).ok_or(Refusal::NotDecimal)?;
+            let chosen = if holds { yes } else { no };
             plug(frames, chosen.clone())
         }
         Process::While(condition, body) => {
-            let next =
-                if condition.is_true(&values) { seq(body.clone(), acting.clone()) } else { nil() };
+            let holds = condition.is_true(&values).ok_or(Refusal::NotDecimal)?;
+            let next = if holds { seq(body.clone(), acting.clone()) } else { nil() };
             plug(frames, next)
         }
         Process::Inst(list) => install(frames, list),

@@ -13,7 +13,7 @@ use std::collections::BTreeMap;
 #[rustfmt::skip]
 pub const ROWS: &[&str] = &[
     "refused 1", "refused 2", "refused 3", "refused 4", "refused 5", "refused 6", "refused 7",
-    "refused 8", "refused 9", "refused 10", "refused 11", "refused 12",
+    "refused 8", "refused 9", "refused 10", "refused 11", "refused 12", "refused 13",
     "2: no such engine", "2: no enabled head",
     "3: kind does not move", "3: scope body not nil", "3: executor body not nil",
     "3: second field or branch not 0", "3: waiter", "3: nil", "3: seq or par",
@@ -264,10 +264,11 @@ impl Coverage {
                 self.becomes_nil(&place);
             }
             Process::If(condition, ..) => {
-                self.note(if condition.is_true(&values) { "if true" } else { "if false" });
+                let holds = condition.is_true(&values) == Some(true);
+                self.note(if holds { "if true" } else { "if false" });
             }
             Process::While(condition, body) => {
-                let again = condition.is_true(&values);
+                let again = condition.is_true(&values) == Some(true);
                 self.note(if again { "while true" } else { "while false" });
                 self.note_if(again && body.is_nil(), "while true, nil body");
             }

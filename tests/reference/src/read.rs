@@ -197,7 +197,8 @@ impl Reader<'_> {
             3 => self.binary(Operator::Difference, below)?,
             4 => self.binary(Operator::Less, below)?,
             5 => self.binary(Operator::Equal, below)?,
-            _ => return None,
+            6 => self.binary(Operator::DecimalSum, below)?,
+            _ => self.binary(Operator::DecimalDifference, below)?,
         };
         head.end()?;
         Some(Rc::new(expression))

@@ -14,6 +14,7 @@ pub enum Refusal {
     ShortOutput,
     NotFresh,
     UnknownSerial,
+    NotDecimal,
 }
 
 impl Refusal {
@@ -31,6 +32,7 @@ impl Refusal {
             Refusal::ShortOutput => 10,
             Refusal::NotFresh => 11,
             Refusal::UnknownSerial => 12,
+            Refusal::NotDecimal => 13,
         }
     }
 }

@@ -166,6 +166,8 @@ fn put_expression(words: &mut Vec<u16>, expression: &Expression) {
                 Operator::Difference => 3,
                 Operator::Less => 4,
                 Operator::Equal => 5,
+                Operator::DecimalSum => 6,
+                Operator::DecimalDifference => 7,
             };
             words.push(Packed::new().put(code, 3).word());
             put_expression(words, left);

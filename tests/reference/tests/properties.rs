@@ -23,7 +23,7 @@ fn checked(words: &[u16], numbers: Numbers, room: usize) -> (Answer, Vec<u16>) {
         assert_eq!(check_readable(&STANDARD, result), 0, "result not readable");
         only_named_engines_changed(words, numbers, result);
     } else {
-        assert!((1..=10).contains(&answer.number));
+        assert!((1..=10).contains(&answer.number) || answer.number == 13);
         assert_eq!(answer, Answer { number: answer.number, ..Answer::default() });
         assert!(output.iter().all(|word| *word == FILL));
     }
@@ -181,7 +181,7 @@ fn every_unused_bit_must_be_0() {
 #[test]
 fn smaller_limits_refuse_more_and_answer_the_same() {
     let small = Limits { depth: 9, words: 260 };
-    let mut met = [0; 13];
+    let mut met = [0; 14];
     for seed in 0..1500 {
         let mut run = Run::new(0xA000 + seed, Origin::Fresh);
         for _ in 0..12 {

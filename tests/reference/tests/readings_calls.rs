@@ -136,9 +136,15 @@ fn reading_10_words_of_each_kind() {
     assert_eq!(words(assign(31, constant(0x1234_5678))), [1 << 11 | 31 << 6, 0, 0x1234, 0x5678]);
     assert_eq!(words(assign(1, variable(31))), [1 << 11 | 1 << 6, 1 << 13 | 31 << 8]);
     let sum = |operator| binary(operator, variable(0), variable(1));
-    let operators =
-        [Operator::Sum, Operator::Difference, Operator::Less, Operator::Equal].into_iter();
-    for (operator, code) in operators.zip(2u16..) {
+    let operators = [
+        Operator::Sum,
+        Operator::Difference,
+        Operator::Less,
+        Operator::Equal,
+        Operator::DecimalSum,
+        Operator::DecimalDifference,
+    ];
+    for (operator, code) in operators.into_iter().zip(2u16..) {
         let expected = [1 << 11, code << 13, 1 << 13, 1 << 13 | 1 << 8];
         assert_eq!(words(assign(0, sum(operator))), expected);
     }

@@ -6,7 +6,7 @@ use reference::build;
 use reference::bytes::from_words;
 use reference::configuration::Configuration;
 use reference::coverage::{Coverage, ROWS};
-use reference::expression::Operator;
+use reference::expression::{Expression, Operator};
 use reference::generate::edges::{self, filler, nest, Way, WAYS};
 use reference::generate::random::Random;
 use reference::generate::run::{Origin, Run, ORIGINS};
@@ -16,6 +16,7 @@ use reference::{measure, readable, step, write, Answer, Numbers, STANDARD};
 use std::collections::BTreeMap;
 use std::fs;
 use std::path::Path;
+use std::rc::Rc;
 
 /// What stands in the program's output before a step.
 const FILL: u16 = 42_405;
@@ -554,6 +555,86 @@ fn of_signs(cases: &mut Cases) {
     }
 }
 
+/// Packed digits: carries and borrows through all places, each bad digit in each place of each operand, decimal operators
+/// inside the others, and 13 in assign, if and while and against the refusals before and behind it.
+fn of_digits(cases: &mut Cases) {
+    let operators = [Operator::DecimalSum, Operator::DecimalDifference];
+    let with = |operator, left, right| {
+        build::binary(operator, build::variable(31), build::binary(operator, left, right))
+    };
+    let assigned = |value: Rc<Expression>, before: u32| {
+        let assign = build::assign(30, value);
+        let mut configuration = build::configuration(0, vec![build::scope(1, assign)]);
+        configuration.engines[0].values[30] = 0xabcd;
+        configuration.engines[0].values[31] = before;
+        configuration
+    };
+    let pairs = [
+        (0x9999_9999, 1),
+        (0x9999_9999, 0x9999_9999),
+        (0, 1),
+        (0, 0x9999_9999),
+        (0x1000_0000, 1),
+        (0x0999_9995, 5),
+        (0x1234_5678, 0x8765_4321),
+        (0x8000_0000, 0x8000_0000),
+    ];
+    for operator in operators {
+        for (left, right) in pairs {
+            let value = build::binary(operator, build::variable(31), build::constant(right));
+            cases.edge(&assigned(value, left), alone(3), 100, 0);
+        }
+        for place in 0..8 {
+            for digit in [10, 15] {
+                let bad = digit << (4 * place);
+                let left = build::binary(operator, build::constant(bad), build::constant(1));
+                let right = build::binary(operator, build::constant(1), build::constant(bad));
+                for value in [left, right] {
+                    cases.edge(&assigned(value, 0), alone(3), 100, 13);
+                }
+            }
+        }
+        let good = with(operator, build::constant(5), build::constant(7));
+        let bad = with(operator, build::constant(5), build::constant(0xa));
+        for outer in [Operator::Sum, Operator::Less, Operator::Equal, operators[0], operators[1]] {
+            for (inner, number) in [(&good, 0), (&bad, 13)] {
+                let left = build::binary(outer, inner.clone(), build::constant(2));
+                let right = build::binary(outer, build::constant(2), inner.clone());
+                for value in [left, right] {
+                    cases.edge(&assigned(value, 3), alone(3), 100, number);
+                }
+            }
+        }
+        of_not_decimal(cases, &build::binary(operator, build::constant(0xa), build::constant(0)));
+    }
+}
+
+/// An expression without a value in assign, if and while: 3 goes before 13, and 13 before 8, 9 and 10.
+fn of_not_decimal(cases: &mut Cases, bad: &Rc<Expression>) {
+    let processes = [
+        build::assign(1, bad.clone()),
+        build::if_else(bad.clone(), build::comp(1), build::throw(1)),
+        build::while_true(bad.clone(), build::comp(1)),
+    ];
+    for process in processes {
+        let before = build::configuration(0, vec![build::scope(1, process)]);
+        for (second, place, branch) in [(1, 0, 0), (0, 1, 0), (0, 0, 1)] {
+            cases.edge(&before, Numbers::new(0, 3, second, place, branch), 100, 3);
+        }
+        for room in [0, 1, 100] {
+            cases.edge(&before, alone(3), room, 13);
+        }
+    }
+    let long = filler(4100).expect("words enough");
+    for (body, number) in [(nest(WAYS[0], 62), 8), (long, 9)] {
+        for (condition, number) in [(build::constant(1), number), (bad.clone(), 13)] {
+            let again = build::while_true(condition, body.clone());
+            let before = build::configuration(0, vec![build::scope(1, again)]);
+            cases.edge(&before, alone(3), STANDARD.words, number);
+        }
+    }
+}
+
 /// The first and the last name as keys, and where they come in a list.
 fn of_keys(cases: &mut Cases) {
     for name in [0, 63] {
@@ -605,6 +686,7 @@ fn main() -> std::io::Result<()> {
     of_deep_places(&mut cases);
     of_values(&mut cases);
     of_signs(&mut cases);
+    of_digits(&mut cases);
     of_keys(&mut cases);
     of_damage(&mut cases);
     for words in [&[][..], &[1], &[1, 0]] {

@@ -236,11 +236,13 @@ impl Maker<'_> {
                 false => build::variable(self.alphabet.variable(self.random)),
             };
         }
-        let operator = match self.random.below(4) {
+        let operator = match self.random.below(6) {
             0 => Operator::Sum,
             1 => Operator::Difference,
             2 => Operator::Less,
-            _ => Operator::Equal,
+            3 => Operator::Equal,
+            4 => Operator::DecimalSum,
+            _ => Operator::DecimalDifference,
         };
         build::binary(operator, self.operand(nesting - 1), self.operand(nesting - 1))
     }

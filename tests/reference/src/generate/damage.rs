@@ -76,7 +76,6 @@ pub const CONDITIONS: &[(&str, Break)] = &[
         unused(r, c, |role| matches!(role, Role::Expression { .. }))
     }),
     ("kind above 18", kind_above),
-    ("expression above 5", expression_above),
     ("choice of none", |r, c| at_role(r, c, |role| role == Role::Head { kind: 6 }, |_, _| 6 << 11)),
     ("choice of nine", choice_of_nine),
     ("branch without receiver", branch_without_receiver),
@@ -209,15 +208,6 @@ fn kind_above(random: &mut Random, configuration: &Configuration) -> Option<Vec<
         configuration,
         |role| matches!(role, Role::Head { .. }),
         |random, word| (19 + random.below(13) as u16) << 11 | (word & 0x07FF),
-    )
-}
-
-fn expression_above(random: &mut Random, configuration: &Configuration) -> Option<Vec<u16>> {
-    at_role(
-        random,
-        configuration,
-        |role| matches!(role, Role::Expression { .. }),
-        |random, word| (6 + random.below(2) as u16) << 13 | (word & 0x1FFF),
     )
 }
 

@@ -152,6 +152,8 @@ fn of_expression(roles: &mut Vec<Role>, expression: &Expression) {
                 Operator::Difference => 3,
                 Operator::Less => 4,
                 Operator::Equal => 5,
+                Operator::DecimalSum => 6,
+                Operator::DecimalDifference => 7,
             };
             roles.push(Role::Expression { code });
             of_expression(roles, left);

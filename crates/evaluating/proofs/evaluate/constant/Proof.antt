@@ -9,11 +9,14 @@ use Rattle.evaluating.proofs.evaluate.constant.Tie as tie
 sub-if1 : tie.Need-sub-if1
 sub-if1 c = search needs
 
+nowhere-requires : tie.Need-nowhere-requires
+nowhere-requires c κs = search needs
+
 returns : tie.Need-returns
 unfolding constantAt
 returns c =
-    let f0 = c .if1 .taken in
-    simp (tests, f0)
+    let f0 = c .before .if1 .taken in
+    simp (tests, ← (c .nowhere .ensures), f0)
 
 add-t3 : tie.Need-add-t3
 add-t3 c = search needs
@@ -50,6 +53,7 @@ constant-spec =
     tie.close
     (tie.spec
     sub-if1
+    nowhere-requires
     returns
     add-t3
     add-value-of

@@ -97,6 +97,18 @@ expression-sub-operation-4 t c = search needs
 expression-operation-requires-4 : (t : ℕ) → expression-lts.Need-operation-requires-4 (expression-claims t) (expression-at t) expression.Post
 expression-operation-requires-4 t c κs = search needs
 
+expression-sub-operation-5 : (t : ℕ) → expression-lts.Need-sub-operation-5 (expression-claims t) (expression-at t) expression.Post
+expression-sub-operation-5 t c = search needs
+
+expression-operation-requires-5 : (t : ℕ) → expression-lts.Need-operation-requires-5 (expression-claims t) (expression-at t) expression.Post
+expression-operation-requires-5 t c κs = search needs
+
+expression-sub-operation-6 : (t : ℕ) → expression-lts.Need-sub-operation-6 (expression-claims t) (expression-at t) expression.Post
+expression-sub-operation-6 t c = search needs
+
+expression-operation-requires-6 : (t : ℕ) → expression-lts.Need-operation-requires-6 (expression-claims t) (expression-at t) expression.Post
+expression-operation-requires-6 t c κs = search needs
+
 expression-returns-3 : (t : ℕ) → expression-lts.Need-returns-3 (expression-claims t) (expression-at t) expression.Post
 unfolding exprEnd exprAt operationEnd on when
 expression-returns-3 t c =
@@ -158,7 +170,23 @@ expression-returns-9 t c =
 expression-returns-10 : (t : ℕ) → expression-lts.Need-returns-10 (expression-claims t) (expression-at t) expression.Post
 unfolding exprEnd exprAt operationEnd on when
 expression-returns-10 t c =
-    let f0 = beyond 6 _ (c .match .rest) in
+    let f0 = c .before .match .keys7 in
+    let f1 = c .before .before .before .before .if2 .left in
+    let f2 = c .before .before .before .before .before .if1 .left in
+    simp (tests, expr-step, ← (c .operation5 .ensures), f0, ← (c .before .before .wide .ensures .0), f1, f2)
+
+expression-returns-11 : (t : ℕ) → expression-lts.Need-returns-11 (expression-claims t) (expression-at t) expression.Post
+unfolding exprEnd exprAt operationEnd on when
+expression-returns-11 t c =
+    let f0 = c .before .match .keys8 in
+    let f1 = c .before .before .before .before .if2 .left in
+    let f2 = c .before .before .before .before .before .if1 .left in
+    simp (tests, expr-step, ← (c .operation6 .ensures), f0, ← (c .before .before .wide .ensures .0), f1, f2)
+
+expression-returns-12 : (t : ℕ) → expression-lts.Need-returns-12 (expression-claims t) (expression-at t) expression.Post
+unfolding exprEnd exprAt operationEnd on when
+expression-returns-12 t c =
+    let f0 = beyond 8 _ (c .match .rest) in
     let f1 = c .before .before .before .if2 .left in
     let f2 = c .before .before .before .before .if1 .left in
     simp (tests, expr-step, List·getD-eq-default, ← (c .before .wide .ensures .0), f0, f1, f2)
@@ -221,6 +249,10 @@ pub +expression+operation-spec : {M : Type 1} → statement M
     (expression-operation-requires-3 t)
     (expression-sub-operation-4 t)
     (expression-operation-requires-4 t)
+    (expression-sub-operation-5 t)
+    (expression-operation-requires-5 t)
+    (expression-sub-operation-6 t)
+    (expression-operation-requires-6 t)
     (expression-returns-3 t)
     (expression-returns-4 t)
     (expression-returns-5 t)
@@ -228,7 +260,9 @@ pub +expression+operation-spec : {M : Type 1} → statement M
     (expression-returns-7 t)
     (expression-returns-8 t)
     (expression-returns-9 t)
-    (expression-returns-10 t))
+    (expression-returns-10 t)
+    (expression-returns-11 t)
+    (expression-returns-12 t))
     λ t. operation-lts.spec
     (expression-below t, expression.Post)
     (operation-at t)

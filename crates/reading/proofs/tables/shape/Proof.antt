@@ -39,4 +39,6 @@ shape-spec =
     (λ c. ap shapeOf (sym (c .match .keys23)))
     (λ c. ap shapeOf (sym (c .match .keys24)))
     (λ c. ap shapeOf (sym (c .match .keys25)))
-    (λ c. sym (shape-beyond _ (beyond 25 _ (c .match .rest)))))
+    (λ c. ap shapeOf (sym (c .match .keys26)))
+    (λ c. ap shapeOf (sym (c .match .keys27)))
+    (λ c. sym (shape-beyond _ (beyond 27 _ (c .match .rest)))))

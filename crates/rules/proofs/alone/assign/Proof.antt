@@ -6,9 +6,6 @@ use borrow.Author.Needs.{needs}
 use Rattle.rules.proofs.alone.assign.Statement.{statement}
 use Rattle.rules.proofs.alone.assign.Tie as tie
 
-evaluate-requires : tie.Need-evaluate-requires
-evaluate-requires c κs = search needs
-
 word-requires : tie.Need-word-requires
 word-requires c κs = search needs
 
@@ -24,13 +21,12 @@ to-nil-requires c κs = search needs
 returns : tie.Need-returns
 unfolding assignW
 returns c =
-    simp (tests, ← (c .to-nil .ensures), ← (c .before .one .ensures), ← (c .before .before .variable-of .ensures .0), ← (c .before .before .before .word .ensures), ← (c .before .before .before .before .evaluate .ensures))
+    simp (tests, ← (c .to-nil .ensures), ← (c .before .one .ensures), ← (c .before .before .variable-of .ensures .0), ← (c .before .before .before .word .ensures))
 
 pub assign-spec : {M : Type 1} → statement M
 assign-spec =
     tie.close
     (tie.spec
-    evaluate-requires
     word-requires
     variable-of-requires
     one-requires

@@ -6,9 +6,6 @@ use borrow.Author.Needs.{needs}
 use Rattle.rules.proofs.alone.branch.Statement.{statement}
 use Rattle.rules.proofs.alone.branch.Tie as tie
 
-evaluate-requires : tie.Need-evaluate-requires
-evaluate-requires c κs = search needs
-
 skip-requires : tie.Need-skip-requires
 skip-requires c κs = search needs
 
@@ -25,7 +22,7 @@ returns : tie.Need-returns
 unfolding branchW
 returns c =
     let f0 = c .before .before .if1 .taken in
-    simp (tests, ← (c .to-part .ensures), ← (c .before .nothing .ensures), f0, ← (c .before .before .before .before .skip2 .ensures), ← (c .before .before .before .before .before .skip .ensures), ← (c .before .before .before .before .before .before .evaluate .ensures))
+    simp (tests, ← (c .to-part .ensures), ← (c .before .nothing .ensures), f0, ← (c .before .before .before .before .skip2 .ensures), ← (c .before .before .before .before .before .skip .ensures))
 
 nothing-requires-2 : tie.Need-nothing-requires-2
 nothing-requires-2 c κs = search needs
@@ -37,13 +34,12 @@ returns-2 : tie.Need-returns-2
 unfolding branchW
 returns-2 c =
     let f0 = c .before .before .if1 .left in
-    simp (tests, ← (c .to-part2 .ensures), ← (c .before .nothing2 .ensures), f0, ← (c .before .before .before .before .skip2 .ensures), ← (c .before .before .before .before .before .skip .ensures), ← (c .before .before .before .before .before .before .evaluate .ensures))
+    simp (tests, ← (c .to-part2 .ensures), ← (c .before .nothing2 .ensures), f0, ← (c .before .before .before .before .skip2 .ensures), ← (c .before .before .before .before .before .skip .ensures))
 
 pub branch-spec : {M : Type 1} → statement M
 branch-spec =
     tie.close
     (tie.spec
-    evaluate-requires
     skip-requires
     skip-requires-2
     nothing-requires

@@ -6,9 +6,6 @@ use borrow.Author.Needs.{needs}
 use Rattle.rules.proofs.alone.repeat.Statement.{statement}
 use Rattle.rules.proofs.alone.repeat.Tie as tie
 
-evaluate-requires : tie.Need-evaluate-requires
-evaluate-requires c κs = search needs
-
 skip-requires : tie.Need-skip-requires
 skip-requires c κs = search needs
 
@@ -22,7 +19,7 @@ returns : tie.Need-returns
 unfolding repeatW
 returns c =
     let f0 = c .before .before .if1 .taken in
-    (simp (tests, ← (c .to-nil .ensures), ← (c .before .nothing .ensures), f0, ← (c .before .before .before .before .skip .ensures), ← (c .before .before .before .before .before .evaluate .ensures)), simp (tests, ← (c .to-nil .ensures), ← (c .before .nothing .ensures), f0, ← (c .before .before .before .before .skip .ensures), ← (c .before .before .before .before .before .evaluate .ensures)))
+    (simp (tests, ← (c .to-nil .ensures), ← (c .before .nothing .ensures), f0, ← (c .before .before .before .before .skip .ensures)), simp (tests, ← (c .to-nil .ensures), ← (c .before .nothing .ensures), f0, ← (c .before .before .before .before .skip .ensures)))
 
 word-requires : tie.Need-word-requires
 word-requires c κs = search needs
@@ -38,7 +35,7 @@ unfolding repeatW
 returns-2 c =
     let f0 = c .before .before .if2 .taken in
     let f1 = c .before .before .before .before .if1 .left in
-    (simp (tests, ← (c .keep .ensures), ← (c .before .nothing2 .ensures), f0, ← (c .before .before .before .word .ensures), f1, ← (c .before .before .before .before .before .before .skip .ensures), ← (c .before .before .before .before .before .before .before .evaluate .ensures)), simp (tests, ← (c .keep .ensures), ← (c .before .nothing2 .ensures), f0, ← (c .before .before .before .word .ensures), f1, ← (c .before .before .before .before .before .before .skip .ensures), ← (c .before .before .before .before .before .before .before .evaluate .ensures)))
+    (simp (tests, ← (c .keep .ensures), ← (c .before .nothing2 .ensures), f0, ← (c .before .before .before .word .ensures), f1, ← (c .before .before .before .before .before .before .skip .ensures)), simp (tests, ← (c .keep .ensures), ← (c .before .nothing2 .ensures), f0, ← (c .before .before .before .word .ensures), f1, ← (c .before .before .before .before .before .before .skip .ensures)))
 
 less-requires : tie.Need-less-requires
 less-requires c κs = search needs
@@ -55,7 +52,7 @@ returns-3 c =
     let f0 = c .before .if3 .taken in
     let f1 = c .before .before .before .before .if2 .left in
     let f2 = c .before .before .before .before .before .before .if1 .left in
-    (simp (tests, ← (c .refusal .ensures), f0, ← (c .before .before .read .ensures), ← (c .before .before .before .less .ensures), f1, ← (c .before .before .before .before .before .word .ensures), f2, ← (c .before .before .before .before .before .before .before .before .skip .ensures), ← (c .before .before .before .before .before .before .before .before .before .evaluate .ensures)), simp (tests, ← (c .refusal .ensures), f0, ← (c .before .before .read .ensures), ← (c .before .before .before .less .ensures), f1, ← (c .before .before .before .before .before .word .ensures), f2, ← (c .before .before .before .before .before .before .before .before .skip .ensures), ← (c .before .before .before .before .before .before .before .before .before .evaluate .ensures)))
+    (simp (tests, ← (c .refusal .ensures), f0, ← (c .before .before .read .ensures), ← (c .before .before .before .less .ensures), f1, ← (c .before .before .before .before .before .word .ensures), f2, ← (c .before .before .before .before .before .before .before .before .skip .ensures)), simp (tests, ← (c .refusal .ensures), f0, ← (c .before .before .read .ensures), ← (c .before .before .before .less .ensures), f1, ← (c .before .before .before .before .before .word .ensures), f2, ← (c .before .before .before .before .before .before .before .before .skip .ensures)))
 
 unroll-requires : tie.Need-unroll-requires
 unroll-requires c κs = search needs
@@ -69,13 +66,12 @@ returns-4 c =
     let f0 = c .before .before .before .before .if3 .left in
     let f1 = c .before .before .before .before .before .before .before .if2 .left in
     let f2 = c .before .before .before .before .before .before .before .before .before .if1 .left in
-    (simp (tests, ← (c .before .before .unroll .ensures .0), ← (c .before .before .unroll .ensures .1), f0, ← (c .before .before .before .before .before .read .ensures), ← (c .before .before .before .before .before .before .less .ensures), f1, ← (c .before .before .before .before .before .before .before .before .word .ensures), f2, ← (c .before .before .before .before .before .before .before .before .before .before .before .skip .ensures), ← (c .before .before .before .before .before .before .before .before .before .before .before .before .evaluate .ensures)), simp (tests, ← (c .before .before .unroll .ensures .0), ← (c .before .before .unroll .ensures .1), f0, ← (c .before .before .before .before .before .read .ensures), ← (c .before .before .before .before .before .before .less .ensures), f1, ← (c .before .before .before .before .before .before .before .before .word .ensures), f2, ← (c .before .before .before .before .before .before .before .before .before .before .before .skip .ensures), ← (c .before .before .before .before .before .before .before .before .before .before .before .before .evaluate .ensures)))
+    (simp (tests, ← (c .before .before .unroll .ensures .0), ← (c .before .before .unroll .ensures .1), f0, ← (c .before .before .before .before .before .read .ensures), ← (c .before .before .before .before .before .before .less .ensures), f1, ← (c .before .before .before .before .before .before .before .before .word .ensures), f2, ← (c .before .before .before .before .before .before .before .before .before .before .before .skip .ensures)), simp (tests, ← (c .before .before .unroll .ensures .0), ← (c .before .before .unroll .ensures .1), f0, ← (c .before .before .before .before .before .read .ensures), ← (c .before .before .before .before .before .before .less .ensures), f1, ← (c .before .before .before .before .before .before .before .before .word .ensures), f2, ← (c .before .before .before .before .before .before .before .before .before .before .before .skip .ensures)))
 
 pub repeat-spec : {M : Type 1} → statement M
 repeat-spec =
     tie.close
     (tie.spec
-    evaluate-requires
     skip-requires
     nothing-requires
     to-nil-requires
