@@ -22,6 +22,7 @@ pub mod Measures
 pub mod Moves
 pub mod Nodes
 pub mod Opening
+pub mod Pending
 pub mod Placed
 pub mod Positions
 pub mod Reading
