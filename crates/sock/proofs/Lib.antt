@@ -15,6 +15,7 @@ pub mod Fields
 pub mod Fits
 pub mod Frames
 pub mod Handlers
+pub mod Heads
 pub mod Ledger
 pub mod Located
 pub mod Logic

@@ -1,21 +1,24 @@
 -- The look decides refusal 6: killing is refused exactly where it finds a pending process, and a climb exactly where a side that it meets before
 -- it stops has one. And the search of a process by its parts.
 -- Assumes nothing.
-use Prim.Native.Nat.{ℕ, suc, _+_}
+use Prim.Native.Nat.{ℕ, suc, _+_, _≤_}
 use native.Mathlib.Omega.{arith}
 use mathlib.Core.Path.{_≡_, refl, sym, ap, _∙_}
 use mathlib.Core.Bool.{Bool, true, false, not, _&&_, _||_, cond}
 use mathlib.Core.Option.{Option, none, some}
-use mathlib.Core.List.{List, [], _∷_, _++_, append-nil}
+use mathlib.Core.List.{List, [], _∷_, _++_}
 use lib.Dec.{eqb}
+use lib.ListN.{length, length-append}
 use Rattle.sock.specs.Kind
 use Rattle.sock.specs.Words.{faultKey}
 use Rattle.sock.specs.Term.{Node, Entries, kind}
 use Rattle.sock.specs.Reading.{holds}
-use Rattle.sock.specs.Running.{Mark, unmarked, ownName, Run, nil, seq, par, scope, executor, waiter, notice, act}
+use Rattle.sock.specs.Running.{Mark, unmarked, ownName, Run, nil, seq, par, scope, executor, waiter, notice, act, size}
 use Rattle.sock.specs.Configuration.{guarded}
 use Rattle.sock.specs.Frames.{Frame, seqFrame, leftFrame, rightFrame, scopeFrame, executorFrame, isDone, parOf}
 use Rattle.sock.specs.Rules.{also, kill, climb}
+use Rattle.sock.proofs.Measures.{size-seq, size-par, size-scope, size-executor}
+use Rattle.sock.proofs.Located.{size-positive}
 use Rattle.sock.specs.Pending.{enabledIn, isPending, Search, counted, searchOf, pending, sidesMet, anyPending}
 
 -- ---- the search of a process by its parts
@@ -135,3 +138,32 @@ climb-refused f (scopeFrame name mark zombie h ∷ fs) p = by (holds (faultKey f
     by true false x y e = refl
     by false true x y e = refl
     by false false x y e = e
+
+-- ---- no more are counted than there are words
+
+search-most : (ps : List Run) → searchOf ps .count ≤ length ps
+unfolding searchOf counted
+search-most [] = omega arith
+search-most (p ∷ ps) = let h = search-most ps in by (isPending p) h
+  where
+    by : (t : Bool) → searchOf ps .count ≤ length ps → cond t (record { found = true; count = 1 }) (counted (searchOf ps)) .count ≤ length (p ∷ ps)
+    by true h = omega arith
+    by false h = omega arith
+
+enabled-few : (r : Run) → length (enabledIn r) ≤ size r
+unfolding enabledIn
+enabled-few nil = omega (arith, size-positive nil)
+enabled-few (seq p q) = let h = enabled-few p in omega (arith, size-seq p q)
+enabled-few (par p q) =
+    let h = enabled-few p in
+    let k = enabled-few q in
+    omega (arith, size-par p q, length-append (enabledIn p) (enabledIn q))
+enabled-few (scope name mark zombie h p) = let k = enabled-few p in omega (arith, size-scope name mark zombie h p)
+enabled-few (executor o y client serial p) = let k = enabled-few p in omega (arith, size-executor o y client serial p)
+enabled-few (waiter o x dead server serial l) = omega (arith, size-positive (waiter o x dead server serial l))
+enabled-few (notice o f client serial) = omega (arith, size-positive (notice o f client serial))
+enabled-few (act p) = omega (arith, size-positive (act p))
+
+pub count-few : (r : Run) → pending r .count ≤ size r
+unfolding pending
+count-few r = let h = search-most (enabledIn r) in let k = enabled-few r in omega arith
