@@ -84,7 +84,5 @@ pub extern "C" fn sock_pending(engine: u16, position: u16, config: &[u8]) -> u64
     let mut scratch = [0u16; 8192];
     let n = hold(config, &mut scratch);
     let p = searching::call::pending_at(&scratch[..n], engine, position);
-    (p.number as u64) * 72057594037927936
-        + flag(p.found) * 281474976710656
-        + (p.count as u64)
+    (p.number as u64) * 72057594037927936 + flag(p.found) * 281474976710656 + (p.count as u64)
 }

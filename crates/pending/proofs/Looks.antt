@@ -29,7 +29,7 @@ use Rattle.skipping.proofs.Notes.{Right, pass-code, pass-run, pass-scope}
 use Rattle.layout.specs.Positions.{onward}
 use Rattle.pending.proofs.Turns.{loop-done}
 use Rattle.pending.specs.declared.look.Seen.{Seen}
-use Rattle.pending.specs.Looking.{made, scopeW, seqOn, seqW, kindW, turnW, goesOn, loopW, lookW, pendingW}
+use Rattle.pending.specs.Looking.{made, scopeW, seqOn, seqW, behindW, kindW, turnW, goesOn, loopW, lookW, pendingW}
 
 -- what the code answers, if `n` were met before and the search would end at `end`
 abbrev pub seen : ℕ → ℕ → Search → Seen
@@ -142,8 +142,8 @@ module _ (ws notes : List ℕ) (right : Right ws notes) (n issued : ℕ) (few : 
     act-kind :
         (m : Node) (i n : ℕ) → eqb (kind m) 2 ≡ false → eqb (kind m) 3 ≡ false → eqb (kind m) 11 ≡ false → kind m < 15 →
         kindW (lookW d ws notes) ws notes (kind m) i n ≡ cond (eqb (kind m) 12) (made 0 n) (made (passEnd 64 ws notes i) n)
-    unfolding kindW
-    act-kind m i n a b c h = rw (a, b, c, ne-eqb (kind m) 16 (λ q. omega arith))
+    unfolding kindW behindW
+    act-kind m i n a b c h = rw (a, c, ne-eqb (kind m) 16 (λ q. omega arith), b)
 
     scope-at :
         (name : ℕ) (mark : Mark) (zombie : Bool) (h : Entries) {a : Run} → name < 64 → Sound n issued a → (i k body : ℕ) (more : List ℕ) →
@@ -274,7 +274,7 @@ module _ (ws notes : List ℕ) (right : Right ws notes) (n issued : ℕ) (few : 
     none _ (oneMore {r} {rs} s deep row) i m end l e q t = absurd (omega (arith, row-size r rs, size-positive r))
 
     step : (turns : ℕ) → Searches turns → Searches (suc turns)
-    unfolding heads enabledIn isPending kindW asNode
+    unfolding heads enabledIn isPending kindW behindW asNode
     step turns law _ noMore i m end l e q t = none-left (suc turns) i m end l e q
     step turns law _ (oneMore {rs = rs} nilSound deep row) i m end l e q t =
         let z = row-size nil rs in

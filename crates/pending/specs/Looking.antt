@@ -29,14 +29,17 @@ seqOn ws notes first = cond (eqb (first .end) 0) first (made (passEnd 64 ws note
 unfoldable pub seqW : Search → List ℕ → List ℕ → ℕ → ℕ → Seen
 seqW sub ws notes i n = seqOn ws notes (sub i (passEnd 64 ws notes i) n)
 
+-- behind the head of a par, else behind all of it
+unfoldable pub behindW : ℕ → ℕ → ℕ → ℕ
+behindW kind i end = cond (eqb kind Kind.par) (i + 1) end
+
 unfoldable pub kindW : Search → List ℕ → List ℕ → ℕ → ℕ → ℕ → Seen
 kindW sub ws notes kind i n =
     cond (eqb kind Kind.seq) (seqW sub ws notes (i + 1) n)
-    (cond (eqb kind Kind.par) (made (i + 1) n)
     (cond (eqb kind Kind.scope) (scopeW ws notes (getD ws i 0) (i + 2) n)
     (cond (eqb kind Kind.inst) (made 0 n)
     (cond (eqb kind Kind.executor) (made (i + 3) n)
-    (made (passEnd 64 ws notes i) n)))))
+    (made (behindW kind i (passEnd 64 ws notes i)) n))))
 
 unfoldable pub turnW : Search → List ℕ → List ℕ → ℕ → ℕ → Seen
 turnW sub ws notes i n = cond (leb (length ws) i) (made 0 n) (kindW sub ws notes (kindOf (getD ws i 0)) i (onward n 1))

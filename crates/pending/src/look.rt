@@ -11,7 +11,8 @@ use layout::number::word;
 use skipping::pass::pass;
 use skipping::pass::pass_list;
 ghost use mathlib.Core.Path.{_≡_};
-ghost use Rattle.pending.specs.Looking.{made, scopeW, seqW, turnW, lookW, pendingW};
+ghost use Prim.Native.Nat.{_<_};
+ghost use Rattle.pending.specs.Looking.{made, scopeW, behindW, seqW, turnW, lookW, pendingW};
 
 // Where the search has come to, 0 if it ended at a pending process; and how many enabled processes it has met, that one with them.
 pub struct Seen {
@@ -47,12 +48,9 @@ fn turn(ws: &[u16], notes: &[u16], at: usize, depth: usize, count: usize) -> See
         return stop(count);
     }
     let n = further(count, 1);
-    match kind_of(ws[at]) {
+    let k = kind_of(ws[at]);
+    match k {
         kind::SEQ => seq(ws, notes, at + 1, depth, n),
-        kind::PAR => Seen {
-            end: at + 1,
-            count: n,
-        },
         kind::SCOPE => scope(ws, notes, ws[at], at + 2, n),
         kind::INST => stop(n),
         kind::EXECUTOR => Seen {
@@ -60,24 +58,26 @@ fn turn(ws: &[u16], notes: &[u16], at: usize, depth: usize, count: usize) -> See
             count: n,
         },
         _ => Seen {
-            end: pass(ws, notes, at, FUEL),
+            end: behind(k, at, pass(ws, notes, at, FUEL)),
             count: n,
         },
     }
+}
+
+// Behind the head of a par, whose sides are met next, else the end of what stands at `at`. No jump tells a par from what has no enabled part: which
+// of them comes next can't be foreseen.
+fn behind(kind: usize, at: usize, end: usize) -> usize
+    requires { ⌜ at < 18446744073709551615 ⌝ }
+    ensures { λ r. ⌜ r ≡ behindW kind at end ⌝ }
+{
+    if kind == kind::PAR { at + 1 } else { end }
 }
 
 // The first of a seq, at `at`, is searched, the second passed.
 fn seq(ws: &[u16], notes: &[u16], at: usize, depth: usize, count: usize) -> Seen
     ensures { λ r. ⌜ r ≡ seqW (lookW depth (now (ws .entry)) (now (notes .entry))) (now (ws .entry)) (now (notes .entry)) at count ⌝ }
 {
-    let first = look(
-        ws,
-        notes,
-        at,
-        pass(ws, notes, at, FUEL),
-        depth,
-        count,
-    );
+    let first = look(ws, notes, at, pass(ws, notes, at, FUEL), depth, count);
     if first.end == 0 {
         return first;
     }
@@ -89,14 +89,7 @@ fn seq(ws: &[u16], notes: &[u16], at: usize, depth: usize, count: usize) -> Seen
 
 // The enabled processes that stand at..end one after the other; `count` were met before. Sides of pars and bodies are met in the same row, so only
 // seqs take a call.
-fn look(
-    ws: &[u16],
-    notes: &[u16],
-    at: usize,
-    end: usize,
-    depth: usize,
-    count: usize,
-) -> Seen
+fn look(ws: &[u16], notes: &[u16], at: usize, end: usize, depth: usize, count: usize) -> Seen
     ensures { λ r. ⌜ r ≡ lookW depth (now (ws .entry)) (now (notes .entry)) at end count ⌝ }
 {
     if depth == 0 {

@@ -1,8 +1,6 @@
 //! The look before a throw (document 02, b): what counts as an enabled process of a side and what as
 //! pending, and that killing and the climb are refused exactly where the look finds something.
 
-mod common;
-
 use reference::build::*;
 use reference::context::{enabled, locate, Frame};
 use reference::fault::{climb, kill};

@@ -21,6 +21,7 @@ use Rattle.pending.proofs.look.turn.Kinds as turn-kinds
 use Rattle.pending.proofs.look.+look+seq+turn.Lts-turn as turn-lts
 use Rattle.layout.proofs.field.kind_of.Reads as kind-of-reads
 use Rattle.layout.proofs.number.further.Reads as further-reads
+use Rattle.pending.proofs.look.behind.Reads as behind-reads
 use Rattle.pending.proofs.look.scope.Reads as scope-reads
 use Rattle.pending.proofs.look.stop.Reads as stop-reads
 use Rattle.skipping.proofs.pass.pass.Reads as pass-reads
@@ -112,7 +113,7 @@ seq-look-requires t c κs = search needs
 seq-returns : (t : ℕ) → seq-lts.Need-returns (seq-claims t) (seq-at t) seq.Post
 unfolding seqW seqOn
 seq-returns t c =
-  simp (tests, ← (c .before .before .before .pass .ensures), ← (c .before .before .look .ensures), (c .if1 .taken))
+    simp (tests, ← (c .before .before .before .pass .ensures), ← (c .before .before .look .ensures), (c .if1 .taken))
 
 seq-pass-requires-2 : (t : ℕ) → seq-lts.Need-pass-requires-2 (seq-claims t) (seq-at t) seq.Post
 seq-pass-requires-2 t c κs = search needs
@@ -120,10 +121,10 @@ seq-pass-requires-2 t c κs = search needs
 seq-returns-2 : (t : ℕ) → seq-lts.Need-returns-2 (seq-claims t) (seq-at t) seq.Post
 unfolding seqW seqOn
 seq-returns-2 t c =
-  simp (tests, ← (c .before .before .before .before .pass .ensures), ← (c .before .before .before .look .ensures), (c .before .if1 .left), ← (c .pass2 .ensures))
+    simp (tests, ← (c .before .before .before .before .pass .ensures), ← (c .before .before .before .look .ensures), (c .before .if1 .left), ← (c .pass2 .ensures))
 
 abbrev turn-claims : ℕ → turn-lts.Claims
-turn-claims t = (stop-reads.Asked, stop-reads.Learnt, further-reads.Asked, further-reads.Learnt, kind-of-reads.Asked, kind-of-reads.Learnt, seq-below t, seq.Post, scope-reads.Asked, scope-reads.Learnt, pass-reads.Asked, pass-reads.Learnt)
+turn-claims t = (stop-reads.Asked, stop-reads.Learnt, further-reads.Asked, further-reads.Learnt, kind-of-reads.Asked, kind-of-reads.Learnt, seq-below t, seq.Post, scope-reads.Asked, scope-reads.Learnt, pass-reads.Asked, pass-reads.Learnt, behind-reads.Asked, behind-reads.Learnt)
 
 turn-stop-requires : (t : ℕ) → turn-lts.Need-stop-requires (turn-claims t) (turn-at t) turn.Post
 turn-stop-requires t c κs = search needs
@@ -131,7 +132,7 @@ turn-stop-requires t c κs = search needs
 turn-returns : (t : ℕ) → turn-lts.Need-returns (turn-claims t) (turn-at t) turn.Post
 unfolding turnW kindW
 turn-returns t c =
-  simp (tests, ← (c .stop .ensures), (c .before .if1 .taken))
+    simp (tests, ← (c .stop .ensures), (c .before .if1 .taken))
 
 turn-further-requires : (t : ℕ) → turn-lts.Need-further-requires (turn-claims t) (turn-at t) turn.Post
 turn-further-requires t c κs = search needs
@@ -151,9 +152,6 @@ turn-add-seq t c = search needs
 turn-seq-requires : (t : ℕ) → turn-lts.Need-seq-requires (turn-claims t) (turn-at t) turn.Post
 turn-seq-requires t c κs = search needs
 
-turn-add-t14 : (t : ℕ) → turn-lts.Need-add-t14 (turn-claims t) (turn-at t) turn.Post
-turn-add-t14 t c = search needs
-
 turn-mul-scope : (t : ℕ) → turn-lts.Need-mul-scope (turn-claims t) (turn-at t) turn.Post
 turn-mul-scope t c = search needs
 
@@ -169,41 +167,39 @@ turn-scope-requires t c κs = search needs
 turn-stop-requires-2 : (t : ℕ) → turn-lts.Need-stop-requires-2 (turn-claims t) (turn-at t) turn.Post
 turn-stop-requires-2 t c κs = search needs
 
-turn-add-t19 : (t : ℕ) → turn-lts.Need-add-t19 (turn-claims t) (turn-at t) turn.Post
-turn-add-t19 t c = search needs
+turn-add-t18 : (t : ℕ) → turn-lts.Need-add-t18 (turn-claims t) (turn-at t) turn.Post
+turn-add-t18 t c = search needs
 
 turn-pass-requires : (t : ℕ) → turn-lts.Need-pass-requires (turn-claims t) (turn-at t) turn.Post
 turn-pass-requires t c κs = search needs
 
+turn-behind-requires : (t : ℕ) → turn-lts.Need-behind-requires (turn-claims t) (turn-at t) turn.Post
+turn-behind-requires t c κs = search needs
+
 turn-returns-2 : (t : ℕ) → turn-lts.Need-returns-2 (turn-claims t) (turn-at t) turn.Post
 unfolding turnW kindW
 turn-returns-2 t c =
-  simp (tests, (c .before .before .before .before .before .if1 .left), ← (c .before .before .before .before .further .ensures), ← ((c .before .before .kind-of .ensures) .0), (c .before .match .keys1), ← (c .seq .ensures))
+    simp (tests, (c .before .before .before .before .before .if1 .left), ← (c .before .before .before .before .further .ensures), ← ((c .before .before .kind-of .ensures) .0), (c .before .match .keys1), ← (c .seq .ensures))
 
 turn-returns-3 : (t : ℕ) → turn-lts.Need-returns-3 (turn-claims t) (turn-at t) turn.Post
 unfolding turnW kindW
 turn-returns-3 t c =
-  simp (tests, (c .before .before .before .before .if1 .left), ← (c .before .before .before .further .ensures), ← ((c .before .kind-of .ensures) .0), (c .match .keys2))
+    simp (tests, (c .before .before .before .before .before .before .if1 .left), ← (c .before .before .before .before .before .further .ensures), ← ((c .before .before .before .kind-of .ensures) .0), (c .before .before .match .keys2), ← (c .scope .ensures))
 
 turn-returns-4 : (t : ℕ) → turn-lts.Need-returns-4 (turn-claims t) (turn-at t) turn.Post
 unfolding turnW kindW
 turn-returns-4 t c =
-  simp (tests, (c .before .before .before .before .before .before .if1 .left), ← (c .before .before .before .before .before .further .ensures), ← ((c .before .before .before .kind-of .ensures) .0), (c .before .before .match .keys3), ← (c .scope .ensures))
+    simp (tests, (c .before .before .before .before .before .if1 .left), ← (c .before .before .before .before .further .ensures), ← ((c .before .before .kind-of .ensures) .0), (c .before .match .keys3), ← (c .stop2 .ensures))
 
 turn-returns-5 : (t : ℕ) → turn-lts.Need-returns-5 (turn-claims t) (turn-at t) turn.Post
 unfolding turnW kindW
 turn-returns-5 t c =
-  simp (tests, (c .before .before .before .before .before .if1 .left), ← (c .before .before .before .before .further .ensures), ← ((c .before .before .kind-of .ensures) .0), (c .before .match .keys4), ← (c .stop2 .ensures))
+    simp (tests, (c .before .before .before .before .if1 .left), ← (c .before .before .before .further .ensures), ← ((c .before .kind-of .ensures) .0), (c .match .keys4))
 
 turn-returns-6 : (t : ℕ) → turn-lts.Need-returns-6 (turn-claims t) (turn-at t) turn.Post
 unfolding turnW kindW
 turn-returns-6 t c =
-  simp (tests, (c .before .before .before .before .if1 .left), ← (c .before .before .before .further .ensures), ← ((c .before .kind-of .ensures) .0), (c .match .keys5))
-
-turn-returns-7 : (t : ℕ) → turn-lts.Need-returns-7 (turn-claims t) (turn-at t) turn.Post
-unfolding turnW kindW
-turn-returns-7 t c =
-  simp (tests, (c .before .before .before .before .before .if1 .left), ← (c .before .before .before .before .further .ensures), ← ((c .before .before .kind-of .ensures) .0), (c .before .match .rest) .0 .0 .0 .0 .1, (c .before .match .rest) .0 .0 .0 .1, (c .before .match .rest) .0 .0 .1, (c .before .match .rest) .0 .1, (c .before .match .rest) .1, ← (c .pass .ensures))
+    simp (tests, (c .before .before .before .before .before .before .if1 .left), ← (c .before .before .before .before .before .further .ensures), ← ((c .before .before .before .kind-of .ensures) .0), (c .before .before .match .rest) .0 .0 .0 .1, (c .before .before .match .rest) .0 .0 .1, (c .before .before .match .rest) .0 .1, (c .before .before .match .rest) .1, ← (c .before .pass .ensures), ← (c .behind .ensures))
 
 pub +look+seq+turn-spec : {M : Type 1} → statement M
 +look+seq+turn-spec = close μ-look μ-seq μ-turn (λ t. look-lts.spec (
@@ -250,6 +246,8 @@ pub +look+seq+turn-spec : {M : Type 1} → statement M
       scope-reads.Learnt,
       pass-reads.Asked,
       pass-reads.Learnt,
+      behind-reads.Asked,
+      behind-reads.Learnt,
     )
     (turn-at t)
     turn.Post
@@ -261,17 +259,16 @@ pub +look+seq+turn-spec : {M : Type 1} → statement M
     (turn-kind-of-requires t)
     (turn-add-seq t)
     (turn-seq-requires t)
-    (turn-add-t14 t)
     (turn-mul-scope t)
     (turn-shared-slice-read-scope t)
     (turn-add-scope t)
     (turn-scope-requires t)
     (turn-stop-requires-2 t)
-    (turn-add-t19 t)
+    (turn-add-t18 t)
     (turn-pass-requires t)
+    (turn-behind-requires t)
     (turn-returns-2 t)
     (turn-returns-3 t)
     (turn-returns-4 t)
     (turn-returns-5 t)
     (turn-returns-6 t)
-    (turn-returns-7 t)

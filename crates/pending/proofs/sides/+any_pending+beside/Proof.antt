@@ -46,7 +46,7 @@ any-pending-claims t = (kind-of-reads.Asked, kind-of-reads.Learnt, any-pending-b
 any-pending-returns : (t : ℕ) → any-pending-lts.Need-returns (any-pending-claims t) (any-pending-at t) any-pending.Post
 unfolding sidesW
 any-pending-returns t c =
-  simp (c .if1 .taken)
+    simp (c .if1 .taken)
 
 any-pending-returns-2 : (t : ℕ) → any-pending-lts.Need-returns-2 (any-pending-claims t) (any-pending-at t) any-pending.Post
 any-pending-returns-2 t c = simp (tests, sides-step, (c .before .if1 .left), (c .if2 .taken))
@@ -105,27 +105,27 @@ any-pending-any-pending-requires-3 t c κs = search needs
 any-pending-returns-4 : (t : ℕ) → any-pending-lts.Need-returns-4 (any-pending-claims t) (any-pending-at t) any-pending.Post
 unfolding acrossW
 any-pending-returns-4 t c =
-  simp (tests, sides-step, (c .before .before .before .before .before .before .if1 .left), (c .before .before .before .before .before .if2 .left), (c .before .before .before .before .if3 .left), ← ((c .before .before .kind-of .ensures) .0), (c .before .match .keys1), ← (c .any-pending .ensures))
+    simp (tests, sides-step, (c .before .before .before .before .before .before .if1 .left), (c .before .before .before .before .before .if2 .left), (c .before .before .before .before .if3 .left), ← ((c .before .before .kind-of .ensures) .0), (c .before .match .keys1), ← (c .any-pending .ensures))
 
 any-pending-returns-5 : (t : ℕ) → any-pending-lts.Need-returns-5 (any-pending-claims t) (any-pending-at t) any-pending.Post
 unfolding acrossW
 any-pending-returns-5 t c =
-  simp (tests, sides-step, (c .before .before .before .before .before .before .if1 .left), (c .before .before .before .before .before .if2 .left), (c .before .before .before .before .if3 .left), ← ((c .before .before .kind-of .ensures) .0), (c .before .match .keys2), ← (c .beside .ensures))
+    simp (tests, sides-step, (c .before .before .before .before .before .before .if1 .left), (c .before .before .before .before .before .if2 .left), (c .before .before .before .before .if3 .left), ← ((c .before .before .kind-of .ensures) .0), (c .before .match .keys2), ← (c .beside .ensures))
 
 any-pending-returns-6 : (t : ℕ) → any-pending-lts.Need-returns-6 (any-pending-claims t) (any-pending-at t) any-pending.Post
 unfolding acrossW
 any-pending-returns-6 t c =
-  simp (tests, sides-step, (c .before .before .before .before .before .before .before .if1 .left), (c .before .before .before .before .before .before .if2 .left), (c .before .before .before .before .before .if3 .left), ← ((c .before .before .before .kind-of .ensures) .0), (c .before .before .match .keys3), ← (c .before .pass-list .ensures), ← (c .any-pending2 .ensures))
+    simp (tests, sides-step, (c .before .before .before .before .before .before .before .if1 .left), (c .before .before .before .before .before .before .if2 .left), (c .before .before .before .before .before .if3 .left), ← ((c .before .before .before .kind-of .ensures) .0), (c .before .before .match .keys3), ← (c .before .pass-list .ensures), ← (c .any-pending2 .ensures))
 
 any-pending-returns-7 : (t : ℕ) → any-pending-lts.Need-returns-7 (any-pending-claims t) (any-pending-at t) any-pending.Post
 unfolding acrossW
 any-pending-returns-7 t c =
-  simp (tests, sides-step, (c .before .before .before .before .before .before .if1 .left), (c .before .before .before .before .before .if2 .left), (c .before .before .before .before .if3 .left), ← ((c .before .before .kind-of .ensures) .0), (c .before .match .keys4), ← (c .any-pending3 .ensures))
+    simp (tests, sides-step, (c .before .before .before .before .before .before .if1 .left), (c .before .before .before .before .before .if2 .left), (c .before .before .before .before .if3 .left), ← ((c .before .before .kind-of .ensures) .0), (c .before .match .keys4), ← (c .any-pending3 .ensures))
 
 any-pending-returns-8 : (t : ℕ) → any-pending-lts.Need-returns-8 (any-pending-claims t) (any-pending-at t) any-pending.Post
 unfolding acrossW
 any-pending-returns-8 t c =
-  simp (tests, sides-step, (c .before .before .before .before .before .if1 .left), (c .before .before .before .before .if2 .left), (c .before .before .before .if3 .left), ← ((c .before .kind-of .ensures) .0), (c .match .rest) .0 .0 .0 .1, (c .match .rest) .0 .0 .1, (c .match .rest) .0 .1, (c .match .rest) .1)
+    simp (tests, sides-step, (c .before .before .before .before .before .if1 .left), (c .before .before .before .before .if2 .left), (c .before .before .before .if3 .left), ← ((c .before .kind-of .ensures) .0), (c .match .rest) .0 .0 .0 .1, (c .match .rest) .0 .0 .1, (c .match .rest) .0 .1, (c .match .rest) .1)
 
 abbrev beside-claims : ℕ → beside-lts.Claims
 beside-claims t = (pass-reads.Asked, pass-reads.Learnt, any-pending-below t, any-pending.Post, found-reads.Asked, found-reads.Learnt)
@@ -139,7 +139,7 @@ beside-any-pending-requires t c κs = search needs
 beside-returns : (t : ℕ) → beside-lts.Need-returns (beside-claims t) (beside-at t) beside.Post
 unfolding besideW
 beside-returns t c =
-  simp (tests, ← (c .before .before .before .pass .ensures), (c .before .before .if1 .taken), ← (c .before .any-pending .ensures), (c .if2 .taken))
+    simp (tests, ← (c .before .before .before .pass .ensures), (c .before .before .if1 .taken), ← (c .before .any-pending .ensures), (c .if2 .taken))
 
 beside-found-requires : (t : ℕ) → beside-lts.Need-found-requires (beside-claims t) (beside-at t) beside.Post
 beside-found-requires t c κs = search needs
@@ -147,7 +147,7 @@ beside-found-requires t c κs = search needs
 beside-returns-2 : (t : ℕ) → beside-lts.Need-returns-2 (beside-claims t) (beside-at t) beside.Post
 unfolding besideW
 beside-returns-2 t c =
-  simp (tests, ← (c .before .before .before .before .pass .ensures), (c .before .before .before .if1 .taken), ← (c .before .before .any-pending .ensures), (c .before .if2 .left), ← (c .found .ensures))
+    simp (tests, ← (c .before .before .before .before .pass .ensures), (c .before .before .before .if1 .taken), ← (c .before .before .any-pending .ensures), (c .before .if2 .left), ← (c .found .ensures))
 
 beside-any-pending-requires-2 : (t : ℕ) → beside-lts.Need-any-pending-requires-2 (beside-claims t) (beside-at t) beside.Post
 beside-any-pending-requires-2 t c κs = search needs
@@ -155,7 +155,7 @@ beside-any-pending-requires-2 t c κs = search needs
 beside-returns-3 : (t : ℕ) → beside-lts.Need-returns-3 (beside-claims t) (beside-at t) beside.Post
 unfolding besideW
 beside-returns-3 t c =
-  simp (tests, ← (c .before .before .before .pass .ensures), (c .before .before .if1 .left), ← (c .before .any-pending2 .ensures), (c .if3 .taken))
+    simp (tests, ← (c .before .before .before .pass .ensures), (c .before .before .if1 .left), ← (c .before .any-pending2 .ensures), (c .if3 .taken))
 
 beside-found-requires-2 : (t : ℕ) → beside-lts.Need-found-requires-2 (beside-claims t) (beside-at t) beside.Post
 beside-found-requires-2 t c κs = search needs
@@ -163,7 +163,7 @@ beside-found-requires-2 t c κs = search needs
 beside-returns-4 : (t : ℕ) → beside-lts.Need-returns-4 (beside-claims t) (beside-at t) beside.Post
 unfolding besideW
 beside-returns-4 t c =
-  simp (tests, ← (c .before .before .before .before .pass .ensures), (c .before .before .before .if1 .left), ← (c .before .before .any-pending2 .ensures), (c .before .if3 .left), ← (c .found2 .ensures))
+    simp (tests, ← (c .before .before .before .before .pass .ensures), (c .before .before .before .if1 .left), ← (c .before .before .any-pending2 .ensures), (c .before .if3 .left), ← (c .found2 .ensures))
 
 pub +any-pending+beside-spec : {M : Type 1} → statement M
 +any-pending+beside-spec = close μ-any-pending μ-beside (λ t. any-pending-lts.spec (
