@@ -90,11 +90,9 @@ module _ {limits : Limits} (modest : Modest limits) (ws : List ℕ) (ok : Words 
         sym (partners.lent-on ws ok s modest known (sp .at)) ∙ partners.found-at ws ok s modest known engine (y .inside) target l sp (y .spotted) in
         let long = stands-within ws (runWords (l .process)) more (sp .at) stands (size-positive (l .process)) in
         let few = count-few (l .process) in
-        rw (
-          pending-looks ws notes right n (c .issued) (known .readable .fitting .few) (known .readable .fitting .word) short
-              (partners.found-sound ws ok s modest known engine (y .inside) target l sp (y .spotted))
-              (partners.found-shallow ws ok s modest known engine (y .inside) target l sp (y .spotted)) (sp .at) more stands,
-        )
+        rw (pending-looks ws notes right n (c .issued) (known .readable .fitting .few) (known .readable .fitting .word) short
+        (partners.found-sound ws ok s modest known engine (y .inside) target l sp (y .spotted))
+        (partners.found-shallow ws ok s modest known engine (y .inside) target l sp (y .spotted)) (sp .at) more stands)
         (by (pending (l .process) .found) (pending (l .process) .count) (omega arith) (size-positive (l .process)))
       where
         by :

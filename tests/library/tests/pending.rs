@@ -49,10 +49,14 @@ const LEAVES: [(&str, fn() -> Part); 6] = [
 const PENDING: [(&str, fn() -> Part, bool); 8] = [
     ("an inst", || build::inst(List::new()), true),
     ("a live scope with nil body", || build::scope(3, build::nil()), true),
-    ("a marked live scope with nil body", || {
-        let handler = build::list([(Key::Fault(5), idle())]);
-        build::scope_with(3, Mark::Fault(5), false, handler, build::nil())
-    }, true),
+    (
+        "a marked live scope with nil body",
+        || {
+            let handler = build::list([(Key::Fault(5), idle())]);
+            build::scope_with(3, Mark::Fault(5), false, handler, build::nil())
+        },
+        true,
+    ),
     ("an inst in a zombie", || zombie(build::inst(List::new())), true),
     ("an inst before a seq's second", || build::seq(build::inst(List::new()), idle()), true),
     ("an inst in an executor", || build::executor(2, 2, 1, 1, build::inst(List::new())), true),
@@ -137,7 +141,8 @@ fn nothing_else_is_touched() {
 fn many_sides_are_passed() {
     let mut comparison = Comparison::new(Plain::default());
     let plain = balanced(&vec![idle(); 60]);
-    let pending = balanced(&[vec![idle(); 30], vec![build::inst(List::new())], vec![idle(); 30]].concat());
+    let pending =
+        balanced(&[vec![idle(); 30], vec![build::inst(List::new())], vec![idle(); 30]].concat());
     for stops in [0, 5, 20, 40] {
         for wrong in [None, Some(0), Some(4), Some(5), Some(6), Some(20), Some(39)] {
             let mut inside = build::throw(2);

@@ -94,7 +94,11 @@ fn killing_and_the_climb_are_refused_exactly_where_something_is_found() {
                 for (position, process) in enabled(&engine.process) {
                     let found = search(&process).found;
                     assert_eq!(kill(&process, 3).is_none(), found, "{process:?}");
-                    if found { refused += 1 } else { killed += 1 }
+                    if found {
+                        refused += 1
+                    } else {
+                        killed += 1
+                    }
                     let frames = locate(&engine.process, position).expect("it is enabled").frames;
                     let met = meets(&frames, 3);
                     assert_eq!(climb(frames, 3).is_none(), met);

@@ -6,9 +6,7 @@ use reference::configuration::Configuration;
 use reference::generate::random::Random;
 use reference::generate::run::{Run, ORIGINS};
 use reference::generate::{damage, edges};
-use reference::{
-    check_readable, check_start, ends, pending_at, process_of, step, write, STANDARD,
-};
+use reference::{check_readable, check_start, ends, pending_at, process_of, step, write, STANDARD};
 use std::fs;
 use std::path::Path;
 
