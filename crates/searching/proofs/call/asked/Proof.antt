@@ -23,7 +23,7 @@ same-length c = search needs
 returns : tie.Need-returns
 unfolding askedW
 returns c =
-  (simp (tests, ← (c .refuse .ensures), (c .before .if1 .taken), ← ((c .before .before .wide .ensures) .0), ← ((c .before .before .before .before .before .survey .ensures) .0)), (c .before .before .before .before .before .survey .ensures) .1)
+    (simp (tests, ← (c .refuse .ensures), (c .before .if1 .taken), ← ((c .before .before .wide .ensures) .0), ← ((c .before .before .before .before .before .survey .ensures) .0)), (c .before .before .before .before .before .survey .ensures) .1)
 
 refuse-requires-2 : tie.Need-refuse-requires-2
 refuse-requires-2 c κs = search needs
@@ -34,7 +34,7 @@ same-length-2 c = search needs
 returns-2 : tie.Need-returns-2
 unfolding askedW
 returns-2 c =
-  (simp (tests, ← (c .refuse2 .ensures), (c .before .if2 .taken), (c .before .before .if1 .left), ← ((c .before .before .before .wide .ensures) .0), ← ((c .before .before .before .before .before .before .survey .ensures) .0)), (c .before .before .before .before .before .before .survey .ensures) .1)
+    (simp (tests, ← (c .refuse2 .ensures), (c .before .if2 .taken), (c .before .before .if1 .left), ← ((c .before .before .before .wide .ensures) .0), ← ((c .before .before .before .before .before .before .survey .ensures) .0)), (c .before .before .before .before .before .before .survey .ensures) .1)
 
 refuse-requires-3 : tie.Need-refuse-requires-3
 refuse-requires-3 c κs = search needs

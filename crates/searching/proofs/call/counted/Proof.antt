@@ -14,7 +14,7 @@ cast-t7 c = search needs
 returns : tie.Need-returns
 unfolding countedW
 returns c =
-  simp (← (c .before .before .pending .ensures))
+    simp (← (c .before .before .pending .ensures))
 
 pub counted-spec : {M : Type 1} → statement M
 counted-spec = tie.close (tie.spec pending-requires cast-t7 returns)

@@ -19,9 +19,9 @@ with-notes-requires c κs = search needs
 
 returns : tie.Need-returns
 returns c =
-  (c .with-notes .ensures)
-  ∙ asked-law (modest-standard (c .before .before .standard .ensures)) (c .before .before .before .before .args .ws .now) (λ i. (c .before .before .before .shared-slice-known .given) i .fits) (c .before .before .before .before .args .engine) (c .before .before .before .before .args .position) (c .before .before .before .before .fits .position .fits) manyNotes (blank-right (c .before .before .before .before .args .ws .now) 16384)
-  ∙ ap (λ l. pendingAs (pendingAt l (c .before .before .before .before .args .ws .now) (c .before .before .before .before .args .engine) (c .before .before .before .before .args .position))) (c .before .before .standard .ensures)
+    (c .with-notes .ensures)
+    ∙ asked-law (modest-standard (c .before .before .standard .ensures)) (c .before .before .before .before .args .ws .now) (λ i. (c .before .before .before .shared-slice-known .given) i .fits) (c .before .before .before .before .args .engine) (c .before .before .before .before .args .position) (c .before .before .before .before .fits .position .fits) manyNotes (blank-right (c .before .before .before .before .args .ws .now) 16384)
+    ∙ ap (λ l. pendingAs (pendingAt l (c .before .before .before .before .args .ws .now) (c .before .before .before .before .args .engine) (c .before .before .before .before .args .position))) (c .before .before .standard .ensures)
 
 slice-aggregate-asked : tie.Need-slice-aggregate-asked
 slice-aggregate-asked c = search needs
@@ -31,9 +31,9 @@ asked-requires c κs = search needs
 
 returns-2 : tie.Need-returns-2
 returns-2 c =
-  (c .before .asked .ensures) .0
-  ∙ asked-law (modest-standard (c .before .before .before .before .standard .ensures)) (c .before .before .before .before .before .before .args .ws .now) (λ i. (c .before .before .before .before .before .shared-slice-known .given) i .fits) (c .before .before .before .before .before .before .args .engine) (c .before .before .before .before .before .before .args .position) (c .before .before .before .before .before .before .fits .position .fits) fewNotes (blank-right (c .before .before .before .before .before .before .args .ws .now) 1024)
-  ∙ ap (λ l. pendingAs (pendingAt l (c .before .before .before .before .before .before .args .ws .now) (c .before .before .before .before .before .before .args .engine) (c .before .before .before .before .before .before .args .position))) (c .before .before .before .before .standard .ensures)
+    (c .before .asked .ensures) .0
+    ∙ asked-law (modest-standard (c .before .before .before .before .standard .ensures)) (c .before .before .before .before .before .before .args .ws .now) (λ i. (c .before .before .before .before .before .shared-slice-known .given) i .fits) (c .before .before .before .before .before .before .args .engine) (c .before .before .before .before .before .before .args .position) (c .before .before .before .before .before .before .fits .position .fits) fewNotes (blank-right (c .before .before .before .before .before .before .args .ws .now) 1024)
+    ∙ ap (λ l. pendingAs (pendingAt l (c .before .before .before .before .before .before .args .ws .now) (c .before .before .before .before .before .before .args .engine) (c .before .before .before .before .before .before .args .position))) (c .before .before .before .before .standard .ensures)
 
 pub pending-at-spec : {M : Type 1} → statement M
 pending-at-spec =
