@@ -38,6 +38,10 @@ int main(void)
     struct sock_process_answer process = sock_find_process(config, length, 1);
     printf("engine 1's process: %u words from word %u on\n", (unsigned)process.count, (unsigned)process.first);
 
+    /* Would engine 1's root stand in the way of a throw beside it? Three processes are enabled, the scope, the executor and its nil body. */
+    struct sock_pending_answer pending = sock_find_pending(1, 0, config, length);
+    printf("engine 1, from its root: %s, %u enabled\n", pending.found ? "pending" : "nothing pending", (unsigned)pending.count);
+
     /* The executor in engine 1 replies to the waiter in engine 0; both stand three words into their engines' processes. What it sends is
      * its variable 0, here a level that was just measured. */
     sock_put_value(config, sock_variable(process, 0), 4812);

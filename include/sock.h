@@ -35,9 +35,9 @@ extern "C" {
 
 /* This header's version. The first number rises when a call, an answer or the format changes, the second when something is added. */
 #define SOCK_VERSION_MAJOR 3
-#define SOCK_VERSION_MINOR 0
+#define SOCK_VERSION_MINOR 1
 #define SOCK_VERSION_PATCH 0
-#define SOCK_VERSION "3.0.0"
+#define SOCK_VERSION "3.1.0"
 
 /* The most words and bytes that a configuration has. */
 #define SOCK_WORDS 8192
@@ -174,7 +174,7 @@ uint64_t sock_step(uint16_t engine, uint16_t position, uint16_t second, uint16_t
                    const uint8_t *config, size_t config_length, uint8_t *out, size_t out_length);
 
 /* The parts of sock_step's answer. */
-static inline enum sock_number sock_number(uint64_t answer) { return (enum sock_number)(answer >> 56); }  /* sock_ends's too */
+static inline enum sock_number sock_number(uint64_t answer) { return (enum sock_number)(answer >> 56); }  /* sock_ends's and sock_pending's too */
 static inline enum sock_kind sock_kind(uint64_t answer) { return (enum sock_kind)(answer >> 48 & 0xff); } /* of the process that moved */
 static inline int sock_fault(uint64_t answer) { return (int)(answer >> 40 & 0xff); }                      /* 1: a fault was delivered */
 static inline uint16_t sock_serial(uint64_t answer) { return (uint16_t)(answer >> 16 & 0xffff); }         /* issued or delivered, else 0 */
@@ -285,6 +285,34 @@ static inline struct sock_process_answer sock_find_process(const uint8_t *config
 static inline size_t sock_variable(struct sock_process_answer process, unsigned variable)
 {
     return (size_t)process.first - SOCK_VALUE_WORDS + 2 * (size_t)variable;
+}
+
+/* ---- Pending: what stands in the way of a throw. ----
+ *
+ * A fault that climbs out of a side of a par kills the other side, and is refused (SOCK_INSTALLING) while that holds a pending process: an
+ * enabled inst, or an enabled scope that is no zombie and has nil body. This call searches the enabled process that `engine` and `position`
+ * name, as for a step, and all that is enabled in it, in the order of their words, itself first. It ends at the first pending one and says
+ * whether there is one and how many enabled processes were met up to and including it; all of them if there is none. SOCK_UNREADABLE, then
+ * SOCK_NOBODY_THERE.
+ */
+uint64_t sock_pending(uint16_t engine, uint16_t position, const uint8_t *config, size_t config_length);
+
+/* The parts of sock_pending's answer; its number is sock_number's. */
+static inline int sock_found(uint64_t pending) { return (int)(pending >> 48 & 0xff); }
+static inline uint32_t sock_met(uint64_t pending) { return (uint32_t)(pending & 0xffffffff); }
+
+struct sock_pending_answer {
+    enum sock_number number;
+    int found;      /* 1: there is a pending process */
+    uint32_t count; /* enabled processes up to and including it, all if there is none */
+};
+
+static inline struct sock_pending_answer sock_find_pending(uint16_t engine, uint16_t position, const uint8_t *config,
+                                                           size_t config_length)
+{
+    uint64_t pending = sock_pending(engine, position, config, config_length);
+    struct sock_pending_answer found = {sock_number(pending), sock_found(pending), sock_met(pending)};
+    return found;
 }
 
 /* ---- Bill: what the eight client engines owe for water, in cents. ----

@@ -131,6 +131,30 @@ static void bills(void)
     check(strcmp(sock_word(19), "rate too high") == 0 && *sock_word(14) == 0, "the words of numbers");
 }
 
+/* A throw beside an inst: refused, and the call says by what. */
+static void pending(void)
+{
+    static const uint16_t root[7] = {0x5800, 0x0000, 0x0000, 0x1800, 0x6000, 0x0000, 0x6800};
+    static uint8_t beside[SOCK_BYTES];
+    const struct sock_move throw_it = {0, 6, 0, 0, 0};
+    size_t at = sock_put(beside, sock_put(beside, 0, 1), 0);
+    struct sock_pending_answer found;
+    for (unsigned variable = 0; variable < SOCK_VARIABLES; variable++)
+        at = sock_put_value(beside, at, 0);
+    for (int word = 0; word < 7; word++)
+        at = sock_put(beside, at, root[word]);
+    found = sock_find_pending(0, 0, beside, sock_bytes(at));
+    check(found.number == SOCK_ACCEPTED && found.found == 1 && found.count == 3, "a pending process in the root");
+    found = sock_find_pending(0, 6, beside, sock_bytes(at));
+    check(found.number == SOCK_ACCEPTED && found.found == 0 && found.count == 1, "none in a throw");
+    check(sock_pending(0, 4, beside, sock_bytes(at)) == 0x0001000000000001, "the raw answer");
+    check(sock_take_step(throw_it, beside, sock_bytes(at), out, sizeof out).number == SOCK_INSTALLING, "the throw is refused");
+    found = sock_find_pending(0, 5, beside, sock_bytes(at));
+    check(found.number == SOCK_NOBODY_THERE && found.found == 0 && found.count == 0, "nobody there");
+    check(sock_find_pending(0, 0, beside, sock_bytes(at) - 1).number == SOCK_UNREADABLE, "a search in an odd length");
+    check(sock_pending(0, 0, NULL, 0) == (uint64_t)SOCK_UNREADABLE << 56, "a search in nothing");
+}
+
 static void windows(void)
 {
     static uint8_t window[SOCK_WINDOW_BYTES];
@@ -161,6 +185,7 @@ int main(void)
     overlap(sock_bytes(words));
     null_pointers(sock_bytes(words));
     bills();
+    pending();
     windows();
     version();
     return failures != 0;

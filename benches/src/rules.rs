@@ -161,6 +161,12 @@ pub fn worst(words: usize) -> Vec<(&'static str, Case)> {
         balanced(&vec![build::executor(2, 2, 1, 1, build::one_way(1, 1)); (room / 10).max(1)])
     };
     let throw = || Scene { handlers: handler(2, build::comp(3)), ..alone(build::throw(2)) };
+    // The side of leaves, with an inst before all others, or behind them.
+    let pending = |first: bool| {
+        let mut all = vec![build::one_way(1, 1); room.div_ceil(2) - 14];
+        all.insert(if first { 0 } else { all.len() }, build::inst(List::new()));
+        balanced(&all)
+    };
     vec![
         ("leaves of one word", beside(&assign(), leaves(room))),
         (
@@ -177,6 +183,8 @@ pub fn worst(words: usize) -> Vec<(&'static str, Case)> {
         ("throw, executors leaving notices", beside(&throw(), ends(room - 24))),
         ("inst over a long list", beside(&long_inst(room), build::throw(1))),
         ("refused 2, nobody there", nobody),
+        ("refused 6, pending first", beside(&throw(), pending(true))),
+        ("refused 6, pending last", beside(&throw(), pending(false))),
     ]
 }
 

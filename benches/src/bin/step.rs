@@ -113,7 +113,10 @@ fn rules() {
 
 fn worst_shapes() {
     for ((name, short), (_, long)) in worst(2_000).into_iter().zip(worst(8_192)) {
-        let number = if name.starts_with("refused") { 2 } else { 0 };
+        let number = match name.strip_prefix("refused ") {
+            Some(refused) => u64::from(refused.as_bytes()[0] - b'0'),
+            None => 0,
+        };
         print(name, &[short, long].map(|case| measure(name, &[case], number)));
     }
 }

@@ -11,7 +11,11 @@ use lib.ListN.{length, getD, set, take, drop}
 use lib.Seq.{take-all, take-at}
 use borrow.Author.Tests.{lt-ltb, le-ltb, ltb-true}
 use Rattle.sock.specs.Bytes.{wordsOf, wordsOrNone, byteCheckReadable, byteCheckStart, byteEnds, packedEnds, packedPart, byteProcess}
-use Rattle.sock.specs.Calls.{unreadable, notFresh, unknownSerial, done, _!_, _>>=_, _>>_, _unless_, passed, Ends, checkReadable, start, checkStart, counted, known, ends, partIn, processPart, over}
+use Rattle.sock.specs.Words.{bit}
+use Rattle.sock.specs.Pending.{Pending as Search, sideAt, searched, pendingAt, packedPending, bytePending}
+use Rattle.searching.specs.declared.call.Pending.{Pending}
+use Rattle.searching.specs.Answers.{pendingAs}
+use Rattle.sock.specs.Calls.{unreadable, nobodyThere, enabledAt, notFresh, unknownSerial, done, _!_, _>>=_, _>>_, _unless_, passed, Ends, checkReadable, start, checkStart, counted, known, ends, partIn, processPart, over}
 use Rattle.sock.specs.Configuration.{Config, standard, readConfig, fresh}
 use Rattle.sock.proofs.ByteWords.{words-next, words-length, words-of-odd, length-words, no-words, long-unread}
 use Rattle.reading.specs.declared.ends.EndCounts.{EndCounts}
@@ -133,9 +137,20 @@ module _ (bytes ws : List ℕ) (e : ws ≡ held 8192 bytes) where
   unfolding ends known byteEnds
   ends-as s = ap (λ (o : Option Config). packedEnds (counted s (unreadable ! o >>= λ c. _>>_ (unknownSerial unless (ltb 0 s && leb s (c .issued))) (done c)))) read-as
 
+  pub pending-as : (e p : ℕ) → packedPending (pendingAt standard ws e p) ≡ bytePending bytes e p
+  unfolding pendingAt sideAt bytePending
+  pending-as e p = ap (λ (o : Option Config). packedPending (searched (unreadable ! o >>= λ c. nobodyThere ! enabledAt c e p >>= λ a. done a))) read-as
+
   pub process-as : (e : ℕ) → packedPart (processPart standard ws e) ≡ byteProcess bytes e
   unfolding processPart byteProcess
   process-as e = ap (λ (o : Option Config). packedPart (partIn e o)) read-as
+
+pub pending-packed :
+    (r : Pending) (p : Search) (f : ℕ) → r ≡ pendingAs p → f ≡ bit (r .found) → r .number * 72057594037927936 + f * 281474976710656 + r .count ≡ packedPending p
+unfolding packedPending
+pending-packed r p f q e =
+    ap (λ (k : ℕ). r .number * 72057594037927936 + k * 281474976710656 + r .count) e
+    ∙ ap (λ (x : Pending). x .number * 72057594037927936 + bit (x .found) * 281474976710656 + x .count) q
 
 pub ends-packed : (r : EndCounts) (e : Ends) → r ≡ endCounts e → r .number * 72057594037927936 + r .waiters * 65536 + r .workers ≡ packedEnds e
 unfolding packedEnds

@@ -9,6 +9,9 @@ ghost use mathlib.Core.Path.{_≡_};
 ghost use Rattle.sock.specs.Bytes.{byteCheckReadable, byteCheckStart, byteEnds, packedPart, byteProcess};
 ghost use Rattle.sock.specs.Configuration.{standard};
 ghost use Rattle.sock.specs.Calls.{processPart};
+ghost use Rattle.sock.specs.Words.{bit};
+ghost use Rattle.sock.specs.Pending.{bytePending};
+ghost use Prim.Native.Nat.{_<_};
 
 // Readable check: 0, or 1 if the configuration is not readable.
 #[no_mangle]
@@ -41,6 +44,12 @@ pub extern "C" fn sock_ends(config: &[u8], serial: u16) -> u64
     (e.number as u64) * 72057594037927936 + (e.waiters as u64) * 65536 + (e.workers as u64)
 }
 
+fn flag(is: bool) -> u64
+    ensures { λ r. ⌜ (r ≡ bit is) × (r < 2) ⌝ }
+{
+    if is { 1 } else { 0 }
+}
+
 fn part(ws: &[u16], engine: u16) -> u64
     ensures { λ r. ⌜ r ≡ packedPart (processPart standard (now (ws .entry)) engine) ⌝ }
 {
@@ -65,4 +74,15 @@ pub extern "C" fn sock_process(config: &[u8], engine: u16) -> u64
     let mut scratch = [0u16; 8192];
     let n = hold(config, &mut scratch);
     part(&scratch[..n], engine)
+}
+
+// Pending: from the top, the number in 8 bits, whether a pending process was found in 8, 16 zero, the count in 32.
+#[no_mangle]
+pub extern "C" fn sock_pending(engine: u16, position: u16, config: &[u8]) -> u64
+    ensures { λ r. ⌜ r ≡ bytePending (now (config .entry)) engine position ⌝ }
+{
+    let mut scratch = [0u16; 8192];
+    let n = hold(config, &mut scratch);
+    let p = searching::call::pending_at(&scratch[..n], engine, position);
+    (p.number as u64) * 72057594037927936 + flag(p.found) * 281474976710656 + (p.count as u64)
 }

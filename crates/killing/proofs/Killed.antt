@@ -20,69 +20,17 @@ use Rattle.sock.specs.Rules.{climb}
 use Rattle.sock.proofs.Fits.{FitsEntries, Sound, nilSound, seqSound, parSound, scopeSound, executorSound, waiterSound, noticeSound, actSound}
 use Rattle.sock.proofs.Fields.{plain-kind, end-tests}
 use Rattle.sock.proofs.ByKind.{runKind, kind-asNode, done-kind, code-kind}
-use Rattle.sock.proofs.Measures.{words-seq, words-par, words-scope, words-executor, size-seq, depth-seq, depth-par, depth-scope, depth-executor}
-use Rattle.sock.proofs.Located.{size-positive}
+use Rattle.sock.proofs.Measures.{size-seq, depth-seq, depth-par, depth-scope, depth-executor}
 use Rattle.skipping.specs.Pass.{passEnd, passList}
-use Rattle.skipping.proofs.Notes.{Right, pass-code, pass-run, pass-entries}
+use Rattle.skipping.proofs.Notes.{Right, pass-code, pass-run, pass-scope}
 use Rattle.killing.specs.Killing.{goneKind, goneW, stuckW, vanishedW, kindW, killW}
 use Rattle.writers.proofs.Laid.{Near}
-use Rattle.sock.proofs.Positions.{stands-within, word-at, at-past, drop-after}
+use Rattle.sock.proofs.Heads.{depth-positive, run-inside, run-behind, run-head, run-kind, head-done, seq-parts, par-parts, scope-parts, executor-parts}
 use Rattle.sock.proofs.Around.{killed, Throws, free, killed-climb}
 use Rattle.killing.proofs.Kills.{gone-at}
 use Rattle.killing.proofs.Gives.{Gives, stops, Does, Vanishes, seq-gives, par-gives}
 use Rattle.killing.proofs.Noticed.{vanish-gives, kept-gives, waiter-gives, executor-gives}
 use Rattle.killing.proofs.Zombies.{dead-gives, turned-gives}
-
--- ---- the first word
-
-depth-positive : (m : Node) → 0 < depth m
-unfolding depth
-depth-positive (node h f es b ps) = omega arith
-
-words-head : (m : Node) → getD (words m) 0 0 ≡ headWord m
-unfolding words
-words-head (node h f es b ps) = refl
-
-module _ (ws rest : List ℕ) (at : ℕ) (r : Run) (e : drop at ws ≡ runWords r ++ rest) where
-  run-inside : at < length ws
-  unfolding size
-  run-inside = let p = size-positive r in omega (arith, stands-within ws (runWords r) rest at e p)
-
-  run-behind : drop (at + size r) ws ≡ rest
-  unfolding size
-  run-behind = at-past ws (runWords r) rest at e
-
-  run-head : getD ws at 0 ≡ headWord (asNode r)
-  unfolding size runWords
-  run-head =
-      let p = size-positive r in
-      ap (λ n. getD ws n 0) (let q : at ≡ at + 0 = omega arith in q) ∙ word-at ws (runWords r) rest at e 0 p ∙ words-head (asNode r)
-
-  run-kind : {n issued : ℕ} → Sound n issued r → kindOf (getD ws at 0) ≡ runKind r
-  run-kind s = ap kindOf run-head ∙ kind-asNode s
-
--- it is 0 where the process is nil
-module _ {n issued : ℕ} where
-  live-head : {r : Run} → Sound n issued r → isDone r ≡ false → eqb (headWord (asNode r)) 0 ≡ isDone r
-  live-head {r} s e =
-      let k : kindOf (headWord (asNode r)) ≡ runKind r = kind-asNode s in
-      let d : eqb (runKind r) 0 ≡ false = sym (done-kind s) ∙ e in
-      ne-eqb (headWord (asNode r)) 0 (λ q. let z : runKind r ≡ 0 = omega arith in absurd (eqb-zero (runKind r) z d)) ∙ sym e
-    where
-      eqb-zero : (k : ℕ) → k ≡ 0 → eqb k 0 ≡ false → ⊥
-      eqb-zero zero z d = let y : _≡_ {A = ℕ} 0 1 = cc in omega arith
-      eqb-zero (suc k) z d = omega arith
-
-  head-done : {r : Run} → Sound n issued r → eqb (headWord (asNode r)) 0 ≡ isDone r
-  unfolding isDone asNode
-  head-done nilSound = refl
-  head-done (seqSound a d q) = live-head (seqSound a d q) refl
-  head-done (parSound a d b d') = live-head (parSound a d b d') refl
-  head-done (scopeSound {mark = mark} {zombie = zombie} a m h b) = live-head (scopeSound {mark = mark} {zombie = zombie} a m h b) refl
-  head-done (executorSound a b c g) = live-head (executorSound a b c g) refl
-  head-done (waiterSound {dead = dead} a b c g) = live-head (waiterSound {dead = dead} a b c g) refl
-  head-done (noticeSound a b c) = live-head (noticeSound a b c) refl
-  head-done (actSound a b) = live-head (actSound a b) refl
 
 -- ---- by kind
 
@@ -117,24 +65,6 @@ not-inst k = go (eqb k 2) (eqb k 3) (eqb k 11) (eqb k 12) _
     go true b c true x q = sym q
 
 module _ (ws notes : List ℕ) (right : Right ws notes) (n issued : ℕ) (few : n ≤ 8) (small : issued < 65536) (f : ℕ) (bf : f < 64) (hole : ℕ) where
-  -- the list of a scope, and its body
-  scope-parts :
-      (name : ℕ) (mark : Mark) (zombie : Bool) (h : Entries) (a : Run) (at : ℕ) (rest : List ℕ) → drop at ws ≡ runWords (scope name mark zombie h a) ++ rest →
-      (drop (at + 2) ws ≡ (count h ∷ entriesWords h) ++ (runWords a ++ rest)) × (drop (at + 3 + length (entriesWords h)) ws ≡ runWords a ++ rest)
-  scope-parts name mark zombie h a at rest e =
-      let list : drop (at + 2) ws ≡ (count h ∷ entriesWords h) ++ (runWords a ++ rest) =
-      drop-after ws (_ ∷ _ ∷ []) ((count h ∷ entriesWords h) ++ runWords a) rest at (e ∙ ap (λ l. l ++ rest) (words-scope name mark zombie h a))
-      ∙ append-assoc (count h ∷ entriesWords h) (runWords a) rest in
-      let place : at + 3 + length (entriesWords h) ≡ at + 2 + length (count h ∷ entriesWords h) = omega arith in
-      (list, ap (λ n. drop n ws) place ∙ at-past ws (count h ∷ entriesWords h) (runWords a ++ rest) (at + 2) list)
-
-  scope-list :
-      {h : Entries} → FitsEntries true zero h → (d at : ℕ) → entriesDepth h ≤ d → (rest : List ℕ) → drop (at + 2) ws ≡ (count h ∷ entriesWords h) ++ rest →
-      passList d ws notes (at + 2) ≡ at + 3 + length (entriesWords h)
-  scope-list {h} fh d at l rest e =
-      pass-entries ws notes right fh d (at + 2) l rest e
-      ∙ (let q : at + 2 + 1 + length (entriesWords h) ≡ at + 3 + length (entriesWords h) = omega arith in q)
-
   act-gives :
       (x : Bool) (m : Node) (d at : ℕ) (out : List ℕ) (to : ℕ) → to + 2 * size (act m) ≤ length out → Near (length out) →
       passEnd (suc d) ws notes at ≡ at + size (act m) →
@@ -177,15 +107,13 @@ module _ (ws notes : List ℕ) (right : Right ws notes) (n issued : ℕ) (few : 
   kills (seqSound {a} {q} ga t fq) (suc d) at h rest e out to room near =
       let z = size-seq a q in
       let y = depth-seq a q in
-      let own : drop (at + 1) ws ≡ runWords a ++ (words q ++ rest) =
-      drop-after ws (_ ∷ []) (runWords a ++ words q) rest at (e ∙ ap (λ l. l ++ rest) (words-seq a q)) ∙ append-assoc (runWords a) (words q) rest in
+      let own : drop (at + 1) ws ≡ runWords a ++ (words q ++ rest) = seq-parts ws a q at rest e in
       let second : drop (at + 1 + size a) ws ≡ words q ++ rest = run-behind ws (words q ++ rest) (at + 1) a own in
       rw (kill-at ws notes f hole d at out to 2 (run-inside ws rest at (seq a q) e) (run-kind ws rest at (seq a q) e {n = n} {issued = issued} (seqSound ga t fq)))
       (seq-gives d (killW d ws notes f hole) ws notes at (kills ga d (at + 1) (omega arith) (words q ++ rest) own) (pass-code ws notes right fq d (at + 1 + size a) (omega arith) rest second) out to room near)
   kills (parSound {a} {b} ga t gb u) (suc d) at h rest e out to room near =
       let y = depth-par a b in
-      let left : drop (at + 1) ws ≡ runWords a ++ (runWords b ++ rest) =
-      drop-after ws (_ ∷ []) (runWords a ++ runWords b) rest at (e ∙ ap (λ l. l ++ rest) (words-par a b)) ∙ append-assoc (runWords a) (runWords b) rest in
+      let left : drop (at + 1) ws ≡ runWords a ++ (runWords b ++ rest) = par-parts ws a b at rest e in
       let beside : drop (at + 1 + size a) ws ≡ runWords b ++ rest = run-behind ws (runWords b ++ rest) (at + 1) a left in
       rw (kill-at ws notes f hole d at out to 3 (run-inside ws rest at (par a b) e) (run-kind ws rest at (par a b) e (parSound ga t gb u)))
       (par-gives a b d (killW d ws notes f hole) ws notes at out to room near
@@ -193,22 +121,21 @@ module _ (ws notes : List ℕ) (right : Right ws notes) (n issued : ℕ) (few : 
       (kills gb d (at + 1 + size a) (omega arith) rest beside) (gone-nil gb d (at + 1 + size a) (omega arith) rest beside))
   kills (scopeSound {name} {mark} {zombie = true} {h = l} {a} bn m fl ga) (suc d) at h rest e out to room near =
       let y = depth-scope name mark true l a in
-      let s = scope-parts name mark true l a at rest e in
+      let s = scope-parts ws name mark true l a at rest e in
       rw (kill-at ws notes f hole d at out to 11 (run-inside ws rest at (scope name mark true l a) e) (run-kind ws rest at (scope name mark true l a) e (scopeSound bn m fl ga)))
-      (dead-gives d (killW d ws notes f hole) ws notes rest name mark l a hole at bn (scope-list fl d at (omega arith) (runWords a ++ rest) (s .0)) out to near
+      (dead-gives d (killW d ws notes f hole) ws notes rest name mark l a hole at bn (pass-scope ws notes right fl d at (omega arith) (runWords a ++ rest) (s .0)) out to near
       (kills ga d (at + 3 + length (entriesWords l)) (omega arith) rest (s .1)) e room)
   kills (scopeSound {name} {mark} {zombie = false} {h = l} {a} bn m fl ga) (suc d) at h rest e out to room near =
       let y = depth-scope name mark false l a in
-      let s = scope-parts name mark false l a at rest e in
+      let s = scope-parts ws name mark false l a at rest e in
       let body : ℕ = at + 3 + length (entriesWords l) in
       let done : eqb (getD ws body 0) 0 ≡ isDone a = ap (λ w. eqb w 0) (run-head ws rest body a (s .1)) ∙ head-done ga in
       rw (kill-at ws notes f hole d at out to 11 (run-inside ws rest at (scope name mark false l a) e) (run-kind ws rest at (scope name mark false l a) e (scopeSound bn m fl ga)))
-      (turned-gives d (killW d ws notes f hole) ws notes rest name mark l a hole at bn (scope-list fl d at (omega arith) (runWords a ++ rest) (s .0)) out to near
+      (turned-gives d (killW d ws notes f hole) ws notes rest name mark l a hole at bn (pass-scope ws notes right fl d at (omega arith) (runWords a ++ rest) (s .0)) out to near
       (kills ga d body (omega arith) rest (s .1)) e done room)
   kills (executorSound {o} {y} {client} {serial} {a} bo bv t ga) (suc d) at h rest e out to room near =
       let z = depth-executor o y client serial a in
-      let body : drop (at + 3) ws ≡ runWords a ++ rest =
-      drop-after ws (_ ∷ _ ∷ _ ∷ []) (runWords a) rest at (e ∙ ap (λ l. l ++ rest) (words-executor o y client serial a)) in
+      let body : drop (at + 3) ws ≡ runWords a ++ rest = executor-parts ws o y client serial a at rest e in
       rw (kill-at ws notes f hole d at out to 16 (run-inside ws rest at (executor o y client serial a) e) (run-kind ws rest at (executor o y client serial a) e (executorSound bo bv t ga)))
       (executor-gives ws rest o y client serial f a at bo bv bf e (killW d ws notes f hole) out to room near (kills ga d (at + 3) (omega arith) rest body))
   kills (waiterSound {o} {x} {server} {serial} {dead} {l} bo bx t fl) (suc d) at h rest e out to room near =

@@ -1,6 +1,6 @@
-// Reads cases on standard input and prints, a line each, what the four calls answer: readable check, start check, ends (number, waiters,
-// workers), and of the engine's process the count of words and a sum over them. A case is, in words of two bytes, high first: the count
-// of words, a serial, an engine, then the words.
+// Reads cases on standard input and prints, a line each, what the five calls that only read answer: readable check, start check, ends (number,
+// waiters, workers), of the engine's process the count of words and a sum over them, and pending (number, found, count). A case is, in words of two
+// bytes, high first: the count of words, a serial, an engine, a position, then the words.
 use cabinet::words::hold;
 use cases::print;
 use cases::sum;
@@ -9,8 +9,12 @@ use cases::word;
 
 const MOST: usize = 8200;
 
+fn flag(is: bool) -> u64 {
+    if is { 1 } else { 0 }
+}
+
 // What the calls answer on these words.
-fn answer(ws: &[u16], serial: u16, engine: u16) {
+fn answer(ws: &[u16], serial: u16, engine: u16, position: u16) {
     print(reading::calls::check_readable(ws) as u64, false);
     print(reading::calls::check_start(ws) as u64, false);
     let e = reading::ends::ends(ws, serial);
@@ -19,13 +23,17 @@ fn answer(ws: &[u16], serial: u16, engine: u16) {
     print(e.workers as u64, false);
     let p = reading::calls::process_of(ws, engine);
     print(p.len() as u64, false);
-    print(sum(p) as u64, true);
+    print(sum(p) as u64, false);
+    let q = searching::call::pending_at(ws, engine, position);
+    print(q.number as u64, false);
+    print(flag(q.found), false);
+    print(q.count as u64, true);
 }
 
 // One case; whether there was one.
 fn case() -> bool {
-    let mut head = [0u8; 6];
-    if !take(&mut head, 6) {
+    let mut head = [0u8; 8];
+    if !take(&mut head, 8) {
         return false;
     }
     let count = word(head[0], head[1]) as usize;
@@ -39,7 +47,12 @@ fn case() -> bool {
     }
     let mut ws = [0u16; 8200];
     let n = hold(&bytes[..size], &mut ws);
-    answer(&ws[..n], word(head[2], head[3]), word(head[4], head[5]));
+    answer(
+        &ws[..n],
+        word(head[2], head[3]),
+        word(head[4], head[5]),
+        word(head[6], head[7]),
+    );
     true
 }
 

@@ -32,6 +32,9 @@ use Rattle.finding.proofs.Stops.{catches, Standing, nowhere, somewhere}
 use Rattle.finding.proofs.Spots.{Spotted}
 use Rattle.finding.proofs.Search.{found}
 use Rattle.layout.specs.Positions.{onward}
+use Rattle.sock.proofs.Pending.{isNone}
+use Rattle.pending.proofs.Climbs.{sides-refuse}
+use Rattle.rules.specs.Editing.{Edited, refusedEdit, edited as changed}
 use Rattle.killing.specs.Killing.{Killed}
 use Rattle.writers.proofs.Laid.{Near, near-of, onward-near, Laid, laid-put, laid-then, laid-copy, copy-end}
 use Rattle.sock.proofs.Positions.{stands-within, word-at, at-past, drop-after}
@@ -118,6 +121,20 @@ module _ (ws notes : List ℕ) (right : Right ws notes) (n issued : ℕ) (few : 
       all-map (λ q h. omega (arith, ap runDepth w))
       (climb-shallow f (s .frames) nil (l .process) (omega (arith, depth-nil, depth-some (l .process))))
 
+  -- ---- a look over the sides comes first
+
+  refuses : (o : Option Run) → isNone o ≡ true → o ≡ none
+  refuses none e = refl
+  refuses (some q) e = let y : _≡_ {A = ℕ} 0 1 = cc in absurd (omega arith)
+
+  looked-ruled :
+      {b : Bool} {o : Option Run} {u : Edited} → b ≡ isNone o →
+      Ruled most ws start (start + size r) (u .edit) (u .fresh) o × (u .edit .store .variable ≡ 32) →
+      (let v = cond b (changed (refusedEdit 6) fresh) u in
+      Ruled most ws start (start + size r) (v .edit) (v .fresh) o × (v .edit .store .variable ≡ 32))
+  looked-ruled {b = true} {o} e h = rw (refuses o (sym e)) (unkillable refl, refl)
+  looked-ruled {b = false} e h = h
+
   -- ---- no scope stops the fault
 
   module _ (target : ℕ) (l : Located) (place : within r start target ≡ some l) (throws : Throws (l .process))
@@ -143,10 +160,12 @@ module _ (ws notes : List ℕ) (right : Right ws notes) (n issued : ℕ) (few : 
         let h : start ≤ target = within-from r start target l place in
         let e : locate r (target - start) [] ≡ some l = sym (within-locate r start target h) ∙ place in
         let z : start + (target - start) ≡ target = omega arith in
+        let s = sides-refuse ws notes right n issued few small short sound 64 (target - start) start (shallow deep) (omega arith)
+        (drop (start + size r) ws) words l e f passes nil in
         let g = kill-climb ws notes right n issued few small f low sound 64 start (shallow deep) (drop (start + size r) ws) words fresh 0
         (omega (arith, inside)) near
         (target - start) l e throws passes in
-        uncaught-by (rw z at g) (climb-deep (target - start) l e)
+        looked-ruled (rw z at s) (uncaught-by (rw z at g) (climb-deep (target - start) l e))
 
   -- ---- a scope stops it
 
@@ -352,7 +371,7 @@ module _ (ws notes : List ℕ) (right : Right ws notes) (n issued : ℕ) (few : 
         (let u = caughtW ws notes start c f target fresh in
         Ruled most ws start (start + size r) (u .edit) (u .fresh) (climb f (inner ++ scopeFrame name mark zombie h ∷ outer) nil)
         × (u .edit .store .variable ≡ 32))
-    unfolding caughtW
+    unfolding caughtW also
     caught-ruled =
         let g = kill-climb ws notes right n issued few small f low (parts .2) 64 body (parts-deep .1) (stands .0) body-stands
         (openedW ws c body f fresh)
@@ -360,7 +379,13 @@ module _ (ws notes : List ℕ) (right : Right ws notes) (n issued : ℕ) (few : 
         (record { frames = inner; process = m }) (locate-offset inner m) throws passes in
         let b : start ≤ target = within-from r start target _ place in
         let d = climb-deep (target - start) _ (sym (within-locate r start target b) ∙ place) in
-        rw (climbs, body-at, opened-to, at-target) (caught-by opened-laid g (rw climbs at d))
+        let s = sides-refuse ws notes right n issued few small short (parts .2) 64 (offset inner) body (parts-deep .1) (omega arith) (stands .0)
+        body-stands (record { frames = inner; process = m }) (locate-offset inner m) f passes nil in
+        rw (climbs, body-at, opened-to, at-target) (looked-ruled (s ∙ none-also (climb f inner nil)) (caught-by opened-laid g (rw climbs at d)))
+      where
+        none-also : (o : Option Run) → isNone o ≡ isNone (also o λ p. some (caughtBy p))
+        none-also none = refl
+        none-also (some p) = refl
 
   -- ---- the whole
 

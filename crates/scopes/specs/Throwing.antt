@@ -11,6 +11,7 @@ use Rattle.finding.specs.declared.find.Site.{Site}
 use Rattle.layout.specs.Positions.{onward}
 use Rattle.layout.specs.Heads.{faultedHead, faultWord}
 use Rattle.writers.specs.Writing.{pasted, pastedEnd}
+use Rattle.pending.specs.Looking.{sidesW}
 use Rattle.killing.specs.Killing.{Killed, killW}
 use Rattle.killing.specs.declared.kill.Moved.{Moved}
 use Rattle.rules.specs.declared.edit.Edit.{Edit}
@@ -30,7 +31,8 @@ unfoldable pub clearedBy : ℕ → ℕ → Killed → Edited
 clearedBy start a k = edited (clearedW start a (k .moved)) (k .out)
 
 unfoldable pub uncaughtW : List ℕ → List ℕ → ℕ → ℕ → ℕ → List ℕ → Edited
-uncaughtW ws notes start fault i fresh = clearedBy start start (killW 64 ws notes fault i start fresh 0)
+uncaughtW ws notes start fault i fresh =
+    cond (sidesW 64 ws notes i start) (edited (refusedEdit 6) fresh) (clearedBy start start (killW 64 ws notes fault i start fresh 0))
 
 -- whether the list of the scope at c has the fault
 unfoldable pub listedW : List ℕ → ℕ → ℕ → Bool
@@ -57,7 +59,8 @@ openedW ws c body fault fresh = pasted ws (onward c 2) body (markedW ws c fault 
 unfoldable pub caughtW : List ℕ → List ℕ → ℕ → ℕ → ℕ → ℕ → List ℕ → Edited
 caughtW ws notes start c fault i fresh =
     let body = bodyW ws notes c in
-    clearedBy start c (killW 64 ws notes fault i body (openedW ws c body fault fresh) (openedTo ws c body))
+    cond (sidesW 64 ws notes i body) (edited (refusedEdit 6) fresh)
+    (clearedBy start c (killW 64 ws notes fault i body (openedW ws c body fault fresh) (openedTo ws c body)))
 
 unfoldable pub thrownW : List ℕ → List ℕ → ℕ → Site → List ℕ → Edited
 thrownW ws notes start s fresh =

@@ -1,4 +1,5 @@
-// Throw: its fault climbs from the position to the scope that stops it, or through all of the engine's process.
+// Throw: its fault climbs from the position to the scope that stops it, or through all of the engine's process. Before anything is killed, the
+// sides that it meets are searched for a process that can't be.
 use finding::find::Site;
 use killing::kill::Moved;
 use killing::kill::kill;
@@ -8,6 +9,7 @@ use layout::limit::FUEL;
 use layout::number::further;
 use layout::number::wide;
 use layout::number::word;
+use pending::sides::any_pending;
 use rules::edit::Edit;
 use rules::edit::refuse;
 use rules::store::nothing;
@@ -46,7 +48,7 @@ fn cleared(start: usize, a: usize, k: Moved) -> Edit
     }
 }
 
-// No scope stops the fault.
+// No scope stops the fault. 6 if a side can't be killed.
 fn uncaught(
     ws: &[u16],
     notes: &[u16],
@@ -58,6 +60,9 @@ fn uncaught(
     ensures edited { λ r. ⌜ r ≡ uncaughtW (now (ws .entry)) (now (notes .entry)) start fault at (now (fresh .entry)) .edit ⌝ }
     ensures fresh { λ r. ⌜ now (fresh .exit) ≡ uncaughtW (now (ws .entry)) (now (notes .entry)) start fault at (now (fresh .entry)) .fresh ⌝ }
 {
+    if any_pending(ws, notes, start, at, FUEL) {
+        return refuse(6);
+    }
     let k = kill(ws, notes, start, fault, at, FUEL, fresh, 0);
     cleared(start, start, k)
 }
@@ -103,7 +108,7 @@ fn opened(ws: &[u16], c: usize, body: usize, fault: u16, fresh: &mut [u16]) -> u
     copy(ws, further(c, 2), body, fresh, 2)
 }
 
-// The scope at `c` stops the fault: its body becomes what climbs out of it.
+// The scope at `c` stops the fault: its body becomes what climbs out of it. 6 as above.
 fn caught(
     ws: &[u16],
     notes: &[u16],
@@ -117,6 +122,9 @@ fn caught(
     ensures fresh { λ r. ⌜ now (fresh .exit) ≡ caughtW (now (ws .entry)) (now (notes .entry)) start c fault at (now (fresh .entry)) .fresh ⌝ }
 {
     let body = body_at(ws, notes, c);
+    if any_pending(ws, notes, body, at, FUEL) {
+        return refuse(6);
+    }
     let t = opened(ws, c, body, fault, fresh);
     let k = kill(ws, notes, body, fault, at, FUEL, fresh, t);
     cleared(start, c, k)

@@ -2,7 +2,8 @@
 -- is passed.
 -- Assumes nothing.
 use Prim.Native.Nat.{ℕ, zero, _+_, _≤_, _<_}
-use mathlib.Core.Path.{_≡_, refl}
+use native.Mathlib.Omega.{arith}
+use mathlib.Core.Path.{_≡_, refl, _∙_}
 use mathlib.Core.Bool.{Bool, true, false, cond}
 use mathlib.Core.List.{List, _∷_, _++_}
 use borrow.Author.Tests.{eqb-false}
@@ -63,3 +64,11 @@ module _ (ws notes : List ℕ) (right : Right ws notes) where
       by : (b : Bool) → eqb (listNoteAt notes i) 0 ≡ b → cond b (skipList d ws 128 i) (listNoteAt notes i) ≡ i + 1 + length (entriesWords l)
       by true q = list-end ws f d i h rest e
       by false q = right .of-list i _ _ f rest e (eqb-false (listNoteAt notes i) 0 q)
+
+  -- the list of a scope at i
+  pub pass-scope :
+      {h : Entries} → FitsEntries true zero h → (d i : ℕ) → entriesDepth h ≤ d → (rest : List ℕ) → drop (i + 2) ws ≡ (count h ∷ entriesWords h) ++ rest →
+      passList d ws notes (i + 2) ≡ i + 3 + length (entriesWords h)
+  pass-scope {h} f d i l rest e =
+      pass-entries f d (i + 2) l rest e
+      ∙ (let q : i + 2 + 1 + length (entriesWords h) ≡ i + 3 + length (entriesWords h) = omega arith in q)

@@ -109,7 +109,7 @@ all-pair : {A : Type 0} {P Q : A → Type 0} {o : Option A} → All P o → All 
 all-pair allNone b = allNone
 all-pair (allSome p) b = allSome (p, all-some b refl)
 
-past-from :
+pub past-from :
     {P : Located → Type 0} (own p : ℕ) {find : ℕ → Option Located} → ((i : ℕ) → own + i ≡ p → All P (find i)) → All P (past own p find)
 unfolding past
 past-from {P} own p {find} h =

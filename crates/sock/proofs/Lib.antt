@@ -15,6 +15,7 @@ pub mod Fields
 pub mod Fits
 pub mod Frames
 pub mod Handlers
+pub mod Heads
 pub mod Ledger
 pub mod Located
 pub mod Logic
@@ -22,6 +23,7 @@ pub mod Measures
 pub mod Moves
 pub mod Nodes
 pub mod Opening
+pub mod Pending
 pub mod Placed
 pub mod Positions
 pub mod Reading

@@ -12,6 +12,7 @@ pub mod Frames
 pub mod Rules
 pub mod Calls
 pub mod Bytes
+pub mod Pending
 pub mod Counts
 pub mod Everywhere
 pub mod Runs

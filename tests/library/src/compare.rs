@@ -12,6 +12,9 @@ use reference::{Answer, Numbers};
 /// Engines that are asked for; a configuration has at most eight. 256 is engine 0 in 8 bits.
 pub const ENGINES: [u16; 12] = [0, 1, 2, 3, 4, 5, 6, 7, 8, 9, 256, 65_535];
 
+/// Positions that are searched for pending processes; a root's body is at 3 where its list is empty.
+pub const POSITIONS: [u16; 7] = [0, 1, 3, 4, 5, 7, 65_535];
+
 /// Makes calls on memory of one kind and counts what they meet.
 pub struct Comparison<M> {
     pub counts: Counts,
@@ -32,7 +35,7 @@ impl<M: Memory> Comparison<M> {
         Comparison { counts: Counts::default(), memory, round: 0 }
     }
 
-    /// The four calls that only read, for every serial and engine worth asking for.
+    /// The five calls that only read, for every serial, engine and position worth asking for.
     pub fn read_all(&mut self, input: &Input) {
         self.checks(input);
         for serial in serials(input.config) {
@@ -40,16 +43,21 @@ impl<M: Memory> Comparison<M> {
         }
         for engine in ENGINES {
             self.process(input, engine);
+            for position in POSITIONS {
+                self.pending(input, engine, position);
+            }
         }
     }
 
-    /// The four calls that only read, for one serial and one engine in turn.
+    /// The five calls that only read, for one serial, one engine and one position in turn.
     pub fn read_one(&mut self, input: &Input) {
         self.checks(input);
         let turn = self.round as usize / 4;
         let serials = serials(input.config);
         self.ends(input, serials[turn % serials.len()]);
         self.process(input, ENGINES[turn % ENGINES.len()]);
+        let engine = [0, 1, 2][turn % 3];
+        self.pending(input, engine, (turn / 3 % 24) as u16);
     }
 
     fn checks(&mut self, input: &Input) {
@@ -75,6 +83,15 @@ impl<M: Memory> Comparison<M> {
         let ours = |config| exported::process(config, engine);
         self.read(input, Call::Process { engine }, ours, expected);
         self.counts.process(input.source.class, expected != 0);
+    }
+
+    /// The search at an engine and a position; whether it found something, and the count.
+    pub fn pending(&mut self, input: &Input, engine: u16, position: u16) -> (bool, u32) {
+        let expected = reference::sock_pending(engine, position, input.config);
+        let ours = |config| exported::pending(config, engine, position);
+        self.read(input, Call::Pending { engine, position }, ours, expected);
+        self.counts.number("pending", input.source.class, (expected >> 56) as u8);
+        (expected >> 48 & 1 == 1, expected as u32)
     }
 
     /// A call that only reads.

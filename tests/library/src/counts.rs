@@ -29,6 +29,7 @@ pub struct Wanted<'a> {
     pub start: &'a [u8],
     pub readable: &'a [u8],
     pub ends: &'a [u8],
+    pub pending: &'a [u8],
     pub kinds: &'a [u8],
     pub classes: &'a [&'a str],
     pub outputs: &'a [&'a str],
@@ -79,6 +80,7 @@ impl Counts {
             ("start check", wanted.start),
             ("readable check", wanted.readable),
             ("ends", wanted.ends),
+            ("pending", wanted.pending),
         ];
         for (call, numbers) in calls {
             let absent = numbers.iter().filter(|number| self.of(call, **number) == 0);

@@ -1,4 +1,4 @@
-//! The five calls as the library exports them: a slice is a pointer and a length. They take what
+//! The six calls on configurations as the library exports them: a slice is a pointer and a length. They take what
 //! was lent as raw memory, so that a write where none belongs is seen and not assumed away.
 
 use crate::memory::Lent;
@@ -20,6 +20,7 @@ extern "C" {
     fn sock_check_readable(config: *const u8, length: usize) -> u8;
     fn sock_ends(config: *const u8, length: usize, serial: u16) -> u64;
     fn sock_process(config: *const u8, length: usize, engine: u16) -> u64;
+    fn sock_pending(engine: u16, position: u16, config: *const u8, length: usize) -> u64;
 }
 
 pub fn step(numbers: Numbers, config: Lent, output: Lent) -> u64 {
@@ -54,4 +55,8 @@ pub fn ends(config: Lent, serial: u16) -> u64 {
 
 pub fn process(config: Lent, engine: u16) -> u64 {
     unsafe { sock_process(config.start, config.length, engine) }
+}
+
+pub fn pending(config: Lent, engine: u16, position: u16) -> u64 {
+    unsafe { sock_pending(engine, position, config.start, config.length) }
 }

@@ -27,6 +27,7 @@ pub enum Call {
     WindowNext { width: u16, number: u8, fault: u8, operation: u16, length: usize },
     WindowCount { operation: u16, length: usize },
     Process { engine: u16 },
+    Pending { engine: u16, position: u16 },
     Step { numbers: Numbers, output: usize },
     Bill { rates: usize, replies: usize, totals: usize },
 }

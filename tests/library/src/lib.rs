@@ -1,4 +1,4 @@
-//! Compares the five calls that the static library exports for C with the second implementation:
+//! Compares the six calls on configurations that the static library exports for C with the second implementation:
 //! the answer's 64 bits, every byte of the output, and that nothing else changes.
 //!
 //! `billing` does the same for the bill, which reads no configuration.

@@ -102,7 +102,8 @@ fn each_broken_condition_is_answered_alike() {
         }
     }
     let classes: Vec<&str> = CONDITIONS.iter().map(|(name, _)| *name).collect();
-    let unreadable = Wanted { step: &[1], start: &[1], ends: &[1], kinds: &[], ..wanted(0, &[]) };
+    let unreadable =
+        Wanted { step: &[1], start: &[1], ends: &[1], pending: &[1], kinds: &[], ..wanted(0, &[]) };
     comparison.counts.report(
         "broken conditions",
         Wanted {
@@ -124,6 +125,7 @@ fn wanted<'a>(calls: u64, classes: &'a [&'a str]) -> Wanted<'a> {
         start: &[0, 1, 11],
         readable: &[0, 1],
         ends: &[0, 1, 12],
+        pending: &[0, 1, 2],
         kinds: ACTORS,
         classes,
         outputs: &[],

@@ -44,6 +44,7 @@ fn guarded(edge: Edge, name: &'static str) {
             start: &[0, 1, 11],
             readable: &[0, 1],
             ends: &[0, 1, 12],
+            pending: &[0, 1, 2],
             kinds: ACTORS,
             classes: &[CLASSES, WAYS].concat(),
             outputs: &NAMES,

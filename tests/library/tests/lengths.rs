@@ -71,6 +71,7 @@ fn all_small_lengths_are_answered_alike() {
             start: &[0, 1],
             readable: &[0, 1],
             ends: &[1, 12],
+            pending: &[0, 1, 2],
             kinds: &[13, 14],
             classes: CLASSES,
             processes: &["found", "empty"],
@@ -114,6 +115,7 @@ fn odd_and_long_lengths_are_unreadable() {
             start: &[1],
             readable: &[1],
             ends: &[1],
+            pending: &[1],
             classes: &["odd length", "above 16,384 bytes"],
             processes: &["empty"],
             ..Wanted::default()

@@ -35,6 +35,7 @@ fn runs_answer_and_write_alike() {
             start: &[0, 11],
             readable: &[0],
             ends: &[0, 12],
+            pending: &[0, 2],
             kinds: ACTORS,
             classes: &plan.map(|(origin, _, _)| class(origin)),
             outputs: &NAMES,

@@ -73,6 +73,8 @@ impl Most {
         for engine in 0..3 {
             let process = self.call("sock_process", shape, || exported::process(lent, engine));
             assert_eq!(process, reference::sock_process(config, engine), "{shape}");
+            let pending = self.call("sock_pending", shape, || exported::pending(lent, engine, 0));
+            assert_eq!(pending, reference::sock_pending(engine, 0, config), "{shape}");
         }
     }
 
@@ -158,7 +160,7 @@ fn no_call_needs_more_stack_than_three_quarters_of_the_promise() {
     most.print();
     let actors = ACTORS.iter().map(|kind| u64::from(*kind));
     assert!(most.kinds.iter().copied().eq(actors), "accepted kinds {:?}", most.kinds);
-    assert_eq!(most.used.len(), 8, "a call was not made");
+    assert_eq!(most.used.len(), 9, "a call was not made");
     for (call, (used, shape)) in &most.used {
         assert!(4 * used <= 3 * promised(), "{call} used {used} bytes of stack ({shape})");
     }

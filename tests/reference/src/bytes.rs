@@ -69,6 +69,15 @@ pub fn sock_ends(config: &[u8], serial: u16) -> u64 {
     u64::from(ends.number) << 56 | u64::from(ends.waiters) << 16 | u64::from(ends.workers)
 }
 
+/// From the most significant bit: number 8, found 8, zero 16, count 32.
+pub fn sock_pending(engine: u16, position: u16, config: &[u8]) -> u64 {
+    let Some(words) = to_words(config) else {
+        return u64::from(Refusal::Unreadable.number()) << 56;
+    };
+    let pending = calls::pending_at(&STANDARD, &words, engine, position);
+    u64::from(pending.number) << 56 | u64::from(pending.found) << 48 | u64::from(pending.count)
+}
+
 /// From the most significant bit: first word's index 32, count of words 32; 0 if empty.
 pub fn sock_process(config: &[u8], engine: u16) -> u64 {
     let Some(words) = to_words(config) else { return 0 };

@@ -1,4 +1,4 @@
-//! The calls on words: start check, readable check, step, ends, process of an engine.
+//! The calls on words: start check, readable check, step, ends, process of an engine, pending.
 
 use crate::alone;
 use crate::configuration::Configuration;
@@ -6,6 +6,7 @@ use crate::context::{enabled, locate, Place};
 use crate::limits::Limits;
 use crate::measure;
 use crate::pair::{self, Meeting};
+use crate::pending;
 use crate::process::Process;
 use crate::readable;
 use crate::refusal::Refusal;
@@ -42,6 +43,14 @@ pub struct Ends {
     pub waiters: u16,
     /// Executors plus notices.
     pub workers: u16,
+}
+
+/// What pending answers.
+#[derive(Clone, Copy, Debug, Default, PartialEq, Eq)]
+pub struct Pending {
+    pub number: u8,
+    pub found: bool,
+    pub count: u32,
 }
 
 impl Numbers {
@@ -210,6 +219,19 @@ pub fn ends(limits: &Limits, words: &[u16], serial: u16) -> Ends {
         }
     }
     ends
+}
+
+/// The search of the enabled process at an engine and a position: 1, then 2.
+pub fn pending_at(limits: &Limits, words: &[u16], engine: u16, position: u16) -> Pending {
+    let refused = |refusal: Refusal| Pending { number: refusal.number(), ..Pending::default() };
+    let Some(configuration) = readable::read(limits, words) else {
+        return refused(Refusal::Unreadable);
+    };
+    let Some(place) = find(&configuration, engine, position) else {
+        return refused(Refusal::Nobody);
+    };
+    let side = pending::search(&place.process);
+    Pending { number: 0, found: side.found, count: side.count as u32 }
 }
 
 /// Which of the words are the engine's process; empty (0..0) if unreadable or no such engine.

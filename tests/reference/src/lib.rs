@@ -18,7 +18,8 @@
 //! - In handover, a length word that is cut itself counts as missing words; "cut" stands alone
 //!   in its line, in place of "end" and the length.
 //!
-//! `window` is document 02's change h, and stands by itself.
+//! `window` is document 02's change h, and stands by itself; `pending` is change b: what a side has
+//! that can't be killed is searched apart from killing it.
 
 pub mod alone;
 pub mod billing;
@@ -37,6 +38,7 @@ pub mod handover;
 pub mod limits;
 pub mod measure;
 pub mod pair;
+pub mod pending;
 pub mod process;
 pub mod read;
 pub mod readable;
@@ -44,8 +46,11 @@ pub mod refusal;
 pub mod window;
 pub mod write;
 
-pub use bytes::{sock_check_readable, sock_check_start, sock_ends, sock_process, sock_step};
+pub use bytes::{
+    sock_check_readable, sock_check_start, sock_ends, sock_pending, sock_process, sock_step,
+};
 pub use calls::{
-    check_readable, check_start, ends, process_of, process_range, step, Answer, Ends, Numbers,
+    check_readable, check_start, ends, pending_at, process_of, process_range, step, Answer, Ends,
+    Numbers, Pending,
 };
 pub use limits::{Limits, STANDARD};

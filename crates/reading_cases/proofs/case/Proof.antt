@@ -78,6 +78,15 @@ array-read-word-6 c = search needs
 word-requires-3 : tie.Need-word-requires-3
 word-requires-3 c κs = search needs
 
+array-read-word-7 : tie.Need-array-read-word-7
+array-read-word-7 c = search needs
+
+array-read-word-8 : tie.Need-array-read-word-8
+array-read-word-8 c = search needs
+
+word-requires-4 : tie.Need-word-requires-4
+word-requires-4 c κs = search needs
+
 answer-requires : tie.Need-answer-requires
 answer-requires c κs = search needs
 
@@ -112,5 +121,8 @@ case-spec =
     array-read-word-5
     array-read-word-6
     word-requires-3
+    array-read-word-7
+    array-read-word-8
+    word-requires-4
     answer-requires
     returns-4)

@@ -1,11 +1,13 @@
-//! Writes cases as theorems about the definitions: for each, what this implementation answers to the five calls, every field and every
+//! Writes cases as theorems about the definitions: for each, what this implementation answers to the six calls, every field and every
 //! word, as equations that the prover computes. Arguments: the folder of proofs to write to, and how many cases. `bin/compare-definitions`
 //! runs it.
 
 use reference::generate::damage;
 use reference::generate::random::Random;
 use reference::generate::run::{Run, ORIGINS};
-use reference::{check_readable, check_start, ends, process_range, step, Numbers, STANDARD};
+use reference::{
+    check_readable, check_start, ends, pending_at, process_range, step, Numbers, STANDARD,
+};
 use std::fmt::Write;
 use std::fs;
 use std::path::Path;
@@ -23,10 +25,12 @@ const HEAD: &str = "\
 -- Cases of the second implementation, computed by the definitions.
 use Prim.Native.Nat.{ℕ}
 use mathlib.Core.Path.{_≡_, refl}
+use mathlib.Core.Bool.{Bool, true, false}
 use mathlib.Core.List.{List, [], _∷_, _++_}
 use lib.ListN.{replicate}
 use Rattle.sock.specs.Configuration.{standard}
 use Rattle.sock.specs.Calls.{Numbers, Answer, Ends, Part, stepAnswer, stepOutput, checkReadable, checkStart, ends, processPart}
+use Rattle.sock.specs.Pending.{Pending, enabledIn, isPending, counted, searchOf, pending, sideAt, searched, pendingAt}
 use Rattle.sock.proofs.Computed.{computed}
 
 abbrev numbers : ℕ → ℕ → ℕ → ℕ → ℕ → Numbers
@@ -40,6 +44,9 @@ counts n a b = record { number = n; waiters = a; workers = b }
 
 abbrev part : ℕ → ℕ → Part
 part a b = record { first = a; count = b }
+
+abbrev finding : ℕ → Bool → ℕ → Pending
+finding n f c = record { number = n; found = f; count = c }
 ";
 
 struct Cases {
@@ -63,6 +70,9 @@ impl Cases {
         let a = step(&STANDARD, words, numbers, &mut output);
         let e = ends(&STANDARD, words, serial);
         let p = process_range(&STANDARD, words, engine);
+        // Where the step's first process stands, and at other positions.
+        let position = [numbers.position, 0, serial + 2][self.count % 3];
+        let s = pending_at(&STANDARD, words, numbers.engine, position);
         let call = format!("standard words{0} numbers{0} (replicate {room} {FILL})", self.count);
         let _ = write!(
             self.text,
@@ -80,8 +90,9 @@ case{0} :
     × (checkStart standard words{0} ≡ {start})
     × (ends standard words{0} {serial} ≡ counts {ends})
     × (processPart standard words{0} {engine} ≡ part {first} {length})
-unfolding computed words{0} numbers{0}
-case{0} = (refl, refl, refl, refl, refl, refl)
+    × (pendingAt standard words{0} {searched} {position} ≡ finding {search})
+unfolding computed enabledIn isPending counted searchOf pending sideAt searched pendingAt words{0} numbers{0}
+case{0} = (refl, refl, refl, refl, refl, refl, refl)
 ",
             self.count,
             words = list(words),
@@ -91,6 +102,8 @@ case{0} = (refl, refl, refl, refl, refl, refl)
             readable = check_readable(&STANDARD, words),
             start = check_start(&STANDARD, words),
             ends = format_args!("{} {} {}", e.number, e.waiters, e.workers),
+            searched = numbers.engine,
+            search = format_args!("{} {} {}", s.number, s.found, s.count),
             first = p.start,
             length = p.len(),
         );

@@ -1,12 +1,12 @@
 //! Writes the cases of the program crate `reading_cases`: its standard input (big-endian words: the count, a serial, an
-//! engine, then the configuration) and the lines that it has to print. The argument is the crate's folder.
+//! engine, a position, then the configuration) and the lines that it has to print. The argument is the crate's folder.
 
 use reference::bytes::from_words;
 use reference::configuration::Configuration;
 use reference::generate::random::Random;
 use reference::generate::run::{Run, ORIGINS};
 use reference::generate::{damage, edges};
-use reference::{check_readable, check_start, ends, process_of, step, write, STANDARD};
+use reference::{check_readable, check_start, ends, pending_at, process_of, step, write, STANDARD};
 use std::fs;
 use std::path::Path;
 
@@ -18,20 +18,26 @@ struct Cases {
 
 impl Cases {
     fn add(&mut self, words: &[u16], serial: u16, engine: u16) {
-        self.input.extend(from_words(&[words.len() as u16, serial, engine]));
+        // Positions differ from case to case; one in three is the root's.
+        let position = [0, 3, (self.count % 13) as u16][self.count % 3];
+        self.input.extend(from_words(&[words.len() as u16, serial, engine, position]));
         self.input.extend(from_words(words));
         let e = ends(&STANDARD, words, serial);
         let p = process_of(&STANDARD, words, engine);
+        let pending = pending_at(&STANDARD, words, engine, position);
         let sum = p.iter().fold(0u16, |s, w| s.wrapping_mul(3).wrapping_add(*w));
         self.output += &format!(
-            "{} {} {} {} {} {} {}\n",
+            "{} {} {} {} {} {} {} {} {} {}\n",
             check_readable(&STANDARD, words),
             check_start(&STANDARD, words),
             e.number,
             e.waiters,
             e.workers,
             p.len(),
-            sum
+            sum,
+            pending.number,
+            u8::from(pending.found),
+            pending.count
         );
         self.count += 1;
     }

@@ -656,6 +656,41 @@ fn of_keys(cases: &mut Cases) {
     cases.edge(&inst, first(&inst, 12), 200, 0);
 }
 
+/// A throw beside a side of thousands of enabled processes, with an inst or a live scope with nil body first among them, in the middle, last or
+/// nowhere, and in a second of a seq and beside a zombie's nil body, where they do not count.
+fn of_sides(cases: &mut Cases) {
+    fn balanced(processes: &[Part]) -> Part {
+        match processes {
+            [one] => one.clone(),
+            _ => {
+                let (left, right) = processes.split_at(processes.len() / 2);
+                build::par(balanced(left), balanced(right))
+            }
+        }
+    }
+    let inst = || build::inst(List::new());
+    let zombie = |body| build::scope_with(3, Mark::OwnName, true, List::new(), body);
+    let idle = || build::one_way(1, 1);
+    for (process, number) in [
+        (inst(), 6),
+        (build::scope(3, build::nil()), 6),
+        (zombie(inst()), 6),
+        (build::executor(2, 2, 0, 1, build::seq(inst(), idle())), 6),
+        (zombie(build::nil()), 0),
+        (build::seq(idle(), inst()), 0),
+    ] {
+        for place in [0, 500, 1000] {
+            let mut all = vec![idle(); 1000];
+            all.insert(place, process.clone());
+            let side = balanced(&all);
+            let at = 4 + measure::size(&side) as u16;
+            let root = build::scope(1, build::par(side, build::throw(2)));
+            let before = build::configuration(1, vec![root]);
+            cases.edge(&before, alone(at), 3_000, number);
+        }
+    }
+}
+
 /// One case for each way to break a condition of readable.
 fn of_damage(cases: &mut Cases) {
     let mut random = Random::new(7);
@@ -688,6 +723,7 @@ fn main() -> std::io::Result<()> {
     of_signs(&mut cases);
     of_digits(&mut cases);
     of_keys(&mut cases);
+    of_sides(&mut cases);
     of_damage(&mut cases);
     for words in [&[][..], &[1], &[1, 0]] {
         cases.add(Case::new(words, alone(0), 8));

@@ -6,27 +6,26 @@ use borrow.Author.Needs.{needs}
 use Rattle.scopes.proofs.throwing.caught.Statement.{statement}
 use Rattle.scopes.proofs.throwing.caught.Tie as tie
 
-body-at-requires : tie.Need-body-at-requires
-body-at-requires c κs = search needs
+-- a side can't be killed
+refuses : tie.Need-returns
+unfolding caughtW
+refuses c = (simp (← (c .before .before .before .body-at .ensures), ← (c .before .before .any-pending .ensures), c .before .if1 .taken, ← (c .refuse .ensures)), simp (← (c .before .before .before .body-at .ensures), ← (c .before .before .any-pending .ensures), c .before .if1 .taken))
 
-opened-requires : tie.Need-opened-requires
-opened-requires c κs = search needs
-
-kill-requires : tie.Need-kill-requires
-kill-requires c κs = search needs
-
-cleared-requires : tie.Need-cleared-requires
-cleared-requires c κs = search needs
-
-same-length : tie.Need-same-length
-same-length c = search needs
-
-returns : tie.Need-returns
+kills : tie.Need-returns-2
 unfolding caughtW clearedBy
-returns c =
-    (simp (tests, ← (c .cleared .ensures), ← (c .before .before .before .kill .ensures .0), ← (c .before .before .before .kill .ensures .1), ← (c .before .before .before .before .before .before .before .opened .ensures .0), ← (c .before .before .before .before .before .before .before .opened .ensures .1), ← (c .before .before .before .before .before .before .before .before .before .body-at .ensures)), simp (tests, ← (c .cleared .ensures), ← (c .before .before .before .kill .ensures .0), ← (c .before .before .before .kill .ensures .1), ← (c .before .before .before .before .before .before .before .opened .ensures .0), ← (c .before .before .before .before .before .before .before .opened .ensures .1), ← (c .before .before .before .before .before .before .before .before .before .body-at .ensures)))
+kills c =
+    (simp (tests, ← (c .before .before .before .before .before .before .before .before .before .before .before .body-at .ensures), ← (c .before .before .before .before .before .before .before .before .before .before .any-pending .ensures), c .before .before .before .before .before .before .before .before .before .if1 .left, ← (c .cleared .ensures), ← (c .before .before .before .kill .ensures .0), ← (c .before .before .before .kill .ensures .1), ← (c .before .before .before .before .before .before .before .opened .ensures .0), ← (c .before .before .before .before .before .before .before .opened .ensures .1)), simp (tests, ← (c .before .before .before .before .before .before .before .before .before .before .before .body-at .ensures), ← (c .before .before .before .before .before .before .before .before .before .before .any-pending .ensures), c .before .before .before .before .before .before .before .before .before .if1 .left, ← (c .cleared .ensures), ← (c .before .before .before .kill .ensures .0), ← (c .before .before .before .kill .ensures .1), ← (c .before .before .before .before .before .before .before .opened .ensures .0), ← (c .before .before .before .before .before .before .before .opened .ensures .1)))
 
 pub caught-spec : {M : Type 1} → statement M
 caught-spec =
     tie.close
-    (tie.spec body-at-requires opened-requires kill-requires cleared-requires same-length returns)
+    (tie.spec
+    (λ c κs. search needs)
+    (λ c κs. search needs)
+    (λ c κs. search needs)
+    refuses
+    (λ c κs. search needs)
+    (λ c κs. search needs)
+    (λ c κs. search needs)
+    (λ c. search needs)
+    kills)

@@ -6,19 +6,24 @@ use borrow.Author.Needs.{needs}
 use Rattle.scopes.proofs.throwing.uncaught.Statement.{statement}
 use Rattle.scopes.proofs.throwing.uncaught.Tie as tie
 
-kill-requires : tie.Need-kill-requires
-kill-requires c κs = search needs
+-- a side can't be killed
+refuses : tie.Need-returns
+unfolding uncaughtW
+refuses c = (simp (← (c .before .before .any-pending .ensures), c .before .if1 .taken, ← (c .refuse .ensures)), simp (← (c .before .before .any-pending .ensures), c .before .if1 .taken))
 
-cleared-requires : tie.Need-cleared-requires
-cleared-requires c κs = search needs
-
-same-length : tie.Need-same-length
-same-length c = search needs
-
-returns : tie.Need-returns
+kills : tie.Need-returns-2
 unfolding uncaughtW clearedBy
-returns c =
-    (simp (tests, ← (c .cleared .ensures), ← (c .before .before .before .kill .ensures .0), ← (c .before .before .before .kill .ensures .1)), simp (tests, ← (c .cleared .ensures), ← (c .before .before .before .kill .ensures .0), ← (c .before .before .before .kill .ensures .1)))
+kills c =
+    (simp (tests, ← (c .before .before .before .before .before .before .any-pending .ensures), c .before .before .before .before .before .if1 .left, ← (c .cleared .ensures), ← (c .before .before .before .kill .ensures .0), ← (c .before .before .before .kill .ensures .1)), simp (tests, ← (c .before .before .before .before .before .before .any-pending .ensures), c .before .before .before .before .before .if1 .left, ← (c .cleared .ensures), ← (c .before .before .before .kill .ensures .0), ← (c .before .before .before .kill .ensures .1)))
 
 pub uncaught-spec : {M : Type 1} → statement M
-uncaught-spec = tie.close (tie.spec kill-requires cleared-requires same-length returns)
+uncaught-spec =
+    tie.close
+    (tie.spec
+    (λ c κs. search needs)
+    (λ c κs. search needs)
+    refuses
+    (λ c κs. search needs)
+    (λ c κs. search needs)
+    (λ c. search needs)
+    kills)
