@@ -5,10 +5,11 @@
 
 #include <stdio.h>
 
-/* Scope 1 around a waiter, and scope 1 around an executor with nil body. */
-static const uint16_t processes[2][7] = {
-    {0x5820, 0x0000, 0x0000, 0x8800, 0x1000, 0x0001, 0x0000},
-    {0x5820, 0x0000, 0x0000, 0x8000, 0x0000, 0x0001, 0x0000},
+/* Scope 1 around a waiter, and scope 1 around an executor with nil body. Behind the serial 1 stands the count of variables, 1: the reply has
+ * one value. */
+static const uint16_t processes[2][8] = {
+    {0x5820, 0x0000, 0x0000, 0x8800, 0x1000, 0x0001, 0x0001, 0x0000},
+    {0x5820, 0x0000, 0x0000, 0x8000, 0x0000, 0x0001, 0x0001, 0x0000},
 };
 
 /* Two engines, one serial issued, all values 0. Answers how many words there are. */
@@ -18,7 +19,7 @@ static size_t middle(uint8_t *config)
     for (int engine = 0; engine < 2; engine++) {
         for (int variable = 0; variable < SOCK_VARIABLES; variable++)
             at = sock_put_value(config, at, 0);
-        for (int word = 0; word < 7; word++)
+        for (int word = 0; word < 8; word++)
             at = sock_put(config, at, processes[engine][word]);
     }
     return at;

@@ -8,10 +8,11 @@
 #include <stdio.h>
 #include <string.h>
 
-/* Engine 0: a scope around solicit(operation 1), which asks the engine that variable 1 names. Engine 1: a scope around request(operation 1). */
-static const uint16_t processes[2][6] = {
-    {0x5800, 0x0000, 0x0000, 0x5020, 0x0880, 0x0000},
-    {0x5800, 0x0000, 0x0000, 0x4020, 0x0000, 0x0000},
+/* Engine 0: a scope around solicit(operation 1), which asks the engine that variable 1 names. Engine 1: a scope around request(operation 1).
+ * Both messages have one value; the two words 1 of each process are the counts of its variables. */
+static const uint16_t processes[2][8] = {
+    {0x5800, 0x0000, 0x0000, 0x5020, 0x0880, 0x0001, 0x0001, 0x0000},
+    {0x5800, 0x0000, 0x0000, 0x4020, 0x0000, 0x0001, 0x0001, 0x0000},
 };
 
 static const struct sock_move moves[] = {
@@ -29,7 +30,7 @@ static size_t start(uint8_t *config)
     for (int engine = 0; engine < 2; engine++) {
         for (int variable = 0; variable < SOCK_VARIABLES; variable++)
             at = sock_put_value(config, at, engine == 0 && variable == 1);
-        for (int word = 0; word < 6; word++)
+        for (int word = 0; word < 8; word++)
             at = sock_put(config, at, processes[engine][word]);
     }
     return at;

@@ -4,6 +4,9 @@
  * 8,192 words (16,384 bytes). Every call answers for all bytes and numbers: nothing has to be checked before. A configuration of odd length
  * is unreadable.
  *
+ * A message carries one to four values. Up to version 3 it carried one, and no counts of variables stood in a configuration; such inputs of
+ * the program handover are rewritten by `bin/handover --rewrite`, and docs/FORMAT.md says where the counts go.
+ *
  * There are two layers. The raw calls (sock_step, sock_ends, ..) are what the library exports: they answer one packed number, and each has
  * accessors that take it apart. The inline calls (sock_take_step, sock_count_ends, ..) make the same calls and answer a struct of their
  * own, so that the compiler tells one answer from another.
@@ -34,10 +37,10 @@ extern "C" {
 #endif
 
 /* This header's version. The first number rises when a call, an answer or the format changes, the second when something is added. */
-#define SOCK_VERSION_MAJOR 3
-#define SOCK_VERSION_MINOR 1
+#define SOCK_VERSION_MAJOR 4
+#define SOCK_VERSION_MINOR 0
 #define SOCK_VERSION_PATCH 0
-#define SOCK_VERSION "3.1.0"
+#define SOCK_VERSION "4.0.0"
 
 /* The most words and bytes that a configuration has. */
 #define SOCK_WORDS 8192
@@ -64,7 +67,7 @@ enum sock_number {
     SOCK_NOBODY_THERE = 2,    /* no such engine, or no enabled process begins at the position */
     SOCK_NO_MOVE = 3,         /* the process cannot move, or moves alone and a second field or branch is not 0 */
     SOCK_NO_PARTNER = 4,      /* as 2, for the second engine and position */
-    SOCK_NO_FIT = 5,          /* the two do not fit each other, or the branch does not */
+    SOCK_NO_FIT = 5,          /* the two do not fit each other (also by how many values), or the branch does not */
     SOCK_INSTALLING = 6,      /* the fault meets a side that cannot be killed yet */
     SOCK_SERIALS_SPENT = 7,   /* a solicit when 65,535 serials are issued */
     SOCK_DEEP = 8,            /* the result would be deeper than 64 */

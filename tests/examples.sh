@@ -59,7 +59,7 @@ gcc -shared -nostdlib -Wl,--whole-archive "$library" -o "$scratch/library.so"
 
 # ---- The inputs, plain and explained
 
-for name in worked lockage bridge compensation dead-waiter choice; do
+for name in worked lockage bridge compensation dead-waiter choice booking; do
     bin/handover "examples/$name.hex" | same "$name.hex" "examples/$name.txt"
     echo "$name.hex"
     bin/handover --explain "examples/$name.hex"
@@ -81,7 +81,7 @@ ends 0 "$scratch/format.txt" 'bin/handover "$scratch/format.hex"'
 bytes_of() { NAME=$1 LC_ALL=C awk -f tools/hex.awk "$1" | while IFS= read -r line; do printf '%b' "$line"; done; }
 bytes_of examples/worked.hex >"$scratch/worked"
 { cat "$scratch/worked"; head -c 100000 /dev/zero; } >"$scratch/long"
-head -c 334 "$scratch/worked" >"$scratch/cut"
+head -c 342 "$scratch/worked" >"$scratch/cut"
 { sed '$d' examples/worked.txt | sed '$d'; echo cut; } >"$scratch/cut.txt"
 echo "start 1" >"$scratch/refused.txt"
 
@@ -114,7 +114,7 @@ unreadable() {
 unreadable '\1' "the input is one byte"
 unreadable '\40\1' "the first word says 8193 words, and 8,192 are the most"
 unreadable '\0\5\0\1\0' "the first word says 5 words, and 1 follow"
-unreadable '\0\1\0\1' "no configuration that can be read"
+unreadable '\0\1\0\1' "no configuration that can be read (an earlier one, without counts of variables, is rewritten by --rewrite)"
 ends 1 "$scratch/cut.txt" 'bin/handover "$scratch/cut"'
 ends 1 "$scratch/cut.txt" 'bin/handover <"$scratch/cut"'
 # A start that is refused is told from an input that cannot be read, also where much is left to read.
@@ -186,13 +186,43 @@ as_text 0 "$(printf '%s\n' "$plain" | sed 's/$/\\r/')"
 as_text 0 "$mark# a comment\r\n$(printf '%s\n' "$plain" | sed 's/$/ # a comment\\r/')"
 as_text 0 "$(printf '%s\n' "$plain" | tr 'a-f' 'A-F')"
 as_text 2 "# a comment\r$(printf '%s\n' "$plain" | tr '\n' ' ')\r" && says 'CR alone'
-as_text 2 "$(printf '%s\n' "$plain" | sed 's/^008e/00 8e/')" && says 'line 3: not a word of four hexadecimal digits: 00'
+as_text 2 "$(printf '%s\n' "$plain" | sed 's/^0092/00 92/')" && says 'line 3: not a word of four hexadecimal digits: 00'
 for text in 8e 08e 0008e 008e0002 0x008e 00zz 008e, '\0376\0377' '0\0000\00008e'; do as_text 2 "$text\n"; done
 for text in '008e*' '*3' '008e*2*3' '008e*0' '008e*-1' '008e*20000'; do as_text 2 "$text\n"; done
 cp "$scratch/text.hex" "$scratch/OTHER.HEX"
 ends 2 $none 'bin/handover "$scratch/OTHER.HEX"'
 printf '%s\n' "$plain" >"$scratch/name with 'signs' \$HOME \\n.hex"
 ends 0 $worked 'bin/handover "$scratch/name with '"'signs'"' \$HOME \\n.hex"'
+
+# ---- Earlier inputs rewritten: those from before a message had several values. They are no starts any more; rewritten, they are the words of
+# ---- the examples, which print what they printed
+
+earlier=tests/reference/earlier
+for name in worked lockage bridge compensation dead-waiter choice; do
+    bin/handover --rewrite "$earlier/examples/$name.hex" >"$scratch/rewritten.hex"
+    bytes_of "$scratch/rewritten.hex" >"$scratch/rewritten"
+    bytes_of "examples/$name.hex" | cmp - "$scratch/rewritten" || wrong "$name.hex is not the earlier one rewritten"
+    bytes_of "$earlier/examples/$name.hex" >"$scratch/earlier"
+    bin/handover --rewrite "$scratch/earlier" | cmp - "$scratch/rewritten" || wrong "$name.hex: bytes are not rewritten like text"
+    sed 's/^[^#]*//' "$earlier/examples/$name.hex" >"$scratch/comments"
+    sed 's/^[^#]*//' "$scratch/rewritten.hex" | same "comments of $name.hex" "$scratch/comments"
+    ends 0 "examples/$name.txt" 'bin/handover "$scratch/rewritten.hex"'
+    ends 0 "examples/$name.txt" 'bin/handover "$scratch/rewritten"'
+    # Without messages nothing changes.
+    [ "$name" = compensation ] || ends 1 "$refused" 'bin/handover "$scratch/earlier"'
+done
+ends 0 $worked 'bin/handover --rewrite tests/reference/earlier/handover/stdin | bin/handover'
+ends 0 $worked 'cat tests/reference/earlier/handover/stdin | bin/handover --rewrite - | bin/handover -'
+ends 0 crates/handover/stdin 'bin/handover --rewrite tests/reference/earlier/handover/stdin'
+# What is not in the earlier format, or no input at all, is said so, and nothing is printed.
+ends 2 $none 'bin/handover --rewrite examples/worked.hex' && says 'no configuration that can be read in the earlier format'
+ends 2 $none 'bin/handover --rewrite "$scratch/empty"' && says 'the input is empty'
+ends 2 $none 'bin/handover --rewrite "$scratch/text.hex"' && says 'line 1'
+ends 2 $none 'bin/handover --rewrite "$scratch/none"' && says 'no such file'
+ends 2 $none 'bin/handover --rewrite' && says 'wants a file'
+ends 2 $none 'bin/handover --rewrite --example' && says 'runs nothing'
+ends 2 $none 'bin/handover --rewrite --explain tests/reference/earlier/examples/worked.hex' && says 'runs nothing'
+ends 3 $none 'bin/handover --rewrite tests/reference/earlier/examples/worked.hex >/dev/full' && says 'could'
 
 # ---- The picture of the step's times: a row with a name for each row of the table, and a mark for each number
 

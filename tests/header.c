@@ -16,9 +16,9 @@ static void check(int holds, const char *what)
     }
 }
 
-static const uint16_t processes[2][6] = {
-    {0x5800, 0x0000, 0x0000, 0x5020, 0x0880, 0x0000},
-    {0x5800, 0x0000, 0x0000, 0x4020, 0x0000, 0x0000},
+static const uint16_t processes[2][8] = {
+    {0x5800, 0x0000, 0x0000, 0x5020, 0x0880, 0x0001, 0x0001, 0x0000},
+    {0x5800, 0x0000, 0x0000, 0x4020, 0x0000, 0x0001, 0x0001, 0x0000},
 };
 static const struct sock_move ask = {0, 3, 1, 3, 0};
 static uint8_t config[SOCK_BYTES], out[SOCK_BYTES], before[SOCK_BYTES];
@@ -36,7 +36,7 @@ static size_t start(void)
     for (unsigned engine = 0; engine < 2; engine++) {
         for (unsigned variable = 0; variable < SOCK_VARIABLES; variable++)
             at = sock_put_value(config, at, value_of(engine, variable));
-        for (int word = 0; word < 6; word++)
+        for (int word = 0; word < 8; word++)
             at = sock_put(config, at, processes[engine][word]);
     }
     return at;
@@ -45,14 +45,14 @@ static size_t start(void)
 static void words_and_values(size_t words)
 {
     uint8_t bytes[6] = {0xff, 0xff, 0xff, 0xff, 0xff, 0xff};
-    check(words == 142 && sock_bytes(words) == 284, "words put one after the other");
+    check(words == 146 && sock_bytes(words) == 292, "words put one after the other");
     check(sock_put(bytes, 1, 0x1234) == 2 && memcmp(bytes, "\xff\xff\x12\x34\xff\xff", 6) == 0, "a word, the high byte first");
     check(sock_get(bytes, 1) == 0x1234 && sock_get(bytes, 0) == 0xffff, "a word read");
     check(sock_put_value(bytes, 0, 0x89abcdef) == 2 && memcmp(bytes, "\x89\xab\xcd\xef\xff\xff", 6) == 0, "a value, the high word first");
     check(sock_get_value(bytes, 0) == 0x89abcdef && sock_get_value(bytes, 1) == 0xcdefffff, "a value read");
     for (uint16_t engine = 0; engine < 2; engine++) {
         struct sock_process_answer process = sock_find_process(config, sock_bytes(words), engine);
-        check(process.count == 6 && sock_get(config, process.first) == 0x5800, "a process found");
+        check(process.count == 8 && sock_get(config, process.first) == 0x5800, "a process found");
         for (unsigned variable = 0; variable < SOCK_VARIABLES; variable++)
             check(sock_get_value(config, sock_variable(process, variable)) == value_of(engine, variable), "an engine's variable");
     }
@@ -62,10 +62,10 @@ static void inline_and_raw(size_t length)
 {
     struct sock_step_answer taken = sock_take_step(ask, config, length, out, sizeof out);
     uint64_t raw = sock_step(0, 3, 1, 3, 0, config, length, out, sizeof out);
-    check(raw == 0x000a000000010090, "the raw step");
+    check(raw == 0x000a000000010092, "the raw step");
     check(taken.number == sock_number(raw) && taken.kind == SOCK_SOLICIT && taken.kind == sock_kind(raw), "number and kind");
     check(taken.serial == 1 && sock_serial(raw) == 1 && taken.fault == 0 && sock_fault(raw) == 0, "serial and fault");
-    check(taken.length == 144 && sock_length(raw) == 144, "length");
+    check(taken.length == 146 && sock_length(raw) == 146, "length");
 
     struct sock_ends_answer ends = sock_count_ends(out, sock_bytes(taken.length), 1);
     raw = sock_ends(out, sock_bytes(taken.length), 1);
@@ -96,7 +96,7 @@ static void overlap(size_t length)
     check(taken.serial == 0 && taken.fault == 0 && taken.length == 0, "the other fields of a refusal are 0");
     check(memcmp(before, config, sizeof config) == 0, "a refusal changes no byte");
     taken = sock_take_step(ask, config, length, config + length, sizeof config - length);
-    check(taken.number == SOCK_ACCEPTED && taken.length == 144, "an output right behind the configuration");
+    check(taken.number == SOCK_ACCEPTED && taken.length == 146, "an output right behind the configuration");
     check(memcmp(before, config, length) == 0, "the configuration stays");
 }
 

@@ -18,7 +18,7 @@ function why(number, i) {
     if (number == 2) return "no enabled process begins at word " given(i, 1) " of engine " given(i, 0)
     if (number == 3) return "what stands at word " given(i, 1) " of engine " given(i, 0) " cannot move, or moves alone and was given a partner"
     if (number == 4) return "no enabled process begins at word " given(i, 3) " of engine " given(i, 2)
-    if (number == 5) return "engine " given(i, 2) " does not take what engine " given(i, 0) " sends, or not by that branch"
+    if (number == 5) return "engine " given(i, 2) " does not take what engine " given(i, 0) " sends, or not by that branch, or not as many values"
     if (number == 6) return "the fault would kill what still installs its handlers"
     if (number == 7) return "65,535 requests have been sent"
     if (number == 8) return "the result would nest deeper than 64"
@@ -50,7 +50,7 @@ function unreadable() {
     if (count == 1) return "the input is one byte"
     if (word_at(0) > 8192) return "the first word says " word_at(0) " words, and 8,192 are the most"
     if (count < 2 * (1 + word_at(0))) return "the first word says " word_at(0) " words, and " int(count / 2) - 1 " follow"
-    return "no configuration that can be read"
+    return "no configuration that can be read (an earlier one, without counts of variables, is rewritten by --rewrite)"
 }
 
 $1 == "start" { text = $2 == 0 ? "the run begins" : $2 == 1 ? "unreadable: " unreadable() : "not fresh: readable, but no start" }

@@ -60,6 +60,9 @@ fn between(actor: Part, partner: Part) -> Scene {
     Scene { partner: Some(partner), ..alone(actor) }
 }
 
+/// The variables of a message that has as many as there can be.
+const FOUR: [u8; 4] = [2, 3, 4, 5];
+
 fn two_branches(piece: Part) -> Part {
     let request = build::request(2, 2, 2, piece.clone());
     build::choice(vec![(build::one_way(2, 2), piece.clone()), (request, piece)])
@@ -73,7 +76,7 @@ fn scope(mark: Mark, zombie: bool, piece: Part) -> Part {
     build::scope_with(2, mark, zombie, handler(2, piece), build::nil())
 }
 
-pub const RULES: [Rule; 17] = [
+pub const RULES: [Rule; 20] = [
     ("assign", |_| {
         alone(build::assign(
             2,
@@ -83,12 +86,19 @@ pub const RULES: [Rule; 17] = [
     ("if", |p| alone(build::if_else(build::variable(1), p, build::nil()))),
     ("while", |p| alone(build::while_true(build::variable(1), p))),
     ("notify", |_| between(build::notify(2, 2, 1), build::one_way(2, 2))),
+    ("notify of four values", |_| between(build::notify(2, FOUR, 1), build::one_way(2, FOUR))),
     ("notify to a choice", |p| Scene {
         branch: 1,
         ..between(build::notify(2, 2, 1), two_branches(p))
     }),
     ("solicit", |p| {
         between(build::solicit(2, 2, 1, 2, handler(2, p.clone())), build::request(2, 2, 2, p))
+    }),
+    ("solicit of four values for four", |p| {
+        between(
+            build::solicit(2, FOUR, 1, FOUR, handler(2, p.clone())),
+            build::request(2, FOUR, FOUR, p),
+        )
     }),
     ("solicit to a choice", |p| Scene {
         branch: 2,
@@ -98,6 +108,12 @@ pub const RULES: [Rule; 17] = [
         between(
             build::executor(2, 2, 1, 1, build::nil()),
             build::waiter(2, 2, false, 0, 1, handler(2, p)),
+        )
+    }),
+    ("reply of four values", |p| {
+        between(
+            build::executor(2, FOUR, 1, 1, build::nil()),
+            build::waiter(2, FOUR, false, 0, 1, handler(2, p)),
         )
     }),
     ("fault", |p| {
@@ -156,14 +172,14 @@ pub fn worst(words: usize) -> Vec<(&'static str, Case)> {
     // Behind the root's three words and 61 heads of pars.
     deep.numbers.position = 3 + 61;
     let scopes =
-        |room: usize| balanced(&vec![build::scope(3, build::one_way(1, 1)); (room / 5).max(1)]);
+        |room: usize| balanced(&vec![build::scope(3, build::one_way(1, 1)); (room / 6).max(1)]);
     let ends = |room: usize| {
         balanced(&vec![build::executor(2, 2, 1, 1, build::one_way(1, 1)); (room / 10).max(1)])
     };
     let throw = || Scene { handlers: handler(2, build::comp(3)), ..alone(build::throw(2)) };
     // The side of leaves, with an inst before all others, or behind them.
     let pending = |first: bool| {
-        let mut all = vec![build::one_way(1, 1); room.div_ceil(2) - 14];
+        let mut all = vec![build::comp(1); room.div_ceil(2) - 14];
         all.insert(if first { 0 } else { all.len() }, build::inst(List::new()));
         balanced(&all)
     };
@@ -177,7 +193,7 @@ pub fn worst(words: usize) -> Vec<(&'static str, Case)> {
         ("lists in lists", beside(&assign(), lists(room))),
         (
             "throw, leaves killed",
-            beside(&throw(), balanced(&vec![build::one_way(1, 1); room.div_ceil(2) - 12])),
+            beside(&throw(), balanced(&vec![build::comp(1); room.div_ceil(2) - 12])),
         ),
         ("throw, scopes turned zombies", beside(&throw(), scopes(room - 24))),
         ("throw, executors leaving notices", beside(&throw(), ends(room - 24))),

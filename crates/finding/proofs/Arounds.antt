@@ -12,6 +12,7 @@ use Rattle.sock.specs.Kind
 use Rattle.sock.specs.Words.{headOf, nameFields}
 use Rattle.sock.specs.Term.{Node, Entries}
 use Rattle.sock.specs.Layout.{words, count, entriesWords}
+use Rattle.sock.specs.Variables.{firstOf, variableWords}
 use Rattle.sock.specs.Running.{Mark, Run, nil, seq, par, scope, executor, markedFault, scopeHead, runWords, size, enable}
 use Rattle.sock.specs.Frames.{Frame, seqFrame, leftFrame, rightFrame, scopeFrame, executorFrame, Located, isDone, seqOf, parOf, plug, onNearest}
 use Rattle.sock.proofs.Located.{wrap}
@@ -73,9 +74,12 @@ around-right a b i t =
           ∙ ap (lifted (rightFrame a ∷ [])) e);
     }
 
+abbrev pub executorWords : ℕ → List ℕ → ℕ → ℕ → List ℕ
+executorWords o y client serial = headOf Kind.executor (nameFields o (firstOf y)) ∷ (client * 8192) ∷ serial ∷ variableWords y
+
 pub around-executor :
-    (o y client serial : ℕ) (a : Run) (i : ℕ) →
-    Around (executor o y client serial a) a i (i + 3) (headOf Kind.executor (nameFields o y) ∷ (client * 8192) ∷ serial ∷ []) []
+    (o : ℕ) (y : List ℕ) (client serial : ℕ) (a : Run) (i : ℕ) →
+    Around (executor o y client serial a) a i (i + (3 + length (variableWords y))) (executorWords o y client serial) []
     (executorFrame o y client serial)
 unfolding plug wrap isDone lifted
 around-executor o y client serial a i =
@@ -88,10 +92,10 @@ around-executor o y client serial a i =
       lifts = λ k l h e. within-executor i k (λ z. omega arith) o y client serial a ∙ ap (lifted (executorFrame o y client serial ∷ [])) e;
     }
   where
-    kept : (x : Run) → runWords (executor o y client serial x) ≡ headOf Kind.executor (nameFields o y) ∷ (client * 8192) ∷ serial ∷ (runWords x ++ [])
+    kept : (x : Run) → runWords (executor o y client serial x) ≡ executorWords o y client serial ++ (runWords x ++ [])
     kept x =
         words-executor o y client serial x
-        ∙ ap (λ l. headOf Kind.executor (nameFields o y) ∷ (client * 8192) ∷ serial ∷ l) (sym (append-nil (runWords x)))
+        ∙ ap (λ l. headOf Kind.executor (nameFields o (firstOf y)) ∷ (client * 8192) ∷ serial ∷ (variableWords y ++ l)) (sym (append-nil (runWords x)))
 
 abbrev pub scopeWords : ℕ → Mark → Bool → Entries → List ℕ
 scopeWords name mark zombie h = scopeHead name mark zombie ∷ (markedFault mark * 1024) ∷ count h ∷ entriesWords h

@@ -13,6 +13,7 @@ use Rattle.sock.specs.Kind
 use Rattle.sock.specs.Words.{headOf, nameFields}
 use Rattle.sock.specs.Term.{Entries}
 use Rattle.sock.specs.Layout.{entriesWords}
+use Rattle.sock.specs.Variables.{variableWords}
 use Rattle.sock.specs.Running.{Mark, Run, nil, scope, executor}
 use Rattle.sock.specs.Frames.{Frame, scopeFrame, executorFrame, Located, isDone, plug, onNearest}
 use Rattle.sock.proofs.Located.{wrap}
@@ -23,7 +24,7 @@ use Rattle.finding.proofs.Within.{behind, lifted, orElse, within-here}
 use Rattle.finding.proofs.Stops.{stopped, anyScope, catches, stopped-append, Standing, standing-scope, standing-none, any-none, any-some}
 use Rattle.finding.proofs.Pieces.{Swap, Cut, swap-under, cut-under, put-back, swap-scope, cut-scope}
 use Rattle.finding.proofs.Spots.{Spotted, Around, under}
-use Rattle.finding.proofs.Arounds.{around-executor, scopeWords, scope-kept, around-scope}
+use Rattle.finding.proofs.Arounds.{executorWords, around-executor, scopeWords, scope-kept, around-scope}
 
 -- the spot closed, with another nearest scope at another level, and another catcher
 abbrev closedSpot : Site → ℕ → ℕ → ℕ → Site
@@ -43,18 +44,19 @@ closedSpot s near near-level catcher =
     }
 
 pub executor-spotted :
-    (f target i level o y client serial : ℕ) (a : Run) (l : Located) (s : Site) →
-    Spotted f target a (i + 3) (level + 1) l s →
+    (f target i level o : ℕ) (y : List ℕ) (client serial : ℕ) (a : Run) (l : Located) (s : Site) →
+    Spotted f target a (i + (3 + length (variableWords y))) (level + 1) l s →
     Spotted f target (executor o y client serial a) i level (behind (executorFrame o y client serial ∷ []) l) (closedSpot s (s .scope) (s .«scope_level») (s .catcher))
 unfolding plug stopped isDone
 executor-spotted f target i level o y client serial a l s sub =
     let frame : Frame = executorFrame o y client serial in
-    let own : List ℕ = headOf Kind.executor (nameFields o y) ∷ (client * 8192) ∷ serial ∷ [] in
-    let around : Around (executor o y client serial a) a i (i + 3) own [] frame = around-executor o y client serial a i in
+    let own : List ℕ = executorWords o y client serial in
+    let j : ℕ = i + (3 + length (variableWords y)) in
+    let around : Around (executor o y client serial a) a i j own [] frame = around-executor o y client serial a i in
     let outer : Outer (l .frames) frame = outer-executor (l .frames) o y client serial in
-    under f target (executor o y client serial a) a i (i + 3) level own [] frame around (λ fs. outer-executor fs o y client serial) (λ test b. refl) l s sub
+    under f target (executor o y client serial a) a i j level own [] frame around (λ fs. outer-executor fs o y client serial) (λ test b. refl) l s sub
     (closedSpot s (s .scope) (s .«scope_level») (s .catcher)) refl refl refl refl refl
-    (cut-under (executor o y client serial a) a i (i + 3) own [] (l .frames) frame (around .there) outer (around .words) (s .scope) (s .from) (s .upto) (s .gap) (s .end)
+    (cut-under (executor o y client serial a) a i j own [] (l .frames) frame (around .there) outer (around .words) (s .scope) (s .from) (s .upto) (s .gap) (s .end)
     (s .hollow) (λ g. around-executor o y client serial (plug (onNearest g (l .frames)) nil) i .words) (sub .cut))
     (λ t g. rw (outer .changed g, plug-append (onNearest g (l .frames)) (frame ∷ []) nil))
     (λ t. absurd t)

@@ -13,6 +13,7 @@ use Rattle.sock.specs.Words.{kindOf}
 use Rattle.sock.specs.Term.{Node, Entries, headWord}
 use Rattle.sock.specs.Layout.{words, entriesWords}
 use Rattle.sock.specs.Reading.{code, anywhere}
+use Rattle.sock.specs.Variables.{variableWords}
 use Rattle.sock.specs.Running.{Mark, Run, nil, seq, par, scope, executor, waiter, notice, act, asNode, runWords, size, enable}
 use Rattle.sock.specs.Frames.{seqFrame, leftFrame, rightFrame, scopeFrame, executorFrame, Located, isDone}
 use Rattle.sock.proofs.Fits.{Fits}
@@ -181,8 +182,8 @@ module _ (f target : ℕ) (ws notes : List ℕ) (d i level : ℕ) where
   -- ---- a body
 
   pub executor-agrees :
-      (o y client serial : ℕ) (a : Run) {p : Option Located} {x : Found} →
-      Agrees f target a (i + 3) (level + 1) p x →
+      (o : ℕ) (y : List ℕ) (client serial : ℕ) (a : Run) {p : Option Located} {x : Found} →
+      Agrees f target a (i + (3 + length (variableWords y))) (level + 1) p x →
       Agrees f target (executor o y client serial a) i level (lifted (executorFrame o y client serial ∷ []) p) (inBodyW x)
   unfolding lifted inBodyW
   executor-agrees o y client serial a (misses q) = misses (q ∙ omega (arith, size-executor o y client serial a))

@@ -197,7 +197,7 @@ pub outer-right : (fs : List Frame) (b : Run) → Outer fs (rightFrame b)
 unfolding onNearest region scoped
 outer-right fs b = outer-plain fs (rightFrame b) (λ g. refl) refl refl
 
-pub outer-executor : (fs : List Frame) (o y client serial : ℕ) → Outer fs (executorFrame o y client serial)
+pub outer-executor : (fs : List Frame) (o : ℕ) (y : List ℕ) (client serial : ℕ) → Outer fs (executorFrame o y client serial)
 unfolding onNearest region scoped
 outer-executor fs o y client serial = outer-plain fs (executorFrame o y client serial) (λ g. refl) refl refl
 

@@ -16,6 +16,9 @@ use Rattle.sock.specs.Layout.{words, count, entriesWords, depth, entriesDepth}
 use Rattle.sock.specs.Reading.{anywhere, holds}
 use Rattle.sock.specs.Running.{Mark, Run, scope, markedFault, scopeHead, asNode, runWords, size, runDepth}
 use Rattle.sock.specs.Frames.{Frame, Located}
+use Rattle.layout.specs.Own.{ownEnd}
+use Rattle.layout.proofs.Owns.{executor-own}
+use Rattle.sock.specs.Variables.{variableWords}
 use Rattle.sock.proofs.Fits.{FitsEntries, Sound, nilSound, seqSound, parSound, scopeSound, executorSound, waiterSound, noticeSound, actSound}
 use Rattle.sock.proofs.Fields.{plain-kind, isOne-bit, scope-zombie}
 use Rattle.sock.proofs.ByKind.{code-kind, runKind, kind-asNode}
@@ -70,7 +73,7 @@ module _ (sub : ℕ → Found) (d : ℕ) (ws notes : List ℕ) (target level k i
   unfolding nodeW
   node-scope e = rw e
 
-  node-executor : k ≡ 16 → nodeW sub d ws notes target level k i ≡ inBodyW (sub (i + 3))
+  node-executor : k ≡ 16 → nodeW sub d ws notes target level k i ≡ inBodyW (sub (ownEnd ws i))
   unfolding nodeW
   node-executor e = rw e
 
@@ -302,12 +305,15 @@ module _ (n issued : ℕ) (few : n ≤ 8) (small : issued < 65536) (ws notes : L
   finds (executorSound {o = o} {y = y} {client = client} {serial = serial} {a = a} bo by be g) (suc d) i level rest pos dp e =
       opened (executorSound bo by be g) d i level rest dp e λ ne.
       let deep : suc (runDepth a) ≤ suc d = rw (depth-executor o y client serial a) at dp in
+      let body : ownEnd ws i ≡ i + (3 + length (variableWords y)) =
+      executor-own ws few small (executorSound bo by be g) i rest e ∙ (let q : i + 3 + length (variableWords y) ≡ i + (3 + length (variableWords y)) = omega arith in q) in
       rw (
         within-executor i target ne o y client serial a,
         node-executor (findW d ws notes target (level + 1)) d ws notes target level (kindOf (getD ws i 0)) i (at-run (executorSound bo by be g) i rest e .0),
+        body,
       )
       (executor-agrees (faultAt ws target) target ws notes d i level o y client serial a
-      (finds g d (i + 3) (level + 1) rest (omega arith) (omega arith) (inner ws rest (around-executor o y client serial a i) e)))
+      (finds g d (i + (3 + length (variableWords y))) (level + 1) rest (omega arith) (omega arith) (inner ws rest (around-executor o y client serial a i) e)))
   finds (waiterSound {o = o} {x = x} {server = server} {serial = serial} {dead = dead} {l = l} bo bx be g) (suc d) i level rest pos dp e =
       other-agrees (waiterSound bo bx be g) d i level rest dp e refl refl refl refl λ ne. within-waiter i target ne o x dead server serial l
   finds (noticeSound {o = o} {f = f} {client = client} {serial = serial} bo bf be) (suc d) i level rest pos dp e =

@@ -11,6 +11,7 @@ use lib.Dec.{leb, ltb}
 use lib.ListN.{length}
 use Rattle.sock.specs.Term.{Node, Entries}
 use Rattle.sock.specs.Layout.{entriesWords}
+use Rattle.sock.specs.Variables.{variableWords}
 use Rattle.sock.specs.Running.{Mark, Run, nil, seq, par, scope, executor, waiter, notice, act, size}
 use Rattle.sock.specs.Frames.{Frame, seqFrame, leftFrame, rightFrame, scopeFrame, executorFrame, Located, hereOr, past, locate}
 use Rattle.sock.proofs.Located.{located-before, size-positive}
@@ -77,7 +78,8 @@ module _ (gs : List Frame) where
       into (3 + length (entriesWords h)) p _ (λ i. locate a i (scopeFrame name mark zombie h ∷ fs)) λ i.
       locate-behind a i (scopeFrame name mark zombie h ∷ fs)
   locate-behind (executor o y client serial a) p fs =
-      into 3 p _ (λ i. locate a i (executorFrame o y client serial ∷ fs)) λ i. locate-behind a i (executorFrame o y client serial ∷ fs)
+      into (3 + length (variableWords y)) p _ (λ i. locate a i (executorFrame o y client serial ∷ fs)) λ i.
+      locate-behind a i (executorFrame o y client serial ∷ fs)
   locate-behind (waiter o x dead server serial l) p fs = leaf p _
   locate-behind (notice o f client serial) p fs = leaf p _
   locate-behind (act a) p fs = leaf p _
@@ -208,12 +210,12 @@ module _ (i k : ℕ) (ne : i ≡ k → ⊥) where
       ∙ lifted-within (scopeFrame name mark zombie h) a (i + (3 + length (entriesWords h))) k
 
   pub within-executor :
-      (o y client serial : ℕ) (a : Run) →
-      within (executor o y client serial a) i k ≡ lifted (executorFrame o y client serial ∷ []) (within a (i + 3) k)
+      (o : ℕ) (y : List ℕ) (client serial : ℕ) (a : Run) →
+      within (executor o y client serial a) i k ≡ lifted (executorFrame o y client serial ∷ []) (within a (i + (3 + length (variableWords y))) k)
   unfolding within locate
   within-executor o y client serial a =
-      own-words 3 i k _ (λ p. locate a p (executorFrame o y client serial ∷ [])) (omega arith) ne
-      ∙ lifted-within (executorFrame o y client serial) a (i + 3) k
+      own-words (3 + length (variableWords y)) i k _ (λ p. locate a p (executorFrame o y client serial ∷ [])) (omega arith) ne
+      ∙ lifted-within (executorFrame o y client serial) a (i + (3 + length (variableWords y))) k
 
   leaf-none : (l : Located) → cond (leb i k) (hereOr (k - i) l none) none ≡ none
   leaf-none l = by (leb i k) refl
@@ -226,7 +228,7 @@ module _ (i k : ℕ) (ne : i ≡ k → ⊥) where
   unfolding within locate
   within-nil = leaf-none _
 
-  pub within-waiter : (o x : ℕ) (dead : Bool) (server serial : ℕ) (l : Entries) → within (waiter o x dead server serial l) i k ≡ none
+  pub within-waiter : (o : ℕ) (x : List ℕ) (dead : Bool) (server serial : ℕ) (l : Entries) → within (waiter o x dead server serial l) i k ≡ none
   unfolding within locate
   within-waiter o x dead server serial l = leaf-none _
 

@@ -8,6 +8,7 @@ use lib.ListN.{length, getD}
 use Rattle.sock.specs.Kind
 use Rattle.sock.specs.Words.{kindOf, nameOf, zombieOf}
 use Rattle.layout.specs.Keys
+use Rattle.layout.specs.Own.{ownEnd}
 use Rattle.skipping.specs.Skip.{skipList}
 use Rattle.skipping.specs.Pass.{noteAt, passEnd, passList}
 use Rattle.finding.specs.declared.find.Site.{Site}
@@ -102,7 +103,7 @@ nodeW sub d ws notes target level k i =
     cond (eqb k Kind.seq) (inSeqW d ws notes i (sub (i + 1)))
     (cond (eqb k Kind.par) (inParW sub i)
     (cond (eqb k Kind.scope) (inScopeW d ws target level i (sub (passList d ws notes (i + 2))))
-    (cond (eqb k Kind.executor) (inBodyW (sub (i + 3)))
+    (cond (eqb k Kind.executor) (inBodyW (sub (ownEnd ws i)))
     (Past (passEnd (suc d) ws notes i)))))
 
 -- whether `target` is outside i..e; no, if e is 0: the end is not known

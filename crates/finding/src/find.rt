@@ -5,6 +5,7 @@ use layout::field::zombie_of;
 use layout::head;
 use layout::key;
 use layout::kind;
+use layout::own::own_end;
 use skipping::pass::note_at;
 use skipping::pass::pass;
 use skipping::pass::pass_list;
@@ -99,7 +100,10 @@ fn node(ws: &[u16], notes: &[u16], at: usize, target: usize, depth: usize, level
             let f = find(ws, notes, body, target, depth, level + 1);
             in_scope(ws, at, target, level, f, depth)
         }
-        kind::EXECUTOR => in_body(find(ws, notes, at + 3, target, depth, level + 1)),
+        kind::EXECUTOR => {
+            let body = own_end(ws, at);
+            in_body(find(ws, notes, body, target, depth, level + 1))
+        }
         _ => Found::Past(pass(ws, notes, at, depth + 1)),
     }
 }

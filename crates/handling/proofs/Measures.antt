@@ -9,20 +9,22 @@ use lib.Dec.{T, eqb, leb→le, ltb→lt}
 use lib.ListN.{length, drop, length-append, length-drop}
 use borrow.Author.Tests.{lt-leb, ne-eqb}
 use Rattle.sock.specs.Kind
-use Rattle.sock.specs.Kind.{rows, rowOf}
+use Rattle.sock.specs.Kind.{word, rows, rowOf}
 use Rattle.sock.specs.Words.{kindOf, countOf, markOf, zombieOf, firstName, highWord, lowWord, keyWord, tagOf}
 use Rattle.sock.specs.Term.{Expr, constant, variable, apply, Node, node, Block, absent, list, Entries, noEntries, entry, Nodes, noParts, _&_, entriesOf, processesOf}
 use Rattle.sock.specs.Layout.{operatorTag, exprWords, exprDepth, exprsWords, exprsDepth, count, words, blockWords, entriesWords, nodesWords, depth, blockDepth, entriesDepth, nodesDepth}
-use Rattle.sock.specs.Reading.{code, Place, anywhere, allowed, nodeFits, restingFits, isEmpty, fixedAt, partStratum, partPlace}
+use Rattle.sock.specs.Reading.{code, Place, anywhere, allowed, nodeFits, fieldsFit, restingFits, isEmpty, fixedAt, partStratum, partPlace}
 use Rattle.sock.proofs.Fits.{FitsExpr, constantFits, variableFits, applyFits, FitsExprs, noExprs, oneExpr, FitsFixed, noFixed, oneFixed, Fits, fits, FitsBlock, noList, aList, FitsEntries, emptyFits, entryFitsOn, FitsParts, noPart, onePart}
 use Rattle.sock.proofs.Fields.{From, end, _then_, fact-at, four, operator-tag}
-use Rattle.sock.proofs.Nodes.{fixed-length}
+use Rattle.sock.proofs.Nodes.{fields-test}
 use Rattle.sock.proofs.ByKind.{head-tests}
 use Rattle.sock.proofs.Positions.{At, at-head, at-past}
 use Rattle.handling.specs.declared.measure.Measured.{Measured}
+use Rattle.layout.specs.Own.{ownEnd}
 use Rattle.layout.specs.Positions.{onward}
 use Rattle.layout.specs.Tags
 use Rattle.handling.specs.Measuring.{measured, operandLevels, expressionLevels, partsLevels, expressedLevels, entriesLevels, listLevels, nodeLevels, codeLevels}
+use Rattle.layout.proofs.Owns.{own-end}
 use Rattle.writers.proofs.Laid.{Near, onward-near}
 
 both : {a b x y : ℕ} → a ≡ b → x ≡ y → measured a x ≡ measured b y
@@ -86,6 +88,18 @@ pub code-bound : (c : Bool) (k : ℕ) → T (allowed (code c) k) → k < 16
 unfolding allowed
 code-bound true k t = let x : k ≤ 15 = leb→le k 15 t in omega arith
 code-bound false k t = let x : k < 15 = ltb→lt k 15 t in omega arith
+
+-- a node's own words end where the fixed table says
+pub own-words :
+    (ws : List ℕ) (h : ℕ) {k : ℕ} {f : List ℕ} → kindOf h ≡ k → k < 19 → FitsFixed (rowOf k .fixed) f → (es : List Expr) (b : Block) (ps : Nodes)
+    (i : ℕ) (rest : List ℕ) → drop i ws ≡ words (node h f es b ps) ++ rest →
+    ownEnd ws i ≡ i + 1 + length f
+unfolding words
+own-words ws h {f = f} q few fx es b ps i rest e =
+    let x : List ℕ = exprsWords es ++ (blockWords b ++ nodesWords ps) in
+    let known : kindOf h < 19 = rw q few in
+    let fixed : FitsFixed (rowOf (kindOf h) .fixed) f = rw q fx in
+    own-end ws known fixed i (x ++ rest) (e ∙ append-assoc (h ∷ f) x rest)
 
 module _ (ws : List ℕ) (near : Near (length ws)) where
   pub left-over : (i : ℕ) (x rest : List ℕ) → drop i ws ≡ x ++ rest → length x + length rest ≡ length ws - i
@@ -263,7 +277,7 @@ module _ (ws : List ℕ) (near : Near (length ws)) where
     -- a scope's fixed word, its empty list, and a process
     with-scope :
         (h : ℕ) {f : List ℕ} {es : List Expr} {b : Block} {ps : Nodes} {c o : Bool} {k m : ℕ} →
-        FitsFixed (m ∷ []) f → FitsExprs 0 es → FitsBlock o 1 b → FitsParts (code c) k 1 ps → T (isEmpty (entriesOf b)) →
+        FitsFixed (word m ∷ []) f → FitsExprs 0 es → FitsBlock o 1 b → FitsParts (code c) k 1 ps → T (isEmpty (entriesOf b)) →
         depth (node h f es b ps) ≤ suc d → (i : ℕ) (rest : List ℕ) → drop i ws ≡ words (node h f es b ps) ++ rest →
         partsLevels (codeLevels d ws) 1 0 (onward i 3) ≡ measured (i + length (words (node h f es b ps))) (depth (node h f es b ps))
     unfolding words depth exprsWords exprsDepth isEmpty count
@@ -289,17 +303,13 @@ module _ (ws : List ℕ) (near : Near (length ws)) where
         inside = at-head ws i h ((f ++ (exprsWords es ++ (blockWords b ++ nodesWords ps))) ++ rest) e .inside
 
         next : FitsFixed [] f → i + 1 ≡ i + 1 + length f
-        next fx = let l : length f ≡ 0 = fixed-length fx in omega arith
+        next fx = none fx
+          where
+            none : {g : List ℕ} → FitsFixed [] g → i + 1 ≡ i + 1 + length g
+            none noFixed = omega arith
 
-        onto : {ms : List ℕ} → FitsFixed ms f → onward i (suc (length ms)) ≡ i + 1 + length f
-        unfolding words
-        onto {ms} fx =
-            let l = fixed-length fx in
-            let a = inside in
-            let y = left-over i (words (node h f es b ps)) rest e in
-            let k = length-append f (exprsWords es ++ (blockWords b ++ nodesWords ps)) in
-            let q : i + suc (length ms) ≡ i + 1 + length f = omega arith in
-            onward-near i (suc (length ms)) (length ws) near (omega arith) ∙ q
+        onto : (k : ℕ) → kindOf h ≡ k → k < 19 → FitsFixed (rowOf k .fixed) f → ownEnd ws i ≡ i + 1 + length f
+        onto k q few fx = own-words ws h q few fx es b ps i rest e
 
         at-parts : {j n k : ℕ} {o : Bool} → j ≡ i + 1 + length f → FitsExprs 0 es → FitsBlock o 0 b → FitsParts (code c) k n ps → Right (partsLevels (codeLevels d ws) n 0 j)
         at-parts {n = n} q ex bl pt = ap (λ (j : ℕ). partsLevels (codeLevels d ws) n 0 j) q ∙ with-parts h f ex bl pt low i rest e
@@ -307,15 +317,18 @@ module _ (ws : List ℕ) (near : Near (length ws)) where
         at-list : {j k : ℕ} {o : Bool} → j ≡ i + 1 + length f → FitsExprs 0 es → FitsBlock o 1 b → FitsParts (code c) k 0 ps → Right (listLevels (codeLevels d ws) ws j)
         at-list q ex bl pt = ap (λ (j : ℕ). listLevels (codeLevels d ws) ws j) q ∙ with-list h f ex bl pt low i rest e
 
-        bare : {ms : List ℕ} {k : ℕ} {o : Bool} → FitsFixed ms f → FitsExprs 0 es → FitsBlock o 0 b → FitsParts (code c) k 0 ps → Right (measured (onward i (suc (length ms))) 1)
+        -- a process without parts and without a list
+        bare : {k : ℕ} {o : Bool} → ownEnd ws i ≡ i + 1 + length f → FitsExprs 0 es → FitsBlock o 0 b → FitsParts (code c) k 0 ps → Right (measured (ownEnd ws i) 1)
         unfolding partsLevels
-        bare {ms} fx ex bl pt =
+        bare q ex bl pt =
             let a = inside in
-            ap (λ (v : ℕ). measured (onward i (suc (length ms))) v) (sym (deeper 0 (omega arith))) ∙ at-parts (onto fx) ex bl pt
+            ap (λ (v : ℕ). measured (ownEnd ws i) v) (sym (deeper 0 (omega arith))) ∙ at-parts q ex bl pt
 
         empty : kindOf h ≡ Kind.scope → T (nodeFits (code c) h f b) → T (isEmpty (entriesOf b))
-        unfolding nodeFits restingFits
-        empty q t = four (eqb (markOf h) 0) (eqb (zombieOf h) 0) (eqb (firstName (fixedAt f 0)) 0) (isEmpty (entriesOf b)) (rw q at t) .3
+        unfolding fieldsFit restingFits
+        empty q t =
+            four (eqb (markOf h) 0) (eqb (zombieOf h) 0) (eqb (firstName (fixedAt f 0)) 0) (isEmpty (entriesOf b))
+            (rw q at (fields-test (code c) h f b t)) .3
 
         abbrev Case : ℕ → Type 0
         Case k =
@@ -330,22 +343,22 @@ module _ (ws : List ℕ) (near : Near (length ws)) where
         by-kind : From Case 16 0
         unfolding nodeLevels rowOf rows
         by-kind =
-            (λ q fx ex bl pt t. rw q (bare fx ex bl pt))
+            (λ q fx ex bl pt t. rw q (bare (onto Kind.nil q (omega arith) fx) ex bl pt))
             then (λ q fx ex bl pt t. rw q (with-expr h fx ex bl pt low i rest e))
             then (λ q fx ex bl pt t. rw q (at-parts (next fx) ex bl pt))
             then (λ q fx ex bl pt t. rw q (at-parts (next fx) ex bl pt))
             then (λ q fx ex bl pt t. rw q (with-expr h fx ex bl pt low i rest e))
             then (λ q fx ex bl pt t. rw q (with-expr h fx ex bl pt low i rest e))
             then (λ q fx ex bl pt t. rw q (at-parts (next fx) ex bl pt))
-            then (λ q fx ex bl pt t. rw q (bare fx ex bl pt))
-            then (λ q fx ex bl pt t. rw q (at-parts (onto fx) ex bl pt))
-            then (λ q fx ex bl pt t. rw q (bare fx ex bl pt))
-            then (λ q fx ex bl pt t. rw q (at-list (onto fx) ex bl pt))
+            then (λ q fx ex bl pt t. rw q (bare (onto Kind.one-way q (omega arith) fx) ex bl pt))
+            then (λ q fx ex bl pt t. rw q (at-parts (onto Kind.request q (omega arith) fx) ex bl pt))
+            then (λ q fx ex bl pt t. rw q (bare (onto Kind.notify q (omega arith) fx) ex bl pt))
+            then (λ q fx ex bl pt t. rw q (at-list (onto Kind.solicit q (omega arith) fx) ex bl pt))
             then (λ q fx ex bl pt t. rw q (with-scope h fx ex bl pt (empty q t) low i rest e))
             then (λ q fx ex bl pt t. rw q (at-list (next fx) ex bl pt))
-            then (λ q fx ex bl pt t. rw q (bare fx ex bl pt))
-            then (λ q fx ex bl pt t. rw q (bare fx ex bl pt))
-            then (λ q fx ex bl pt t. rw q (bare fx ex bl pt))
+            then (λ q fx ex bl pt t. rw q (bare (onto Kind.throw q (omega arith) fx) ex bl pt))
+            then (λ q fx ex bl pt t. rw q (bare (onto Kind.comp q (omega arith) fx) ex bl pt))
+            then (λ q fx ex bl pt t. rw q (bare (onto Kind.cH q (omega arith) fx) ex bl pt))
             then end
 
   -- ---- code

@@ -9,24 +9,25 @@ use lib.Dec.{T, eqb, eqb→eq}
 use lib.ListN.{length, drop, length-append}
 use borrow.Author.Tests.{lt-leb}
 use Rattle.sock.specs.Kind
-use Rattle.sock.specs.Kind.{rows, rowOf}
+use Rattle.sock.specs.Kind.{word, rows, rowOf}
 use Rattle.sock.specs.Words.{kindOf, countOf, clear, markOf, zombieOf, firstName}
 use Rattle.sock.specs.Term.{Expr, Node, node, Block, absent, list, noEntries, Nodes, noParts, entriesOf, processesOf}
 use Rattle.sock.specs.Layout.{exprWords, exprsWords, count, words, blockWords, nodesWords, exprDepth, exprsDepth, depth, nodesDepth}
-use Rattle.sock.specs.Reading.{code, Place, anywhere, nodeFits, restingFits, isEmpty, fixedAt, partStratum}
+use Rattle.sock.specs.Reading.{code, Place, anywhere, nodeFits, fieldsFit, restingFits, isEmpty, fixedAt, partStratum}
 use Rattle.sock.specs.Handlers.{rebuilt, replaced, allReplaced}
 use Rattle.sock.proofs.Fits.{FitsExprs, noExprs, oneExpr, FitsFixed, noFixed, oneFixed, Fits, fits, FitsBlock, noList, aList, emptyFits, entryFitsOn, FitsParts, noPart, onePart}
 use Rattle.sock.proofs.Fields.{From, end, _then_, fact-at, four}
-use Rattle.sock.proofs.Nodes.{fixed-length}
+use Rattle.sock.proofs.Nodes.{fields-test}
 use Rattle.sock.proofs.ByKind.{head-tests}
 use Rattle.sock.proofs.Positions.{At, at-head}
+use Rattle.layout.specs.Own.{ownEnd}
 use Rattle.layout.specs.Positions.{onward}
 use Rattle.writers.proofs.Laid.{Near, onward-near}
 use Rattle.handling.specs.declared.measure.Measured.{Measured}
 use Rattle.handling.specs.declared.replace.Old.{Old}
 use Rattle.handling.specs.Measuring.{measured, expressionLevels, codeLevels}
 use Rattle.handling.specs.Replacing.{Wrote, seqW, parW, keptW, conditionW, otherW, cHW, nilW, nodeW, replaceW}
-use Rattle.handling.proofs.Measures.{expr-shallow, code-bound, left-over, expression-measured, code-measured}
+use Rattle.handling.proofs.Measures.{expr-shallow, code-bound, own-words, left-over, expression-measured, code-measured}
 use Rattle.handling.proofs.Replaced.{OldIs, Replaced}
 use Rattle.handling.proofs.Leaves.{onward-one, onward-suc}
 use Rattle.handling.proofs.Pairs.{Right, turned, seq-right, par-right}
@@ -55,7 +56,7 @@ head-of : (h k : ℕ) → kindOf h ≡ k → T (clear 2048 h) → h ≡ k * 2048
 head-of h k q t = let z : countOf h ≡ 0 = eqb→eq (countOf h) 0 t in omega arith
 
 three-words :
-    (h : ℕ) {f : List ℕ} {es : List Expr} {b : Block} {m : ℕ} {l : Bool} → FitsFixed (m ∷ []) f → FitsExprs 0 es → FitsBlock l 1 b →
+    (h : ℕ) {f : List ℕ} {es : List Expr} {b : Block} {m : ℕ} {l : Bool} → FitsFixed (word m ∷ []) f → FitsExprs 0 es → FitsBlock l 1 b →
     (ps : Nodes) →
     3 ≤ length (words (node h f es b ps))
 unfolding words exprsWords
@@ -129,7 +130,7 @@ module _ (ws : List ℕ) (near : Near (length ws)) (old : Old) (o : Node) (fo : 
     -- a scope's fixed word, its empty list, and a process
     with-scope :
         (h : ℕ) {f : List ℕ} {es : List Expr} {b : Block} {ps : Nodes} {c l : Bool} {k m : ℕ} → kindOf h ≡ k → Plain k →
-        FitsFixed (m ∷ []) f → FitsExprs 0 es → FitsBlock l 1 b → FitsParts (code c) k 1 ps → T (isEmpty (entriesOf b)) →
+        FitsFixed (word m ∷ []) f → FitsExprs 0 es → FitsBlock l 1 b → FitsParts (code c) k 1 ps → T (isEmpty (entriesOf b)) →
         depth (node h f es b ps) ≤ suc d → (i : ℕ) (rest : List ℕ) → drop i ws ≡ words (node h f es b ps) ++ rest →
         (out : List ℕ) (to : ℕ) →
         Right ws near old o fo (suc d) (node h f es b ps) i out to (keptW (replaceW d ws old) ws i (i + 3) 1 1 out to)
@@ -216,18 +217,13 @@ module _ (ws : List ℕ) (near : Near (length ws)) (old : Old) (o : Node) (fo : 
         unfolding words
         inside = at-head ws i h ((f ++ (exprsWords es ++ (blockWords b ++ nodesWords ps))) ++ rest) e .inside
 
-        onto : {ms : List ℕ} → FitsFixed ms f → onward i (suc (length ms)) ≡ i + suc (length f)
-        unfolding words
-        onto {ms} fx =
-            let l = fixed-length fx in
-            let a = inside in
-            let y = left-over ws near i (words (node h f es b ps)) rest e in
-            let k = length-append f (exprsWords es ++ (blockWords b ++ nodesWords ps)) in
-            let q : i + suc (length ms) ≡ i + suc (length f) = omega arith in
-            onward-near i (suc (length ms)) (length ws) near (omega arith) ∙ q
+        onto : (k : ℕ) → kindOf h ≡ k → k < 19 → FitsFixed (rowOf k .fixed) f → ownEnd ws i ≡ i + suc (length f)
+        onto k q few fx =
+            let one : i + 1 + length f ≡ i + suc (length f) = omega arith in
+            own-words ws h q few fx es b ps i rest e ∙ one
 
         -- a fixed word and a list
-        three : {m : ℕ} {l : Bool} → FitsFixed (m ∷ []) f → FitsExprs 0 es → FitsBlock l 1 b → onward i 3 ≡ i + 3
+        three : {m : ℕ} {l : Bool} → FitsFixed (word m ∷ []) f → FitsExprs 0 es → FitsBlock l 1 b → onward i 3 ≡ i + 3
         three fx ex bl =
             let a = inside in
             let y = left-over ws near i (words (node h f es b ps)) rest e in
@@ -244,11 +240,13 @@ module _ (ws : List ℕ) (near : Near (length ws)) (old : Old) (o : Node) (fo : 
         at-whole q plain pt = whole h f es b q plain pt i rest e out to levels
 
         empty : kindOf h ≡ Kind.scope → T (nodeFits (code c) h f b) → T (isEmpty (entriesOf b))
-        unfolding nodeFits restingFits
-        empty q t = four (eqb (markOf h) 0) (eqb (zombieOf h) 0) (eqb (firstName (fixedAt f 0)) 0) (isEmpty (entriesOf b)) (rw q at t) .3
+        unfolding fieldsFit restingFits
+        empty q t =
+            four (eqb (markOf h) 0) (eqb (zombieOf h) 0) (eqb (firstName (fixedAt f 0)) 0) (isEmpty (entriesOf b))
+            (rw q at (fields-test (code c) h f b t)) .3
 
         at-scope :
-            {m : ℕ} {l : Bool} → kindOf h ≡ Kind.scope → FitsFixed (m ∷ []) f → FitsExprs 0 es → FitsBlock l 1 b →
+            {m : ℕ} {l : Bool} → kindOf h ≡ Kind.scope → FitsFixed (word m ∷ []) f → FitsExprs 0 es → FitsBlock l 1 b →
             FitsParts (code c) Kind.scope 1 ps →
             T (nodeFits (code c) h f b) → Holds (keptW (replaceW d ws old) ws i (onward i 3) 1 1 out to)
         at-scope q fx ex bl pt t = rw (three fx ex bl) (with-scope h q (refl, refl, refl, refl) fx ex bl pt (empty q t) low i rest e out to)
@@ -273,9 +271,9 @@ module _ (ws : List ℕ) (near : Near (length ws)) (old : Old) (o : Node) (fo : 
             then (λ q cl fx ex bl pt t. rw q (with-par h (head-of h 3 q cl) fx ex bl pt low i rest e out to))
             then (λ q cl fx ex bl pt t. rw q (with-expr h q (refl, refl, refl, refl) fx ex bl pt low i rest e out to))
             then (λ q cl fx ex bl pt t. rw q (with-expr h q (refl, refl, refl, refl) fx ex bl pt low i rest e out to))
-            then (λ q cl fx ex bl pt t. rw q (at-parts (onto fx) q (refl, refl, refl, refl) ex bl pt))
+            then (λ q cl fx ex bl pt t. rw q (at-parts (onto Kind.choice q (omega arith) fx) q (refl, refl, refl, refl) ex bl pt))
             then (λ q cl fx ex bl pt t. rw q (at-whole q (refl, refl, refl, refl) pt))
-            then (λ q cl fx ex bl pt t. rw q (at-parts (onto fx) q (refl, refl, refl, refl) ex bl pt))
+            then (λ q cl fx ex bl pt t. rw q (at-parts (onto Kind.request q (omega arith) fx) q (refl, refl, refl, refl) ex bl pt))
             then (λ q cl fx ex bl pt t. rw q (at-whole q (refl, refl, refl, refl) pt))
             then (λ q cl fx ex bl pt t. rw q (at-whole q (refl, refl, refl, refl) pt))
             then (λ q cl fx ex bl pt t. rw q (at-scope q fx ex bl pt t))

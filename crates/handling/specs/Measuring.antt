@@ -5,6 +5,7 @@ use mathlib.Core.List.{List, [], _∷_}
 use lib.Dec.{leb, eqb}
 use lib.ListN.{length, getD}
 use Rattle.sock.specs.Words.{kindOf, countOf, tagOf}
+use Rattle.layout.specs.Own.{ownEnd}
 use Rattle.layout.specs.Positions.{onward}
 use Rattle.layout.specs.Tags
 use Rattle.handling.specs.declared.measure.Measured.{Measured}
@@ -42,21 +43,21 @@ listLevels sub ws i = cond (leb (length ws) i) (measured 0 0) (entriesLevels sub
 unfoldable pub nodeLevels : (ℕ → Measured) → (ℕ → Measured) → List ℕ → ℕ → ℕ → Measured
 nodeLevels ex sub ws h i =
     getD
-    (measured (onward i 1) 1
+    (measured (ownEnd ws i) 1
     ∷ expressedLevels ex sub 0 (i + 1)
     ∷ partsLevels sub 2 0 (i + 1)
     ∷ partsLevels sub 2 0 (i + 1)
     ∷ expressedLevels ex sub 2 (i + 1)
     ∷ expressedLevels ex sub 1 (i + 1)
     ∷ partsLevels sub (countOf h * 2) 0 (i + 1)
-    ∷ measured (onward i 1) 1
-    ∷ partsLevels sub 1 0 (onward i 2)
-    ∷ measured (onward i 2) 1
-    ∷ listLevels sub ws (onward i 2)
+    ∷ measured (ownEnd ws i) 1
+    ∷ partsLevels sub 1 0 (ownEnd ws i)
+    ∷ measured (ownEnd ws i) 1
+    ∷ listLevels sub ws (ownEnd ws i)
     ∷ partsLevels sub 1 0 (onward i 3)
     ∷ listLevels sub ws (i + 1)
     ∷ [])
-    (kindOf h) (measured (onward i 1) 1)
+    (kindOf h) (measured (ownEnd ws i) 1)
 
 unfoldable pub codeLevels : ℕ → List ℕ → ℕ → Measured
 codeLevels zero ws i = measured 0 0

@@ -6,6 +6,7 @@ use lib.Dec.{leb}
 use lib.ListN.{length, getD, set}
 use Rattle.sock.specs.Kind
 use Rattle.sock.specs.Words.{kindOf, countOf, headOf}
+use Rattle.layout.specs.Own.{ownEnd}
 use Rattle.layout.specs.Positions.{onward}
 use Rattle.writers.specs.Writing.{pasted, pastedEnd, lowered}
 use Rattle.handling.specs.Measuring.{expressionLevels, codeLevels}
@@ -88,9 +89,9 @@ nodeW ex code sub ws old h i out to =
     ∷ parW sub i out to
     ∷ conditionW ex sub ws i 2 out to
     ∷ conditionW ex sub ws i 1 out to
-    ∷ keptW sub ws i (onward i 1) 1 (countOf h * 2) out to
+    ∷ keptW sub ws i (ownEnd ws i) 1 (countOf h * 2) out to
     ∷ otherW code ws i out to
-    ∷ keptW sub ws i (onward i 2) 1 1 out to
+    ∷ keptW sub ws i (ownEnd ws i) 1 1 out to
     ∷ otherW code ws i out to
     ∷ otherW code ws i out to
     ∷ keptW sub ws i (onward i 3) 1 1 out to

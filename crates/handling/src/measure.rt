@@ -5,10 +5,12 @@ use layout::field::tag_of;
 use layout::kind;
 use layout::number::further;
 use layout::number::wide;
+use layout::own::own_end;
 use layout::tag;
 ghost use mathlib.Core.Path.{_≡_};
 ghost use Prim.Native.Nat.{_<_, max};
 ghost use lib.ListN.{length};
+ghost use Rattle.layout.specs.Own.{ownEnd};
 ghost use Rattle.layout.specs.Positions.{onward};
 ghost use Rattle.handling.specs.Measuring.{measured, expressionLevels, codeLevels, partsLevels, expressedLevels, listLevels};
 
@@ -25,11 +27,21 @@ pub fn larger(a: usize, b: usize) -> usize
 }
 
 // A level of so many words.
-pub fn own(at: usize, words: usize) -> Measured
+pub fn level(at: usize, words: usize) -> Measured
     ensures { λ r. ⌜ r ≡ measured (onward at words) 1 ⌝ }
 {
     Measured {
         end: further(at, words),
+        levels: 1,
+    }
+}
+
+// The level of a process without its parts and its list.
+pub fn own(ws: &[u16], at: usize) -> Measured
+    ensures { λ r. ⌜ r ≡ measured (ownEnd (now (ws .entry)) at) 1 ⌝ }
+{
+    Measured {
+        end: own_end(ws, at),
         levels: 1,
     }
 }
@@ -50,7 +62,7 @@ pub fn expression_levels(ws: &[u16], at: usize, depth: usize) -> Measured
         return nowhere();
     }
     match tag_of(ws[at]) {
-        tag::CONSTANT => own(at, 3),
+        tag::CONSTANT => level(at, 3),
         tag::VARIABLE => Measured {
             end: at + 1,
             levels: 1,
@@ -77,20 +89,20 @@ pub fn code_levels(ws: &[u16], at: usize, depth: usize) -> Measured
         return nowhere();
     }
     match kind_of(ws[at]) {
-        kind::NIL => own(at, 1),
+        kind::NIL => own(ws, at),
         kind::ASSIGN => expressed(ws, at + 1, 0, depth - 1),
         kind::SEQ => parts(ws, at + 1, 0, 2, depth - 1),
         kind::PAR => parts(ws, at + 1, 0, 2, depth - 1),
         kind::IF => expressed(ws, at + 1, 2, depth - 1),
         kind::WHILE => expressed(ws, at + 1, 1, depth - 1),
         kind::CHOICE => parts(ws, at + 1, 0, count_of(ws[at]) * 2, depth - 1),
-        kind::ONE_WAY => own(at, 1),
-        kind::REQUEST => parts(ws, further(at, 2), 0, 1, depth - 1),
-        kind::NOTIFY => own(at, 2),
-        kind::SOLICIT => list_levels(ws, further(at, 2), depth - 1),
+        kind::ONE_WAY => own(ws, at),
+        kind::REQUEST => parts(ws, own_end(ws, at), 0, 1, depth - 1),
+        kind::NOTIFY => own(ws, at),
+        kind::SOLICIT => list_levels(ws, own_end(ws, at), depth - 1),
         kind::SCOPE => parts(ws, further(at, 3), 0, 1, depth - 1),
         kind::INST => list_levels(ws, at + 1, depth - 1),
-        _ => own(at, 1),
+        _ => own(ws, at),
     }
 }
 

@@ -3,6 +3,7 @@ use crate::measure::Measured;
 use crate::measure::code_levels;
 use crate::measure::expression_levels;
 use crate::measure::larger;
+use crate::measure::level;
 use crate::measure::own;
 use layout::field::count_of;
 use layout::field::kind_of;
@@ -75,13 +76,13 @@ pub fn replace(ws: &[u16], at: usize, old: Old, depth: usize, out: &mut [u16], t
         kind::WHILE => condition(ws, at, 1, old, depth - 1, out, to),
         kind::CHOICE => {
             let count = count_of(ws[at]) * 2;
-            kept(ws, at, own(at, 1), count, old, depth - 1, out, to)
+            kept(ws, at, own(ws, at), count, old, depth - 1, out, to)
         }
         kind::ONE_WAY => other(ws, at, depth, out, to),
-        kind::REQUEST => kept(ws, at, own(at, 2), 1, old, depth - 1, out, to),
+        kind::REQUEST => kept(ws, at, own(ws, at), 1, old, depth - 1, out, to),
         kind::NOTIFY => other(ws, at, depth, out, to),
         kind::SOLICIT => other(ws, at, depth, out, to),
-        kind::SCOPE => kept(ws, at, own(at, 3), 1, old, depth - 1, out, to),
+        kind::SCOPE => kept(ws, at, level(at, 3), 1, old, depth - 1, out, to),
         kind::INST => other(ws, at, depth, out, to),
         kind::THROW => other(ws, at, depth, out, to),
         kind::COMP => other(ws, at, depth, out, to),

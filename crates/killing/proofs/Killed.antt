@@ -11,6 +11,7 @@ use lib.Dec.{T, eqb}
 use lib.ListN.{length, getD, drop}
 use borrow.Author.Tests.{lt-leb, ne-eqb}
 use Rattle.sock.specs.Words.{kindOf}
+use Rattle.sock.specs.Variables.{variableWords}
 use Rattle.sock.specs.Term.{Node, node, Entries, headWord, kind}
 use Rattle.sock.specs.Layout.{count, words, entriesWords, depth, entriesDepth}
 use Rattle.sock.specs.Running.{Mark, Run, nil, seq, par, scope, executor, waiter, notice, act, asNode, runWords, size, runDepth}
@@ -24,6 +25,8 @@ use Rattle.sock.proofs.Measures.{size-seq, depth-seq, depth-par, depth-scope, d
 use Rattle.skipping.specs.Pass.{passEnd, passList}
 use Rattle.skipping.proofs.Notes.{Right, pass-code, pass-run, pass-scope}
 use Rattle.killing.specs.Killing.{goneKind, goneW, stuckW, vanishedW, kindW, killW}
+use Rattle.sock.proofs.Variables.{laid}
+use Rattle.layout.proofs.Owns.{executor-own}
 use Rattle.writers.proofs.Laid.{Near}
 use Rattle.sock.proofs.Heads.{depth-positive, run-inside, run-behind, run-head, run-kind, head-done, seq-parts, par-parts, scope-parts, executor-parts}
 use Rattle.sock.proofs.Around.{killed, Throws, free, killed-climb}
@@ -135,9 +138,11 @@ module _ (ws notes : List ℕ) (right : Right ws notes) (n issued : ℕ) (few : 
       (kills ga d body (omega arith) rest (s .1)) e done room)
   kills (executorSound {o} {y} {client} {serial} {a} bo bv t ga) (suc d) at h rest e out to room near =
       let z = depth-executor o y client serial a in
-      let body : drop (at + 3) ws ≡ runWords a ++ rest = executor-parts ws o y client serial a at rest e in
-      rw (kill-at ws notes f hole d at out to 16 (run-inside ws rest at (executor o y client serial a) e) (run-kind ws rest at (executor o y client serial a) e (executorSound bo bv t ga)))
-      (executor-gives ws rest o y client serial f a at bo bv bf e (killW d ws notes f hole) out to room near (kills ga d (at + 3) (omega arith) rest body))
+      let s : Sound n issued (executor o y client serial a) = executorSound bo bv t ga in
+      let body : ℕ = at + 3 + length (variableWords y) in
+      rw (kill-at ws notes f hole d at out to 16 (run-inside ws rest at (executor o y client serial a) e) (run-kind ws rest at (executor o y client serial a) e s))
+      (executor-gives ws rest o y client serial f a at bo (laid y bv .low) bf e (executor-own ws few small s at rest e) (killW d ws notes f hole) out to room near
+      (kills ga d body (omega arith) rest (executor-parts ws o y client serial a at rest e)))
   kills (waiterSound {o} {x} {server} {serial} {dead} {l} bo bx t fl) (suc d) at h rest e out to room near =
       let s : Sound n issued (waiter o x dead server serial l) = waiterSound bo bx t fl in
       let b : server < 8 = omega (arith, end-tests n issued server serial t) in

@@ -12,6 +12,7 @@ use Rattle.sock.specs.Kind
 use Rattle.sock.specs.Words.{kindOf, zombieOf, headOf}
 use Rattle.skipping.specs.Pass.{passEnd, passList}
 use Rattle.layout.specs.Killed.{noticeHead, noticeWord}
+use Rattle.layout.specs.Own.{ownEnd}
 use Rattle.layout.specs.Positions.{onward}
 use Rattle.writers.specs.Writing.{pasted, pastedEnd, lowered}
 use Rattle.killing.specs.Killing.{Killed, Walk, stuckW, made, goes, noticeW, executorOn, executorW, headFor, liveOn, liveW, goneKind, goneW, leftOn, parW, rightOn, rightW, scopeAt, scopeW, kindW, killW}
@@ -56,9 +57,9 @@ both r o = record { moved = r; out = o }
 
 -- an executor whose body is killed to nil, or not
 module _
-    (sub : Walk) (ws : List ℕ) (fault i : ℕ) (out : List ℕ) (to one : ℕ) (start : List ℕ) (p : Moved) (next : List ℕ) (r : Moved) (last : List ℕ)
-    (inside : i < length ws) (a : one ≡ onward to 1) (b : start ≡ set out to (headOf Kind.par 0))
-    (c : p ≡ sub (i + 3) start one .moved) (d : next ≡ sub (i + 3) start one .out) (e : p .end ≡ 0 → ⊥)
+    (sub : Walk) (ws : List ℕ) (fault i : ℕ) (out : List ℕ) (to one body : ℕ) (start : List ℕ) (p : Moved) (next : List ℕ) (r : Moved) (last : List ℕ)
+    (inside : i < length ws) (a : one ≡ onward to 1) (b : start ≡ set out to (headOf Kind.par 0)) (own : body ≡ ownEnd ws i)
+    (c : p ≡ sub body start one .moved) (d : next ≡ sub body start one .out) (e : p .end ≡ 0 → ⊥)
   where
     pub executor-alone :
         p .nil ≡ 1 →
@@ -66,7 +67,7 @@ module _
         last ≡ noticeW ws fault i (p .end) next to .out →
         both r last ≡ executorW sub ws fault i out to
     unfolding executorW executorOn goes
-    executor-alone n x y = rw (lt-leb (length ws) i inside, ← a, ← b, ← c, ← d, ne-eqb (p .end) 0 e, n, x, y)
+    executor-alone n x y = rw (lt-leb (length ws) i inside, ← a, ← b, ← own, ← c, ← d, ne-eqb (p .end) 0 e, n, x, y)
 
     pub executor-beside :
         (p .nil ≡ 1 → ⊥) →
@@ -74,7 +75,7 @@ module _
         last ≡ noticeW ws fault i (p .end) next (p .to) .out →
         both r last ≡ executorW sub ws fault i out to
     unfolding executorW executorOn goes
-    executor-beside n x y = rw (lt-leb (length ws) i inside, ← a, ← b, ← c, ← d, ne-eqb (p .end) 0 e, ne-eqb (p .nil) 1 n, x, y)
+    executor-beside n x y = rw (lt-leb (length ws) i inside, ← a, ← b, ← own, ← c, ← d, ne-eqb (p .end) 0 e, ne-eqb (p .nil) 1 n, x, y)
 
 -- a live scope whose body is killed
 pub live-made :

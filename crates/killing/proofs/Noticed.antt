@@ -10,6 +10,7 @@ use lib.ListN.{length, getD, set, drop, length-set}
 use borrow.Author.Tests.{le-ltb, lt-leb, ne-eqb}
 use Rattle.sock.specs.Kind
 use Rattle.sock.specs.Words.{bit, headOf, nameFields}
+use Rattle.sock.specs.Variables.{firstOf, variableWords}
 use Rattle.sock.specs.Term.{Entries}
 use Rattle.sock.specs.Layout.{entriesWords}
 use Rattle.sock.specs.Running.{Run, nil, par, executor, waiter, notice, runWords, size}
@@ -20,6 +21,7 @@ use Rattle.sock.proofs.Measures.{words-nil, words-par, words-executor, words-wa
 use Rattle.sock.proofs.Located.{size-positive}
 use Rattle.skipping.specs.Pass.{passEnd}
 use Rattle.layout.specs.Killed.{noticeHead, noticeWord}
+use Rattle.layout.specs.Own.{ownEnd}
 use Rattle.writers.specs.Writing.{pasted}
 use Rattle.killing.specs.Killing.{Killed, Walk, made, deadWord, waiterW, keptW, vanishedW, noticeW, executorOn, executorW}
 use Rattle.writers.proofs.Laid.{Near, onward-near, Laid, laid-put, laid-then, laid-again, laid-set, laid-copy, copy-end}
@@ -70,7 +72,7 @@ module _ (ws rest : List ℕ) (at : ℕ) (out : List ℕ) (to : ℕ) (near : Nea
   dead-word dead server b = omega (arith, bit-below dead)
 
   pub waiter-gives :
-      (notes : List ℕ) (d o x : ℕ) (dead : Bool) (server serial : ℕ) (l : Entries) → server < 8 →
+      (notes : List ℕ) (d o : ℕ) (x : List ℕ) (dead : Bool) (server serial : ℕ) (l : Entries) → server < 8 →
       drop at ws ≡ runWords (waiter o x dead server serial l) ++ rest →
       passEnd d ws notes at ≡ at + size (waiter o x dead server serial l) →
       to + 2 * size (waiter o x dead server serial l) ≤ length out →
@@ -79,8 +81,8 @@ module _ (ws rest : List ℕ) (at : ℕ) (out : List ℕ) (to : ℕ) (near : Nea
   waiter-gives notes d o x dead server serial l b e q room =
       let r : Run = waiter o x dead server serial l in
       let s : Run = waiter o x true server serial l in
-      let z : size r ≡ 4 + length (entriesWords l) = size-waiter o x dead server serial l in
-      let y : size s ≡ 4 + length (entriesWords l) = size-waiter o x true server serial l in
+      let z : size r ≡ 4 + length (variableWords x) + length (entriesWords l) = size-waiter o x dead server serial l in
+      let y : size s ≡ 4 + length (variableWords x) + length (entriesWords l) = size-waiter o x true server serial l in
       let w = stands-within ws (runWords r) rest at e (omega arith) in
       let v : getD ws (at + 1) 0 ≡ bit dead * 32768 + server * 4096 =
       word-at ws (runWords r) rest at e 1 (omega arith) ∙ ap (λ l. getD l 1 0) (words-waiter o x dead server serial l) in
@@ -107,15 +109,15 @@ module _ (ws rest : List ℕ) (at : ℕ) (out : List ℕ) (to : ℕ) (near : Nea
 -- ---- an executor
 
 module _
-    (ws rest : List ℕ) (o y client serial f : ℕ) (a : Run) (at : ℕ) (bo : o < 64) (bv : y < 32) (bf : f < 64)
-    (e : drop at ws ≡ runWords (executor o y client serial a) ++ rest)
+    (ws rest : List ℕ) (o : ℕ) (y : List ℕ) (client serial f : ℕ) (a : Run) (at : ℕ) (bo : o < 64) (bv : firstOf y < 32) (bf : f < 64)
+    (e : drop at ws ≡ runWords (executor o y client serial a) ++ rest) (own : ownEnd ws at ≡ at + 3 + length (variableWords y))
   where
     -- the notice's words, one after the other
     written : List ℕ → ℕ → List ℕ
     written out to =
         set (set (set out to (headOf Kind.notice (nameFields o 0))) (to + 1) (f * 1024 + client * 128)) (to + 1 + 1) serial
 
-    notice-head : noticeHead (headOf Kind.executor (nameFields o y)) ≡ headOf Kind.notice (nameFields o 0)
+    notice-head : noticeHead (headOf Kind.executor (nameFields o (firstOf y))) ≡ headOf Kind.notice (nameFields o 0)
     notice-head = omega arith
 
     notice-word : noticeWord f (client * 8192) ≡ f * 1024 + client * 128
@@ -126,9 +128,9 @@ module _
     notice-at end out to room near =
         let r : Run = executor o y client serial a in
         let ww = words-executor o y client serial a in
-        let z : length (runWords r) ≡ 3 + size a = size-executor o y client serial a in
+        let z : length (runWords r) ≡ 3 + length (variableWords y) + size a = size-executor o y client serial a in
         let w = stands-within ws (runWords r) rest at e (omega arith) in
-        let w0 : getD ws at 0 ≡ headOf Kind.executor (nameFields o y) =
+        let w0 : getD ws at 0 ≡ headOf Kind.executor (nameFields o (firstOf y)) =
         ap (λ n. getD ws n 0) (let q : at ≡ at + 0 = omega arith in q) ∙ word-at ws (runWords r) rest at e 0 (omega arith) ∙ ap (λ l. getD l 0 0) ww in
         let w1 : getD ws (at + 1) 0 ≡ client * 8192 = word-at ws (runWords r) rest at e 1 (omega arith) ∙ ap (λ l. getD l 1 0) ww in
         let w2 : getD ws (at + 2) 0 ≡ serial = word-at ws (runWords r) rest at e 2 (omega arith) ∙ ap (λ l. getD l 2 0) ww in
@@ -162,7 +164,7 @@ module _
       body-gives :
           {oa : Option Run} {k : Killed} {start : List ℕ} →
           Laid out to (6144 ∷ []) start →
-          Gives a start (to + 1) (at + 3 + size a) k oa →
+          Gives a start (to + 1) (at + 3 + length (variableWords y) + size a) k oa →
           Gives (executor o y client serial a) out to (at + size (executor o y client serial a)) (executorOn ws f at to k)
           (also oa λ a'. some (parOf a' (notice o f client serial)))
       unfolding executorOn also parOf isDone size
@@ -173,7 +175,7 @@ module _
           let all : Laid out to (6144 ∷ runWords a') (k .out) = laid-then first (g .laid) in
           let l : length (k .out) ≡ length out = all .keeps in
           rw (
-            goes-on k _ (at + 3 + size a) (g .ends) (omega arith),
+            goes-on k _ (at + 3 + length (variableWords y) + size a) (g .ends) (omega arith),
             g .done,
             g .reaches,
             notice-at (k .moved .end) (k .out) to (omega arith) (rw l near),
@@ -191,7 +193,7 @@ module _
               let v = size-notice o f client serial in
               let l : length (k .out) ≡ length out = all .keeps in
               gives (record {
-                ends = g .ends ∙ (let q : at + 3 + size a ≡ at + size (executor o y client serial a) = omega arith in q);
+                ends = g .ends ∙ (let q : at + 3 + length (variableWords y) + size a ≡ at + size (executor o y client serial a) = omega arith in q);
                 done = refl;
                 reaches = ap (λ n. to + n) (sym v);
                 laid = laid-again (omega arith) all (notice-laid (k .out) to (omega arith));
@@ -204,7 +206,7 @@ module _
               let l : length (k .out) ≡ length out = all .keeps in
               let place : to + length (6144 ∷ runWords a') ≡ to + 1 + size a' = omega arith in
               gives (record {
-                ends = g .ends ∙ (let q : at + 3 + size a ≡ at + size (executor o y client serial a) = omega arith in q);
+                ends = g .ends ∙ (let q : at + 3 + length (variableWords y) + size a ≡ at + size (executor o y client serial a) = omega arith in q);
                 done = refl;
                 reaches = let q : to + 1 + size a' + 3 ≡ to + size (par a' (notice o f client serial)) = omega arith in q;
                 laid = rw (words-par a' (notice o f client serial)) (laid-then all (rw place (notice-laid (k .out) (to + 1 + size a') (omega arith))));
@@ -213,15 +215,15 @@ module _
 
       pub executor-gives :
           {oa : Option Run} →
-          Does sub (at + 3) a oa →
+          Does sub (at + 3 + length (variableWords y)) a oa →
           Gives (executor o y client serial a) out to (at + size (executor o y client serial a)) (executorW sub ws f at out to)
           (also oa λ a'. some (parOf a' (notice o f client serial)))
       unfolding executorW size
       executor-gives fa =
           let r : Run = executor o y client serial a in
-          let z : size r ≡ 3 + size a = size-executor o y client serial a in
+          let z : size r ≡ 3 + length (variableWords y) + size a = size-executor o y client serial a in
           let w = stands-within ws (runWords r) rest at e (omega arith) in
           let first : Laid out to (6144 ∷ []) (set out to 6144) = laid-put out to 6144 (omega arith) in
           let l : length (set out to 6144) ≡ length out = first .keeps in
-          rw (lt-leb (length ws) at (omega arith), onward-near to 1 (length out) near (omega arith))
+          rw (lt-leb (length ws) at (omega arith), own, onward-near to 1 (length out) near (omega arith))
           (body-gives first (fa (set out to 6144) (to + 1) (omega arith) (rw l near)))

@@ -10,6 +10,7 @@ use Rattle.sock.specs.Words.{kindOf, zombieOf, headOf}
 use Rattle.sock.specs.Running.{unmarked, ownName, markNumber}
 use Rattle.skipping.specs.Pass.{passEnd, passList}
 use Rattle.layout.specs.Killed.{zombieHead, noticeHead, noticeWord, waiterWord}
+use Rattle.layout.specs.Own.{ownEnd}
 use Rattle.layout.specs.Positions.{onward}
 use Rattle.writers.specs.Writing.{pasted, pastedEnd, lowered}
 use Rattle.killing.specs.declared.kill.Moved.{Moved}
@@ -164,7 +165,7 @@ executorOn ws fault i to k =
 
 unfoldable pub executorW : Walk → List ℕ → ℕ → Walk
 executorW sub ws fault i out to =
-    cond (leb (length ws) i) (stuckW out) (executorOn ws fault i to (sub (i + 3) (set out to (headOf Kind.par 0)) (onward to 1)))
+    cond (leb (length ws) i) (stuckW out) (executorOn ws fault i to (sub (ownEnd ws i) (set out to (headOf Kind.par 0)) (onward to 1)))
 
 -- ---- by kind
 

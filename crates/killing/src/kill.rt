@@ -9,6 +9,7 @@ use layout::kind;
 use layout::mark;
 use layout::number::further;
 use layout::number::less_one;
+use layout::own::own_end;
 use skipping::pass::pass;
 use skipping::pass::pass_list;
 use writers::write::copy;
@@ -298,7 +299,7 @@ fn plain_zombie(h: u16) -> u16
     killed::zombie(h, mark::UNMARKED)
 }
 
-// An executor becomes its killed body par a notice.
+// An executor becomes its killed body, which stands behind its own words, par a notice.
 fn kill_executor(
     ws: &[u16],
     notes: &[u16],
@@ -315,7 +316,7 @@ fn kill_executor(
         return stuck();
     }
     let one = put(out, to, head::PAR);
-    let p = kill(ws, notes, at + 3, fault, hole, depth, out, one);
+    let p = kill(ws, notes, own_end(ws, at), fault, hole, depth, out, one);
     if p.end == 0 {
         return stuck();
     }

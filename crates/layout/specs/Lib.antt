@@ -3,6 +3,7 @@ pub mod Heads
 pub mod Keys
 pub mod Killed
 pub mod Limits
+pub mod Own
 pub mod Positions
 pub mod Tags
 pub mod Units

@@ -9,5 +9,6 @@ pub mod kind;
 pub mod limit;
 pub mod mark;
 pub mod number;
+pub mod own;
 pub mod tag;
 pub mod unit;

@@ -36,6 +36,9 @@ pub const ENGINES: usize = 8;
 
 pub const BRANCHES: usize = 8;
 
+// How many variables a list of a message may have.
+pub const MESSAGE: usize = 4;
+
 // How many words stand before the first engine: n and issued.
 pub const HEADER: usize = 2;
 

@@ -2,6 +2,9 @@
 // word's last, the bits below have to be 0.
 pub const KIND: usize = 2048;
 
+// The variable in a head's last bits: a head modulo this.
+pub const SECOND: usize = 32;
+
 pub const MARK: usize = 8;
 
 pub const ZOMBIE: usize = 4;

@@ -21,7 +21,7 @@ use Rattle.skipping.proofs.Skips.{code-end, list-end}
 use Rattle.skipping.proofs.Notes.{RightNote, RightListNote, Right}
 use Rattle.reading.specs.Survey.{opens}
 use Rattle.reading.specs.Tables.{headMask}
-use Rattle.reading.specs.Walk.{when, at, processEnd, listEnd, markedEnd, endAfter}
+use Rattle.reading.specs.Walk.{when, at, processEnd, listEnd, markedEnd, executorOwn}
 use Rattle.reading.proofs.Surveys.{is-open}
 use Rattle.reading.proofs.Combining.{Words}
 use Rattle.reading.proofs.Contexts.{numberOf}
@@ -195,7 +195,7 @@ module _ (ws : List ℕ) (ok : Words ws) (short : length ws < 65536) (n issued :
 
     executor-right : (i : ℕ) (m : List ℕ) → Right ws m → Right ws (executorNotes (notesW d ws bound) ws bound i m)
     unfolding executorNotes
-    executor-right i m r = cond-right ws (endAfter ws i 8192 bound) _ _ (below 8 (i + 3) (omega arith) m r) r
+    executor-right i m r = cond-right ws (eqb (executorOwn ws bound i) 0) _ _ r (below 8 (executorOwn ws bound i) (omega arith) m r)
 
     node-right : (h i : ℕ) (m : List ℕ) → Right ws m → Right ws (nodeNotes (processEnd d ws bound) (notesW d ws bound) ws bound h i m)
     unfolding nodeNotes

@@ -16,7 +16,7 @@ use Rattle.sock.specs.Kind.{rows, rowOf}
 use Rattle.sock.specs.Reading.{allowed, placed}
 use Rattle.reading.specs.Survey.{opens}
 use Rattle.reading.specs.Tables.{spareOf, headMask}
-use Rattle.reading.specs.Walk.{on, when, at, exprEnd, processEnd, twoEnd, restOf, entriesEnd, listEnd, markedEnd, scopeEnd, endAfter, executorEnd, nodeEnd}
+use Rattle.reading.specs.Walk.{on, when, at, exprEnd, processEnd, twoEnd, restOf, entriesEnd, listEnd, markedEnd, scopeEnd, executorOwn, executorEnd, nodeEnd}
 use Rattle.reading.proofs.Walks.{process-node, process-refused}
 use Rattle.noting.specs.Noting.{Noting, noteW, noteListW, plainPar, seqNotes, parNotes, bodyNotes, scopeNotes, executorNotes, nodeNotes, enabledNotes, notesW, enginesNotes, surveyNotes}
 
@@ -95,15 +95,15 @@ bare-list end ws h i v w inside first second none =
 -- ---- an executor
 
 module _ (end : ℕ → ℕ → ℕ) (sub : Noting) (ws : List ℕ) (bound i : ℕ) (m : List ℕ) where
-  pub executor-none : false ≡ endAfter ws i 8192 bound → (0 ≡ executorEnd end ws bound i) × (m ≡ executorNotes sub ws bound i m)
-  unfolding executorEnd executorNotes when
-  executor-none t = (rw (← t), rw (← t))
+  pub executor-none : (e : ℕ) → e ≡ executorOwn ws bound i → e ≡ 0 → (0 ≡ executorEnd end ws bound i) × (m ≡ executorNotes sub ws bound i m)
+  unfolding executorEnd executorNotes on
+  executor-none e q z = (rw (← q, z), rw (← q, z))
 
   pub executor-next :
-      (r : ℕ) (x : List ℕ) → true ≡ endAfter ws i 8192 bound → r ≡ end 8 (i + 3) → x ≡ sub 8 (i + 3) m →
+      (e r : ℕ) (x : List ℕ) → e ≡ executorOwn ws bound i → (e ≡ 0 → ⊥) → r ≡ end 8 e → x ≡ sub 8 e m →
       (r ≡ executorEnd end ws bound i) × (x ≡ executorNotes sub ws bound i m)
-  unfolding executorEnd executorNotes when
-  executor-next r x t q n = (rw (← t, q), rw (← t, n))
+  unfolding executorEnd executorNotes on
+  executor-next e r x t some q n = (rw (← t, ne-eqb e 0 some, q), rw (← t, ne-eqb e 0 some, n))
 
 -- ---- by kind
 

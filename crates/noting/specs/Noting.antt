@@ -11,10 +11,9 @@ use Rattle.sock.specs.Kind
 use Rattle.sock.specs.Words.{kindOf, headOf}
 use Rattle.sock.specs.Configuration.{Limits}
 use Rattle.layout.specs.Contexts.{code, running, notNil, receiver, root}
-use Rattle.layout.specs.Units
 use Rattle.reading.specs.Survey.{opens}
 use Rattle.reading.specs.Tables.{headMask}
-use Rattle.reading.specs.Walk.{at, processEnd, markedEnd, endAfter}
+use Rattle.reading.specs.Walk.{at, processEnd, markedEnd, executorOwn}
 
 unfoldable pub noteW : List ℕ → ℕ → ℕ → List ℕ
 noteW m i e = set m (i * 2) (e % 65536)
@@ -49,7 +48,7 @@ unfoldable pub scopeNotes : (ℕ → ℕ → ℕ) → Noting → List ℕ → �
 scopeNotes end sub ws h i m = cond (leb 3 (length ws - i)) (bodyNotes sub i (markedEnd end ws h (at ws (i + 1)) (i + 2)) m) m
 
 unfoldable pub executorNotes : Noting → List ℕ → ℕ → ℕ → List ℕ → List ℕ
-executorNotes sub ws bound i m = cond (endAfter ws i Units.executorsClient bound) (sub running (i + 3) m) m
+executorNotes sub ws bound i m = cond (eqb (executorOwn ws bound i) 0) m (sub running (executorOwn ws bound i) m)
 
 -- by kind
 unfoldable pub nodeNotes : (ℕ → ℕ → ℕ) → Noting → List ℕ → ℕ → ℕ → ℕ → List ℕ → List ℕ

@@ -8,7 +8,7 @@ use layout::kind;
 use layout::number::wide;
 use layout::unit;
 use layout::unit::WORD;
-use reading::reader::executor_fixed;
+use reading::reader::executor_own;
 use reading::reader::marked;
 use reading::reader::read;
 use reading::tables::head_mask;
@@ -100,7 +100,6 @@ fn enabled(
         kind::NIL => at + 1,
         kind::SEQ => seq(ws, at + 1, d, bound, notes),
         kind::PAR => par(ws, at + 1, d, bound, notes),
-        kind::ONE_WAY => at + 1,
         kind::SCOPE => scope(ws, at, d, h, bound, notes),
         kind::THROW => at + 1,
         kind::COMP => at + 1,
@@ -182,13 +181,12 @@ fn scope(ws: &[u16], at: usize, depth: usize, h: usize, bound: usize, notes: &mu
 }
 
 fn executor(ws: &[u16], at: usize, depth: usize, bound: usize, notes: &mut [u16]) -> usize
-    requires { ⌜ at < length (now ws) ⌝ }
     ensures ended { λ r. ⌜ r ≡ executorEnd (processEnd depth (now (ws .entry)) bound) (now (ws .entry)) bound at ⌝ }
     ensures written { λ r. ⌜ now (notes .exit) ≡ executorNotes (notesW depth (now (ws .entry)) bound) (now (ws .entry)) bound at (now (notes .entry)) ⌝ }
 {
-    if executor_fixed(ws, at, bound) {
-        noted(ws, at + 3, depth, RUNNING, bound, notes)
-    } else {
-        0
+    let body = executor_own(ws, at, bound);
+    if body == 0 {
+        return 0;
     }
+    noted(ws, body, depth, RUNNING, bound, notes)
 }

@@ -11,6 +11,7 @@ use borrow.Author.Tests.{lt-ltb, le-ltb, lt-leb, ne-eqb}
 use lib.Dec.{T, ltb, eqb, ltb→lt, nltb→le}
 use lib.ListN.{length, getD, drop}
 use Rattle.sock.specs.Words.{kindOf, faultKey}
+use Rattle.sock.specs.Variables.{variableWords}
 use Rattle.sock.specs.Layout.{words, entriesWords}
 use Rattle.sock.specs.Reading.{holds}
 use Rattle.sock.specs.Running.{Run, nil, seq, par, scope, executor, waiter, notice, act, asNode, runWords, size, runDepth}
@@ -25,6 +26,7 @@ use Rattle.sock.proofs.Measures.{size-seq, size-par, size-scope, size-executor,
 use Rattle.sock.proofs.Heads.{depth-positive, run-inside, run-behind, run-kind, seq-parts, par-parts, scope-parts, executor-parts}
 use Rattle.sock.proofs.Pending.{isNone, climb-refused}
 use Rattle.skipping.specs.Pass.{passEnd}
+use Rattle.layout.proofs.Owns.{executor-own}
 use Rattle.skipping.proofs.Notes.{Right, pass-run, pass-scope}
 use Rattle.pending.specs.Looking.{foundW, besideW, acrossW, sidesW}
 use Rattle.pending.proofs.Turns.{sides-here}
@@ -107,11 +109,15 @@ module _ (ws notes : List ℕ) (right : Right ws notes) (n issued : ℕ) (few : 
   meets (executorSound {o} {y} {client} {serial} {a} bo by g ga) (suc d) p at target deep low t rest e fs =
       let r : Run = executor o y client serial a in
       here-meets r d p at target rest e t fs
-      (λ h. past-from 3 p λ i s.
+      (λ h. past-from (3 + length (variableWords y)) p λ i s.
       let z = depth-executor o y client serial a in
-      let here = sides-at d target at 16 (run-inside ws rest at r e) (omega arith) (run-kind ws rest at r e (executorSound bo by g ga)) in
+      let whole : Sound n issued r = executorSound bo by g ga in
+      let body : ℕ = at + 3 + length (variableWords y) in
+      let here =
+      sides-at d target at 16 (run-inside ws rest at r e) (omega arith) (run-kind ws rest at r e whole)
+      ∙ ap (sidesW d ws notes target) (executor-own ws few small whole at rest e) in
       all-map (λ l g. ap (λ b. b || anyPending (sidesOf fs)) here ∙ g)
-      (meets ga d i (at + 3) target (omega arith) (omega arith) (omega arith) rest (executor-parts ws o y client serial a at rest e) (executorFrame o y client serial ∷ fs)))
+      (meets ga d i body target (omega arith) (omega arith) (omega arith) rest (executor-parts ws o y client serial a at rest e) (executorFrame o y client serial ∷ fs)))
   meets (scopeSound {name} {mark} {zombie} {h = k} {a} bn mf fl ga) (suc d) p at target deep low t rest e fs =
       let r : Run = scope name mark zombie k a in
       here-meets r d p at target rest e t fs

@@ -10,6 +10,7 @@ use borrow.Author.Tests.{lt-ltb, le-ltb, lt-leb, ne-eqb}
 use lib.Dec.{eqb}
 use lib.ListN.{length, getD, drop, length-append}
 use Rattle.sock.specs.Words.{kindOf, zombieOf, bit}
+use Rattle.sock.specs.Variables.{variableWords}
 use Rattle.sock.specs.Term.{Node, Entries, headWord, kind}
 use Rattle.sock.specs.Layout.{words, entriesWords}
 use Rattle.sock.specs.Running.{Mark, scopeHead, Run, nil, seq, par, scope, executor, waiter, notice, act, asNode, runWords, size, runDepth}
@@ -27,6 +28,7 @@ use Rattle.sock.proofs.Pending.{andThen, search-append, count-few}
 use Rattle.skipping.specs.Pass.{passEnd, passList}
 use Rattle.skipping.proofs.Notes.{Right, pass-code, pass-run, pass-scope}
 use Rattle.layout.specs.Positions.{onward}
+use Rattle.layout.proofs.Owns.{executor-own}
 use Rattle.pending.proofs.Turns.{loop-done}
 use Rattle.pending.specs.declared.look.Seen.{Seen}
 use Rattle.pending.specs.Looking.{made, scopeW, seqOn, seqW, behindW, kindW, turnW, goesOn, loopW, lookW, pendingW}
@@ -335,11 +337,14 @@ module _ (ws notes : List ℕ) (right : Right ws notes) (n issued : ℕ) (few : 
         let u = row-size a rs in
         let e' = row-first r rs i e in
         let inside = run-inside ws (rowWords rs ++ rest) i r e' in
-        met turns i m end (i + 3) (omega arith)
-        (turn-by (lookW d ws notes) ws notes i m 16 inside (omega arith) (run-kind ws (rowWords rs ++ rest) i r e' (executorSound bo by g ga)))
+        let s : Sound n issued r = executorSound bo by g ga in
+        let body : ℕ = i + 3 + length (variableWords y) in
+        met turns i m end body (omega arith)
+        (turn-by (lookW d ws notes) ws notes i m 16 inside (omega arith) (run-kind ws (rowWords rs ++ rest) i r e' s)
+        ∙ ap (λ j. made j (m + 1)) (executor-own ws few small s i (rowWords rs ++ rest) e'))
         (omega arith) (enabledIn a ++ heads rs)
-        (law (a ∷ rs) (oneMore ga (omega arith) row) (i + 3) (m + 1) end (omega arith)
-        (one-first a rs (i + 3) (executor-parts ws o y client serial a i (rowWords rs ++ rest) e')) (omega arith) (omega arith))
+        (law (a ∷ rs) (oneMore ga (omega arith) row) body (m + 1) end (omega arith)
+        (one-first a rs body (executor-parts ws o y client serial a i (rowWords rs ++ rest) e')) (omega arith) (omega arith))
         r refl
     step turns law _ (oneMore {rs = rs} (scopeSound {name} {mark} {zombie} {h} {a} bn mf fl ga) deep row) i m end l e q t =
         let r : Run = scope name mark zombie h a in

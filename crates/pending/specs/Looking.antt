@@ -7,6 +7,7 @@ use lib.ListN.{length, getD}
 use Rattle.sock.specs.Kind
 use Rattle.sock.specs.Words.{kindOf, zombieOf}
 use Rattle.skipping.specs.Pass.{passEnd, passList}
+use Rattle.layout.specs.Own.{ownEnd}
 use Rattle.layout.specs.Positions.{onward}
 use Rattle.pending.specs.declared.look.Seen.{Seen}
 
@@ -38,7 +39,7 @@ kindW sub ws notes kind i n =
     cond (eqb kind Kind.seq) (seqW sub ws notes (i + 1) n)
     (cond (eqb kind Kind.scope) (scopeW ws notes (getD ws i 0) (i + 2) n)
     (cond (eqb kind Kind.inst) (made 0 n)
-    (cond (eqb kind Kind.executor) (made (i + 3) n)
+    (cond (eqb kind Kind.executor) (made (ownEnd ws i) n)
     (made (behindW kind i (passEnd 64 ws notes i)) n))))
 
 unfoldable pub turnW : Search → List ℕ → List ℕ → ℕ → ℕ → Seen
@@ -75,7 +76,7 @@ acrossW sub ws notes target kind i =
     cond (eqb kind Kind.seq) (sub (i + 1))
     (cond (eqb kind Kind.par) (besideW sub ws notes target (i + 1))
     (cond (eqb kind Kind.scope) (sub (passList 64 ws notes (i + 2)))
-    (cond (eqb kind Kind.executor) (sub (i + 3)) false)))
+    (cond (eqb kind Kind.executor) (sub (ownEnd ws i)) false)))
 
 unfoldable pub sidesW : ℕ → List ℕ → List ℕ → ℕ → ℕ → Bool
 sidesW zero ws notes target i = false

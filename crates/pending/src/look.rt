@@ -8,6 +8,7 @@ use layout::kind;
 use layout::limit::FUEL;
 use layout::number::further;
 use layout::number::word;
+use layout::own::own_end;
 use skipping::pass::pass;
 use skipping::pass::pass_list;
 ghost use mathlib.Core.Path.{_≡_};
@@ -54,7 +55,7 @@ fn turn(ws: &[u16], notes: &[u16], at: usize, depth: usize, count: usize) -> See
         kind::SCOPE => scope(ws, notes, ws[at], at + 2, n),
         kind::INST => stop(n),
         kind::EXECUTOR => Seen {
-            end: at + 3,
+            end: own_end(ws, at),
             count: n,
         },
         _ => Seen {

@@ -3,6 +3,7 @@ use crate::look::pending;
 use layout::field::kind_of;
 use layout::kind;
 use layout::limit::FUEL;
+use layout::own::own_end;
 use skipping::pass::pass;
 use skipping::pass::pass_list;
 ghost use mathlib.Core.Path.{_≡_};
@@ -39,7 +40,7 @@ pub fn any_pending(ws: &[u16], notes: &[u16], at: usize, target: usize, depth: u
             target,
             depth - 1,
         ),
-        kind::EXECUTOR => any_pending(ws, notes, at + 3, target, depth - 1),
+        kind::EXECUTOR => any_pending(ws, notes, own_end(ws, at), target, depth - 1),
         _ => false,
     }
 }

@@ -4,20 +4,21 @@ use Prim.Native.Nat.{ℕ, zero, suc, _+_, _-_, _*_, _/_, _%_, _<_, _≤_}
 use native.Mathlib.Omega.{arith}
 use native.Mathlib.Numerals.{sub-one}
 use mathlib.Core.Path.{_≡_, refl, _∙_}
-use mathlib.Core.Bool.{true, cond}
+use mathlib.Core.Bool.{Bool, true, false, cond}
 use mathlib.Core.List.{List}
-use lib.Dec.{ltb, eqb, lit<}
+use lib.Dec.{T, ltb, eqb, lit<}
 use lib.ListN.{length, getD}
 use borrow.Author.Tests.{lt-ltb, ne-eqb}
 use Rattle.sock.specs.Reading.{Got}
 use Rattle.sock.proofs.Fields.{bit-below}
 use Rattle.sock.proofs.Logic.{cond-case}
 use Rattle.reading.specs.declared.ends.Counted.{Counted}
-use Rattle.reading.specs.Walk.{at, listEnd, processEnd}
+use Rattle.reading.specs.Walk.{when, at, listEnd, endAfter, executorOwn, processEnd}
 use Rattle.reading.specs.Tally.{uncounted, counted, after, serialAt, seqTally, parTally, scopeTally, executorTally, nodeTally, tallyAt, totalFrom}
 use Rattle.reading.proofs.Combining.{Words}
 use Rattle.reading.proofs.Ending.{Ends, fails, reads}
 use Rattle.reading.proofs.Processes.{process-ends, list-ends}
+use Rattle.reading.proofs.Variables.{listTest, list-when, list-some, list-inside}
 
 -- ---- one level
 
@@ -25,7 +26,7 @@ pub tally-step :
     (d : ℕ) (ws : List ℕ) (serial bound i : ℕ) → (d ≡ 0 → ⊥) →
     tallyAt d ws serial bound i
     ≡ cond (ltb i (length ws))
-    (nodeTally (tallyAt (d - 1) ws serial bound) (processEnd (d - 1) ws bound) (processEnd d ws bound 8) ws serial (at ws i / 2048) i)
+    (nodeTally (tallyAt (d - 1) ws serial bound) (processEnd (d - 1) ws bound) (processEnd d ws bound 8) ws serial bound (at ws i / 2048) i)
     uncounted
 unfolding tallyAt
 tally-step zero ws serial bound i h = absurd (h refl)
@@ -38,7 +39,7 @@ pub tally-node :
     i < length ws →
     w ≡ at ws i →
     tallyAt d ws serial bound i
-    ≡ nodeTally (tallyAt (d - 1) ws serial bound) (processEnd (d - 1) ws bound) (processEnd d ws bound 8) ws serial (w / 2048) i
+    ≡ nodeTally (tallyAt (d - 1) ws serial bound) (processEnd (d - 1) ws bound) (processEnd d ws bound 8) ws serial bound (w / 2048) i
 tally-node d ws serial bound i w p q r = tally-step d ws serial bound i p ∙ simp (← r, lt-ltb i (length ws) q)
 
 -- ---- ends inside the words, past where it begins
@@ -50,6 +51,23 @@ pub data Forward (ws : List ℕ) (i : ℕ) : ℕ → Type 0 where
 ends-forward : {A : Type 0} {ws : List ℕ} {i e : ℕ} {g : Got A} → Ends ws i g e → Forward ws i e
 ends-forward fails = stops
 ends-forward (reads p q) = goes p q
+
+forward-when : {ws : List ℕ} {i e : ℕ} (b : Bool) → (T b → Forward ws i e) → Forward ws i (when b e)
+unfolding when
+forward-when true f = f tt
+forward-when false f = stops
+
+-- the body of an executor begins behind its own words
+pub own-forward : (ws : List ℕ) (bound i : ℕ) → Forward ws (i + 3) (executorOwn ws bound i)
+unfolding executorOwn
+own-forward ws bound i =
+    forward-when (ltb i (length ws)) λ t.
+    forward-when (endAfter ws i 8192 bound) λ u.
+    rw (list-when ws (i + 3))
+    (forward-when (listTest ws (i + 3)) λ v.
+    let some = list-some ws (i + 3) v in
+    let within = list-inside ws (i + 3) v in
+    goes {e = i + 3 + at ws (i + 3)} (omega arith) (omega arith))
 
 module _ (ws : List ℕ) (ok : Words ws) (d bound : ℕ) where
   whole : bound / 65536 * 65536 + bound % 65536 ≡ bound
@@ -114,26 +132,32 @@ module _ (ws : List ℕ) (i : ℕ) where
   scope-bounded tal e f stops = noCount
   scope-bounded tal e f (goes p q) = rw (ne-eqb e 0 (omega arith)) (later {j = e} (omega arith) (f e))
 
-  executor-bounded : (b : ℕ) (t : Counted) → b < 2 → Bounded ws (i + 3) t → Bounded ws i (counted (t .end) (t .waiters) (t .workers + b))
+  executor-bounded :
+      (tal : ℕ → Counted) (b e : ℕ) → b < 2 → ((e : ℕ) → Bounded ws e (tal e)) → Forward ws (i + 3) e →
+      Bounded ws i (cond (eqb e 0) uncounted (counted (tal e .end) (tal e .waiters) (tal e .workers + b)))
   unfolding counted uncounted
-  executor-bounded b t h noCount = noCount
-  executor-bounded b t h (aCount {e} {w} {k} p q c) = rw (ne-eqb e 0 (omega arith)) (aCount {e = e} {w = w} {k = k + b} (omega arith) q (omega arith))
+  executor-bounded tal b e h t stops = noCount
+  executor-bounded tal b e h t (goes p q) = rw (ne-eqb e 0 (omega arith)) (one-more (tal e) (later {j = e} (omega arith) (t e)))
+    where
+      one-more : (t : Counted) → Bounded ws (i + 3) t → Bounded ws i (counted (t .end) (t .waiters) (t .workers + b))
+      one-more t noCount = noCount
+      one-more t (aCount {e = e′} {w} {k} p q c) = rw (ne-eqb e′ 0 (omega arith)) (aCount {e = e′} {w = w} {k = k + b} (omega arith) q (omega arith))
 
   node-bounded :
-      (tal : ℕ → Counted) (sub : ℕ → ℕ → ℕ) (skip : ℕ → ℕ) (serial k : ℕ) →
+      (tal : ℕ → Counted) (sub : ℕ → ℕ → ℕ) (skip : ℕ → ℕ) (serial bound k : ℕ) →
       ((e : ℕ) → Bounded ws e (tal e)) →
       ((e : ℕ) → Forward ws e (sub 0 e)) →
       ((e : ℕ) → Forward ws e (listEnd sub ws 0 128 e)) →
       Forward ws i (skip i) →
-      Bounded ws i (nodeTally tal sub skip ws serial k i)
+      Bounded ws i (nodeTally tal sub skip ws serial bound k i)
   unfolding nodeTally seqTally parTally scopeTally executorTally
-  node-bounded tal sub skip serial k t f l s =
+  node-bounded tal sub skip serial bound k t f l s =
       let P : Counted → Type 0 = Bounded ws i in
       let b = serial-below ws i serial in
       cond-case P (eqb k 2) (λ z. seq-bounded tal sub (tal (i + 1)) f (t (i + 1))) λ z.
       cond-case P (eqb k 3) (λ z. par-bounded tal (tal (i + 1)) t (t (i + 1))) λ z.
       cond-case P (eqb k 11) (λ z. scope-bounded tal (listEnd sub ws 0 128 (i + 2)) t (l (i + 2))) λ z.
-      cond-case P (eqb k 16) (λ z. executor-bounded (serialAt ws i serial) (tal (i + 3)) b (t (i + 3))) λ z.
+      cond-case P (eqb k 16) (λ z. executor-bounded tal (serialAt ws i serial) (executorOwn ws bound i) b t (own-forward ws bound i)) λ z.
       cond-case P (eqb k 17) (λ z. counted-bounded i i (skip i) (serialAt ws i serial) 0 (omega arith) (omega arith) s) λ z.
       cond-case P (eqb k 18) (λ z. counted-bounded i i (skip i) 0 (serialAt ws i serial) (omega arith) (omega arith) s) λ z.
       counted-bounded i i (skip i) 0 0 (omega arith) (omega arith) s
@@ -144,7 +168,7 @@ tally-bounded ws ok serial bound zero i = noCount
 tally-bounded ws ok serial bound (suc d) i =
     cond-case (Bounded ws i) (ltb i (length ws))
     (λ z.
-    node-bounded ws i (tallyAt d ws serial bound) (processEnd d ws bound) (processEnd (suc d) ws bound 8) serial (at ws i / 2048)
+    node-bounded ws i (tallyAt d ws serial bound) (processEnd d ws bound) (processEnd (suc d) ws bound 8) serial bound (at ws i / 2048)
     (tally-bounded ws ok serial bound d)
     (process-forward ws ok d bound 0 (lit< tt))
     (list-forward ws ok d bound)
@@ -170,6 +194,15 @@ pub one-more-below : {ws : List ℕ} {i : ℕ} {t : Counted} → i < length ws �
 unfolding uncounted
 one-more-below h noCount = omega arith
 one-more-below h (aCount {e} {w} {k} p q b) = omega arith
+
+-- an executor beside what is counted in its body, which begins at e
+pub own-below :
+    (ws : List ℕ) (bound i e : ℕ) (t : Counted) → e ≡ executorOwn ws bound i → (e ≡ 0 → ⊥) → i < length ws → Bounded ws e t → t .workers + 1 ≤ length ws
+own-below ws bound i e t q some h b = by (rw (← q) at (own-forward ws bound i)) some b
+  where
+    by : {e : ℕ} → Forward ws (i + 3) e → (e ≡ 0 → ⊥) → Bounded ws e t → t .workers + 1 ≤ length ws
+    by stops some b = absurd (some refl)
+    by (goes {e} p r) some b = one-more-below h (later {j = e} (omega arith) b)
 
 -- ---- one turn of the loop over the engines
 

@@ -4,7 +4,7 @@
 use Prim.Native.Nat.{ℕ, _≤_, _<_}
 use native.Mathlib.Omega.{arith}
 use mathlib.Core.Logic.{_≢_}
-use mathlib.Core.Path.{_≡_, refl, sym, _∙_}
+use mathlib.Core.Path.{_≡_, refl, subst, sym, _∙_}
 use mathlib.Core.Bool.{Bool, true, false, not, _&&_}
 use mathlib.Core.List.{List}
 use lib.Dec.{T}
@@ -94,6 +94,10 @@ pub ends-when : {A : Type 0} {ws : List ℕ} {i e : ℕ} {g : Got A} (b : Bool) 
 unfolding when
 ends-when true r f = r tt
 ends-when false r f = rw (f tt) fails
+
+-- an end that is the same
+pub ends-at : {A : Type 0} {ws : List ℕ} {i d e : ℕ} {g : Got A} → d ≡ e → Ends ws i g d → Ends ws i g e
+ends-at {ws = ws} {i} {g = g} q r = subst (λ n. Ends ws i g n) q r
 
 -- from an earlier position
 pub ends-before : {A : Type 0} {ws : List ℕ} {i j e : ℕ} {g : Got A} → i ≤ j → Ends ws j g e → Ends ws i g e

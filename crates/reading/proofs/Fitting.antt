@@ -10,6 +10,7 @@ use lib.Dec.{T, leb, ltb, eqb}
 use lib.ListN.{length, getD, List·getD-eq-default}
 use borrow.Author.Tests.{le-leb, leb-true, eq-eqb, eqb-true, ne-eqb, eqb-false, ltb-true, le-ltb}
 use Rattle.sock.specs.Kind.{rows, rowOf}
+use Rattle.sock.specs.Counts.{wordCount, listCount}
 use Rattle.sock.specs.Reading.{allowed, placed}
 use Rattle.sock.proofs.Logic.{and-left, and-right, test-true, true-test, cond-case}
 use Rattle.sock.proofs.Table.{table, table-at}
@@ -116,7 +117,7 @@ masks : ℕ → ℕ → ℕ
 masks c k = cond (eqb (standing (shapeOf k) c) 0) (headMask c k) (shapeOf k / 1048576 % 8192)
 
 same-masks : table (λ j. masks (j / 32) (j % 32)) 0 384 ≡ table (λ j. headMask (j / 32) (j % 32)) 0 384
-unfolding masks headMask spareOf allowed placed rowOf rows bitOf shapeOf
+unfolding masks headMask spareOf allowed placed rowOf rows wordCount listCount bitOf shapeOf
 same-masks = refl
 
 pub shape-mask : (c k : ℕ) → c < 12 → k < 32 → (standing (shapeOf k) c ≡ 0 → ⊥) → shapeOf k / 1048576 % 8192 ≡ headMask c k
@@ -132,7 +133,7 @@ one : ℕ → ℕ → ℕ
 one c k = 1
 
 same-kinds : table (λ j. kinds (j / 32) (j % 32)) 0 384 ≡ table (λ j. one (j / 32) (j % 32)) 0 384
-unfolding kinds one bitOf shapeOf spareOf allowed placed rowOf rows
+unfolding kinds one bitOf shapeOf spareOf allowed placed rowOf rows wordCount listCount
 same-kinds = refl
 
 cond-one : (b : Bool) → _≡_ {A = ℕ} (cond b 1 0) 1 → T b
@@ -154,7 +155,7 @@ small : ℕ → ℕ → ℕ
 small c k = cond (eqb c 12 && ltb k 19) 1 (cond (smallAt c k) 1 0)
 
 same-small : table (λ j. small (j / 32) (j % 32)) 0 416 ≡ table (λ j. one (j / 32) (j % 32)) 0 416
-unfolding small smallAt one partOf bitOf shapeOf spareOf allowed placed rowOf rows
+unfolding small smallAt one partOf bitOf shapeOf spareOf allowed placed rowOf rows wordCount listCount
 same-small = refl
 
 parts-small :

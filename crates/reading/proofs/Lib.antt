@@ -1,3 +1,4 @@
+pub mod Begins
 pub mod Beyond
 pub mod Checks
 pub mod Combining
@@ -16,6 +17,7 @@ pub mod Lent
 pub mod Lists
 pub mod Masks
 pub mod Others
+pub mod Owned
 pub mod Parts
 pub mod Processes
 pub mod Resting
@@ -27,4 +29,6 @@ pub mod Surveyed
 pub mod Surveys
 pub mod Tallied
 pub mod Totals
+pub mod VariableWalks
+pub mod Variables
 pub mod Walks

@@ -8,6 +8,7 @@ use mathlib.Core.List.{List, [], _∷_}
 use lib.Dec.{T, leb, ltb, eqb}
 use lib.ListN.{length, drop}
 use Rattle.sock.specs.Kind
+use Rattle.sock.specs.Kind.{Own, word}
 use Rattle.sock.specs.Words.{isWord, clear}
 use Rattle.sock.specs.Term.{noParts, _&_}
 use Rattle.sock.specs.Reading.{got, andThen, check, Stratum, running, code, Place, anywhere, guard, partStratum, partPlace, fixedWords, expr, exprs, parts, partBy, process}
@@ -15,7 +16,7 @@ use Rattle.sock.proofs.Logic.{cond-case, test-true, test-false}
 use Rattle.sock.proofs.Reading.{tests, split, both}
 use Rattle.reading.specs.Walk.{at, exprEnd, twoEnd, branchesEnd, fixedAfter, processEnd}
 use Rattle.reading.proofs.Contexts.{numberOf, codeOf, guard-context}
-use Rattle.reading.proofs.Combining.{same-test, check-and, check-as, then-check, on-assoc, Words, at-next}
+use Rattle.reading.proofs.Combining.{same-test, check-and, check-as, then-check, then-assoc, on-assoc, Words, at-next}
 use Rattle.reading.proofs.Ending.{Ends, reads, ends-then, ends-map, ends-before}
 use Rattle.reading.proofs.Expressions.{expr-ends}
 
@@ -35,12 +36,19 @@ module _ (ws : List ℕ) (ok : Words ws) (i m : ℕ) where
       let t = split (leb 2 (n - i)) (clear m w) t in
       both (ltb (i + 1) n) (isWord w && clear m w) (omega tests) (both (isWord w) (clear m w) (omega (tests, ok (i + 1))) (t .1))
 
-  pub fixed-one : fixedWords (m ∷ []) (drop (i + 1) ws) ≡ check (fixedAfter ws i m) (got (at ws (i + 1) ∷ []) (drop (i + 2) ws))
-  unfolding fixedWords andThen
-  fixed-one =
-      at-next (fixedWords (m ∷ [])) refl ws (i + 1) (i + 2) (omega arith)
+  -- a fixed word, then the others of a process's own words
+  pub word-then :
+      (os : List Own) →
+      fixedWords (word m ∷ os) (drop (i + 1) ws) ≡ check (fixedAfter ws i m) (andThen (fixedWords os (drop (i + 2) ws)) λ f rest. got (at ws (i + 1) ∷ f) rest)
+  unfolding fixedWords
+  word-then os =
+      at-next (fixedWords (word m ∷ os)) refl ws (i + 1) (i + 2) (omega arith)
       ∙ check-and (ltb (i + 1) (length ws)) (isWord (at ws (i + 1)) && clear m (at ws (i + 1))) _
       ∙ check-as _ one-test
+
+  pub fixed-one : fixedWords (word m ∷ []) (drop (i + 1) ws) ≡ check (fixedAfter ws i m) (got (at ws (i + 1) ∷ []) (drop (i + 2) ws))
+  unfolding fixedWords andThen
+  fixed-one = word-then []
 
   two-test :
       ltb (i + 1) (length ws) && (isWord (at ws (i + 1)) && clear m (at ws (i + 1))) && (ltb (i + 2) (length ws) && (isWord (at ws (i + 2)) && clear 1 (at ws (i + 2))))
@@ -63,22 +71,31 @@ module _ (ws : List ℕ) (ok : Words ws) (i m : ℕ) where
       both (fixedAfter ws i m) b (both (leb 2 (n - i)) (clear m w) (omega tests) (t .1))
       (both (ltb (i + 2) n) (isWord v && clear 1 v) (omega tests) (both (isWord v) (clear 1 v) (omega (tests, ok (i + 2))) (omega tests))))
 
-  pub fixed-two :
-      fixedWords (m ∷ 1 ∷ []) (drop (i + 1) ws) ≡ check (leb 3 (length ws - i) && clear m (at ws (i + 1))) (got (at ws (i + 1) ∷ at ws (i + 2) ∷ []) (drop (i + 3) ws))
+  -- two fixed words, the second one whole, then the others
+  pub words-then :
+      (os : List Own) →
+      fixedWords (word m ∷ word 1 ∷ os) (drop (i + 1) ws)
+      ≡ check (leb 3 (length ws - i) && clear m (at ws (i + 1))) (andThen (fixedWords os (drop (i + 3) ws)) λ f rest. got (at ws (i + 1) ∷ at ws (i + 2) ∷ f) rest)
   unfolding fixedWords andThen
-  fixed-two =
+  words-then os =
       let w : ℕ = at ws (i + 1) in
       let v : ℕ = at ws (i + 2) in
       let n : ℕ = length ws in
       let a : Bool = ltb (i + 1) n && (isWord w && clear m w) in
-      at-next (fixedWords (m ∷ 1 ∷ [])) refl ws (i + 1) (i + 2) (omega arith)
+      at-next (fixedWords (word m ∷ word 1 ∷ os)) refl ws (i + 1) (i + 2) (omega arith)
       ∙ check-and (ltb (i + 1) n) (isWord w && clear m w) _
       ∙ ap (check a)
-      (at-next (λ l. andThen (fixedWords (1 ∷ []) l) λ f rest. got (w ∷ f) rest) refl ws (i + 2) (i + 3) (omega arith)
-      ∙ ap (check (ltb (i + 2) n)) (then-check (isWord v && clear 1 v) (got (v ∷ []) (drop (i + 3) ws)) _)
+      (at-next (λ l. andThen (fixedWords (word 1 ∷ os) l) λ f rest. got (w ∷ f) rest) refl ws (i + 2) (i + 3) (omega arith)
+      ∙ ap (check (ltb (i + 2) n)) (then-check (isWord v && clear 1 v) _ _ ∙ ap (check (isWord v && clear 1 v)) (then-assoc (fixedWords os (drop (i + 3) ws)) _ _))
       ∙ check-and (ltb (i + 2) n) (isWord v && clear 1 v) _)
       ∙ check-and a (ltb (i + 2) n && (isWord v && clear 1 v)) _
       ∙ check-as _ two-test
+
+  pub fixed-two :
+      fixedWords (word m ∷ word 1 ∷ []) (drop (i + 1) ws)
+      ≡ check (leb 3 (length ws - i) && clear m (at ws (i + 1))) (got (at ws (i + 1) ∷ at ws (i + 2) ∷ []) (drop (i + 3) ws))
+  unfolding fixedWords andThen
+  fixed-two = words-then []
 
 pub fixed-inside : (ws : List ℕ) (i m : ℕ) → T (fixedAfter ws i m) → i + 2 ≤ length ws
 unfolding fixedAfter

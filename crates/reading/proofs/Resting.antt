@@ -9,8 +9,9 @@ use lib.Dec.{T, eqb}
 use Rattle.sock.specs.Kind
 use Rattle.sock.specs.Kind.{rows, rowOf}
 use Rattle.sock.specs.Words.{clear, kindOf, bit, nameFields}
+use Rattle.sock.specs.Variables.{firstOf, distinct}
 use Rattle.sock.specs.Term.{Expr, Node, node, Block, Nodes, Entries, noEntries, entry, list, partAt}
-use Rattle.sock.specs.Reading.{running, code, Place, anywhere, notNil, root, allowed, placed, branched, nodeFits, restingFits, isEmpty, partStratum, partPlace}
+use Rattle.sock.specs.Reading.{running, code, Place, anywhere, notNil, root, allowed, placed, branched, fieldsFit, receivesIn, nodeFits, restingFits, isEmpty, partStratum, partPlace}
 use Rattle.sock.specs.Running.{Mark, unmarked, faulted, ownName, markNumber, markedFault, scopeHead, Run, scope, asNode, awake, enable}
 use Rattle.sock.specs.Configuration.{isUnmarked, freshRun}
 use Rattle.sock.proofs.Logic.{and-left, and-right, and-both, test-false}
@@ -19,6 +20,7 @@ use Rattle.sock.proofs.Fields.{fixed-fits, fault-below, head-kind, fields-below
 use Rattle.sock.proofs.Nodes.{part-fits}
 use Rattle.sock.proofs.ByKind.{at-place, fitsAs, code-kind, runKind, kind-asNode, scoped-kind, kind-placed}
 use Rattle.sock.proofs.Opening.{ofCode, plain-fits}
+use Rattle.sock.proofs.Variables.{laid}
 use Rattle.sock.proofs.Running.{enable-asNode, enable-sound, enable-done, awake-asNode', awake-sound, asNode-fits, asNode-awake}
 
 -- ---- fresh is code
@@ -27,7 +29,7 @@ use Rattle.sock.proofs.Running.{enable-asNode, enable-sound, enable-done, awake
 resting-passes :
     (name : ℕ) (mark : Mark) (zombie : Bool) (h : Entries) → name < 64 → T (isUnmarked mark && not zombie && isEmpty h) →
     T (nodeFits (code false) (scopeHead name mark zombie) ((markedFault mark * 1024) ∷ []) (list h))
-unfolding nodeFits restingFits isUnmarked isEmpty
+unfolding nodeFits fieldsFit receivesIn distinct restingFits isUnmarked isEmpty
 resting-passes name mark zombie h b t =
     rw (scope-kind name mark zombie b, scope-mark name mark zombie b, scope-zombie name mark zombie b, fault-of (markedFault mark)) (by mark zombie h t)
   where
@@ -59,7 +61,7 @@ rests-as {h = h} {k} e a l c fx ex bl pt nf =
 
 module _ {n issued : ℕ} where
   fresh-placed : {r : Run} → Sound n issued r → T (freshRun r) → {p : Place} → T (placed p (runKind r)) → Fits (code false) p (asNode r)
-  unfolding asNode rowOf rows allowed placed partStratum partPlace nodeFits freshRun
+  unfolding asNode rowOf rows allowed placed partStratum partPlace nodeFits fieldsFit receivesIn distinct freshRun
   fresh-placed nilSound t l = rests-as refl tt l tt noFixed noExprs noList noPart tt
   fresh-placed (seqSound a d q) t l =
       rests-as refl tt l tt noFixed noExprs noList (onePart (fresh-placed a t {p = notNil} (kind-placed a notNil d)) (onePart q noPart)) tt
@@ -96,7 +98,7 @@ rests :
     (name : ℕ) (mark : Mark) (zombie : Bool) (h : Entries) → name < 64 →
     T (nodeFits (code false) (scopeHead name mark zombie) ((markedFault mark * 1024) ∷ []) (list h)) →
     T (isUnmarked mark && not zombie && isEmpty h)
-unfolding nodeFits restingFits isUnmarked isEmpty
+unfolding nodeFits fieldsFit receivesIn distinct restingFits isUnmarked isEmpty
 rests name mark zombie h b t =
     by mark zombie h (rw (scope-kind name mark zombie b, scope-mark name mark zombie b, scope-zombie name mark zombie b, fault-of (markedFault mark)) at t)
   where
@@ -115,8 +117,8 @@ module _ {n issued : ℕ} (few : n ≤ 8) (word : issued < 65536) where
   code-fresh (parSound {a = x} {b = y} a d b d′) f = and-both (freshRun x) (freshRun y) (code-fresh a (code-part f 0)) (code-fresh b (code-part f 1))
   code-fresh (scopeSound {name} {mark} {zombie} {h} {a = r} b m fh a) f =
       and-both (isUnmarked mark && not zombie && isEmpty h) (freshRun r) (rests name mark zombie h b (code-node f)) (code-fresh a (code-part f 0))
-  code-fresh (executorSound {o} {y} bo by e a) f = absurd (omega (arith, code-kind f, head-kind 16 (nameFields o y) (fields-below o y bo by)))
-  code-fresh (waiterSound {o} {x} bo bx e fl) f = absurd (omega (arith, code-kind f, head-kind 17 (nameFields o x) (fields-below o x bo bx)))
+  code-fresh (executorSound {o} {y} bo by e a) f = absurd (omega (arith, code-kind f, head-kind 16 (nameFields o (firstOf y)) (fields-below o (firstOf y) bo (laid y by .low))))
+  code-fresh (waiterSound {o} {x} bo bx e fl) f = absurd (omega (arith, code-kind f, head-kind 17 (nameFields o (firstOf x)) (fields-below o (firstOf x) bo (laid x (bx .fitting) .low))))
   code-fresh (noticeSound {o} bo bf e) f = absurd (omega (arith, code-kind f, head-kind 18 (nameFields o 0) (fields-below o 0 bo (omega arith))))
   code-fresh (actSound i f) g = tt
 

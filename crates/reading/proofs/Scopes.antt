@@ -11,8 +11,9 @@ use lib.ListN.{length, drop, drop-of-length-le}
 use Rattle.sock.specs.Kind
 use Rattle.sock.specs.Kind.{rows, rowOf}
 use Rattle.sock.specs.Words.{clear, kindOf, markOf, zombieOf, firstName}
+use Rattle.sock.specs.Variables.{distinct}
 use Rattle.sock.specs.Term.{Node, node, Block, list, entriesOf, processesOf}
-use Rattle.sock.specs.Reading.{Got, fail, got, andThen, check, Stratum, running, code, Place, anywhere, partPlace, isEmpty, scopeFits, restingFits, nodeFits, exprs, entries, block, parts, partBy, expr, process, nodeBy}
+use Rattle.sock.specs.Reading.{Got, fail, got, andThen, check, Stratum, running, code, Place, anywhere, partPlace, isEmpty, scopeFits, restingFits, fieldsFit, receivesIn, nodeFits, exprs, entries, block, parts, partBy, expr, process, nodeBy}
 use Rattle.sock.proofs.Fields.{four, four-pass}
 use Rattle.sock.proofs.Reading.{tests, eq→eqb, split, both, Holds, nothing, something, holds-check, holds-then}
 use Rattle.reading.specs.Walk.{on, when, at, exprEnd, markedEnd, restingEnd, scopeEnd, fixedAfter, nodeEnd, processEnd}
@@ -28,12 +29,12 @@ use Rattle.reading.proofs.Following.{Follows}
 running-fits :
     (n issued h w : ℕ) → kindOf h ≡ Kind.scope → (l : Block) →
     nodeFits (running n issued) h (w ∷ []) l ≡ scopeFits (markOf h) (zombieOf h) (firstName w) (entriesOf l)
-unfolding nodeFits
+unfolding nodeFits fieldsFit receivesIn distinct
 running-fits n issued h w e l = rw e (simp and-true)
 
 resting-fits :
     (c : Bool) (h w : ℕ) → kindOf h ≡ Kind.scope → (l : Block) → nodeFits (code c) h (w ∷ []) l ≡ restingFits (markOf h) (zombieOf h) (firstName w) (entriesOf l)
-unfolding nodeFits
+unfolding nodeFits fieldsFit receivesIn distinct
 resting-fits c h w e l = rw e
 
 -- a fixed word whose name is 0 is 0

@@ -13,10 +13,11 @@ use lib.Arith.{lt-of-le-ne}
 use Rattle.sock.proofs.Fields.{From, end, _then_, fact-at}
 use Rattle.sock.proofs.Logic.{and-left}
 use Rattle.sock.specs.Kind.{rows, rowOf}
+use Rattle.sock.specs.Counts.{wordCount, listCount}
 use Rattle.sock.specs.Reading.{allowed, placed}
 use Rattle.reading.specs.Tables.{spareOf, bitOf, shapeOf}
-use Rattle.reading.specs.Walk.{on, when, at, exprEnd, exprAt, constantEnd, operationEnd, twoEnd, branchEnd, repeatEnd, fixedAfter}
-use Rattle.reading.specs.Walk.{requestEnd, notifyEnd, entriesEnd, listEnd, solicitEnd, restingEnd, scopeEnd, nodeEnd, processEnd}
+use Rattle.reading.specs.Walk.{on, when, at, exprEnd, exprAt, constantEnd, operationEnd, twoEnd, branchEnd, repeatEnd}
+use Rattle.reading.specs.Walk.{entriesEnd, listEnd, restingEnd, scopeEnd, nodeEnd, processEnd}
 use Rattle.reading.specs.Walk.{contextOf, restOf, slotOf, fitsAt, partOf, itemEnd}
 use Rattle.reading.proofs.Combining.{Words}
 use Rattle.reading.proofs.Fitting.{Fit, fits-known, slot-process, shape-mask, shape-kind}
@@ -59,13 +60,7 @@ module _ (ws : List ℕ) (ok : Words ws) (bound d c i : ℕ) (hc : c < 12) where
   expression : (j : ℕ) → exprEnd d ws j ≡ itemEnd ws bound d (partOf c 192) j
   expression j = as-expression (partOf c 192) j (part-expression c)
 
-  -- the word in the middle, and the last one
-  middle-2048 : (w : ℕ) → bitAnd w 2047 ≡ 0 → eqb (w % 2048) 0 ≡ true
-  middle-2048 w e = eq-eqb _ _ (sym (and-mask w 11) ∙ e)
-
-  middle-64 : (w : ℕ) → bitAnd w 63 ≡ 0 → eqb (w % 64) 0 ≡ true
-  middle-64 w e = eq-eqb _ _ (sym (and-mask w 6) ∙ e)
-
+  -- a word of which all bits are 0
   all-zero : (j : ℕ) → bitAnd (at ws j) 65535 ≡ 0 → at ws j ≡ 0
   all-zero j e = let m : bitAnd (at ws j) 65535 ≡ at ws j % 65536 = and-mask (at ws j) 16 in let b = ok j in omega arith
 
@@ -78,27 +73,23 @@ module _ (ws : List ℕ) (ok : Words ws) (bound d c i : ℕ) (hc : c < 12) where
       ∙ q)
 
   leaf-0 : Step 0
-  unfolding nodeEnd shapeOf bitOf spareOf allowed placed rowOf rows
+  unfolding nodeEnd shapeOf bitOf spareOf allowed placed rowOf rows wordCount listCount
   leaf-0 e f = rw e refl
 
-  leaf-7 : Step 7
-  unfolding nodeEnd shapeOf bitOf spareOf allowed placed rowOf rows
-  leaf-7 e f = rw e refl
-
   leaf-13 : Step 13
-  unfolding nodeEnd shapeOf bitOf spareOf allowed placed rowOf rows
+  unfolding nodeEnd shapeOf bitOf spareOf allowed placed rowOf rows wordCount listCount
   leaf-13 e f = rw e refl
 
   leaf-14 : Step 14
-  unfolding nodeEnd shapeOf bitOf spareOf allowed placed rowOf rows
+  unfolding nodeEnd shapeOf bitOf spareOf allowed placed rowOf rows wordCount listCount
   leaf-14 e f = rw e refl
 
   leaf-15 : Step 15
-  unfolding nodeEnd shapeOf bitOf spareOf allowed placed rowOf rows
+  unfolding nodeEnd shapeOf bitOf spareOf allowed placed rowOf rows wordCount listCount
   leaf-15 e f = rw e refl
 
   assign-step : Step 1
-  unfolding nodeEnd shapeOf partOf bitOf spareOf allowed placed rowOf rows
+  unfolding nodeEnd shapeOf partOf bitOf spareOf allowed placed rowOf rows wordCount listCount
   assign-step e f = rw e (expression (i + 1))
 
   -- what follows is the same wherever it begins
@@ -107,43 +98,20 @@ module _ (ws : List ℕ) (ok : Words ws) (bound d c i : ℕ) (hc : c < 12) where
   on-same x y k l e f = rw e (ap (λ z. cond (eqb y 0) 0 z) (f y))
 
   seq-step : Step 2
-  unfolding nodeEnd shapeOf twoEnd processEnd partOf itemEnd bitOf spareOf allowed placed rowOf rows
+  unfolding nodeEnd shapeOf twoEnd processEnd partOf itemEnd bitOf spareOf allowed placed rowOf rows wordCount listCount
   seq-step e f = rw e (on-same _ _ _ _ (kept (i + 1)) rest)
 
   par-step : Step 3
-  unfolding nodeEnd shapeOf twoEnd processEnd partOf itemEnd bitOf spareOf allowed placed rowOf rows
+  unfolding nodeEnd shapeOf twoEnd processEnd partOf itemEnd bitOf spareOf allowed placed rowOf rows wordCount listCount
   par-step e f = rw e (on-same _ _ _ _ (kept (i + 1)) kept)
 
   if-step : Step 4
-  unfolding nodeEnd shapeOf twoEnd branchEnd processEnd partOf itemEnd bitOf spareOf allowed placed rowOf rows
+  unfolding nodeEnd shapeOf twoEnd branchEnd processEnd partOf itemEnd bitOf spareOf allowed placed rowOf rows wordCount listCount
   if-step e f = rw e (on-same _ _ _ _ (expression (i + 1)) λ j. on-same _ _ _ _ (rest j) rest)
 
   while-step : Step 5
-  unfolding nodeEnd shapeOf repeatEnd processEnd partOf itemEnd bitOf spareOf allowed placed rowOf rows
+  unfolding nodeEnd shapeOf repeatEnd processEnd partOf itemEnd bitOf spareOf allowed placed rowOf rows wordCount listCount
   while-step e f = rw e (on-same _ _ _ _ (expression (i + 1)) rest)
-
-  request-step : Step 8
-  unfolding nodeEnd shapeOf requestEnd fixedAfter when partOf bitOf spareOf allowed placed rowOf rows
-  request-step e f =
-      rw e
-      (ap₂ (λ a b. cond (a && b) (processEnd d ws bound (restOf c) (i + 2)) 0) (le-leb 2 _ (f .wide))
-      (middle-2048 (at ws (i + 1)) (f .middle))
-      ∙ rest (i + 2))
-
-  notify-step : Step 9
-  unfolding nodeEnd shapeOf notifyEnd fixedAfter when bitOf spareOf allowed placed rowOf rows
-  notify-step e f = rw e (ap₂ (λ a b. cond (a && b) (i + 2) 0) (le-leb 2 _ (f .wide)) (middle-2048 (at ws (i + 1)) (f .middle)))
-
-  solicit-step : Step 10
-  unfolding nodeEnd shapeOf solicitEnd fixedAfter when bitOf spareOf allowed placed rowOf rows
-  solicit-step e f =
-      let w : 3 ≤ length ws - i = f .wide in
-      let l : bitAnd (at ws (i + 3 - 1)) 65535 ≡ 0 = f .last in
-      let q : i + 3 - 1 ≡ i + 2 = omega arith in
-      rw e
-      (ap₂ (λ a b. cond (a && b) (listEnd (processEnd d ws bound) ws 4 128 (i + 2)) 0) (le-leb 2 (length ws - i) (omega arith))
-      (middle-64 (at ws (i + 1)) (f .middle))
-      ∙ no-entries (i + 2) (i + 3) (omega arith) (all-zero (i + 2) (rw q at l)) (omega arith))
 
   scope-code :
       (h : ℕ) → 3 ≤ length ws - i → c < 8 → at ws (i + 1) ≡ 0 → at ws (i + 2) ≡ 0 →
@@ -157,7 +125,7 @@ module _ (ws : List ℕ) (ok : Words ws) (bound d c i : ℕ) (hc : c < 12) where
   rest-code small = ap (λ t. cond t (contextOf c) 0) (lt-ltb c 8 small)
 
   scope-step : Step 11
-  unfolding nodeEnd shapeOf partOf bitOf spareOf allowed placed rowOf rows
+  unfolding nodeEnd shapeOf partOf bitOf spareOf allowed placed rowOf rows wordCount listCount
   scope-step e f =
       let small : c < 8 = ltb→lt c 8 (shape-kind c 11 hc (omega arith) (f .stands)) in
       let w : 3 ≤ length ws - i = f .wide in
@@ -168,20 +136,22 @@ module _ (ws : List ℕ) (ok : Words ws) (bound d c i : ℕ) (hc : c < 12) where
       ∙ as-process (contextOf c) (partOf c 4) (i + 3) (part-rest c hc ∙ rest-code small) (omega arith))
 
   inst-step : Step 12
-  unfolding nodeEnd shapeOf bitOf spareOf allowed placed rowOf rows
+  unfolding nodeEnd shapeOf bitOf spareOf allowed placed rowOf rows wordCount listCount
   inst-step e f =
       let w : 2 ≤ length ws - i = f .wide in
       rw e (no-entries (i + 1) (i + 2) (omega arith) (all-zero (i + 1) (f .middle)) (omega arith))
 
-  -- a choice has no shape
-  choice-step : Step 6
-  unfolding shapeOf bitOf spareOf allowed placed rowOf rows
-  choice-step e f = absurd (f .stands refl)
+  -- where a kind has no shape, nothing fits one
+  shapeless : (k : ℕ) → shapeOf k ≡ 1 → Step k
+  unfolding bitOf
+  shapeless k q e f = let g : Fit ws i c 1 = rw q at f in absurd (g .stands refl)
 
   by-kind : From Step 16 0
+  unfolding shapeOf bitOf spareOf allowed placed rowOf rows wordCount listCount
   by-kind =
-      leaf-0 then assign-step then seq-step then par-step then if-step then while-step then choice-step then leaf-7 then request-step
-      then notify-step then solicit-step then scope-step then inst-step then leaf-13 then leaf-14 then leaf-15 then end
+      leaf-0 then assign-step then seq-step then par-step then if-step then while-step then shapeless 6 refl  -- nil to choice
+      then shapeless 7 refl then shapeless 8 refl then shapeless 9 refl then shapeless 10 refl  -- one-way to solicit
+      then scope-step then inst-step then leaf-13 then leaf-14 then leaf-15 then end
 
   process-parts :
       (at ws i / 2048 < 32) → Fit ws i c (shapeOf (at ws i / 2048)) →
@@ -206,7 +176,7 @@ module _ (ws : List ℕ) (bound d i : ℕ) where
   head-256 h e = let m : bitAnd (h + 65536) 255 ≡ (h + 65536) % 256 = and-mask (h + 65536) 8 in omega arith
 
   constant-step : Step-expression 0
-  unfolding exprAt constantEnd shapeOf when bitOf spareOf allowed placed rowOf rows
+  unfolding exprAt constantEnd shapeOf when bitOf spareOf allowed placed rowOf rows wordCount listCount
   constant-step e f =
       let w : 3 ≤ length ws - i = f .wide in
       let m = head-8192 (at ws i) (f .head) in
@@ -214,36 +184,36 @@ module _ (ws : List ℕ) (bound d i : ℕ) where
       rw e (ap₂ (λ a b. cond (a && b) (i + 3) 0) (eq-eqb (at ws i) 0 z) (lt-ltb 2 (length ws - i) (omega arith)))
 
   variable-step : Step-expression 1
-  unfolding exprAt shapeOf when bitOf spareOf allowed placed rowOf rows
+  unfolding exprAt shapeOf when bitOf spareOf allowed placed rowOf rows wordCount listCount
   variable-step e f = rw e (ap (λ a. cond a (i + 1) 0) (eq-eqb (at ws i % 256) 0 (head-256 (at ws i) (f .head))))
 
   operation-2 : Step-expression 2
-  unfolding exprAt operationEnd shapeOf when partOf exprEnd itemEnd bitOf spareOf allowed placed rowOf rows
+  unfolding exprAt operationEnd shapeOf when partOf exprEnd itemEnd bitOf spareOf allowed placed rowOf rows wordCount listCount
   operation-2 e f =
       rw e (ap (λ a. cond a (on (exprEnd d ws (i + 1)) (exprEnd d ws)) 0) (eq-eqb (at ws i % 8192) 0 (head-8192 (at ws i) (f .head))))
 
   operation-3 : Step-expression 3
-  unfolding exprAt operationEnd shapeOf when partOf exprEnd itemEnd bitOf spareOf allowed placed rowOf rows
+  unfolding exprAt operationEnd shapeOf when partOf exprEnd itemEnd bitOf spareOf allowed placed rowOf rows wordCount listCount
   operation-3 e f =
       rw e (ap (λ a. cond a (on (exprEnd d ws (i + 1)) (exprEnd d ws)) 0) (eq-eqb (at ws i % 8192) 0 (head-8192 (at ws i) (f .head))))
 
   operation-4 : Step-expression 4
-  unfolding exprAt operationEnd shapeOf when partOf exprEnd itemEnd bitOf spareOf allowed placed rowOf rows
+  unfolding exprAt operationEnd shapeOf when partOf exprEnd itemEnd bitOf spareOf allowed placed rowOf rows wordCount listCount
   operation-4 e f =
       rw e (ap (λ a. cond a (on (exprEnd d ws (i + 1)) (exprEnd d ws)) 0) (eq-eqb (at ws i % 8192) 0 (head-8192 (at ws i) (f .head))))
 
   operation-5 : Step-expression 5
-  unfolding exprAt operationEnd shapeOf when partOf exprEnd itemEnd bitOf spareOf allowed placed rowOf rows
+  unfolding exprAt operationEnd shapeOf when partOf exprEnd itemEnd bitOf spareOf allowed placed rowOf rows wordCount listCount
   operation-5 e f =
       rw e (ap (λ a. cond a (on (exprEnd d ws (i + 1)) (exprEnd d ws)) 0) (eq-eqb (at ws i % 8192) 0 (head-8192 (at ws i) (f .head))))
 
   operation-6 : Step-expression 6
-  unfolding exprAt operationEnd shapeOf when partOf exprEnd itemEnd bitOf spareOf allowed placed rowOf rows
+  unfolding exprAt operationEnd shapeOf when partOf exprEnd itemEnd bitOf spareOf allowed placed rowOf rows wordCount listCount
   operation-6 e f =
       rw e (ap (λ a. cond a (on (exprEnd d ws (i + 1)) (exprEnd d ws)) 0) (eq-eqb (at ws i % 8192) 0 (head-8192 (at ws i) (f .head))))
 
   operation-7 : Step-expression 7
-  unfolding exprAt operationEnd shapeOf when partOf exprEnd itemEnd bitOf spareOf allowed placed rowOf rows
+  unfolding exprAt operationEnd shapeOf when partOf exprEnd itemEnd bitOf spareOf allowed placed rowOf rows wordCount listCount
   operation-7 e f =
       rw e (ap (λ a. cond a (on (exprEnd d ws (i + 1)) (exprEnd d ws)) 0) (eq-eqb (at ws i % 8192) 0 (head-8192 (at ws i) (f .head))))
 

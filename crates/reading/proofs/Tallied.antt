@@ -13,12 +13,13 @@ use borrow.Author.Tests.{le-leb, ne-eqb}
 use Rattle.sock.specs.Kind
 use Rattle.sock.specs.Words.{bit, headOf, nameFields}
 use Rattle.sock.specs.Term.{Node, node, list, Entries, headWord, kind}
+use Rattle.sock.specs.Variables.{firstOf, variableWords}
 use Rattle.sock.specs.Layout.{count, words, entriesWords, depth, entriesDepth}
 use Rattle.sock.specs.Reading.{Got, got, anywhere}
 use Rattle.sock.specs.Running.{markedFault, scopeHead, Run, nil, seq, par, scope, executor, waiter, notice, act, asNode, runWords, size, runDepth}
 use Rattle.sock.specs.Calls.{tally, waits, works}
 use Rattle.sock.proofs.Fits.{Fits, FitsEntries, Sound, nilSound, seqSound, parSound, scopeSound, executorSound, waiterSound, noticeSound, actSound}
-use Rattle.sock.proofs.Fields.{plain-kind}
+use Rattle.sock.proofs.Fields.{plain-kind, end-tests}
 use Rattle.sock.proofs.Reading.{finds, list-finds}
 use Rattle.sock.proofs.ByKind.{code-kind, runKind, kind-asNode}
 use Rattle.sock.proofs.Running.{asNode-fits}
@@ -26,13 +27,14 @@ use Rattle.sock.proofs.Located.{size-positive}
 use Rattle.sock.proofs.Measures.{words-seq, words-par, words-scope, words-executor, words-waiter, words-notice, size-seq, size-par, size-scope, size-executor, depth-seq, depth-par, depth-scope, depth-executor}
 use Rattle.reading.specs.declared.ends.Counted.{Counted}
 use Rattle.reading.specs.Tables.{stratumOf, placeOf}
-use Rattle.reading.specs.Walk.{at, listEnd, processEnd}
+use Rattle.reading.specs.Walk.{at, listEnd, executorOwn, processEnd}
 use Rattle.reading.specs.Tally.{counted, serialAt, seqTally, parTally, scopeTally, executorTally, nodeTally, tallyAt}
 use Rattle.reading.proofs.Combining.{Words}
 use Rattle.reading.proofs.Ending.{Ends, ends-got}
 use Rattle.reading.proofs.Processes.{process-ends, list-ends}
 use Rattle.reading.proofs.Standing.{first-word}
 use Rattle.reading.proofs.Counting.{tally-node, after-some}
+use Rattle.reading.proofs.Begins.{own-begins}
 
 -- ---- words at a position
 
@@ -98,10 +100,10 @@ unfolding scopeTally
 scope-counts tal sub ws i e t p q r = rw (p, ne-eqb e 0 (omega arith), r)
 
 executor-counts :
-    (tal : ℕ → Counted) (ws : List ℕ) (s i e w k b : ℕ) → tal (i + 3) ≡ made e w k → 0 < e → serialAt ws i s ≡ b →
-    executorTally tal ws s i ≡ made e (0 + w) (b + k)
+    (tal : ℕ → Counted) (ws : List ℕ) (s i j e w k b : ℕ) → 0 < j → tal j ≡ made e w k → 0 < e → serialAt ws i s ≡ b →
+    executorTally tal ws s i j ≡ made e (0 + w) (b + k)
 unfolding executorTally
-executor-counts tal ws s i e w k b t p q = rw (t, q, add-comm b k, zero-add w) (counted-past e w (k + b) p)
+executor-counts tal ws s i j e w k b o t p q = rw (ne-eqb j 0 (omega arith), t, q, add-comm b k, zero-add w) (counted-past e w (k + b) p)
 
 -- ---- where what is read ends
 
@@ -127,7 +129,7 @@ module _ (ws : List ℕ) (ok : Words ws) (n issued : ℕ) (few : n ≤ 8) (word 
     by-kind :
         {r : Run} → Sound n issued r → (d i : ℕ) → runDepth r ≤ d → (rest : List ℕ) → drop i ws ≡ runWords r ++ rest →
         tallyAt d ws s (n * 65536 + issued) i
-        ≡ nodeTally (tallyAt (d - 1) ws s (n * 65536 + issued)) (processEnd (d - 1) ws (n * 65536 + issued)) (processEnd d ws (n * 65536 + issued) 8) ws s (runKind r) i
+        ≡ nodeTally (tallyAt (d - 1) ws s (n * 65536 + issued)) (processEnd (d - 1) ws (n * 65536 + issued)) (processEnd d ws (n * 65536 + issued) 8) ws s (n * 65536 + issued) (runKind r) i
     unfolding size
     by-kind {r} g d i shallow rest e =
         let word : at ws i ≡ headWord (asNode r) = rw add-zero at (drop-at ws (runWords r ++ rest) i 0 e) ∙ first-word r rest in
@@ -184,14 +186,22 @@ module _ (ws : List ℕ) (ok : Words ws) (n issued : ℕ) (few : n ≤ 8) (word 
         ∙ scope-counts _ _ ws (i + 2) _ _ past (omega arith) (rw same at (tallied ga (d - 1) (i + 2 + suc (length (entriesWords h))) (omega arith) rest behind))
     tallied (executorSound {o} {y} {client} {serial} {a} bo by end ga) d i shallow rest e =
         let deep = depth-executor o y client serial a in
-        let split : drop i ws ≡ headOf Kind.executor (nameFields o y) ∷ (client * 8192) ∷ serial ∷ runWords a ++ rest = e ∙ rw words-executor refl in
-        let inner : drop (i + 3) ws ≡ runWords a ++ rest = drop-past ws (headOf Kind.executor (nameFields o y) ∷ (client * 8192) ∷ serial ∷ []) (runWords a ++ rest) i split in
-        let same : i + 3 + size a ≡ i + size (executor o y client serial a) = omega (arith, size-executor o y client serial a) in
+        let own : List ℕ = headOf Kind.executor (nameFields o (firstOf y)) ∷ (client * 8192) ∷ serial ∷ [] in
+        let split : drop i ws ≡ own ++ (variableWords y ++ (runWords a ++ rest)) =
+        e ∙ rw words-executor (ap (λ l. own ++ l) (append-assoc (variableWords y) (runWords a) rest)) in
+        let list : drop (i + 3) ws ≡ variableWords y ++ (runWords a ++ rest) = drop-past ws own (variableWords y ++ (runWords a ++ rest)) i split in
+        let inner : drop (i + 3 + length (variableWords y)) ws ≡ runWords a ++ rest = drop-past ws (variableWords y) (runWords a ++ rest) (i + 3) list in
+        let begins : executorOwn ws (n * 65536 + issued) i ≡ i + 3 + length (variableWords y) =
+        own-begins ws ok n issued word o y client serial by (omega (arith, end-tests n issued client serial end .below)) end (runWords a ++ rest) i split in
+        let same : i + 3 + length (variableWords y) + size a ≡ i + size (executor o y client serial a) = omega (arith, size-executor o y client serial a) in
         by-kind (executorSound bo by end ga) d i shallow rest e
-        ∙ executor-counts _ ws s i _ _ _ _ (rw same at (tallied ga (d - 1) (i + 3) (omega arith) rest inner)) (omega arith) (serial-is ws i s _ _ serial _ split)
+        ∙ ap (executorTally (tallyAt (d - 1) ws s (n * 65536 + issued)) ws s i) begins
+        ∙ executor-counts _ ws s i (i + 3 + length (variableWords y)) _ _ _ _ (omega arith)
+        (rw same at (tallied ga (d - 1) (i + 3 + length (variableWords y)) (omega arith) rest inner)) (omega arith) (serial-is ws i s _ _ serial _ split)
     tallied (waiterSound {o} {x} {server} {serial} {dead} {l} bo bx end fl) d i shallow rest e =
         let r : Run = waiter o x dead server serial l in
-        let split : drop i ws ≡ headOf Kind.waiter (nameFields o x) ∷ (bit dead * 32768 + server * 4096) ∷ serial ∷ count l ∷ entriesWords l ++ rest = e ∙ rw words-waiter refl in
+        let split : drop i ws ≡ headOf Kind.waiter (nameFields o (firstOf x)) ∷ (bit dead * 32768 + server * 4096) ∷ serial ∷ (variableWords x ++ (count l ∷ entriesWords l)) ++ rest =
+        e ∙ rw words-waiter refl in
         by-kind (waiterSound {dead = dead} bo bx end fl) d i shallow rest e
         ∙ rw (passed (waiterSound {dead = dead} bo bx end fl) d i shallow rest e, serial-is ws i s _ _ serial _ split)
         (counted-past (i + size r) (bit (eqb s serial)) 0 (omega (arith, size-positive r)))

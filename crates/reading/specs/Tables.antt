@@ -9,6 +9,7 @@ use lib.ListN.{length, getD}
 use lib.Bits.{bitAnd}
 use Rattle.sock.specs.Kind
 use Rattle.sock.specs.Kind.{rowOf}
+use Rattle.sock.specs.Counts.{wordCount, listCount}
 use Rattle.sock.specs.Reading.{Stratum, running, code, Place, anywhere, notNil, guard, root, allowed, placed}
 use Rattle.layout.specs.Contexts
 use Rattle.layout.specs.Contexts.{contexts}
@@ -97,13 +98,13 @@ otherParts k = cond (ltb 1 (rowOf k .expressions + rowOf k .processes)) (process
 
 -- the word behind the head: a scope that is code has no marked fault; where there is no fixed word it is the count of the list, which is empty
 abbrev pub middleOf : ℕ → ℕ
-middleOf k = cond (eqb k Kind.scope) 65535 (getD (rowOf k .fixed) 0 (cond (eqb (rowOf k .lists) 0) 1 65536) - 1)
+middleOf k = cond (eqb k Kind.scope) 65535 (cond (eqb (rowOf k .lists) 0) 1 65536 - 1)
 
 -- of a kind as the fixed table has it, with its list empty; a scope is read so only where it is code
 abbrev pub kindShape : ℕ → ℕ
 kindShape k =
-    packed (suc (length (rowOf k .fixed)) + rowOf k .lists) (rowOf k .expressions + rowOf k .processes) (firstPart k) (otherParts k)
-    (spareOf 0 k - 1) (middleOf k) (cond (eqb (length (rowOf k .fixed)) 0) 0 (rowOf k .lists))
+    packed (suc (wordCount (rowOf k .fixed)) + rowOf k .lists) (rowOf k .expressions + rowOf k .processes) (firstPart k) (otherParts k)
+    (spareOf 0 k - 1) (middleOf k) (cond (eqb (wordCount (rowOf k .fixed)) 0) 0 (rowOf k .lists))
     (bitsOf (λ c. stands c k && (not (eqb k Kind.scope) || ltb c Contexts.running)) contexts)
 
 -- of an expression by its first three bits: a constant, a variable, the six operations
@@ -117,6 +118,10 @@ expressionShape tag =
     ∷ [])
     tag 1
 
--- by kind, and from 19 on by the first three bits of an expression; a choice and the kinds from 16 on have no shape, and so no context
+-- by kind, and from 19 on by the first three bits of an expression; a choice, kinds with lists of variables and those from 16 on have no
+-- shape, and so no context
 unfoldable pub shapeOf : ℕ → ℕ
-shapeOf slot = cond (ltb slot 19) (cond (eqb slot Kind.choice || leb Kind.executor slot) 1 (kindShape slot)) (expressionShape (slot - 19))
+shapeOf slot =
+    cond (ltb slot 19)
+    (cond (eqb slot Kind.choice || ltb 0 (listCount (rowOf slot .fixed)) || leb Kind.executor slot) 1 (kindShape slot))
+    (expressionShape (slot - 19))

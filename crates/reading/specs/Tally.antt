@@ -10,7 +10,7 @@ use Rattle.sock.specs.Words.{bit, kindOf}
 use Rattle.layout.specs.Contexts.{code, running}
 use Rattle.layout.specs.Keys.{noKey}
 use Rattle.reading.specs.declared.ends.Counted.{Counted}
-use Rattle.reading.specs.Walk.{at, listEnd, processEnd}
+use Rattle.reading.specs.Walk.{at, listEnd, executorOwn, processEnd}
 
 -- what is counted up to an end; nothing, if there is none
 unfoldable pub uncounted : Counted
@@ -39,15 +39,17 @@ parTally tal i = after (tal i) λ p. counted (tal (p .end) .end) (p .waiters + t
 unfoldable pub scopeTally : (ℕ → Counted) → (ℕ → ℕ → ℕ) → List ℕ → ℕ → Counted
 scopeTally tal sub ws i = cond (eqb (listEnd sub ws code noKey i) 0) uncounted (tal (listEnd sub ws code noKey i))
 
-unfoldable pub executorTally : (ℕ → Counted) → List ℕ → ℕ → ℕ → Counted
-executorTally tal ws serial i = counted (tal (i + 3) .end) (tal (i + 3) .waiters) (tal (i + 3) .workers + serialAt ws i serial)
+-- an executor whose body begins at e
+unfoldable pub executorTally : (ℕ → Counted) → List ℕ → ℕ → ℕ → ℕ → Counted
+executorTally tal ws serial i e =
+    cond (eqb e 0) uncounted (counted (tal e .end) (tal e .waiters) (tal e .workers + serialAt ws i serial))
 
-unfoldable pub nodeTally : (ℕ → Counted) → (ℕ → ℕ → ℕ) → (ℕ → ℕ) → List ℕ → ℕ → ℕ → ℕ → Counted
-nodeTally tal sub skip ws serial k i =
+unfoldable pub nodeTally : (ℕ → Counted) → (ℕ → ℕ → ℕ) → (ℕ → ℕ) → List ℕ → ℕ → ℕ → ℕ → ℕ → Counted
+nodeTally tal sub skip ws serial bound k i =
     cond (eqb k Kind.seq) (seqTally tal sub (i + 1))
     (cond (eqb k Kind.par) (parTally tal (i + 1))
     (cond (eqb k Kind.scope) (scopeTally tal sub ws (i + 2))
-    (cond (eqb k Kind.executor) (executorTally tal ws serial i)
+    (cond (eqb k Kind.executor) (executorTally tal ws serial i (executorOwn ws bound i))
     (cond (eqb k Kind.waiter) (counted (skip i) (serialAt ws i serial) 0)
     (cond (eqb k Kind.notice) (counted (skip i) 0 (serialAt ws i serial))
     (counted (skip i) 0 0))))))
@@ -57,7 +59,7 @@ unfoldable pub tallyAt : ℕ → List ℕ → ℕ → ℕ → ℕ → Counted
 tallyAt zero ws serial bound i = uncounted
 tallyAt (suc d) ws serial bound i =
     cond (ltb i (length ws))
-    (nodeTally (tallyAt d ws serial bound) (processEnd d ws bound) (processEnd (suc d) ws bound running) ws serial (kindOf (at ws i)) i)
+    (nodeTally (tallyAt d ws serial bound) (processEnd d ws bound) (processEnd (suc d) ws bound running) ws serial bound (kindOf (at ws i)) i)
     uncounted
 
 -- ---- over the engines, of which `left` are still to come

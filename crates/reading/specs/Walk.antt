@@ -1,12 +1,12 @@
 -- The reader on positions, as the code goes: where what begins at a position ends, or 0 if it does not fit. The proofs show that this is
 -- the definitions' reader; no contract of a call names it.
 use Prim.Native.Nat.{ℕ, zero, suc, _+_, _-_, _*_, _/_, _%_}
-use mathlib.Core.Bool.{Bool, not, _&&_, _||_, cond}
+use mathlib.Core.Bool.{Bool, true, false, not, _&&_, _||_, cond}
 use mathlib.Core.List.{List, [], _∷_}
 use lib.Bits.{bitAnd}
 use lib.Dec.{leb, ltb, eqb}
 use lib.ListN.{length, getD}
-use Rattle.sock.specs.Words.{clear, kindOf, countOf, markOf, zombieOf, firstName, keyOf, tagOf}
+use Rattle.sock.specs.Words.{clear, kindOf, countOf, secondOf, markOf, zombieOf, firstVariable, nextVariable, firstName, keyOf, tagOf}
 use Rattle.layout.specs.Contexts.{code, handlers, running, notNil, receiver, expression}
 use Rattle.layout.specs.Keys.{noKey, scopeKeys}
 use Rattle.layout.specs.Units
@@ -77,11 +77,39 @@ choiceEnd sub c n i = when (ltb 0 n && leb n 8) (branchesEnd sub c n i)
 unfoldable pub fixedAfter : List ℕ → ℕ → ℕ → Bool
 fixedAfter ws i spare = leb 2 (length ws - i) && clear spare (at ws (i + 1))
 
-unfoldable pub requestEnd : (ℕ → ℕ → ℕ) → List ℕ → ℕ → ℕ → ℕ
-requestEnd sub ws c i = when (fixedAfter ws i Units.firstVariable) (sub c (i + 2))
+-- `n` further variables of a list
+unfoldable pub furtherEnd : ℕ → List ℕ → ℕ → ℕ
+furtherEnd zero ws i = i
+furtherEnd (suc n) ws i = when (ltb i (length ws) && clear Units.firstVariable (at ws i)) (furtherEnd n ws (i + 1))
+
+-- a list of 1 to 4 variables, from its count on
+unfoldable pub variablesEnd : List ℕ → ℕ → ℕ
+variablesEnd ws i = when (ltb i (length ws) && (ltb 0 (at ws i) && leb (at ws i) 4)) (furtherEnd (at ws i - 1) ws (i + 1))
+
+-- whether x is one of `n` further variables
+unfoldable pub among : ℕ → List ℕ → ℕ → ℕ → Bool
+among zero ws x i = false
+among (suc n) ws x i = ltb i (length ws) && (eqb x (firstVariable (at ws i)) || among n ws x (i + 1))
+
+-- whether a variable and the `n` further ones are all different
+unfoldable pub distinctFrom : ℕ → List ℕ → ℕ → ℕ → Bool
+distinctFrom zero ws x i = true
+distinctFrom (suc n) ws x i =
+    not (among (suc n) ws x i) && (not (ltb i (length ws)) || distinctFrom n ws (firstVariable (at ws i)) (i + 1))
+
+-- a list of variables that receive, with the first one: none of them twice
+unfoldable pub receivingEnd : List ℕ → ℕ → ℕ → ℕ
+receivingEnd ws first i = on (variablesEnd ws i) (when (distinctFrom (at ws i - 1) ws first (i + 1)))
+
+unfoldable pub oneWayEnd : List ℕ → ℕ → ℕ → ℕ
+oneWayEnd ws h i = receivingEnd ws (secondOf h) (i + 1)
+
+unfoldable pub requestEnd : (ℕ → ℕ → ℕ) → List ℕ → ℕ → ℕ → ℕ → ℕ
+requestEnd sub ws c h i =
+    when (fixedAfter ws i Units.firstVariable) (on (receivingEnd ws (secondOf h) (i + 2)) λ x. on (variablesEnd ws x) (sub c))
 
 unfoldable pub notifyEnd : List ℕ → ℕ → ℕ
-notifyEnd ws i = when (fixedAfter ws i Units.firstVariable) (i + 2)
+notifyEnd ws i = when (fixedAfter ws i Units.firstVariable) (variablesEnd ws (i + 2))
 
 -- the key at a position, at least `least`
 unfoldable pub keyAt : List ℕ → ℕ → ℕ → ℕ
@@ -103,7 +131,9 @@ unfoldable pub listEnd : (ℕ → ℕ → ℕ) → List ℕ → ℕ → ℕ → 
 listEnd sub ws c wanted i = when (ltb i (length ws)) (entriesEnd sub ws c wanted (at ws i) 0 (leb noKey wanted) (i + 1))
 
 unfoldable pub solicitEnd : (ℕ → ℕ → ℕ) → List ℕ → ℕ → ℕ
-solicitEnd sub ws i = when (fixedAfter ws i Units.nextVariable) (listEnd sub ws handlers noKey (i + 2))
+solicitEnd sub ws i =
+    when (fixedAfter ws i Units.nextVariable)
+    (on (variablesEnd ws (i + 2)) λ y. on (receivingEnd ws (nextVariable (at ws (i + 1))) y) (listEnd sub ws handlers noKey))
 
 -- the list of a scope that runs, by its mark
 unfoldable pub markedEnd : (ℕ → ℕ → ℕ) → List ℕ → ℕ → ℕ → ℕ → ℕ
@@ -132,11 +162,16 @@ endAfter ws i spare bound =
     leb 3 (length ws - i) && clear spare (at ws (i + 1)) && ltb (at ws (i + 1) / spare % 8) (bound / 65536) && ltb 0 (at ws (i + 2))
     && leb (at ws (i + 2)) (bound % 65536)
 
-unfoldable pub executorEnd : (ℕ → ℕ → ℕ) → List ℕ → ℕ → ℕ → ℕ
-executorEnd sub ws bound i = when (endAfter ws i Units.executorsClient bound) (sub running (i + 3))
+-- where the body of an executor begins
+unfoldable pub executorOwn : List ℕ → ℕ → ℕ → ℕ
+executorOwn ws bound i = when (ltb i (length ws)) (when (endAfter ws i Units.executorsClient bound) (variablesEnd ws (i + 3)))
 
-unfoldable pub waiterEnd : (ℕ → ℕ → ℕ) → List ℕ → ℕ → ℕ → ℕ
-waiterEnd sub ws bound i = when (endAfter ws i Units.waitersServer bound) (listEnd sub ws handlers noKey (i + 3))
+unfoldable pub executorEnd : (ℕ → ℕ → ℕ) → List ℕ → ℕ → ℕ → ℕ
+executorEnd sub ws bound i = on (executorOwn ws bound i) (sub running)
+
+unfoldable pub waiterEnd : (ℕ → ℕ → ℕ) → List ℕ → ℕ → ℕ → ℕ → ℕ
+waiterEnd sub ws h bound i =
+    when (endAfter ws i Units.waitersServer bound) (on (receivingEnd ws (secondOf h) (i + 3)) (listEnd sub ws handlers noKey))
 
 unfoldable pub noticeEnd : List ℕ → ℕ → ℕ → ℕ
 noticeEnd ws bound i = when (endAfter ws i Units.noticesClient bound) (i + 3)
@@ -152,8 +187,8 @@ nodeEnd ex sub ws c bound h i =
     ∷ branchEnd ex sub (restOf c) (i + 1)
     ∷ repeatEnd ex sub (restOf c) (i + 1)
     ∷ choiceEnd sub (restOf c) (countOf h) (i + 1)
-    ∷ (i + 1)
-    ∷ requestEnd sub ws (restOf c) i
+    ∷ oneWayEnd ws h i
+    ∷ requestEnd sub ws (restOf c) h i
     ∷ notifyEnd ws i
     ∷ solicitEnd sub ws i
     ∷ scopeEnd sub ws c h i
@@ -162,7 +197,7 @@ nodeEnd ex sub ws c bound h i =
     ∷ (i + 1)
     ∷ (i + 1)
     ∷ executorEnd sub ws bound i
-    ∷ waiterEnd sub ws bound i
+    ∷ waiterEnd sub ws h bound i
     ∷ noticeEnd ws bound i
     ∷ [])
     (kindOf h) 0

@@ -1,5 +1,6 @@
 // Ends: how many waiting and working ends a serial has. They stand only enabled, so the walk goes where processes are enabled and
 // passes over code by reading it.
+use crate::reader::executor_own;
 use crate::reader::list;
 use crate::reader::process;
 use crate::survey::survey;
@@ -18,7 +19,7 @@ ghost use Prim.Native.Nat.{_<_, _≤_};
 ghost use lib.ListN.{length};
 ghost use Rattle.sock.specs.Configuration.{standard};
 ghost use Rattle.sock.specs.Calls as calls;
-ghost use Rattle.reading.specs.Walk.{processEnd};
+ghost use Rattle.reading.specs.Walk.{executorOwn, processEnd};
 ghost use Rattle.reading.specs.Answers.{endCounts, noCounts};
 ghost use Rattle.reading.specs.Tally.{uncounted, counted, serialAt, seqTally, parTally, scopeTally, executorTally, tallyAt, totalFrom};
 
@@ -137,9 +138,13 @@ fn tally_scope(ws: &[u16], at: usize, depth: usize, serial: usize, bound: usize)
 
 fn tally_executor(ws: &[u16], at: usize, depth: usize, serial: usize, bound: usize) -> Counted
     requires { ⌜ at < length (now ws) ⌝ }
-    ensures { λ r. ⌜ r ≡ executorTally (tallyAt depth (now (ws .entry)) serial bound) (now (ws .entry)) serial at ⌝ }
+    ensures { λ r. ⌜ r ≡ executorTally (tallyAt depth (now (ws .entry)) serial bound) (now (ws .entry)) serial at (executorOwn (now (ws .entry)) bound at) ⌝ }
 {
-    let p = tally(ws, at + 3, depth, serial, bound);
+    let body = executor_own(ws, at, bound);
+    if body == 0 {
+        return not_counted();
+    }
+    let p = tally(ws, body, depth, serial, bound);
     count(p.end, p.waiters, p.workers + serial_at(ws, at, serial))
 }
 

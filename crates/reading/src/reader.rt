@@ -12,13 +12,17 @@ use layout::context::NOT_NIL;
 use layout::context::RECEIVER;
 use layout::context::RUNNING;
 use layout::context::STRATUM;
+use layout::field::next_variable;
 use layout::key::NO_KEY;
 use layout::key::SCOPE_KEYS;
 use layout::kind;
 use layout::limit::BRANCHES;
 use layout::limit::ENGINES;
+use layout::limit::MESSAGE;
 use layout::mark;
+use layout::number::less_one;
 use layout::number::wide;
+use layout::number::word;
 use layout::tag;
 use layout::unit;
 use layout::unit::WORD;
@@ -28,10 +32,10 @@ ghost use mathlib.Core.Bool.{_&&_, _||_};
 ghost use lib.Dec.{leb, eqb};
 ghost use lib.ListN.{length};
 ghost use Rattle.layout.specs.Contexts.{running, receiver, contexts};
-ghost use Rattle.layout.specs.Units.{executorsClient};
 ghost use Rattle.reading.specs.Walk.{exprEnd, constantEnd, operationEnd, contextOf, restOf, processEnd, twoEnd, branchEnd, repeatEnd};
+ghost use Rattle.reading.specs.Walk.{furtherEnd, variablesEnd, among, distinctFrom, receivingEnd, oneWayEnd};
 ghost use Rattle.reading.specs.Walk.{choiceEnd, fixedAfter, requestEnd, notifyEnd, solicitEnd, listEnd, keyAt, entryContext};
-ghost use Rattle.reading.specs.Walk.{scopeEnd, restingEnd, markedEnd, endAfter, executorEnd, waiterEnd, noticeEnd};
+ghost use Rattle.reading.specs.Walk.{scopeEnd, restingEnd, markedEnd, endAfter, executorOwn, executorEnd, waiterEnd, noticeEnd};
 ghost use Rattle.reading.specs.Walk.{slotOf, fitsAt, partOf, itemEnd};
 
 // An expression of at most `depth` levels.
@@ -270,8 +274,8 @@ fn node(ws: &[u16], at: usize, depth: usize, context: usize, bound: usize) -> us
         kind::IF => branch(ws, at + 1, d, c, bound),
         kind::WHILE => repeat(ws, at + 1, d, c, bound),
         kind::CHOICE => choice(ws, at + 1, d, c, h % unit::KIND, bound),
-        kind::ONE_WAY => at + 1,
-        kind::REQUEST => request(ws, at, d, c, bound),
+        kind::ONE_WAY => one_way(ws, at, h),
+        kind::REQUEST => request(ws, at, d, c, h, bound),
         kind::NOTIFY => notify(ws, at),
         kind::SOLICIT => solicit(ws, at, d, bound),
         kind::SCOPE => scope(ws, at, d, context, h, bound),
@@ -280,7 +284,7 @@ fn node(ws: &[u16], at: usize, depth: usize, context: usize, bound: usize) -> us
         kind::COMP => at + 1,
         kind::CH => at + 1,
         kind::EXECUTOR => executor(ws, at, d, bound),
-        kind::WAITER => waiter(ws, at, d, bound),
+        kind::WAITER => waiter(ws, at, d, h, bound),
         kind::NOTICE => notice(ws, at, bound),
         _ => 0,
     }
@@ -355,12 +359,124 @@ fn fixed(ws: &[u16], at: usize, spare: usize) -> bool
     wide(ws[at + 1]) % spare == 0
 }
 
-fn request(ws: &[u16], at: usize, depth: usize, context: usize, bound: usize) -> usize
+// `left` further variables of a list, from `at` on.
+fn further_variables(ws: &[u16], at: usize, left: usize) -> usize
+    ensures { λ r. ⌜ r ≡ furtherEnd left (now (ws .entry)) at ⌝ }
+{
+    let mut a = at;
+    let mut n = left;
+    while 0 < n {
+        if ws.len() <= a {
+            return 0;
+        }
+        if wide(ws[a]) % unit::FIRST_VARIABLE != 0 {
+            return 0;
+        }
+        a = a + 1;
+        n = n - 1;
+    }
+    a
+}
+
+// A list of 1 to 4 variables, whose count is at `at`.
+fn variables(ws: &[u16], at: usize) -> usize
+    ensures { λ r. ⌜ r ≡ variablesEnd (now (ws .entry)) at ⌝ }
+{
+    if ws.len() <= at {
+        return 0;
+    }
+    let c = wide(ws[at]);
+    if c == 0 {
+        return 0;
+    }
+    if MESSAGE < c {
+        return 0;
+    }
+    further_variables(ws, at + 1, c - 1)
+}
+
+// Whether the variable x is one of the `left` further ones from `at` on.
+fn is_among(ws: &[u16], at: usize, left: usize, x: usize) -> bool
+    ensures { λ r. ⌜ r ≡ among left (now (ws .entry)) x at ⌝ }
+{
+    let mut a = at;
+    let mut n = left;
+    while 0 < n {
+        if ws.len() <= a {
+            return false;
+        }
+        if x == wide(ws[a]) / unit::FIRST_VARIABLE {
+            return true;
+        }
+        a = a + 1;
+        n = n - 1;
+    }
+    false
+}
+
+// Whether `first` and the `left` further variables from `at` on are all different.
+fn distinct(ws: &[u16], at: usize, left: usize, first: usize) -> bool
+    ensures { λ r. ⌜ r ≡ distinctFrom left (now (ws .entry)) first at ⌝ }
+{
+    let mut a = at;
+    let mut n = left;
+    let mut x = first;
+    while 0 < n {
+        if is_among(ws, a, n, x) {
+            return false;
+        }
+        if ws.len() <= a {
+            return true;
+        }
+        x = wide(ws[a]) / unit::FIRST_VARIABLE;
+        a = a + 1;
+        n = n - 1;
+    }
+    true
+}
+
+// A list of variables that receive, the first of which stands elsewhere: none of them twice.
+fn receiving(ws: &[u16], at: usize, first: usize) -> usize
+    ensures { λ r. ⌜ r ≡ receivingEnd (now (ws .entry)) first at ⌝ }
+{
+    if ws.len() <= at {
+        return 0;
+    }
+    let e = variables(ws, at);
+    if e == 0 {
+        return 0;
+    }
+    let left = less_one(wide(ws[at]));
+    if distinct(ws, at + 1, left, first) {
+        e
+    } else {
+        0
+    }
+}
+
+// A one-way whose head is `h`.
+fn one_way(ws: &[u16], at: usize, h: usize) -> usize
+    requires { ⌜ at < length (now ws) ⌝ }
+    ensures { λ r. ⌜ r ≡ oneWayEnd (now (ws .entry)) h at ⌝ }
+{
+    receiving(ws, at + 1, h % unit::SECOND)
+}
+
+// A request whose head is `h`: x, y, and P.
+fn request(ws: &[u16], at: usize, depth: usize, context: usize, h: usize, bound: usize) -> usize
     requires { ⌜ (at < length (now ws)) × (context < contexts) ⌝ }
-    ensures { λ r. ⌜ r ≡ requestEnd (processEnd depth (now (ws .entry)) bound) (now (ws .entry)) context at ⌝ }
+    ensures { λ r. ⌜ r ≡ requestEnd (processEnd depth (now (ws .entry)) bound) (now (ws .entry)) context h at ⌝ }
 {
     if fixed(ws, at, unit::FIRST_VARIABLE) {
-        process(ws, at + 2, depth, context, bound)
+        let x = receiving(ws, at + 2, h % unit::SECOND);
+        if x == 0 {
+            return 0;
+        }
+        let y = variables(ws, x);
+        if y == 0 {
+            return 0;
+        }
+        process(ws, y, depth, context, bound)
     } else {
         0
     }
@@ -371,18 +487,27 @@ fn notify(ws: &[u16], at: usize) -> usize
     ensures { λ r. ⌜ r ≡ notifyEnd (now (ws .entry)) at ⌝ }
 {
     if fixed(ws, at, unit::FIRST_VARIABLE) {
-        at + 2
+        variables(ws, at + 2)
     } else {
         0
     }
 }
 
+// A solicit: y, x, and its list.
 fn solicit(ws: &[u16], at: usize, depth: usize, bound: usize) -> usize
     requires { ⌜ at < length (now ws) ⌝ }
     ensures { λ r. ⌜ r ≡ solicitEnd (processEnd depth (now (ws .entry)) bound) (now (ws .entry)) at ⌝ }
 {
     if fixed(ws, at, unit::NEXT_VARIABLE) {
-        list(ws, at + 2, depth, HANDLERS, NO_KEY, bound)
+        let y = variables(ws, at + 2);
+        if y == 0 {
+            return 0;
+        }
+        let x = receiving(ws, y, next_variable(word(ws, at + 1)));
+        if x == 0 {
+            return 0;
+        }
+        list(ws, x, depth, HANDLERS, NO_KEY, bound)
     } else {
         0
     }
@@ -551,33 +676,41 @@ fn end(ws: &[u16], at: usize, spare: usize, bound: usize) -> bool
     true
 }
 
-// The fixed words of the executor at `at`, wherever that is.
-pub fn executor_fixed(ws: &[u16], at: usize, bound: usize) -> bool
-    ensures { λ r. ⌜ r ≡ endAfter (now (ws .entry)) at executorsClient bound ⌝ }
+// The own words of the executor at `at`, wherever that is: where its body begins.
+pub fn executor_own(ws: &[u16], at: usize, bound: usize) -> usize
+    ensures { λ r. ⌜ r ≡ executorOwn (now (ws .entry)) bound at ⌝ }
 {
     if ws.len() <= at {
-        return false;
+        return 0;
     }
-    end(ws, at, unit::EXECUTORS_CLIENT, bound)
-}
-
-fn executor(ws: &[u16], at: usize, depth: usize, bound: usize) -> usize
-    requires { ⌜ at < length (now ws) ⌝ }
-    ensures { λ r. ⌜ r ≡ executorEnd (processEnd depth (now (ws .entry)) bound) (now (ws .entry)) bound at ⌝ }
-{
     if end(ws, at, unit::EXECUTORS_CLIENT, bound) {
-        process(ws, at + 3, depth, RUNNING, bound)
+        variables(ws, at + 3)
     } else {
         0
     }
 }
 
-fn waiter(ws: &[u16], at: usize, depth: usize, bound: usize) -> usize
+fn executor(ws: &[u16], at: usize, depth: usize, bound: usize) -> usize
+    ensures { λ r. ⌜ r ≡ executorEnd (processEnd depth (now (ws .entry)) bound) (now (ws .entry)) bound at ⌝ }
+{
+    let body = executor_own(ws, at, bound);
+    if body == 0 {
+        return 0;
+    }
+    process(ws, body, depth, RUNNING, bound)
+}
+
+// A waiter whose head is `h`.
+fn waiter(ws: &[u16], at: usize, depth: usize, h: usize, bound: usize) -> usize
     requires { ⌜ at < length (now ws) ⌝ }
-    ensures { λ r. ⌜ r ≡ waiterEnd (processEnd depth (now (ws .entry)) bound) (now (ws .entry)) bound at ⌝ }
+    ensures { λ r. ⌜ r ≡ waiterEnd (processEnd depth (now (ws .entry)) bound) (now (ws .entry)) h bound at ⌝ }
 {
     if end(ws, at, unit::WAITERS_SERVER, bound) {
-        list(ws, at + 3, depth, HANDLERS, NO_KEY, bound)
+        let x = receiving(ws, at + 3, h % unit::SECOND);
+        if x == 0 {
+            return 0;
+        }
+        list(ws, x, depth, HANDLERS, NO_KEY, bound)
     } else {
         0
     }

@@ -132,7 +132,7 @@ pub const STANDS: usize = 1125899906842624;
 pub const EXPRESSIONS: usize = 19;
 
 // What a node with fixed parts is made of, by kind, then by the first three bits of an expression; packed from the fixed table
-// (`specs/Tables`). A node that is not read so, since its parts are counted or its list is tested, has no bit among its contexts.
+// (`specs/Tables`). A node that is not read so, since its parts or variables are counted or its list is tested, has no bit among its contexts.
 pub fn shape(slot: usize) -> usize
     ensures { λ r. ⌜ r ≡ shapeOf slot ⌝ }
 {
@@ -144,10 +144,10 @@ pub fn shape(slot: usize) -> usize
         kind::IF => 922112025850563597,
         kind::WHILE => 922112025850563593,
         kind::CHOICE => 1,
-        kind::ONE_WAY => 2151594721976254465,
-        kind::REQUEST => 2151612305572364358,
-        kind::NOTIFY => 922129607300218882,
-        kind::SOLICIT => 922675514823409667,
+        kind::ONE_WAY => 1,
+        kind::REQUEST => 1,
+        kind::NOTIFY => 1,
+        kind::SOLICIT => 1,
         kind::SCOPE => 211669173928984647,
         kind::INST => 922674967214030850,
         kind::THROW => 922112023736614913,

@@ -17,7 +17,7 @@ use Rattle.finding.proofs.Spots.{Spotted}
 use Rattle.finding.proofs.Edits.{part, edited, nil-plain, swap-plain, cut-order}
 use Rattle.layout.specs.Positions.{onward}
 use Rattle.writers.proofs.Laid.{Near, onward-near}
-use Rattle.rules.specs.Storing.{takes}
+use Rattle.rules.specs.declared.store.Store.{Store}
 use Rattle.rules.specs.declared.rewriting.Rewriting.{Rewriting}
 use Rattle.rules.specs.declared.edit.Edit.{Edit}
 use Rattle.rules.specs.Editing.{hollowW, nilW, plainW}
@@ -211,14 +211,14 @@ module _ (f target : ℕ) (r : Run) (start level : ℕ) (l : Located) (s : Site)
 
   -- nil in its place
   pub nil-edits :
-      (x v : ℕ) (fresh : List ℕ) → 0 < length fresh → Near (length fresh) →
-      (let u = nilW s start start 0 (takes x v) fresh in
+      (store : Store) (fresh : List ℕ) → 0 < length fresh → Near (length fresh) →
+      (let u = nilW s start start 0 store fresh in
       Edits ws start (start + size r) (u .edit) (u .fresh) (plug (l .frames) nil))
   unfolding nilW
-  nil-edits x v fresh room big =
+  nil-edits store fresh room big =
       let w = hollow-part (s .hollow) 0 fresh room big in
       let c = cut-order f target r start level l s ws (drop (start + size r) ws) words spotted in
-      let o : Ordered start (start + size r) (nilW s start start 0 (takes x v) fresh .edit) =
+      let o : Ordered start (start + size r) (nilW s start start 0 store fresh .edit) =
       record {
         l-in = omega arith;
         m-in = omega arith;
@@ -229,7 +229,7 @@ module _ (f target : ℕ) (r : Run) (start level : ℕ) (l : Located) (s : Site)
         end-in = c .4;
         fresh-in = omega arith;
       } in
-      edits-of ws start (start + size r) (nilW s start start 0 (takes x v) fresh .edit) (hollowW (s .hollow) 0 fresh .fresh) o inside (plug (l .frames) nil)
+      edits-of ws start (start + size r) (nilW s start start 0 store fresh .edit) (hollowW (s .hollow) 0 fresh .fresh) o inside (plug (l .frames) nil)
       (omega (arith, w .2 .1, w .3))
       (ap (λ k. edited ws start start [] (s .from) (s .upto) k (s .gap) (s .end)) (w .0)
       ∙ nil-plain f target r start level l s ws (drop (start + size r) ws) words spotted)
@@ -301,13 +301,13 @@ module _ (f target : ℕ) (r : Run) (start level : ℕ) (l : Located) (s : Site)
   pub plain-edits :
       (q : Run) (t : Rewriting) (fresh : List ℕ) → 0 < length fresh → Near (length fresh) → Becomes (l .process) q t fresh →
       (let u = plainW s start t fresh in
-      Edits ws start (start + size r) (u .edit) (u .fresh) (plug (l .frames) q) × (u .edit .number ≡ 0) × (u .edit .store .variable ≡ t .store .variable) × (u .edit .store .value ≡ t .store .value))
+      Edits ws start (start + size r) (u .edit) (u .fresh) (plug (l .frames) q) × (u .edit .number ≡ 0) × (u .edit .store ≡ t .store))
   unfolding plainW nilW
   plain-edits q t fresh some big b = by (isDone q) refl
     where
       by :
           (d : Bool) → isDone q ≡ d →
           (let u = plainW s start t fresh in
-          Edits ws start (start + size r) (u .edit) (u .fresh) (plug (l .frames) q) × (u .edit .number ≡ 0) × (u .edit .store .variable ≡ t .store .variable) × (u .edit .store .value ≡ t .store .value))
-      by true e = rw (b .empty ∙ e, done-nil q e) (nil-edits (t .store .variable) (t .store .value) fresh some big, refl, refl, refl)
-      by false e = (swap-edits q t fresh e (b .pieces e) (b .empty ∙ e), rw (b .empty ∙ e) (b .accepted), rw (b .empty ∙ e) refl, rw (b .empty ∙ e) refl)
+          Edits ws start (start + size r) (u .edit) (u .fresh) (plug (l .frames) q) × (u .edit .number ≡ 0) × (u .edit .store ≡ t .store))
+      by true e = rw (b .empty ∙ e, done-nil q e) (nil-edits (t .store) fresh some big, refl, refl)
+      by false e = (swap-edits q t fresh e (b .pieces e) (b .empty ∙ e), rw (b .empty ∙ e) (b .accepted), rw (b .empty ∙ e) refl)

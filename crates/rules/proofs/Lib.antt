@@ -3,9 +3,11 @@ pub mod Deep
 pub mod Depths
 pub mod Exchanges
 pub mod Meetings
+pub mod Messages
 pub mod Offers
 pub mod Outcomes
 pub mod Edits
 pub mod Shapes
 pub mod Rewrites
+pub mod Stores
 pub mod Waiters

@@ -5,13 +5,13 @@ use native.Mathlib.Omega.{arith}
 use mathlib.Core.Path.{_≡_, refl, sym, ap, _∙_}
 use mathlib.Core.Bool.{Bool, true, false, cond}
 use mathlib.Core.Option.{Option, none, some}
-use mathlib.Core.List.{List, [], _∷_, _++_, append-assoc}
+use mathlib.Core.List.{List, [], _∷_, _++_, append-assoc, append-nil}
 use borrow.Author.Tests.{ne-eqb, lt-ltb, le-ltb, ltb-true, ltb-false, eqb-true, eqb-false}
-use lib.Dec.{eqb, ltb, ltb→lt}
-use lib.Ieee.Fits.{and-l}
+use lib.Dec.{eqb, ltb}
 use lib.ListN.{length, drop, length-append}
 use lib.Seq.{drop-drop, drop-append-seam}
-use Rattle.sock.specs.Words.{kindOf, countOf, nameOf, secondOf, firstVariable, isWord, clear}
+use Rattle.sock.specs.Words.{kindOf, countOf, nameOf, secondOf, firstVariable}
+use Rattle.sock.specs.Variables.{variableWords, furtherOf, variablesOf, behindVariables}
 use Rattle.sock.specs.Term.{Node, node, absent, Nodes, noParts, _&_, headWord, kind, partAt}
 use Rattle.sock.specs.Layout.{words, nodesWords, depth, nodesDepth, exprsWords}
 use Rattle.sock.specs.Reading.{code, anywhere}
@@ -19,48 +19,67 @@ use Rattle.sock.specs.Running.{Run, act, asNode, runWords, runDepth}
 use Rattle.sock.specs.Rules.{Receiver, deaf, hears, serves, receiver, chosen, bare, offered, offer}
 use Rattle.sock.proofs.Fits.{Fits, FitsParts, noPart, onePart, Sound, nilSound, seqSound, parSound, scopeSound, executorSound, waiterSound, noticeSound, actSound}
 use Rattle.sock.proofs.Nodes.{part-fits}
+use Rattle.sock.proofs.Variables.{laid, variables-read, behind-read}
 use Rattle.sock.proofs.ByKind.{runKind, kind-asNode}
 use Rattle.sock.proofs.Measures.{words-act, depth-act}
 use Rattle.skipping.proofs.Skips.{code-end}
 use Rattle.rules.specs.declared.pair.Offer.{Offer}
 use Rattle.rules.specs.Rewriting.{at, partEnd}
 use Rattle.rules.specs.Offering.{offering, noOffer, bareW, branchAt, chosenW, choiceW, offerW, receivesW, fitsW}
-use Rattle.rules.proofs.Shapes.{Shape, assigns, branches, repeats, chooses, hears, serves, notifies, solicits, installs, throws, compensates, shape}
+use Rattle.rules.proofs.Shapes.{Headed, Shape, assigns, branches, repeats, chooses, hears, serves, notifies, solicits, installs, throws, compensates, shape}
 use Rattle.rules.proofs.Rewrites.{head-on}
+
+-- ---- a list of variables in a process's own words
+
+pub first-list : {first : ℕ} {x : List ℕ} → Headed first x → (rest : List ℕ) → variablesOf first (variableWords x ++ rest) ≡ x
+first-list {first} {x} g rest =
+    let l = laid x (g .fitting) in
+    ap (variablesOf first) (ap (λ w. w ++ rest) (l .words))
+    ∙ variables-read (l .count) first (l .counted) (l .fitting) rest
+    ∙ ap (λ a. a ∷ furtherOf (l .further)) (sym (g .begins))
+    ∙ l .same
+
+pub only-list : {first : ℕ} {x : List ℕ} → Headed first x → variablesOf first (variableWords x) ≡ x
+only-list {first} {x} g = ap (variablesOf first) (sym (append-nil (variableWords x))) ∙ first-list g []
+
+pub behind-list : {first : ℕ} {x : List ℕ} → Headed first x → (rest : List ℕ) → behindVariables (variableWords x ++ rest) ≡ rest
+behind-list {first} {x} g rest =
+    let l = laid x (g .fitting) in
+    ap (λ w. behindVariables (w ++ rest)) (l .words) ∙ behind-read (l .count) first (l .counted) (l .fitting) rest
 
 -- ---- what code receives
 
 pub data Heard : Node → Receiver → Type 0 where
   nothingHeard : {m : Node} → (kind m ≡ 7 → ⊥) → (kind m ≡ 8 → ⊥) → Heard m deaf
-  oneWay : {h : ℕ} → kindOf h ≡ 7 → Heard (node h [] [] absent noParts) (hears (nameOf h) (secondOf h))
+  oneWay : {h : ℕ} {x : List ℕ} → kindOf h ≡ 7 → Headed (secondOf h) x → Heard (node h (variableWords x) [] absent noParts) (hears (nameOf h) x)
   request :
-      {h w : ℕ} {p : Node} → kindOf h ≡ 8 → w < 65536 → Fits (code false) anywhere p →
-      Heard (node h (w ∷ []) [] absent (p & noParts)) (serves (nameOf h) (secondOf h) (firstVariable w) p)
+      {h w : ℕ} {x y : List ℕ} {p : Node} → kindOf h ≡ 8 → Headed (secondOf h) x → Headed (firstVariable w) y → Fits (code false) anywhere p →
+      Heard (node h (w ∷ variableWords x ++ variableWords y) [] absent (p & noParts)) (serves (nameOf h) x y p)
 
 a-one-way : {m : Node} → kind m ≡ 7 → Shape m → Heard m (receiver m)
 unfolding receiver
-a-one-way k (hears q) = rw q (oneWay q)
+a-one-way k (hears {x = x} q g) = rw (q, only-list g) (oneWay q g)
 a-one-way k (assigns q g) = absurd (omega arith)
 a-one-way k (branches q g a b) = absurd (omega arith)
 a-one-way k (repeats q g a) = absurd (omega arith)
 a-one-way k (chooses q c pt) = absurd (omega arith)
-a-one-way k (serves q t a) = absurd (omega arith)
-a-one-way k (notifies q t) = absurd (omega arith)
-a-one-way k (solicits q t l) = absurd (omega arith)
+a-one-way k (serves q t x y a) = absurd (omega arith)
+a-one-way k (notifies q t y) = absurd (omega arith)
+a-one-way k (solicits q t y x l) = absurd (omega arith)
 a-one-way k (installs q t l) = absurd (omega arith)
 a-one-way k (throws q t) = absurd (omega arith)
 a-one-way k (compensates q t) = absurd (omega arith)
 
 a-request : {m : Node} → kind m ≡ 8 → Shape m → Heard m (receiver m)
 unfolding receiver
-a-request k (serves {w = w} q t a) = rw q (request q (ltb→lt w 65536 (and-l (isWord w) (clear 2048 w) t)) a)
-a-request k (hears q) = absurd (omega arith)
+a-request k (serves {w = w} {x} {y} q t g b a) = rw (q, first-list g (variableWords y), behind-list g (variableWords y), only-list b) (request q g b a)
+a-request k (hears q g) = absurd (omega arith)
 a-request k (assigns q g) = absurd (omega arith)
 a-request k (branches q g a b) = absurd (omega arith)
 a-request k (repeats q g a) = absurd (omega arith)
 a-request k (chooses q c pt) = absurd (omega arith)
-a-request k (notifies q t) = absurd (omega arith)
-a-request k (solicits q t l) = absurd (omega arith)
+a-request k (notifies q t y) = absurd (omega arith)
+a-request k (solicits q t y x l) = absurd (omega arith)
 a-request k (installs q t l) = absurd (omega arith)
 a-request k (throws q t) = absurd (omega arith)
 a-request k (compensates q t) = absurd (omega arith)
@@ -91,13 +110,14 @@ pub data Stands (r : Run) (o : Offer) (m : Node) : Option Node → Type 0 where
 pub data Offers (ws : List ℕ) (r : Run) (o : Offer) : Receiver → Option Node → Type 0 where
   silent : {next : Option Node} → ((h : ℕ) → fitsW ws o 7 h ≡ false) → ((h : ℕ) → fitsW ws o 8 h ≡ false) → Offers ws r o deaf next
   hearing :
-      {g : ℕ} {next : Option Node} → kindOf g ≡ 7 → o .some ≡ true → at ws (o .guard) ≡ g → Stands r o (node g [] [] absent noParts) next →
-      Offers ws r o (hears (nameOf g) (secondOf g)) next
+      {g : ℕ} {x : List ℕ} {next : Option Node} → kindOf g ≡ 7 → o .some ≡ true → at ws (o .guard) ≡ g → Headed (secondOf g) x →
+      Stands r o (node g (variableWords x) [] absent noParts) next →
+      Offers ws r o (hears (nameOf g) x) next
   serving :
-      {g w : ℕ} {p : Node} {next : Option Node} →
-      kindOf g ≡ 8 → o .some ≡ true → at ws (o .guard) ≡ g → w < 65536 → Fits (code false) anywhere p →
-      Stands r o (node g (w ∷ []) [] absent (p & noParts)) next →
-      Offers ws r o (serves (nameOf g) (secondOf g) (firstVariable w) p) next
+      {g w : ℕ} {x y : List ℕ} {p : Node} {next : Option Node} →
+      kindOf g ≡ 8 → o .some ≡ true → at ws (o .guard) ≡ g → Headed (secondOf g) x → Headed (firstVariable w) y → Fits (code false) anywhere p →
+      Stands r o (node g (w ∷ variableWords x ++ variableWords y) [] absent (p & noParts)) next →
+      Offers ws r o (serves (nameOf g) x y p) next
 
 module _ (ws : List ℕ) (r : Run) (o : Offer) where
   pub not-kind : (k h : ℕ) → (kindOf (at ws (o .guard)) ≡ k → ⊥) → fitsW ws o k h ≡ false
@@ -111,8 +131,8 @@ module _ (ws : List ℕ) (r : Run) (o : Offer) where
   offers-as : {m : Node} {v : Receiver} {next : Option Node} → o .some ≡ true → at ws (o .guard) ≡ headWord m → Stands r o m next →
       Heard m v → Offers ws r o v next
   offers-as s h p (nothingHeard a b) = silent (λ k. not-kind 7 k (rw h a)) (λ k. not-kind 8 k (rw h b))
-  offers-as s h p (oneWay k) = hearing k s h p
-  offers-as s h p (request k w f) = serving k s h w f p
+  offers-as s h p (oneWay k x) = hearing k s h x p
+  offers-as s h p (request k x y f) = serving k s h x y f p
 
   nothing-offered : {next : Option Node} → o .some ≡ false → Offers ws r o deaf next
   unfolding fitsW
@@ -319,10 +339,10 @@ module _ (n issued : ℕ) (ws : List ℕ) (few : n ≤ 8) (small : issued < 6553
     act-offers m (assigns {h} q g) f deep stands i = rw q (bare-offers m f (λ e. omega arith) deep stands i)
     act-offers m (branches {h} q g a b) f deep stands i = rw q (bare-offers m f (λ e. omega arith) deep stands i)
     act-offers m (repeats {h} q g a) f deep stands i = rw q (bare-offers m f (λ e. omega arith) deep stands i)
-    act-offers m (hears {h} q) f deep stands i = rw q (bare-offers m f (λ e. omega arith) deep stands i)
-    act-offers m (serves {h} q t a) f deep stands i = rw q (bare-offers m f (λ e. omega arith) deep stands i)
-    act-offers m (notifies {h} q t) f deep stands i = rw q (bare-offers m f (λ e. omega arith) deep stands i)
-    act-offers m (solicits {h} q t l) f deep stands i = rw q (bare-offers m f (λ e. omega arith) deep stands i)
+    act-offers m (hears {h} q g) f deep stands i = rw q (bare-offers m f (λ e. omega arith) deep stands i)
+    act-offers m (serves {h} q t g b a) f deep stands i = rw q (bare-offers m f (λ e. omega arith) deep stands i)
+    act-offers m (notifies {h} q t g) f deep stands i = rw q (bare-offers m f (λ e. omega arith) deep stands i)
+    act-offers m (solicits {h} q t g b l) f deep stands i = rw q (bare-offers m f (λ e. omega arith) deep stands i)
     act-offers m (installs {h} q t l) f deep stands i = rw q (bare-offers m f (λ e. omega arith) deep stands i)
     act-offers m (throws {h} q t) f deep stands i = rw q (bare-offers m f (λ e. omega arith) deep stands i)
     act-offers m (compensates {h} q t) f deep stands i = rw q (bare-offers m f (λ e. omega arith) deep stands i)

@@ -43,10 +43,10 @@ module _ (f target : ℕ) (r : Run) (start : ℕ) (l : Located) (s : Site) (ws :
 
   pub becomes-ruled :
       (q : Run) (t : Rewriting) (fresh : List ℕ) → 0 < length fresh → Near (length fresh) → Becomes (l .process) q t fresh → s .level + runDepth q ≤ suc most →
-      (let u = plainW s start t fresh in Ruled most ws start (start + size r) (u .edit) (u .fresh) (some (plug (l .frames) q)) × (u .edit .store .variable ≡ t .store .variable) × (u .edit .store .value ≡ t .store .value))
+      (let u = plainW s start t fresh in Ruled most ws start (start + size r) (u .edit) (u .fresh) (some (plug (l .frames) q)) × (u .edit .store ≡ t .store))
   becomes-ruled q t fresh room big b low =
       let p = plain-edits f target r start 1 l s ws words spotted near q t fresh room big b in
-      (ruled (p .1) (p .0) (by (isDone q) refl), p .2, p .3)
+      (ruled (p .1) (p .0) (by (isDone q) refl), p .2)
     where
       by : (b : Bool) → isDone q ≡ b → runDepth (plug (l .frames) q) ≤ most
       by true e = rw (done-nil q e) nil-fits

@@ -29,6 +29,7 @@ use Rattle.evaluating.specs.Evaluating.{ended, evaluated}
 use Rattle.evaluating.proofs.Evaluates.{evaluates}
 use Rattle.writers.proofs.Laid.{Near, Laid, laid-put, laid-then, laid-copy, copy-end}
 use Rattle.rules.specs.Storing.{takes, unchanged}
+use Rattle.rules.specs.declared.store.Store.{Store}
 use Rattle.rules.specs.declared.rewriting.Rewriting.{Rewriting}
 use Rattle.layout.specs.declared.limit.Limits.{Limits}
 use Rattle.rules.specs.Rewriting.{Rewritten, rewritten, vanishing, keeping, refused, at, partW, assignW, partEnd, branchW, unrollW, repeatW}
@@ -58,11 +59,11 @@ pub record Becomes (r q : Run) (t : Rewriting) (fresh : List ℕ) : Type 0 where
 -- r, `level` levels deep, turns into q and no value changes; or q would be deeper than `most`
 pub data Outcome (most : ℕ) (r : Run) (level : ℕ) (q : Run) (t : Rewriting) (fresh : List ℕ) : Type 0 where
   deepens : t .number ≡ 8 → t .nil ≡ false → isDone q ≡ false → suc most < level + runDepth q → Outcome most r level q t fresh
-  becomes : Becomes r q t fresh → t .store .variable ≡ 32 → level + runDepth q ≤ suc most → Outcome most r level q t fresh
+  becomes : Becomes r q t fresh → t .store ≡ unchanged → level + runDepth q ≤ suc most → Outcome most r level q t fresh
 
-pub becomes-nil : (r : Run) (x v : ℕ) (fresh : List ℕ) → Becomes r nil (vanishing (takes x v)) fresh
+pub becomes-nil : (r : Run) (store : Store) (fresh : List ℕ) → Becomes r nil (vanishing store) fresh
 unfolding isDone
-becomes-nil r x v fresh = record { accepted = refl; empty = refl; pieces = λ z. absurd (both-ways true refl z) }
+becomes-nil r store fresh = record { accepted = refl; empty = refl; pieces = λ z. absurd (both-ways true refl z) }
 
 -- ---- a part of its own
 
@@ -86,7 +87,7 @@ enable-words f = ap words (enable-asNode f)
 
 -- code within r that becomes enabled
 module _ (ws rest : List ℕ) (r : Run) (p : Node) (f : Fits (code false) anywhere p) (before behind : List ℕ)
-    (stands : ws ≡ runWords r ++ rest) (whole : runWords r ≡ before ++ (words p ++ behind)) (x v : ℕ) (fresh : List ℕ) where
+    (stands : ws ≡ runWords r ++ rest) (whole : runWords r ≡ before ++ (words p ++ behind)) (store : Store) (fresh : List ℕ) where
   pub part-stands : drop (length before) ws ≡ words p ++ (behind ++ rest)
   part-stands =
       after ws before (words p ++ (behind ++ rest)) (length before)
@@ -94,13 +95,13 @@ module _ (ws rest : List ℕ) (r : Run) (p : Node) (f : Fits (code false) anywhe
 
   pub part-becomes :
       (from upto end : ℕ) → from ≡ length before → upto ≡ from + length (words p) → end ≡ upto + length behind →
-      Becomes r (enable p) (partW ws from upto end (takes x v)) fresh
+      Becomes r (enable p) (partW ws from upto end store) fresh
   unfolding partW
   part-becomes from upto end a b c =
       let head : at ws from ≡ headWord p = head-on ws from p (behind ++ rest) (rw a part-stands) in
       by (isNil p) (ap (λ w. eqb w 0) head ∙ head-nil f) (enable-done f)
     where
-      by : (b : Bool) → eqb (at ws from) 0 ≡ b → isDone (enable p) ≡ b → Becomes r (enable p) (cond (eqb (at ws from) 0) (vanishing (takes x v)) (keeping 0 from upto end (takes x v))) fresh
+      by : (b : Bool) → eqb (at ws from) 0 ≡ b → isDone (enable p) ≡ b → Becomes r (enable p) (cond (eqb (at ws from) 0) (vanishing store) (keeping 0 from upto end store)) fresh
       by true q z = rw q (record { accepted = refl; empty = sym z; pieces = λ n. absurd (both-ways (isDone (enable p)) z n) })
       by false q z =
           rw q
@@ -177,7 +178,7 @@ module _ (n issued : ℕ) (ws : List ℕ) (ok : Words ws) (few : n ≤ 8) (small
     unfolding depth
     first-ends =
         ends-at (length (h ∷ exprWords e)) p (words q ++ rest) fp (omega arith)
-        (part-stands ws rest (act m) p fp (h ∷ exprWords e) (words q) stands-act two-words 32 0 fresh)
+        (part-stands ws rest (act m) p fp (h ∷ exprWords e) (words q) stands-act two-words unchanged fresh)
 
     again : runWords (act m) ≡ ((h ∷ exprWords e) ++ words p) ++ (words q ++ [])
     again = two-words ∙ (sym (append-assoc (h ∷ exprWords e) (words p) (words q)) ∙ ap (λ l. ((h ∷ exprWords e) ++ words p) ++ l) (sym (append-nil (words q))))
@@ -189,7 +190,7 @@ module _ (n issued : ℕ) (ws : List ℕ) (ok : Words ws) (few : n ≤ 8) (small
     unfolding depth
     second-ends =
         ends-at (length (h ∷ exprWords e) + length (words p)) q rest fq (omega arith)
-        (rw (← long) (part-stands ws rest (act m) q fq ((h ∷ exprWords e) ++ words p) [] stands-act again 32 0 fresh))
+        (rw (← long) (part-stands ws rest (act m) q fq ((h ∷ exprWords e) ++ words p) [] stands-act again unchanged fresh))
 
     pub branch-rewrites : (v : ℕ) → Becomes (act m) (enable (cond (isTrue v) p q)) (branchW ws (valuedAt h e v)) fresh
     unfolding branchW isTrue
@@ -203,8 +204,8 @@ module _ (n issued : ℕ) (ws : List ℕ) (ok : Words ws) (few : n ≤ 8) (small
             (partW ws (length (h ∷ exprWords e) + length (words p)) (length (h ∷ exprWords e) + length (words p) + length (words q)) (length (h ∷ exprWords e) + length (words p) + length (words q)) unchanged)
             (partW ws (length (h ∷ exprWords e)) (length (h ∷ exprWords e) + length (words p)) (length (h ∷ exprWords e) + length (words p) + length (words q)) unchanged))
             fresh
-        by true = part-becomes ws rest (act m) q fq ((h ∷ exprWords e) ++ words p) [] stands-act again 32 0 fresh _ _ _ (sym long) refl (omega arith)
-        by false = part-becomes ws rest (act m) p fp (h ∷ exprWords e) (words q) stands-act two-words 32 0 fresh _ _ _ refl refl refl
+        by true = part-becomes ws rest (act m) q fq ((h ∷ exprWords e) ++ words p) [] stands-act again unchanged fresh _ _ _ (sym long) refl (omega arith)
+        by false = part-becomes ws rest (act m) p fp (h ∷ exprWords e) (words q) stands-act two-words unchanged fresh _ _ _ refl refl refl
 
   -- a while, `level` levels deep
   module _ (h : ℕ) (kind : kindOf h ≡ 5) (e : Expr) (p : Node) (g : FitsExpr e) (fp : Fits (code false) anywhere p)
@@ -222,7 +223,7 @@ module _ (n issued : ℕ) (ws : List ℕ) (ok : Words ws) (few : n ≤ 8) (small
     stands-while = stands ∙ ap (λ l. l ++ rest) (sym (words-act w))
 
     body-stands : drop (length (h ∷ exprWords e)) ws ≡ words p ++ rest
-    body-stands = part-stands ws rest (act w) p fp (h ∷ exprWords e) [] stands-while one-words 32 0 fresh
+    body-stands = part-stands ws rest (act w) p fp (h ∷ exprWords e) [] stands-while one-words unchanged fresh
 
     body-ends : partEnd ws (length (h ∷ exprWords e)) ≡ length (h ∷ exprWords e) + length (words p)
     unfolding depth
@@ -292,7 +293,7 @@ module _ (n issued : ℕ) (ws : List ℕ) (ok : Words ws) (few : n ≤ 8) (small
     abbrev Plain : Rewriting → Type 0
     Plain t =
         (t .number ≡ 0) × (t .nil ≡ false) × (t .from ≡ 0) × (t .upto ≡ length (h ∷ exprWords e) + length (words p))
-        × (t .end ≡ length (h ∷ exprWords e) + length (words p)) × (t .store .variable ≡ 32)
+        × (t .end ≡ length (h ∷ exprWords e) + length (words p)) × (t .store ≡ unchanged)
 
     unrolled-plain : Plain (unrollW ws (length (h ∷ exprWords e)) (length (h ∷ exprWords e) + length (words p)) fresh .rewriting)
     unfolding unrollW
@@ -334,7 +335,7 @@ module _ (n issued : ℕ) (ws : List ℕ) (ok : Words ws) (few : n ≤ 8) (small
             (cond (eqb (cond (leb (depth w) (limits .deepest - level)) (0 + length (words w)) 0) 0) (rewritten (refused 8) fresh)
             (unrollW ws (length (h ∷ exprWords e)) end fresh))) in
             Outcome (limits .deepest) (act w) level (cond (not a) (cond b (enable w) (seq (enable p) w)) nil) (u .rewriting) (u .fresh))
-        by true b = becomes (becomes-nil (act w) 32 0 fresh) refl (omega (arith, depth-nil))
+        by true b = becomes (becomes-nil (act w) unchanged fresh) refl (omega (arith, depth-nil))
         by false true =
             rw same-again
             (becomes

@@ -1,4 +1,5 @@
 pub mod Editing
+pub mod Messages
 pub mod Offering
 pub mod Rewriting
 pub mod Storing

@@ -5,12 +5,14 @@ use mathlib.Core.List.{List}
 use lib.Dec.{ltb, eqb}
 use lib.ListN.{set}
 use Rattle.sock.specs.Kind
-use Rattle.sock.specs.Words.{kindOf, countOf, nameOf, secondOf, deadOf, waitersServer}
+use Rattle.sock.specs.Words.{kindOf, countOf, nameOf, deadOf, waitersServer}
 use Rattle.layout.specs.Heads.{executorHead, clientWord, waiterHead, serverWord, throwHead}
+use Rattle.layout.specs.Own.{variablesEnd, listsEnd}
 use Rattle.layout.specs.Positions.{onward}
-use Rattle.rules.specs.Storing.{takes, unchanged}
+use Rattle.rules.specs.Storing.{unchanged}
 use Rattle.rules.specs.Rewriting.{Rewritten, rewritten, vanishing, keeping, at, partW, partEnd}
 use Rattle.rules.specs.declared.rewriting.Rewriting.{Rewriting}
+use Rattle.rules.specs.declared.store.Store.{Store}
 use Rattle.rules.specs.declared.pair.Offer.{Offer}
 
 -- ---- what is offered
@@ -46,10 +48,8 @@ fitsW ws o kind h =
 
 -- ---- what the two turn into
 
-unfoldable pub hearW : List ℕ → Offer → ℕ → Rewriting
-hearW ws o v =
-    cond (eqb (o .next) 0) (vanishing (takes (secondOf (at ws (o .guard))) v))
-    (partW ws (o .next) (o .upto) (o .end) (takes (secondOf (at ws (o .guard))) v))
+unfoldable pub hearW : List ℕ → Offer → Store → Rewriting
+hearW ws o store = cond (eqb (o .next) 0) (vanishing store) (partW ws (o .next) (o .upto) (o .end) store)
 
 -- a place in the fresh words, and those
 pub record Placed : Type 0 where
@@ -69,16 +69,16 @@ threeTo to = onward (onward (onward to 1) 1) 1
 unfoldable pub threeW : List ℕ → ℕ → ℕ → ℕ → ℕ → List ℕ
 threeW fresh to a b c = set (set (set fresh to a) (onward to 1) b) (onward (onward to 1) 1) c
 
-unfoldable pub serveW : List ℕ → Offer → ℕ → ℕ → ℕ → List ℕ → Rewritten
-serveW ws o client serial v fresh =
+unfoldable pub serveW : List ℕ → Offer → ℕ → ℕ → Store → List ℕ → Rewritten
+serveW ws o client serial store fresh =
     let h = at ws (o .guard) in
     let s = seqFirst (o .next) fresh in
-    rewritten (keeping (threeTo (s .to)) (onward (o .guard) 2) (o .upto) (o .end) (takes (secondOf h) v))
+    rewritten (keeping (threeTo (s .to)) (variablesEnd ws (onward (o .guard) 2)) (o .upto) (o .end) store)
     (threeW (s .fresh) (s .to) (executorHead h (at ws (onward (o .guard) 1))) (clientWord client) serial)
 
 unfoldable pub askW : List ℕ → ℕ → ℕ → List ℕ → Rewritten
 askW ws server serial fresh =
-    rewritten (keeping (threeTo 0) 2 (partEnd ws 0) (partEnd ws 0) unchanged)
+    rewritten (keeping (threeTo 0) (listsEnd ws 2 1) (partEnd ws 0) (partEnd ws 0) unchanged)
     (threeW fresh 0 (waiterHead (at ws 0) (at ws 1)) (serverWord server) serial)
 
 unfoldable pub waitsW : List ℕ → ℕ → ℕ → Bool
@@ -88,9 +88,9 @@ unfoldable pub awaitsW : List ℕ → ℕ → ℕ → ℕ → ℕ → ℕ → Bo
 awaitsW ws h serial client sender receiver =
     cond (eqb client receiver) (cond (eqb (waitersServer (at ws 1)) sender) (waitsW ws h serial) false) false
 
-unfoldable pub answerW : List ℕ → ℕ → List ℕ → Rewritten
-answerW ws v fresh =
-    rewritten (keeping (onward 0 1) 3 (partEnd ws 0) (partEnd ws 0) (takes (secondOf (at ws 0)) v)) (set fresh 0 24576)
+unfoldable pub answerW : List ℕ → Store → List ℕ → Rewritten
+answerW ws store fresh =
+    rewritten (keeping (onward 0 1) (variablesEnd ws 3) (partEnd ws 0) (partEnd ws 0) store) (set fresh 0 24576)
 
 unfoldable pub failW : List ℕ → ℕ → List ℕ → Rewritten
 failW ws w fresh =

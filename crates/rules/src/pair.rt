@@ -3,19 +3,20 @@ use crate::rewriting::Rewriting;
 use crate::rewriting::keep;
 use crate::rewriting::to_nil;
 use crate::rewriting::to_part;
+use crate::store::Store;
 use crate::store::nothing;
-use crate::store::one;
 use layout::field::count_of;
 use layout::field::dead_of;
 use layout::field::kind_of;
 use layout::field::name_of;
-use layout::field::second_of;
 use layout::field::waiters_server;
 use layout::head;
 use layout::kind;
 use layout::limit::FUEL;
 use layout::number::further;
 use layout::number::word;
+use layout::own::lists_end;
+use layout::own::variables_end;
 use skipping::skip::skip;
 use writers::write::put;
 ghost use mathlib.Core.Path.{_≡_};
@@ -130,15 +131,14 @@ pub fn fits(part: &[u16], o: Offer, kind: usize, h: u16) -> bool
     false
 }
 
-// A one-way hears v.
-pub fn hear(part: &[u16], o: Offer, v: u32) -> Rewriting
-    ensures { λ r. ⌜ r ≡ hearW (now (part .entry)) o v ⌝ }
+// A one-way hears, and its variables take what the message brings.
+pub fn hear(part: &[u16], o: Offer, store: Store) -> Rewriting
+    ensures { λ r. ⌜ r ≡ hearW (now (part .entry)) o store ⌝ }
 {
-    let x = second_of(word(part, o.guard));
     if o.next == 0 {
-        return to_nil(one(x, v));
+        return to_nil(store);
     }
-    to_part(part, o.next, o.upto, o.end, one(x, v))
+    to_part(part, o.next, o.upto, o.end, store)
 }
 
 // The head of a seq, where a process follows.
@@ -162,17 +162,17 @@ fn three(fresh: &mut [u16], to: usize, a: u16, b: u16, c: u16) -> usize
     put(fresh, u, c)
 }
 
-// A request hears v and becomes an executor.
+// A request hears and becomes an executor: of its own words it keeps those behind its list of variables x.
 pub fn serve(
     part: &[u16],
     o: Offer,
     client: u16,
     serial: u16,
-    v: u32,
+    store: Store,
     fresh: &mut [u16],
 ) -> Rewriting
-    ensures rewritten { λ r. ⌜ r ≡ serveW (now (part .entry)) o client serial v (now (fresh .entry)) .rewriting ⌝ }
-    ensures fresh { λ r. ⌜ now (fresh .exit) ≡ serveW (now (part .entry)) o client serial v (now (fresh .entry)) .fresh ⌝ }
+    ensures rewritten { λ r. ⌜ r ≡ serveW (now (part .entry)) o client serial store (now (fresh .entry)) .rewriting ⌝ }
+    ensures fresh { λ r. ⌜ now (fresh .exit) ≡ serveW (now (part .entry)) o client serial store (now (fresh .entry)) .fresh ⌝ }
 {
     let h = word(part, o.guard);
     let y = word(part, further(o.guard, 1));
@@ -184,10 +184,11 @@ pub fn serve(
         head::client_word(client),
         serial,
     );
-    keep(g, further(o.guard, 2), o.upto, o.end, one(second_of(h), v))
+    let from = variables_end(part, further(o.guard, 2));
+    keep(g, from, o.upto, o.end, store)
 }
 
-// A solicit becomes a waiter.
+// A solicit becomes a waiter: of its own words it keeps those behind the first of its lists, which is y.
 pub fn ask(part: &[u16], server: u16, serial: u16, fresh: &mut [u16]) -> Rewriting
     ensures rewritten { λ r. ⌜ r ≡ askW (now (part .entry)) server serial (now (fresh .entry)) .rewriting ⌝ }
     ensures fresh { λ r. ⌜ now (fresh .exit) ≡ askW (now (part .entry)) server serial (now (fresh .entry)) .fresh ⌝ }
@@ -199,8 +200,9 @@ pub fn ask(part: &[u16], server: u16, serial: u16, fresh: &mut [u16]) -> Rewriti
         head::server_word(server),
         serial,
     );
+    let from = lists_end(part, 2, 1);
     let end = skip(part, 0, FUEL);
-    keep(g, 2, end, end, nothing())
+    keep(g, from, end, end, nothing())
 }
 
 // Whether a waiter stands in `part`, with the operation of the head h and that serial.
@@ -233,14 +235,15 @@ pub fn awaits(
     waits(part, h, serial)
 }
 
-// A reply: x takes v, and the waiter becomes inst of its list.
-pub fn answer(part: &[u16], v: u32, fresh: &mut [u16]) -> Rewriting
-    ensures rewritten { λ r. ⌜ r ≡ answerW (now (part .entry)) v (now (fresh .entry)) .rewriting ⌝ }
-    ensures fresh { λ r. ⌜ now (fresh .exit) ≡ answerW (now (part .entry)) v (now (fresh .entry)) .fresh ⌝ }
+// A reply: its variables take what the message brings, and the waiter becomes inst of its list.
+pub fn answer(part: &[u16], store: Store, fresh: &mut [u16]) -> Rewriting
+    ensures rewritten { λ r. ⌜ r ≡ answerW (now (part .entry)) store (now (fresh .entry)) .rewriting ⌝ }
+    ensures fresh { λ r. ⌜ now (fresh .exit) ≡ answerW (now (part .entry)) store (now (fresh .entry)) .fresh ⌝ }
 {
     let g = put(fresh, 0, head::INST);
+    let from = variables_end(part, 3);
     let end = skip(part, 0, FUEL);
-    keep(g, 3, end, end, one(second_of(word(part, 0)), v))
+    keep(g, from, end, end, store)
 }
 
 // A fault, from the word w of its notice: a live waiter becomes throw, a dead one nil.

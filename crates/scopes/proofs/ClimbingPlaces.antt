@@ -9,6 +9,7 @@ use mathlib.Core.List.{List, [], _∷_, _++_}
 use lib.Dec.{ltb, nltb→le}
 use lib.ListN.{length}
 use borrow.Author.Tests.{lt-ltb, le-ltb}
+use Rattle.sock.specs.Variables.{variableWords}
 use Rattle.sock.specs.Term.{Entries}
 use Rattle.sock.specs.Layout.{entriesWords}
 use Rattle.sock.specs.Running.{Mark, Run, nil, seq, par, scope, executor, waiter, notice, act, size}
@@ -23,7 +24,7 @@ own (seqFrame q) = 1
 own (leftFrame b) = 1
 own (rightFrame b) = 1 + size b
 own (scopeFrame name mark zombie h) = 3 + length (entriesWords h)
-own (executorFrame o y client serial) = 3
+own (executorFrame o y client serial) = 3 + length (variableWords y)
 
 unfoldable pub offset : List Frame → ℕ
 offset [] = 0
@@ -83,7 +84,7 @@ located-offset (scope name mark zombie h a) p fs =
     in-frame p i fs (scopeFrame name mark zombie h) (omega arith) (located-offset a i (scopeFrame name mark zombie h ∷ fs)))
 located-offset (executor o y client serial a) p fs =
     here-offset p (executor o y client serial a) fs
-    (past-from 3 p λ i e. in-frame p i fs (executorFrame o y client serial) (omega arith)
+    (past-from (3 + length (variableWords y)) p λ i e. in-frame p i fs (executorFrame o y client serial) (omega arith)
     (located-offset a i (executorFrame o y client serial ∷ fs)))
 located-offset (waiter o x dead server serial l) p fs = here-offset p (waiter o x dead server serial l) fs allNone
 located-offset (notice o f client serial) p fs = here-offset p (notice o f client serial) fs allNone
@@ -167,7 +168,8 @@ deeper (scope name mark zombie h a) fs p =
     (omega arith) (λ i. refl)
     (λ i. deeper a (scopeFrame name mark zombie h ∷ fs) i) p
 deeper (executor o y client serial a) fs p =
-    part-deeper (executor o y client serial a) fs 3 (λ i. locate a i (executorFrame o y client serial ∷ fs)) (omega arith) (λ i. refl)
+    part-deeper (executor o y client serial a) fs (3 + length (variableWords y)) (λ i. locate a i (executorFrame o y client serial ∷ fs))
+    (omega arith) (λ i. refl)
     (λ i. deeper a (executorFrame o y client serial ∷ fs) i) p
 deeper (waiter o x dead server serial l) fs p = leaf-deeper (waiter o x dead server serial l) fs p refl
 deeper (notice o f client serial) fs p = leaf-deeper (notice o f client serial) fs p refl
@@ -233,7 +235,8 @@ locate-offset (scopeFrame name mark zombie h ∷ fs) a =
 locate-offset (executorFrame o y client serial ∷ fs) a =
     one-in fs (executorFrame o y client serial) a (executor o y client serial a) refl
     (omega (arith, size-executor o y client serial a, size-positive a))
-    (locate-own 3 _ (λ i. locate a i (executorFrame o y client serial ∷ fs)) a (executorFrame o y client serial ∷ fs) (omega arith) refl)
+    (locate-own (3 + length (variableWords y)) _ (λ i. locate a i (executorFrame o y client serial ∷ fs)) a
+    (executorFrame o y client serial ∷ fs) (omega arith) refl)
     (locate-offset fs (executor o y client serial a))
 
 -- the position of what is located

@@ -99,7 +99,7 @@ module _ (f target : ℕ) (r : Run) (start : ℕ) (l : Located) (s : Site) (ws n
   gone e c = sym (ap (λ fs. plug fs (enable m)) c ∙ ap (plug (l .frames)) (done-nil (enable m) (enable-done fitting ∙ ap isNil e)))
 
   abbrev Result : Edited → Type 0
-  Result u = Ruled (limits .deepest) ws start (start + size r) (u .edit) (u .fresh) (some (plug changed (enable m))) × (u .edit .store .variable ≡ 32)
+  Result u = Ruled (limits .deepest) ws start (start + size r) (u .edit) (u .fresh) (some (plug changed (enable m))) × (u .edit .store ≡ unchanged)
 
   stays-nil : (made : List ℕ) → length made ≡ length fresh → m ≡ nilNode → changed ≡ l .frames → Result (nilW s start start 0 unchanged made)
   stays-nil made same e c =
@@ -294,7 +294,7 @@ module _ (f target : ℕ) (r : Run) (start : ℕ) (l : Located) (s : Site) (ws n
       (let u = compensatedW limits (n * 65536 + issued) ws notes start s fresh in
       Ruled (limits .deepest) ws start (start + size r) (u .edit) (u .fresh)
       (some (plug (onNearest (without (scopeKey (nameOf h))) (l .frames)) (enable (handler (scopeKey (nameOf h)) (nearest (l .frames))))))
-      × (u .edit .store .variable ≡ 32))
+      × (u .edit .store ≡ unchanged))
   compensates = by (scoped (l .frames)) refl
     where
       by : (b : Bool) → scoped (l .frames) ≡ b → Result (compensatedW limits bound ws notes start s fresh)

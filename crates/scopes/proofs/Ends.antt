@@ -42,7 +42,7 @@ module _ (f target : ℕ) (r : Run) (start : ℕ) (l : Located) (s : Site) (ws n
   abbrev Result : ℕ → Mark → Bool → Entries → Type 0
   Result name mark zombie h =
       (let u = endedW ws notes start s fresh in
-      Ruled most ws start (start + size r) (u .edit) (u .fresh) (some (ending name mark zombie h (l .frames))) × (u .edit .store .variable ≡ 32))
+      Ruled most ws start (start + size r) (u .edit) (u .fresh) (some (ending name mark zombie h (l .frames))) × (u .edit .store ≡ unchanged))
 
   module _ (name : ℕ) (mark : Mark) (zombie : Bool) (h : Entries) (is : l .process ≡ scope name mark zombie h nil) where
     inner : Sound n issued (scope name mark zombie h nil)
@@ -62,7 +62,7 @@ module _ (f target : ℕ) (r : Run) (start : ℕ) (l : Located) (s : Site) (ws n
       Ruled most ws start (start + size r) (u .edit) (u .fresh)
       (some
       (plug (onNearest (λ outer. update outer (entry (scopeKey name) (handler (scopeKey name) h) noEntries)) (l .frames)) nil))
-      × (u .edit .store .variable ≡ 32))
+      × (u .edit .store ≡ unchanged))
   live name h is = by (scoped (l .frames)) refl
     where
       by : (c : Bool) → scoped (l .frames) ≡ c →
@@ -71,7 +71,7 @@ module _ (f target : ℕ) (r : Run) (start : ℕ) (l : Located) (s : Site) (ws n
           Ruled most ws start (start + size r) (u .edit) (u .fresh)
           (some
           (plug (onNearest (λ outer. update outer (entry (scopeKey name) (handler (scopeKey name) h) noEntries)) (l .frames)) nil))
-          × (u .edit .store .variable ≡ 32))
+          × (u .edit .store ≡ unchanged))
       by true e =
           let t : T (scoped (l .frames)) = rw e tt in
           let first = list-first f target r start l s ws words-at spotted near frames deep t in

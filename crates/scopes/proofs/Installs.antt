@@ -34,6 +34,7 @@ use Rattle.handling.proofs.Replaces.{replaces}
 use Rattle.handling.proofs.Grows.{replaced-small}
 use Rattle.handling.proofs.Sizes.{update-small}
 use Rattle.handling.proofs.Updates.{Updates, updates}
+use Rattle.rules.specs.Storing.{unchanged}
 use Rattle.rules.specs.Editing.{Edited, edited, refusedEdit, nilW}
 use Rattle.rules.proofs.Depths.{wrap-depth, depth-some, Shallow, shallow}
 use Rattle.rules.proofs.Outcomes.{Ruled, tooDeep, ruled}
@@ -86,7 +87,7 @@ module _ (f target : ℕ) (r : Run) (start : ℕ) (l : Located) (s : Site) (ws n
   its-depth = ap runDepth is ∙ (depth-act (node h [] [] (list new) noParts) ∙ omega arith)
 
   abbrev Result : Edited → Type 0
-  Result u = Spacious u fresh → Ruled (limits .deepest) ws start (start + size r) (u .edit) (u .fresh) (some (plug changed nil)) × (u .edit .store .variable ≡ 32)
+  Result u = Spacious u fresh → Ruled (limits .deepest) ws start (start + size r) (u .edit) (u .fresh) (some (plug changed nil)) × (u .edit .store ≡ unchanged)
 
   bare : T (not (scoped (l .frames))) → Result (installedW limits ws notes start s fresh)
   unfolding installedW
@@ -216,7 +217,7 @@ module _ (f target : ℕ) (r : Run) (start : ℕ) (l : Located) (s : Site) (ws n
       (let u = installedW limits ws notes start s fresh in
       Spacious u fresh →
       Ruled (limits .deepest) ws start (start + size r) (u .edit) (u .fresh) (some (plug (onNearest (λ x. update x new) (l .frames)) nil))
-      × (u .edit .store .variable ≡ 32))
+      × (u .edit .store ≡ unchanged))
   installs = by (scoped (l .frames)) refl
     where
       by : (b : Bool) → scoped (l .frames) ≡ b → Result (installedW limits ws notes start s fresh)

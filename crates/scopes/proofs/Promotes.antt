@@ -37,6 +37,7 @@ use Rattle.handling.proofs.Replaces.{replaces}
 use Rattle.handling.proofs.Takes.{Takes, takes, Stands, Keyed}
 use Rattle.handling.proofs.Updates.{Updates, updates-by}
 use Rattle.handling.proofs.Stays.{one-shallow, one-short, update-nil, without-short}
+use Rattle.rules.specs.Storing.{unchanged}
 use Rattle.rules.specs.Editing.{Edited, nilW}
 use Rattle.rules.proofs.Depths.{wrap-depth, depth-some, Shallow, shallow}
 use Rattle.rules.proofs.Outcomes.{Ruled, ruled}
@@ -133,7 +134,7 @@ module _ (f target : ℕ) (r : Run) (start : ℕ) (l : Located) (s : Site) (ws n
       )
 
   abbrev Result : Edited → Type 0
-  Result u = Ruled most ws start (start + size r) (u .edit) (u .fresh) (some (plug changed nil)) × (u .edit .store .variable ≡ 32)
+  Result u = Ruled most ws start (start + size r) (u .edit) (u .fresh) (some (plug changed nil)) × (u .edit .store ≡ unchanged)
 
   -- once the new list stands in the fresh words
   placed :
@@ -220,7 +221,7 @@ module _ (f target : ℕ) (r : Run) (start : ℕ) (l : Located) (s : Site) (ws n
       Ruled most ws start (start + size r) (u .edit) (u .fresh)
       (some
       (plug (onNearest (λ outer. update outer (entry (scopeKey name) (handler (scopeKey name) h) noEntries)) (l .frames)) nil))
-      × (u .edit .store .variable ≡ 32))
+      × (u .edit .store ≡ unchanged))
   unfolding endingW promotedTo promotedW
   promotes =
       rw (

@@ -28,6 +28,7 @@ use Rattle.writers.proofs.Laid.{Near, onward-near, Laid, laid-put, laid-then, l
 use Rattle.handling.specs.Taking.{Took, takeW}
 use Rattle.handling.proofs.Takes.{Takes, takes, Stands}
 use Rattle.handling.proofs.Stays.{without-shallow, without-short}
+use Rattle.rules.specs.Storing.{unchanged}
 use Rattle.rules.proofs.Rewrites.{enable-words}
 use Rattle.rules.proofs.Depths.{plug-fits, Shallow, shallow}
 use Rattle.rules.proofs.Edits.{Edits, edits-of, part-first}
@@ -232,6 +233,6 @@ module _ (f target : ℕ) (r : Run) (start : ℕ) (l : Located) (s : Site) (ws n
       (let u = resumedW ws notes start (s .at) k fresh in
       Ruled most ws start (start + size r) (u .edit) (u .fresh)
       (some (plug (l .frames) (scope name unmarked zombie (without k h) (enable (handler k h)))))
-      × (u .edit .store .variable ≡ 32))
+      × (u .edit .store ≡ unchanged))
   unfolding resumedW
   resumes = (ruled refl edits fits-in, refl)

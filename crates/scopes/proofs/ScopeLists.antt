@@ -2,7 +2,7 @@
 -- Assumes nothing.
 use Prim.Native.Nat.{ℕ, suc, _+_, _-_, _≤_, _<_, max}
 use native.Mathlib.Omega.{arith}
-use mathlib.Core.Path.{_≡_, sym, ap, _∙_}
+use mathlib.Core.Path.{_≡_, refl, sym, ap, _∙_}
 use mathlib.Core.Option.{some}
 use mathlib.Core.List.{List, _++_}
 use lib.Dec.{T}
@@ -60,14 +60,14 @@ module _ (f target : ℕ) (r : Run) (start : ℕ) (l : Located) (s : Site) (ws :
   pub nil-ruled :
       (fresh : List ℕ) → 0 < length fresh → Near (length fresh) →
       (let u = nilW s start start 0 unchanged fresh in
-      Ruled most ws start (start + size r) (u .edit) (u .fresh) (some (plug (l .frames) nil)) × (u .edit .store .variable ≡ 32))
-  unfolding plainW
+      Ruled most ws start (start + size r) (u .edit) (u .fresh) (some (plug (l .frames) nil)) × (u .edit .store ≡ unchanged))
+  unfolding plainW nilW
   nil-ruled fresh room big =
       let low : s .level + runDepth nil ≤ suc most = omega (arith, level-low, depth-nil) in
       let b =
       becomes-ruled f target r start l s ws words spotted near frames deep nil (vanishing unchanged) fresh room big
-      (becomes-nil (l .process) 32 0 fresh) low in
-      (b .0, b .1)
+      (becomes-nil (l .process) unchanged fresh) low in
+      (b .0, refl)
 
   standing : (start ≤ target) × (target + size (l .process) ≤ start + size r)
   unfolding size

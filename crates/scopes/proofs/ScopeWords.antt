@@ -44,7 +44,7 @@ body-sound : {n issued name : ℕ} {mark : Mark} {zombie : Bool} {h : Entries} {
     Sound n issued a
 body-sound (scopeSound x y z g) = g
 
-end-sound : {n issued o y client serial : ℕ} {a : Run} → Sound n issued (executor o y client serial a) → Sound n issued a
+end-sound : {n issued o : ℕ} {y : List ℕ} {client serial : ℕ} {a : Run} → Sound n issued (executor o y client serial a) → Sound n issued a
 end-sound (executorSound x y z g) = g
 
 pub inner-sound : {n issued : ℕ} (fs : List Frame) (a : Run) → Sound n issued (wrap fs a) → Sound n issued a

@@ -34,6 +34,7 @@ use Rattle.finding.proofs.Search.{found}
 use Rattle.layout.specs.Positions.{onward}
 use Rattle.sock.proofs.Pending.{isNone}
 use Rattle.pending.proofs.Climbs.{sides-refuse}
+use Rattle.rules.specs.Storing.{unchanged}
 use Rattle.rules.specs.Editing.{Edited, refusedEdit, edited as changed}
 use Rattle.killing.specs.Killing.{Killed}
 use Rattle.writers.proofs.Laid.{Near, near-of, onward-near, Laid, laid-put, laid-then, laid-copy, copy-end}
@@ -65,7 +66,7 @@ within-from r i k l e = by (leb i k) refl e
 -- ---- what was killed becomes the fresh words
 
 cleared-stuck :
-    (start a : ℕ) (k : Killed) → k .moved .end ≡ 0 → (clearedBy start a k .edit .number ≡ 6) × (clearedBy start a k .edit .store .variable ≡ 32)
+    (start a : ℕ) (k : Killed) → k .moved .end ≡ 0 → (clearedBy start a k .edit .number ≡ 6) × (clearedBy start a k .edit .store ≡ unchanged)
 unfolding clearedBy clearedW
 cleared-stuck start a k e = rw e (refl, refl)
 
@@ -74,7 +75,7 @@ module _ (ws : List ℕ) (start end : ℕ) (inside : end ≤ length ws) (q : Run
     (room : to ≤ length (k .out)) where
   cleared-ruled :
       edited ws start start [] a e (take to (k .out)) e e ≡ take start ws ++ (runWords q ++ drop end ws) →
-      (let u = clearedBy start a k in Ruled most ws start end (u .edit) (u .fresh) (some q) × (u .edit .store .variable ≡ 32))
+      (let u = clearedBy start a k in Ruled most ws start end (u .edit) (u .fresh) (some q) × (u .edit .store ≡ unchanged))
   unfolding clearedBy clearedW
   cleared-ruled w =
       rw (ends, reaches, ne-eqb e 0 (λ z. omega arith)) (
@@ -129,9 +130,9 @@ module _ (ws notes : List ℕ) (right : Right ws notes) (n issued : ℕ) (few : 
 
   looked-ruled :
       {b : Bool} {o : Option Run} {u : Edited} → b ≡ isNone o →
-      Ruled most ws start (start + size r) (u .edit) (u .fresh) o × (u .edit .store .variable ≡ 32) →
+      Ruled most ws start (start + size r) (u .edit) (u .fresh) o × (u .edit .store ≡ unchanged) →
       (let v = cond b (changed (refusedEdit 6) fresh) u in
-      Ruled most ws start (start + size r) (v .edit) (v .fresh) o × (v .edit .store .variable ≡ 32))
+      Ruled most ws start (start + size r) (v .edit) (v .fresh) o × (v .edit .store ≡ unchanged))
   looked-ruled {b = true} {o} e h = rw (refuses o (sym e)) (unkillable refl, refl)
   looked-ruled {b = false} e h = h
 
@@ -141,7 +142,7 @@ module _ (ws notes : List ℕ) (right : Right ws notes) (n issued : ℕ) (few : 
       (passes : T (free f (l .frames))) where
     uncaught-by :
         {k : Killed} {o : Option Run} → Gives r fresh 0 (start + size r) k o → All (λ q. runDepth q ≤ most) o →
-        (let u = clearedBy start start k in Ruled most ws start (start + size r) (u .edit) (u .fresh) o × (u .edit .store .variable ≡ 32))
+        (let u = clearedBy start start k in Ruled most ws start (start + size r) (u .edit) (u .fresh) o × (u .edit .store ≡ unchanged))
     unfolding clearedBy size
     uncaught-by {k = k} (stops e) a = let c = cleared-stuck start start k e in (unkillable (c .0), c .1)
     uncaught-by {k = k} (gives {s = q} g) a =
@@ -154,7 +155,7 @@ module _ (ws notes : List ℕ) (right : Right ws notes) (n issued : ℕ) (few : 
 
     pub uncaught-ruled :
         (let u = uncaughtW ws notes start f target fresh in
-        Ruled most ws start (start + size r) (u .edit) (u .fresh) (climb f (l .frames) nil) × (u .edit .store .variable ≡ 32))
+        Ruled most ws start (start + size r) (u .edit) (u .fresh) (climb f (l .frames) nil) × (u .edit .store ≡ unchanged))
     unfolding uncaughtW
     uncaught-ruled =
         let h : start ≤ target = within-from r start target l place in
@@ -339,7 +340,7 @@ module _ (ws notes : List ℕ) (right : Right ws notes) (n issued : ℕ) (few : 
         Gives a mid (length (own marked)) (body + size a) k o →
         All (λ q. runDepth q ≤ most) (also o λ p. some (caughtBy p)) →
         (let u = clearedBy start c k in Ruled most ws start (start + size r) (u .edit) (u .fresh) (also o λ p. some (caughtBy p))
-        × (u .edit .store .variable ≡ 32))
+        × (u .edit .store ≡ unchanged))
     unfolding also size isDone
     caught-by {k = k} laid (stops e) d = let z = cleared-stuck start c k e in (unkillable (z .0), z .1)
     caught-by {k = k} laid (gives {s = p} g) d =
@@ -370,7 +371,7 @@ module _ (ws notes : List ℕ) (right : Right ws notes) (n issued : ℕ) (few : 
     pub caught-ruled :
         (let u = caughtW ws notes start c f target fresh in
         Ruled most ws start (start + size r) (u .edit) (u .fresh) (climb f (inner ++ scopeFrame name mark zombie h ∷ outer) nil)
-        × (u .edit .store .variable ≡ 32))
+        × (u .edit .store ≡ unchanged))
     unfolding caughtW also
     caught-ruled =
         let g = kill-climb ws notes right n issued few small f low (parts .2) 64 body (parts-deep .1) (stands .0) body-stands
@@ -395,7 +396,7 @@ module _ (ws notes : List ℕ) (right : Right ws notes) (n issued : ℕ) (few : 
         {o : Option Located} {k : ℕ} → Standing r start o k → Sought f (l .frames) (l .process) o →
         (let u = cond (eqb k 0) (uncaughtW ws notes start f target fresh)
         (caughtW ws notes start k f target fresh) in
-        Ruled most ws start (start + size r) (u .edit) (u .fresh) (climb f (l .frames) nil) × (u .edit .store .variable ≡ 32))
+        Ruled most ws start (start + size r) (u .edit) (u .fresh) (climb f (l .frames) nil) × (u .edit .store ≡ unchanged))
     thrown-by nowhere (unstopped t) = uncaught-ruled target l place throws t
     thrown-by (somewhere {k = k} h e) (stoppedBy {l = g} w) =
         rw (ne-eqb k 0 (λ z. omega arith), w .frames)
@@ -407,7 +408,7 @@ module _ (ws notes : List ℕ) (right : Right ws notes) (n issued : ℕ) (few : 
     pub climb-ruled :
         faultW ws target ≡ f →
         (let u = thrownW ws notes start s fresh in
-        Ruled most ws start (start + size r) (u .edit) (u .fresh) (climb f (l .frames) nil) × (u .edit .store .variable ≡ 32))
+        Ruled most ws start (start + size r) (u .edit) (u .fresh) (climb f (l .frames) nil) × (u .edit .store ≡ unchanged))
     unfolding thrownW
     climb-ruled e = rw (spotted .at, e) (thrown-by (spotted .catcher low) (sought f (l .frames) (l .process)))
 
@@ -421,7 +422,7 @@ module _ (ws notes : List ℕ) (right : Right ws notes) (n issued : ℕ) (few : 
   pub thrown-ruled :
       (m : Node) → l .process ≡ act m → kind m ≡ 13 →
       (let u = thrownW ws notes start s fresh in
-      Ruled most ws start (start + size r) (u .edit) (u .fresh) (climb (nameOf (headWord m)) (l .frames) nil) × (u .edit .store .variable ≡ 32))
+      Ruled most ws start (start + size r) (u .edit) (u .fresh) (climb (nameOf (headWord m)) (l .frames) nil) × (u .edit .store ≡ unchanged))
   unfolding faultAt faultW
   thrown-ruled m e k =
       let p = process-at (faultAt ws target) target r start 1 l s ws (drop (start + size r) ws) words spotted in

@@ -15,11 +15,13 @@ use Rattle.sock.specs.Layout.{operatorTag, exprWords, exprsWords, count, words,
 use Rattle.sock.specs.Reading.{Stratum, Place, holds}
 use Rattle.sock.proofs.Fits.{FitsExpr, constantFits, variableFits, applyFits, FitsExprs, noExprs, oneExpr, Fits, fits, FitsBlock, noList, aList, FitsEntries, emptyFits, entryFitsOn, FitsParts, noPart, onePart}
 use Rattle.sock.proofs.Fields.{turned-round}
-use Rattle.sock.proofs.Nodes.{fixed-length, depth-some}
+use Rattle.sock.proofs.Nodes.{depth-some}
 use Rattle.sock.proofs.Positions.{At, at-head, at-past}
 use Rattle.sock.proofs.Reading.{in-order}
-use Rattle.skipping.specs.Skip.{exprForm, exprLoop, exprSkip, entriesSkip, listBy, behindBy, formOf, partsBy, turnBy, skipLoop, skipEnd}
-use Rattle.skipping.proofs.Forms.{Follows, nothingFollows, expressionFollows, listFollows, formed, parts-of}
+use Rattle.skipping.specs.Skip.{exprForm, exprLoop, exprSkip, entriesSkip, listBy, afterBy, behindBy, formOf, partsBy, turnBy, skipLoop, skipEnd}
+use Rattle.skipping.proofs.Forms.{Follows, nothingFollows, expressionFollows, listFollows, known, formed, parts-of}
+use Rattle.layout.specs.Own.{listsEnd}
+use Rattle.layout.proofs.Owns.{own-lists}
 use Rattle.skipping.proofs.Turns.{expr-last, skip-last}
 
 in-all : (a b c d : List ℕ) → length (a ++ (b ++ (c ++ d))) ≡ length a + (length b + (length c + length d))
@@ -124,7 +126,7 @@ module _ (ws : List ℕ) where
   next :
       {sub : ℕ → ℕ} {left x e : ℕ} (h : ℕ) (rest : List ℕ) (e' : ℕ) →
       drop e ws ≡ h ∷ rest →
-      behindBy sub ws (formOf (kindOf h) / 8 % 4) (e + formOf (kindOf h) % 8) ≡ e' →
+      behindBy sub ws (formOf (kindOf h) / 8 % 16) (e + formOf (kindOf h) % 8) ≡ e' →
       e < e' →
       Passing sub (suc left) x e →
       Passing sub (left + partsBy h (formOf (kindOf h))) x e'
@@ -139,16 +141,25 @@ module _ (ws : List ℕ) where
       by (suc turns) enough same =
           record {
             turns = turns;
-            follows = formOf (kindOf h) / 8 % 4;
+            follows = formOf (kindOf h) / 8 % 16;
             at = e + formOf (kindOf h) % 8;
             behind = q;
             enough = omega arith;
             same = same ∙ rw (p .behind, lt-ltb e (length ws) (here .inside), here .word);
           }
 
+  -- behind a process's own words, which end at o
+  behind-own :
+      (sub : ℕ → ℕ) (form i o : ℕ) → listsEnd ws i (form / 32 % 4) ≡ o → behindBy sub ws (form / 8 % 16) i ≡ afterBy sub ws (form / 8 % 4) o
+  unfolding behindBy
+  behind-own sub form i o e =
+      let lists : form / 8 % 16 / 4 ≡ form / 32 % 4 = omega arith in
+      let kind : form / 8 % 16 % 4 ≡ form / 8 % 4 = omega arith in
+      rw (lists, kind, e)
+
   -- a whole process
   pub whole : (d i e : ℕ) → ((x : ℕ) → Passing (skipEnd d ws) 1 x i → Passing (skipEnd d ws) 0 x e) → skipEnd (suc d) ws i ≡ e
-  unfolding skipEnd behindBy
+  unfolding skipEnd behindBy afterBy listsEnd
   whole d i e pass =
       let h : Passing (skipEnd d ws) 0 (skipEnd (suc d) ws i) e =
       pass (skipEnd (suc d) ws i) (record { turns = length ws; follows = 0; at = i; behind = refl; enough = omega arith; same = refl }) in
@@ -162,7 +173,7 @@ module _ (ws : List ℕ) where
   list-by sub wanted i n rest e = let here = at-head ws i n rest e in rw (lt-ltb i (length ws) (here .inside), here .word)
 
   mutual
-    unfolding words depth count holds entriesSkip behindBy exprsWords skipEnd
+    unfolding words depth count holds entriesSkip afterBy exprsWords skipEnd
 
     pub node-pass :
         {s : Stratum} {p : Place} {m : Node} → Fits s p m → (d : ℕ) → depth m ≤ suc d →
@@ -172,18 +183,19 @@ module _ (ws : List ℕ) where
     node-pass (fits {s} {p} {h} {f} {es} {b} {ps} t fx ex bl pt nf) d shallow {left} {x} {e} rest there pass =
         let form : ℕ = formOf (kindOf h) in
         let k = formed s p h t in
-        let own : form % 8 ≡ suc (length f) = k .own ∙ ap suc (sym (fixed-length fx)) in
+        let o : ℕ = e + suc (length f) in
         let more : List ℕ = exprsWords es ++ (blockWords b ++ (nodesWords ps ++ rest)) in
         let all : drop e ws ≡ (h ∷ f) ++ more = there ∙ ap (λ l. h ∷ l) (in-order f (exprsWords es) (blockWords b) (nodesWords ps) rest) in
-        let at-more : drop (e + form % 8) ws ≡ more = ap (λ n. drop (e + n) ws) own ∙ at-past ws (h ∷ f) more e all in
-        let e' : ℕ = e + form % 8 + (length (exprsWords es) + length (blockWords b)) in
-        let behind : behindBy (skipEnd d ws) ws (form / 8 % 4) (e + form % 8) ≡ e' =
-        block-pass bl (k .follows) ex d (omega arith) (e + form % 8) (nodesWords ps ++ rest) at-more in
-        let at-list : drop (e + form % 8 + length (exprsWords es)) ws ≡ blockWords b ++ (nodesWords ps ++ rest) =
-        at-past ws (exprsWords es) (blockWords b ++ (nodesWords ps ++ rest)) (e + form % 8) at-more in
+        let at-more : drop o ws ≡ more = at-past ws (h ∷ f) more e all in
+        let e' : ℕ = o + (length (exprsWords es) + length (blockWords b)) in
+        let behind : behindBy (skipEnd d ws) ws (form / 8 % 16) (e + form % 8) ≡ e' =
+        behind-own (skipEnd d ws) form (e + form % 8) o (rw (k .own, k .variables) (own-lists ws (known s p h t) fx e more all))
+        ∙ block-pass bl (k .follows) ex d (omega arith) o (nodesWords ps ++ rest) at-more in
+        let at-list : drop (o + length (exprsWords es)) ws ≡ blockWords b ++ (nodesWords ps ++ rest) =
+        at-past ws (exprsWords es) (blockWords b ++ (nodesWords ps ++ rest)) o at-more in
         let at-parts : drop e' ws ≡ nodesWords ps ++ rest =
-        ap (λ n. drop n ws) (grouped (e + form % 8) (length (exprsWords es)) (length (blockWords b)))
-        ∙ at-past ws (blockWords b) (nodesWords ps ++ rest) (e + form % 8 + length (exprsWords es)) at-list in
+        ap (λ n. drop n ws) (grouped o (length (exprsWords es)) (length (blockWords b)))
+        ∙ at-past ws (blockWords b) (nodesWords ps ++ rest) (o + length (exprsWords es)) at-list in
         let first : Passing (skipEnd d ws) (left + processesOf h) x e' =
         moved (left + processesOf h) e' (ap (λ n. left + n) (parts-of s p h t)) refl (next h (f ++ more) e' all behind (omega arith) pass) in
         moved left (e + length (words (node h f es b ps))) refl (omega (arith, in-all f (exprsWords es) (blockWords b) (nodesWords ps))) (parts-pass pt d (omega arith) rest at-parts first)
@@ -205,7 +217,7 @@ module _ (ws : List ℕ) where
     block-pass :
         {o : Bool} {n : ℕ} {b : Block} → FitsBlock o n b → {how m : ℕ} {es : List Expr} → Follows how m n → FitsExprs m es → (d : ℕ) → blockDepth b ≤ d →
         (i : ℕ) (rest : List ℕ) → drop i ws ≡ exprsWords es ++ (blockWords b ++ rest) →
-        behindBy (skipEnd d ws) ws how i ≡ i + (length (exprsWords es) + length (blockWords b))
+        afterBy (skipEnd d ws) ws how i ≡ i + (length (exprsWords es) + length (blockWords b))
     block-pass noList nothingFollows noExprs d shallow i rest there = omega arith
     block-pass noList expressionFollows (oneExpr {e = a} f noExprs) d shallow i rest there =
         expr-skip f i rest (there ∙ append-assoc (exprWords a) [] rest) ∙ omega (arith, length-append (exprWords a) [])

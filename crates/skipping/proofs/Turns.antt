@@ -7,10 +7,11 @@ use native.Mathlib.Nat.{mul-le-mul-left}
 use mathlib.Core.Path.{_≡_, refl, ap, _∙_}
 use mathlib.Core.Bool.{Bool, true, false, _||_, cond}
 use mathlib.Core.List.{List}
-use borrow.Author.Tests.{lt-ltb, le-ltb}
+use borrow.Author.Tests.{lt-ltb, le-ltb, ne-eqb}
 use lib.Dec.{ltb, eqb}
 use lib.ListN.{length, getD}
-use Rattle.skipping.specs.Skip.{exprForm, exprLoop, entriesSkip, behindBy, formOf, partsBy, turnBy, skipLoop, skipEnd}
+use Rattle.layout.specs.Own.{listsEnd}
+use Rattle.skipping.specs.Skip.{exprForm, exprLoop, entriesSkip, listBy, afterBy, behindBy, formOf, partsBy, turnBy, skipLoop, skipEnd}
 
 both-none : (b : Bool) → _≡_ {A = ℕ} (cond b 0 0) 0
 both-none true = refl
@@ -108,7 +109,7 @@ skip-over (suc turns) sub ws zero follows i h = absurd (omega arith)
 skip-over (suc turns) sub ws (suc left) follows i h =
     let e : ℕ = behindBy sub ws follows i in
     let f : ℕ = formOf (getD ws e 0 / 2048) in
-    ap (λ x. cond (ltb e (length ws)) x 0) (skip-over turns sub ws (left + partsBy (getD ws e 0) f) (f / 8 % 4) (e + f % 8) (omega arith))
+    ap (λ x. cond (ltb e (length ws)) x 0) (skip-over turns sub ws (left + partsBy (getD ws e 0) f) (f / 8 % 16) (e + f % 8) (omega arith))
     ∙ both-none (ltb e (length ws))
 
 module _ (sub : ℕ → ℕ) (ws : List ℕ) where
@@ -126,15 +127,27 @@ module _ (sub : ℕ → ℕ) (ws : List ℕ) where
       e < length ws →
       h ≡ getD ws e 0 →
       f ≡ formOf (h / 2048) →
-      skipLoop (turns - 1) sub ws (left - 1 + f / 32 % 4 + h % 2048 * (f / 128)) (f / 8 % 4) (e + f % 8) ≡ skipLoop turns sub ws left follows i
+      skipLoop (turns - 1) sub ws (left - 1 + f / 128 % 4 + h % 2048 * (f / 512)) (f / 8 % 16) (e + f % 8) ≡ skipLoop turns sub ws left follows i
   unfolding skipLoop turnBy partsBy
   skip-turn turns zero follows i e h f some m q inside hd fm = absurd (some refl)
   skip-turn zero (suc left) follows i e h f some m q inside hd fm = absurd (omega arith)
-  skip-turn (suc turns) (suc left) follows i e h f some m q inside hd fm = rw (← q, lt-ltb e (length ws) inside, ← hd, ← fm, sub-one (suc turns), sub-one (suc left)) (ap (λ n. skipLoop turns sub ws n (f / 8 % 4) (e + f % 8)) (grouped left (f / 32 % 4) (h % 2048 * (f / 128))))
+  skip-turn (suc turns) (suc left) follows i e h f some m q inside hd fm = rw (← q, lt-ltb e (length ws) inside, ← hd, ← fm, sub-one (suc turns), sub-one (suc left)) (ap (λ n. skipLoop turns sub ws n (f / 8 % 16) (e + f % 8)) (grouped left (f / 128 % 4) (h % 2048 * (f / 512))))
 
 -- no more branches than a head can count
-pub branches-small : (h f : ℕ) → f < 258 → h % 2048 * (f / 128) ≤ 4094
+pub branches-small : (h f : ℕ) → f < 1026 → h % 2048 * (f / 512) ≤ 4094
 branches-small h f small =
-    let two : f / 128 ≤ 2 = omega arith in
-    let most : h % 2048 * (f / 128) ≤ h % 2048 * 2 = mul-le-mul-left (h % 2048) two in
+    let two : f / 512 ≤ 2 = omega arith in
+    let most : h % 2048 * (f / 512) ≤ h % 2048 * 2 = mul-le-mul-left (h % 2048) two in
     omega arith
+
+-- behind an empty list, which stands at a behind the lists of variables
+pub empty-behind :
+    (sub : ℕ → ℕ) (ws : List ℕ) (follows i a : ℕ) →
+    (follows % 4 ≡ 0 → ⊥) →
+    (follows % 4 ≡ 1 → ⊥) →
+    a ≡ listsEnd ws i (follows / 4) →
+    a < length ws →
+    getD ws a 0 ≡ 0 →
+    a + 1 ≡ behindBy sub ws follows i
+unfolding behindBy afterBy listBy entriesSkip
+empty-behind sub ws follows i a n m e inside z = rw (← e, ne-eqb (follows % 4) 0 n, ne-eqb (follows % 4) 1 m, lt-ltb a (length ws) inside, z)

@@ -7,15 +7,17 @@ use lib.Dec.{leb, ltb, eqb}
 use lib.ListN.{length, getD}
 use Rattle.sock.specs.Kind
 use Rattle.sock.specs.Kind.{rowOf}
+use Rattle.sock.specs.Counts.{wordCount, listCount}
 use Rattle.sock.specs.Words.{kindOf, countOf, keyOf, tagOf}
 use Rattle.layout.specs.Keys.{noKey}
+use Rattle.layout.specs.Own.{listsEnd}
 
--- what a process is made of, packed from the fixed table: its own words; 8 if an expression follows, 16 if a list; 32 times its parts, but for
--- a choice 128 times, for each branch that its head counts
+-- what a process is made of, packed from the fixed table: its own words before its lists of variables; 8 if an expression follows, 16 if a list;
+-- 32 times its lists of variables; 128 times its parts, but for a choice 512 times, for each branch that its head counts
 unfoldable pub formOf : ℕ → ℕ
 formOf kind =
-    suc (length (rowOf kind .fixed)) + 8 * rowOf kind .expressions + 16 * rowOf kind .lists
-    + cond (eqb kind Kind.choice) 128 32 * rowOf kind .processes
+    suc (wordCount (rowOf kind .fixed)) + 8 * rowOf kind .expressions + 16 * rowOf kind .lists + 32 * listCount (rowOf kind .fixed)
+    + cond (eqb kind Kind.choice) 512 128 * rowOf kind .processes
 
 -- an expression by the first three bits of its word: its own words, and 4 times its operands
 unfoldable pub exprForm : ℕ → ℕ
@@ -43,18 +45,22 @@ unfoldable pub listBy : (ℕ → ℕ) → List ℕ → ℕ → ℕ → ℕ
 listBy sub ws wanted i = cond (ltb i (length ws)) (entriesSkip sub ws wanted (getD ws i 0) (leb noKey wanted) (i + 1)) 0
 
 -- behind the expression (1) or the list (2) that follows a process's own words
+unfoldable pub afterBy : (ℕ → ℕ) → List ℕ → ℕ → ℕ → ℕ
+afterBy sub ws follows i = cond (eqb follows 0) i (cond (eqb follows 1) (exprSkip ws i) (listBy sub ws noKey i))
+
+-- the same, behind as many lists of variables as the fourth part of the number says
 unfoldable pub behindBy : (ℕ → ℕ) → List ℕ → ℕ → ℕ → ℕ
-behindBy sub ws follows i = cond (eqb follows 0) i (cond (eqb follows 1) (exprSkip ws i) (listBy sub ws noKey i))
+behindBy sub ws follows i = afterBy sub ws (follows % 4) (listsEnd ws i (follows / 4))
 
 -- the parts of a process with head h and form f
 unfoldable pub partsBy : ℕ → ℕ → ℕ
-partsBy h f = f / 32 % 4 + countOf h * (f / 128)
+partsBy h f = f / 128 % 4 + countOf h * (f / 512)
 
 -- `left` processes from e on; `loop` goes on behind the first one's own words, with what follows them
 unfoldable pub turnBy : (ℕ → ℕ → ℕ → ℕ) → List ℕ → ℕ → ℕ → ℕ
 turnBy loop ws left e =
     let f = formOf (kindOf (getD ws e 0)) in
-    cond (ltb e (length ws)) (loop (left + partsBy (getD ws e 0) f) (f / 8 % 4) (e + f % 8)) 0
+    cond (ltb e (length ws)) (loop (left + partsBy (getD ws e 0) f) (f / 8 % 16) (e + f % 8)) 0
 
 -- `left` processes, behind what follows the own words of the last one, which end at i
 unfoldable pub skipLoop : ℕ → (ℕ → ℕ) → List ℕ → ℕ → ℕ → ℕ → ℕ

@@ -3,6 +3,7 @@
 use layout::key::NO_KEY;
 use layout::kind;
 use layout::number::wide;
+use layout::own::lists_end;
 use layout::tag;
 use layout::unit;
 use reading::reader::met_by;
@@ -10,43 +11,48 @@ ghost use mathlib.Core.Path.{_≡_};
 ghost use Prim.Native.Nat.{_<_};
 ghost use Rattle.skipping.specs.Skip.{formOf, exprForm, exprSkip, behindBy, skipEnd, skipList};
 
-// A form's fields, by the worth of their lowest bits. From the lowest: 3 bits for how many words of its own a process has, 2 bits for what
-// follows them (1 an expression, 2 a list), 2 bits for how many parts, and the rest for how many for each branch that the head counts.
+// A form's fields, by the worth of their lowest bits. From the lowest: 3 bits for how many words of its own a process has before its lists of
+// variables, 4 bits for what follows them (2 bits: 1 an expression, 2 a list; 2 bits: how many lists of variables stand before that), 2 bits for
+// how many parts, and the rest for how many for each branch that the head counts.
 const FOLLOWS: usize = 8;
 
-const PARTS: usize = 32;
+const FOLLOWING: usize = 16;
 
-const BRANCHES: usize = 128;
+const PARTS: usize = 128;
 
-// What may follow, and how many parts there may be.
+const BRANCHES: usize = 512;
+
+// What may follow, behind lists of variables, and how many parts there may be.
 const AN_EXPRESSION: usize = 1;
+
+const LISTS: usize = 4;
 
 const COUNTS: usize = 4;
 
 // What a process is made of, by kind; packed from the fixed table (`specs/Skip`). A match, and no constant array, which every call would lay
 // out anew.
 fn form(kind: usize) -> usize
-    ensures { λ r. ⌜ (r ≡ formOf kind) × (r < 258) ⌝ }
+    ensures { λ r. ⌜ (r ≡ formOf kind) × (r < 1026) ⌝ }
 {
     match kind {
         kind::NIL => 1,
         kind::ASSIGN => 9,
-        kind::SEQ => 65,
-        kind::PAR => 65,
-        kind::IF => 73,
-        kind::WHILE => 41,
-        kind::CHOICE => 257,
-        kind::ONE_WAY => 1,
-        kind::REQUEST => 34,
-        kind::NOTIFY => 2,
-        kind::SOLICIT => 18,
-        kind::SCOPE => 50,
+        kind::SEQ => 257,
+        kind::PAR => 257,
+        kind::IF => 265,
+        kind::WHILE => 137,
+        kind::CHOICE => 1025,
+        kind::ONE_WAY => 33,
+        kind::REQUEST => 194,
+        kind::NOTIFY => 34,
+        kind::SOLICIT => 82,
+        kind::SCOPE => 146,
         kind::INST => 17,
         kind::THROW => 1,
         kind::COMP => 1,
         kind::CH => 1,
-        kind::EXECUTOR => 35,
-        kind::WAITER => 19,
+        kind::EXECUTOR => 163,
+        kind::WAITER => 51,
         kind::NOTICE => 3,
         _ => 1,
     }
@@ -76,30 +82,34 @@ pub fn skip(ws: &[u16], at: usize, depth: usize) -> usize
         let h = wide(ws[a]);
         let f = form(h / unit::KIND);
         a = a + f % FOLLOWS;
-        follows = f / FOLLOWS % COUNTS;
+        follows = f / FOLLOWS % FOLLOWING;
         left = left - 1 + f / PARTS % COUNTS + h % unit::KIND * (f / BRANCHES);
         turns = turns - 1;
     }
     0
 }
 
-// Behind the expression or the list that follows a process's own words, if one does. Most lists are empty.
+// Behind the lists of variables, and the expression or the list that follows, if one does. Most lists are empty.
 fn behind(ws: &[u16], at: usize, follows: usize, depth: usize) -> usize
     ensures { λ r. ⌜ r ≡ behindBy (skipEnd depth (now (ws .entry))) (now (ws .entry)) follows at ⌝ }
 {
     if follows == 0 {
         return at;
     }
-    if follows == AN_EXPRESSION {
-        return skip_expression(ws, at);
+    let a = lists_end(ws, at, follows / LISTS);
+    if follows % LISTS == 0 {
+        return a;
     }
-    if ws.len() <= at {
+    if follows % LISTS == AN_EXPRESSION {
+        return skip_expression(ws, a);
+    }
+    if ws.len() <= a {
         return 0;
     }
-    if ws[at] == 0 {
-        return at + 1;
+    if ws[a] == 0 {
+        return a + 1;
     }
-    skip_list(ws, at, depth, NO_KEY)
+    skip_list(ws, a, depth, NO_KEY)
 }
 
 // Where the list whose count is at `at` ends; 0 if no entry has the key wanted, unless that is `NO_KEY`.

@@ -12,6 +12,7 @@ use lib.ListN.{length}
 use borrow.Author.Tests.{lt-leb}
 use Rattle.sock.specs.Kind
 use Rattle.sock.specs.Words.{faultKey}
+use Rattle.sock.specs.Variables.{variableWords}
 use Rattle.sock.specs.Term.{Node, Entries, kind}
 use Rattle.sock.specs.Layout.{entriesWords}
 use Rattle.sock.specs.Reading.{holds}
@@ -38,7 +39,7 @@ killed f hole (scope name mark false h a) at =
     guarded (not (isDone a))
     (also (killed f hole a (at + 3 + length (entriesWords h))) λ a'.
     some (scope name (markAround hole at (at + 3 + length (entriesWords h) + size a)) true h a'))
-killed f hole (executor o y client serial a) at = also (killed f hole a (at + 3)) λ a'. some (parOf a' (notice o f client serial))
+killed f hole (executor o y client serial a) at = also (killed f hole a (at + 3 + length (variableWords y))) λ a'. some (parOf a' (notice o f client serial))
 killed f hole (waiter o x dead server serial l) at = some (waiter o x true server serial l)
 killed f hole (notice o g client serial) at = some (notice o g client serial)
 killed f hole (act m) at = guarded (not (eqb (kind m) Kind.inst)) (some nil)
@@ -72,7 +73,7 @@ killed-beside f hole (scope name mark false g a) at h =
     )
 killed-beside f hole (executor o y client serial a) at h =
     let s = size-executor o y client serial a in
-    rw (killed-beside f hole a (at + 3) (λ x y. h (omega arith) (omega arith)))
+    rw (killed-beside f hole a (at + 3 + length (variableWords y)) (λ x y. h (omega arith) (omega arith)))
 killed-beside f hole (waiter o x dead server serial l) at h = refl
 killed-beside f hole (notice o g client serial) at h = refl
 killed-beside f hole (act m) at h = refl
@@ -133,7 +134,8 @@ module _ (f : ℕ) where
       all-here p _ (λ t. t)
       (past-from (3 + length (entriesWords h)) p λ i e.
       all-map (λ l g t. and-right (not zombie && not (holds (faultKey f) h)) (free f fs) (g t)) (inner-free a i (scopeFrame name mark zombie h ∷ fs)))
-  inner-free (executor o y client serial a) p fs = all-here p _ (λ t. t) (past-from 3 p λ i e. inner-free a i (executorFrame o y client serial ∷ fs))
+  inner-free (executor o y client serial a) p fs = all-here p _ (λ t. t)
+      (past-from (3 + length (variableWords y)) p λ i e. inner-free a i (executorFrame o y client serial ∷ fs))
   inner-free (waiter o x dead server serial l) p fs = all-here p _ (λ t. t) allNone
   inner-free (notice o g client serial) p fs = all-here p _ (λ t. t) allNone
   inner-free (act m) p fs = all-here p _ (λ t. t) allNone
@@ -216,9 +218,9 @@ module _ (f hole : ℕ) where
       (climbs b (i - size a) (at + 1 + size a) (omega arith) (rightFrame a ∷ fs)))
   climbs (executor o y client serial a) p at e fs =
       all-here p _ (λ t. absurd t)
-      (past-from 3 p λ i s.
-      all-map (λ l g t v. also-made (killed f hole a (at + 3)) (λ a'. parOf a' (notice o f client serial)) (climb f fs) ∙ g t v)
-      (climbs a i (at + 3) (omega arith) (executorFrame o y client serial ∷ fs)))
+      (past-from (3 + length (variableWords y)) p λ i s.
+      all-map (λ l g t v. also-made (killed f hole a (at + 3 + length (variableWords y))) (λ a'. parOf a' (notice o f client serial)) (climb f fs) ∙ g t v)
+      (climbs a i (at + 3 + length (variableWords y)) (omega arith) (executorFrame o y client serial ∷ fs)))
   climbs (waiter o x dead server serial l) p at e fs = all-here p _ (λ t. absurd t) allNone
   climbs (notice o g client serial) p at e fs = all-here p _ (λ t. absurd t) allNone
   climbs (act m) p at e fs = all-here p _ (λ t u. act-climbs m t fs) allNone

@@ -4,16 +4,17 @@ use Prim.Native.Nat.{ℕ, _+_, _*_, _-_, _≤_, _<_}
 use native.Mathlib.Omega.{arith}
 use mathlib.Core.Bool.{Bool, true, false}
 use mathlib.Core.List.{List, _∷_, _++_}
-use lib.Dec.{T, leb, lit<}
+use lib.Dec.{T, leb, ltb, lit<}
 use lib.ListN.{length}
 use Rattle.sock.specs.Kind
+use Rattle.sock.specs.Kind.{Own}
 use Rattle.sock.specs.Words.{isWord, clear, kindOf, keyWord, highWord, lowWord}
 use Rattle.sock.specs.Term.{Operator, sum, difference, less, equal, decimalSum, decimalDifference, Expr, Node, Block, Entries, Nodes}
 use Rattle.sock.specs.Layout.{operatorTag, exprWords, exprsWords, count, words, blockWords, entriesWords, nodesWords}
 use Rattle.sock.specs.Reading.{Stratum, running, code, Place, anywhere, allowed, headFits}
 use Rattle.sock.specs.Running.{Run, runWords}
 use Rattle.sock.specs.Configuration.{Engine, Config, valuesWords, engineWords, enginesWords, encode}
-use Rattle.sock.proofs.Fits.{FitsExpr, constantFits, variableFits, applyFits, FitsExprs, noExprs, oneExpr, FitsFixed, noFixed, oneFixed, Fits, fits, FitsBlock, noList, aList, FitsEntries, emptyFits, entryFitsOn, FitsParts, noPart, onePart, Sound, AllBelow, noneBelow, oneBelow, FitsEngine, FitsEngines, noEngines, oneEngine, FitsConfig}
+use Rattle.sock.proofs.Fits.{FitsExpr, constantFits, variableFits, applyFits, FitsExprs, noExprs, oneExpr, FitsFurther, noFurther, oneFurther, FitsFixed, noFixed, oneFixed, someVariables, Fits, fits, FitsBlock, noList, aList, FitsEntries, emptyFits, entryFitsOn, FitsParts, noPart, onePart, Sound, AllBelow, noneBelow, oneBelow, FitsEngine, FitsEngines, noEngines, oneEngine, FitsConfig}
 use Rattle.sock.proofs.Nodes.{Head, head-tests}
 use Rattle.sock.proofs.Reading.{split, tests}
 use Rattle.sock.proofs.Running.{asNode-fits}
@@ -47,9 +48,15 @@ unfolding exprsWords
 exprs-words noExprs = noneBelow
 exprs-words (oneExpr h hs) = below-append (expr-words h) (exprs-words hs)
 
-fixed-words : {ms f : List ℕ} → FitsFixed ms f → AllBelow 65536 f
+further-words : {n : ℕ} {v : List ℕ} → FitsFurther n v → AllBelow 65536 v
+further-words noFurther = noneBelow
+further-words (oneFurther {w = w} t h) = let u = split (isWord w) (clear 2048 w) t in oneBelow {v = w} (omega tests) (further-words h)
+
+fixed-words : {os : List Own} {f : List ℕ} → FitsFixed os f → AllBelow 65536 f
 fixed-words noFixed = noneBelow
 fixed-words (oneFixed {m = m} {w = w} t h) = let u = split (isWord w) (clear m w) t in oneBelow {v = w} (omega tests) (fixed-words h)
+fixed-words (someVariables {c = c} t v h) =
+    let u = split (ltb 0 c) (leb c 4) t in oneBelow {v = c} (omega tests) (below-append (further-words v) (fixed-words h))
 
 kind-below : (s : Stratum) (k : ℕ) → T (allowed s k) → k < 19
 unfolding allowed

@@ -9,12 +9,14 @@ use lib.Dec.{T, leb, ltb, eqb, ltb→lt}
 use Rattle.sock.specs.Kind
 use Rattle.sock.specs.Kind.{rowOf}
 use Rattle.sock.specs.Words.{clear, kindOf, countOf, nameFields}
+use Rattle.sock.specs.Variables.{firstOf}
 use Rattle.sock.specs.Term.{Expr, Node, node, Block, Nodes, kind, processesOf}
 use Rattle.sock.specs.Reading.{Stratum, running, code, Place, anywhere, notNil, guard, root, allowed, placed, branched, headFits, nodeFits, partStratum}
 use Rattle.sock.specs.Running.{Run, nil, seq, par, scope, executor, waiter, notice, act, asNode}
 use Rattle.sock.specs.Configuration.{isScope}
 use Rattle.sock.specs.Frames.{isDone}
 use Rattle.sock.proofs.Fits.{FitsExprs, FitsFixed, Fits, fits, FitsBlock, FitsParts, noPart, onePart, Sound, nilSound, seqSound, parSound, scopeSound, executorSound, waiterSound, noticeSound, actSound, PlacedRun}
+use Rattle.sock.proofs.Variables.{laid}
 use Rattle.sock.proofs.Fields.{four, four-pass, plain-kind, head-kind, fields-below, scope-kind}
 
 -- ---- fitting, by kind
@@ -96,8 +98,8 @@ kind-asNode nilSound = refl
 kind-asNode (seqSound a d q) = refl
 kind-asNode (parSound a d b d′) = refl
 kind-asNode (scopeSound {name} {mark} {zombie} b m h a) = scope-kind name mark zombie b
-kind-asNode (executorSound {o} {y} bo by e a) = head-kind 16 (nameFields o y) (fields-below o y bo by)
-kind-asNode (waiterSound {o} {x} bo bx e l) = head-kind 17 (nameFields o x) (fields-below o x bo bx)
+kind-asNode (executorSound {o} {y} bo by e a) = head-kind 16 (nameFields o (firstOf y)) (fields-below o (firstOf y) bo (laid y by .low))
+kind-asNode (waiterSound {o} {x} bo bx e l) = head-kind 17 (nameFields o (firstOf x)) (fields-below o (firstOf x) bo (laid x (bx .fitting) .low))
 kind-asNode (noticeSound {o} bo bf e) = head-kind 18 (nameFields o 0) (fields-below o 0 bo (omega arith))
 kind-asNode (actSound i f) = refl
 

@@ -22,10 +22,10 @@ use Rattle.sock.proofs.Running.{awake-asNode', awake-sound, awake-root,
 -- ---- what is read
 
 -- at the front of the words stand k values
-abbrev ValuesFound : ℕ → List ℕ → List ℕ → List ℕ → Type 0
+abbrev pub ValuesFound : ℕ → List ℕ → List ℕ → List ℕ → Type 0
 ValuesFound k ws vs rest = (ws ≡ valuesWords vs ++ rest) × (length vs ≡ k) × AllBelow 4294967296 vs
 
-values-found : (k : ℕ) (ws : List ℕ) → Holds (ValuesFound k ws) (readValues k ws)
+pub values-found : (k : ℕ) (ws : List ℕ) → Holds (ValuesFound k ws) (readValues k ws)
 unfolding readValues valuesWords
 values-found zero ws = something (refl, refl, noneBelow)
 values-found (suc k) ws =
@@ -74,7 +74,7 @@ module _ (d n issued : ℕ) where
       })
 
 -- nothing after the last process
-whole-found :
+pub whole-found :
     (issued : ℕ) {Q : List Engine → List ℕ → Type 0} {P : Config → Type 0} {g : Got (List Engine)} →
     ((es : List Engine) → Q es [] → P (record { issued = issued; engines = es })) →
     Holds Q g →
@@ -85,16 +85,16 @@ whole-found issued f (something {a = es} {rest = []} q) = allSome (f es q)
 whole-found issued f (something {a = es} {rest = w ∷ ws} q) = allNone
 
 -- the tests of the two first words and the length
-abbrev opens : Limits → ℕ → ℕ → ℕ → Bool
+abbrev pub opens : Limits → ℕ → ℕ → ℕ → Bool
 opens limits n issued long = ltb 0 n && leb n 8 && isWord issued && leb long (limits .longest)
 
-record Opens (limits : Limits) (n issued long : ℕ) : Type 0 where
-  some : 0 < n
-  few : n ≤ 8
-  word : issued < 65536
-  short : long ≤ limits .longest
+pub record Opens (limits : Limits) (n issued long : ℕ) : Type 0 where
+  pub some : 0 < n
+  pub few : n ≤ 8
+  pub word : issued < 65536
+  pub short : long ≤ limits .longest
 
-opens-tests : (limits : Limits) (n issued long : ℕ) → T (opens limits n issued long) → Opens limits n issued long
+pub opens-tests : (limits : Limits) (n issued long : ℕ) → T (opens limits n issued long) → Opens limits n issued long
 opens-tests limits n issued long t =
     let a = split (ltb 0 n && leb n 8 && isWord issued) (leb long (limits .longest)) t in
     let b = split (ltb 0 n && leb n 8) (isWord issued) (a .0) in
@@ -132,7 +132,7 @@ config-found limits ws c e = all-some (config-reads limits ws) e
 
 -- ---- what is laid out is read back
 
-values-finds : {vs : List ℕ} → AllBelow 4294967296 vs → (rest : List ℕ) → readValues (length vs) (valuesWords vs ++ rest) ≡ got vs rest
+pub values-finds : {vs : List ℕ} → AllBelow 4294967296 vs → (rest : List ℕ) → readValues (length vs) (valuesWords vs ++ rest) ≡ got vs rest
 unfolding readValues valuesWords andThen
 values-finds noneBelow rest = refl
 values-finds (oneBelow {v} {vs} h hs) rest = rw (wide-finds v h (valuesWords vs ++ rest), values-finds hs rest)
@@ -161,7 +161,7 @@ unfolding guarded
 passed true t = refl
 passed false t = absurd t
 
-opens-pass : (limits : Limits) (n issued long : ℕ) → Opens limits n issued long → T (opens limits n issued long)
+pub opens-pass : (limits : Limits) (n issued long : ℕ) → Opens limits n issued long → T (opens limits n issued long)
 opens-pass limits n issued long o =
     both (ltb 0 n && leb n 8 && isWord issued) _
     (both (ltb 0 n && leb n 8) _ (both (ltb 0 n) _ (omega tests) (omega tests)) (omega tests))

@@ -7,18 +7,19 @@ use mathlib.Core.Bool.{Bool, true, false, not, _&&_, cond}
 use mathlib.Core.Option.{Option, none, some}
 use mathlib.Core.List.{List, [], _∷_, append-nil}
 use lib.Dec.{T, leb, ltb, eqb, eqb-refl, eqb→eq, not-T, ltb→lt, lt→ltb, le→leb}
-use lib.ListN.{length, length-set}
+use lib.ListN.{length, set, length-set}
+use borrow.Author.Tests.{eq-eqb}
 use Rattle.sock.specs.Words.{bit}
+use Rattle.sock.specs.Variables.{valuesAt, setAll}
 use Rattle.sock.specs.Term.{Entries, kind}
 use Rattle.sock.specs.Layout.{exprsWords, words, entriesWords, exprsDepth, depth}
 use Rattle.sock.specs.Running.{Run, nil, seq, par, scope, executor, waiter, notice, act, asNode, size}
 use Rattle.sock.specs.Configuration.{Limits, Engine, Config, encode, enginesDepth, readConfig}
 use Rattle.sock.specs.Frames.{Frame, seqFrame, leftFrame, rightFrame, scopeFrame, executorFrame, Located, hereOr, past, locate, isDone, plug}
-use Rattle.sock.specs.Evaluation.{valueAt}
 use Rattle.sock.specs.Rules.{also, Message, reply, failure, Move, sends, onceDone, moveOf, Exchange, instOf, throwOf, replied, faulting, awaited, exchange}
 use Rattle.sock.specs.Calls.{Refusal, Result, done, _>>=_, _>>_, _!_, _unless_, Numbers, Spot, engineAt, enabledAt, movable, partner, Effect, between, effect, Stepped, withEngine, carriedOut, step, tally, waits}
 use Rattle.sock.specs.Runs.{awaits, delivery}
-use Rattle.sock.proofs.Logic.{and-both, test-true, test-false, cond-case, all-some}
+use Rattle.sock.proofs.Logic.{and-both, true-test, test-true, test-false, cond-case, all-some}
 use Rattle.sock.proofs.Fits.{FitsConfig, Readable}
 use Rattle.sock.proofs.Measures.{size-nil, size-executor, size-waiter, size-notice, size-act, depth-nil, depth-executor, depth-waiter, depth-notice, depth-act}
 use Rattle.sock.proofs.Configuration.{passed, config-finds}
@@ -28,12 +29,12 @@ use Rattle.sock.proofs.Shrinking.{NoLarger, plug-shrinks, Lighter, NoLa
 
 -- which working end, with nothing left to run, meets which waiting end
 pub data Meets (s e e' : ℕ) : Run → Run → Type 0 where
-  replyMeets : {o y x : ℕ} {dead : Bool} {l : Entries} → Meets s e e' (executor o y e' s nil) (waiter o x dead e s l)
-  faultMeets : {o f x : ℕ} {dead : Bool} {l : Entries} → Meets s e e' (notice o f e' s) (waiter o x dead e s l)
+  replyMeets : {o : ℕ} {y x : List ℕ} {dead : Bool} {l : Entries} → length y ≡ length x → Meets s e e' (executor o y e' s nil) (waiter o x dead e s l)
+  faultMeets : {o f : ℕ} {x : List ℕ} {dead : Bool} {l : Entries} → Meets s e e' (notice o f e' s) (waiter o x dead e s l)
 
 -- ---- what the two become
 
-nil-for-executor : (o y e s : ℕ) → NoLarger nil (executor o y e s nil)
+nil-for-executor : (o : ℕ) (y : List ℕ) (e s : ℕ) → NoLarger nil (executor o y e s nil)
 nil-for-executor o y e s =
     record { shorter = omega (arith, size-nil, size-executor o y e s nil); shallower = omega (arith, depth-nil, depth-executor o y e s nil) }
 
@@ -41,7 +42,7 @@ nil-for-notice : (o f e s : ℕ) → NoLarger nil (notice o f e s)
 nil-for-notice o f e s =
     record { shorter = omega (arith, size-nil, size-notice o f e s); shallower = omega (arith, depth-nil, depth-notice o f e s) }
 
-module _ (o x : ℕ) (dead : Bool) (e s : ℕ) (l : Entries) where
+module _ (o : ℕ) (x : List ℕ) (dead : Bool) (e s : ℕ) (l : Entries) where
   inst-for-waiter : NoLarger (act (instOf l)) (waiter o x dead e s l)
   unfolding words exprsWords depth exprsDepth
   inst-for-waiter =
@@ -75,23 +76,36 @@ record Delivers (s e e' issued : ℕ) (vs vs' : List ℕ) (fs : List Frame) (r r
   serial : exchanged .serial ≡ s
 
 -- the tests that the two ends pass
-named : (e e' s o : ℕ) → T (eqb 0 0 && eqb s s && eqb o o && eqb e' e' && eqb e e)
-named e e' s o =
-    and-both (eqb s s && eqb o o && eqb e' e') (eqb e e)
+named : (e e' s o : ℕ) (alike : Bool) → T alike → T (eqb 0 0 && eqb s s && eqb o o && eqb e' e' && eqb e e && alike)
+named e e' s o alike t =
+    and-both (eqb s s && eqb o o && eqb e' e' && eqb e e) alike
+    (and-both (eqb s s && eqb o o && eqb e' e') (eqb e e)
     (and-both (eqb s s && eqb o o) (eqb e' e') (and-both (eqb s s) (eqb o o) (eqb-refl s) (eqb-refl o)) (eqb-refl e'))
-    (eqb-refl e)
+    (eqb-refl e))
+    t
+
+values-counted : (vs xs : List ℕ) → length (valuesAt vs xs) ≡ length xs
+unfolding valuesAt
+values-counted vs [] = refl
+values-counted vs (x ∷ xs) = ap suc (values-counted vs xs)
+
+pub set-counted : (vs xs us : List ℕ) → length (setAll vs xs us) ≡ length vs
+unfolding setAll
+set-counted vs [] us = refl
+set-counted vs (x ∷ xs) [] = refl
+set-counted vs (x ∷ xs) (u ∷ us) = set-counted (set vs x u) xs us ∙ length-set vs x u
 
 delivers : {s e e' : ℕ} {r r' : Run} (issued : ℕ) (vs vs' : List ℕ) (fs : List Frame) → Meets s e e' r r' → Delivers s e e' issued vs vs' fs r r'
 unfolding moveOf onceDone isDone exchange awaited replied faulting
-delivers {s} {e} {e'} issued vs vs' fs (replyMeets {o} {y} {x} {dead} {l}) =
+delivers {s} {e} {e'} issued vs vs' fs (replyMeets {o} {y} {x} {dead} {l} same) =
     record {
-      message = reply o (valueAt vs y) e' s;
+      message = reply o (valuesAt vs y) e' s;
       sent = refl;
-      exchanged = replied issued s vs' (valueAt vs y) x l;
-      taken = passed _ (named e e' s o);
+      exchanged = replied issued s vs' (valuesAt vs y) x l;
+      taken = passed _ (named e e' s o _ (true-test (eq-eqb (length (valuesAt vs y)) (length x) (values-counted vs y ∙ same))));
       sender = nil-for-executor o y e' s;
       receiver = inst-for-waiter o x dead e s l;
-      counted = length-set vs' x (valueAt vs y);
+      counted = set-counted vs' x (valuesAt vs y);
       kept = refl;
       serial = refl;
     }
@@ -100,7 +114,7 @@ delivers {s} {e} {e'} issued vs vs' fs (faultMeets {o} {f} {x} {dead} {l}) =
       message = failure o f e' s;
       sent = refl;
       exchanged = faulting issued s vs' f dead;
-      taken = passed _ (named e e' s o);
+      taken = passed _ (named e e' s o true tt);
       sender = nil-for-notice o f e' s;
       receiver = cond-case (λ r. NoLarger r (waiter o x dead e s l)) dead (λ t. nil-for-waiter o x dead e s l) (λ t. throw-for-waiter o x dead e s l f);
       counted = refl;
@@ -147,7 +161,7 @@ module _ (limits : Limits) (ws : List ℕ) (k : Numbers) (room : ℕ) {c : Confi
       ∙ unless-true _ (leb (length (encode (st .config))) room) _ (le→leb _ _ fits)
 
 -- what is put back where a process stood is lighter, if it is no larger than the process
-spot-shrinks :
+pub spot-shrinks :
     (c : Config) (e p : ℕ) (a : Spot) →
     FitsConfig c →
     enabledAt c e p ≡ some a →

@@ -68,12 +68,12 @@ beside n p = 0x1800 ∷ tree n ++ p
 full : List ℕ → List ℕ
 full p = one (0x5800 ∷ 0 ∷ 0 ∷ beside 11 (beside 10 (beside 9 (beside 8 (beside 7 (beside 6 (beside 4 (beside 3 (beside 2 p)))))))))
 
--- a par of two throws; a par of a throw and a notify of two words
+-- a par of two throws; a par of a throw and an assign of two words
 short : List ℕ
 short = 0x1800 ∷ 0x6800 ∷ 0x6800 ∷ []
 
 long : List ℕ
-long = 0x1800 ∷ 0x6800 ∷ 0x4800 ∷ 0 ∷ []
+long = 0x1800 ∷ 0x6800 ∷ 0x0800 ∷ 0x2000 ∷ []
 
 lengths : (length (full short) ≡ 8192) × (length (full long) ≡ 8193)
 unfolding computed one tree beside full short long
@@ -89,14 +89,14 @@ longest = (refl, refl)
 asking : ℕ → List ℕ
 asking i =
     2 ∷ i ∷ 0 ∷ 0 ∷ 0 ∷ 1 ∷ replicate 60 0
-    ++ (0x5800 ∷ 0 ∷ 0 ∷ 0x5020 ∷ 0x0880 ∷ 0 ∷ [])
+    ++ (0x5800 ∷ 0 ∷ 0 ∷ 0x5020 ∷ 0x0880 ∷ 1 ∷ 1 ∷ 0 ∷ [])
     ++ replicate 64 0
-    ++ (0x5800 ∷ 0 ∷ 0 ∷ 0x4020 ∷ 0 ∷ 0 ∷ [])
+    ++ (0x5800 ∷ 0 ∷ 0 ∷ 0x4020 ∷ 0 ∷ 1 ∷ 1 ∷ 0 ∷ [])
 
 answer : ℕ → Answer
 answer i = answerOf (step standard (asking i) (to 0 3 1 3) 8192)
 
-lastSerial : answer 65534 ≡ record { number = 0; kind = 10; serial = 65535; fault = 0; length = 144 }
+lastSerial : answer 65534 ≡ record { number = 0; kind = 10; serial = 65535; fault = 0; length = 146 }
 unfolding computed asking to answer
 lastSerial = refl
 

@@ -53,7 +53,7 @@ unfoldable pub P' : Node
 P' = leaf Kind.comp (9 * 32)
 
 unfoldable pub B : Node
-B = leaf Kind.one-way (4 * 32 + 2)
+B = node (headOf Kind.one-way (4 * 32 + 2)) (1 ∷ []) [] absent noParts
 
 R : Node
 R = leaf Kind.throw (8 * 32)
@@ -114,7 +114,7 @@ senseless e =
     record { given = c; steps = at 0 3 ∷ []; number = 13; gives = c }
 
 unfoldable pub waits : Bool → Run
-waits dead = waiter 4 6 dead 1 1 (one 3 P)
+waits dead = waiter 4 (6 ∷ []) dead 1 1 (one 3 P)
 
 pub cases : List Case
 cases =
@@ -145,7 +145,7 @@ cases =
     }
     -- M6 killed executor with nil body: the notice alone
     ∷ record {
-      given = double (live (par (act P) (executor 4 6 1 1 nil))) (live nil);
+      given = double (live (par (act P) (executor 4 (6 ∷ []) 1 1 nil))) (live nil);
       steps = at 0 4 ∷ [];
       number = 0;
       gives = double (zombie (notice 4 7 1 1)) (live nil);
@@ -159,7 +159,7 @@ cases =
     }
     -- M8 the same, then reply: inst
     ∷ record {
-      given = double (live (par (act P) (waits false))) (live (executor 4 6 0 1 nil));
+      given = double (live (par (act P) (waits false))) (live (executor 4 (6 ∷ []) 0 1 nil));
       steps = at 0 4 ∷ to 1 3 0 3 ∷ [];
       number = 0;
       gives = double (zombie (act (instOf (one 3 P)))) (live nil);

@@ -7,23 +7,25 @@ use mathlib.Core.Path.{_≡_, refl, subst, sym, ap, _∙_}
 use mathlib.Core.Bool.{Bool, true, false, not, _&&_, _||_, cond}
 use mathlib.Core.Option.{Option, none, some}
 use mathlib.Core.List.{List, [], _∷_}
-use lib.Dec.{T, leb, ltb, eqb, lit<}
+use lib.Dec.{T, leb, ltb, eqb, eqb→eq, lit<}
 use Rattle.sock.specs.Kind
 use Rattle.sock.specs.Kind.{rowOf, rows}
-use Rattle.sock.specs.Words.{kindOf, countOf, nameOf, secondOf, markOf, zombieOf, firstVariable, firstName, clear, headOf}
+use Rattle.sock.specs.Words.{kindOf, countOf, nameOf, markOf, zombieOf, firstVariable, firstName, clear, headOf}
+use Rattle.sock.specs.Variables.{headVariables, laterVariables, distinct}
 use Rattle.sock.specs.Term.{Node, node, absent, Entries, noEntries, Nodes, noParts, partAt, processesOf}
-use Rattle.sock.specs.Reading.{code, anywhere, allowed, placed, branched, headFits, nodeFits, endFits, restingFits, fixedAt, _⇒_}
+use Rattle.sock.specs.Reading.{code, anywhere, allowed, placed, branched, headFits, fieldsFit, receivesIn, nodeFits, endFits, restingFits, fixedAt, _⇒_}
 use Rattle.sock.specs.Running.{Run, nil, seq, par, scope, executor, waiter, notice, act, enable}
 use Rattle.sock.specs.Configuration.{guarded}
 use Rattle.sock.specs.Frames.{Frame, seqOf}
 use Rattle.sock.specs.Rules.{Message, notification, solicitation, reply, failure, Receiver, deaf, hears, serves, receiver, Offer, chosen, bare, offered, offer, followed, Exchange, notified, solicited, instOf, throwOf, replied, faulting, awaited, exchange}
 use Rattle.sock.proofs.Logic.{and-left, and-right, cond-case, All, allNone, allSome, all-guarded}
-use Rattle.sock.proofs.Fits.{FitsFixed, FitsExprs, FitsBlock, FitsParts, isPlain, Fits, fits, noFixed, noExprs, noList, aList, noPart, FitsEntries, Sound, nilSound, seqSound, parSound, scopeSound, executorSound, waiterSound, noticeSound, actSound, SoundFrame, seqFrameSound, leftFrameSound, rightFrameSound, scopeFrameSound, executorFrameSound, SoundFrames, noFrames, oneFrame}
+use Rattle.sock.proofs.Fits.{FitsFixed, FitsExprs, FitsBlock, FitsParts, AllBelow, FitsVariables, FitsDistinct, isPlain, Fits, fits, noFixed, noExprs, noList, aList, noPart, FitsEntries, Sound, nilSound, seqSound, parSound, scopeSound, executorSound, waiterSound, noticeSound, actSound, SoundFrame, seqFrameSound, leftFrameSound, rightFrameSound, scopeFrameSound, executorFrameSound, SoundFrames, noFrames, oneFrame}
 use Rattle.sock.proofs.Fields.{end-tests, end-fits}
-use Rattle.sock.proofs.Nodes.{head-fits, part-fits, fixed-word}
+use Rattle.sock.proofs.Nodes.{head-fits, distinct-test, receives-none, node-fits, part-fits, fixed-word}
+use Rattle.sock.proofs.Variables.{later-list, one-way-list, request-list}
 use Rattle.sock.proofs.Running.{enable-sound}
 use Rattle.sock.proofs.Frames.{seqOf-sound}
-use Rattle.sock.proofs.Rules.{FitValues, values-set, FitsMessage, notificationFits, solicitationFits, replyFits, failureFits}
+use Rattle.sock.proofs.Rules.{FitValues, values-set-all, FitsMessage, notificationFits, solicitationFits, replyFits, failureFits}
 
 -- ---- more serials
 
@@ -59,23 +61,32 @@ module _ (n : ℕ) {issued issued' : ℕ} (h : issued ≤ issued') where
 
 pub data FitsReceiver : Receiver → Type 0 where
   deafFits : FitsReceiver deaf
-  hearsFits : {o x : ℕ} → o < 64 → x < 32 → FitsReceiver (hears o x)
-  servesFits : {o x y : ℕ} {p : Node} → o < 64 → x < 32 → y < 32 → Fits (code false) anywhere p → FitsReceiver (serves o x y p)
+  hearsFits : {o : ℕ} {x : List ℕ} → o < 64 → FitsDistinct x → FitsReceiver (hears o x)
+  servesFits :
+      {o : ℕ} {x y : List ℕ} {p : Node} → o < 64 → FitsDistinct x → FitsVariables y → Fits (code false) anywhere p → FitsReceiver (serves o x y p)
 
 receiver-fits : {p : Node} → Fits (code false) anywhere p → FitsReceiver (receiver p)
-unfolding receiver
-receiver-fits (fits {h = h} {f = f} t x e y qs g) =
-    cond-case FitsReceiver (eqb (kindOf h) Kind.one-way) (λ u. hearsFits name second)
-    (λ u. cond-case FitsReceiver (eqb (kindOf h) Kind.request) (λ v. servesFits name second reply-y (part-fits qs 0)) (λ v. deafFits))
+unfolding receiver rowOf rows
+receiver-fits (fits {h = h} {f = f} {b = b} {ps = ps} t x e y qs g) =
+    cond-case FitsReceiver (eqb (kindOf h) Kind.one-way) (λ u. hearsFits name (hearing (eqb→eq (kindOf h) 7 u)))
+    (λ u. cond-case FitsReceiver (eqb (kindOf h) Kind.request) (λ v. serving (eqb→eq (kindOf h) 8 v)) (λ v. deafFits))
   where
     name : nameOf h < 64
     name = mod-lt (h / 32) (lit< tt)
 
-    second : secondOf h < 32
-    second = mod-lt h (lit< tt)
+    twice : T (distinct (receivesIn h f))
+    twice = distinct-test (code false) h f b g
+
+    hearing : kindOf h ≡ 7 → FitsDistinct (headVariables 0 h f)
+    hearing k = one-way-list h f twice k (rw k at x)
 
     reply-y : firstVariable (fixedAt f 0) < 32
     reply-y = let w : fixedAt f 0 < 65536 = fixed-word x 0 in omega arith
+
+    serving : kindOf h ≡ 8 → FitsReceiver (serves (nameOf h) (headVariables 1 h f) (laterVariables (firstVariable (fixedAt f 0)) f) (partAt ps 0))
+    serving k =
+        let own : FitsFixed (rowOf 8 .fixed) f = rw k at x in
+        servesFits name (request-list h f twice k own) (later-list (firstVariable (fixedAt f 0)) reply-y own) (part-fits qs 0)
 
 pub record FitsOffer (o : Offer) : Type 0 where
   pub receives : FitsReceiver (o .receives)
@@ -124,18 +135,19 @@ pub record FitsExchange (n issued : ℕ) (x : Exchange) : Type 0 where
   pub values : FitValues (x .values)
 
 inst-sound : {n issued : ℕ} {l : Entries} → FitsEntries false zero l → Sound n issued (act (instOf l))
-unfolding headFits allowed placed branched rowOf rows processesOf nodeFits
+unfolding headFits allowed placed branched rowOf rows processesOf nodeFits distinct receivesIn fieldsFit
 inst-sound g = actSound tt (fits tt noFixed noExprs (aList g) noPart tt)
 
 throw-fits : (h : ℕ) → kindOf h ≡ Kind.throw → h % 32 ≡ 0 → Fits (code false) anywhere (node h [] [] absent noParts)
-unfolding allowed placed branched rowOf rows processesOf nodeFits
+unfolding allowed placed branched rowOf rows processesOf fieldsFit
 throw-fits h k z =
     fits (head-fits {s = code false} {p = anywhere} {h = h} (record { allows = at (λ k. T (allowed (code false) k)) tt; places = tt; clears = at (λ k. T (clear (rowOf k .spare) h)) (eq→eqb z); branches = at (λ k. T (not (eqb k Kind.choice) || ltb 0 (countOf h) && leb (countOf h) 8)) tt }))
     (at (λ k. FitsFixed (rowOf k .fixed) []) noFixed)
     (at (λ k. FitsExprs (rowOf k .expressions) []) noExprs)
     (at (λ k. FitsBlock (eqb k Kind.scope) (rowOf k .lists) absent) noList)
     (at (λ k. FitsParts (code false) k (cond (eqb k Kind.choice) (countOf h * rowOf k .processes) (rowOf k .processes)) noParts) noPart)
-    (at (λ k. T (eqb k Kind.scope ⇒ restingFits (markOf h) (zombieOf h) (firstName (fixedAt [] 0)) noEntries)) tt)
+    (node-fits (code false) h [] absent (receives-none h 13 [] k tt)
+    (at (λ k. T (eqb k Kind.scope ⇒ restingFits (markOf h) (zombieOf h) (firstName (fixedAt [] 0)) noEntries)) tt))
   where
     at : (P : ℕ → Type 0) → P Kind.throw → P (kindOf h)
     at P x = subst P (sym k) x
@@ -151,24 +163,25 @@ throw-sound {f = f} b = actSound (subst (λ k. T (isPlain k)) (sym k13) tt) (thr
 
 module _ {n issued : ℕ} {vs : List ℕ} (v : FitValues vs) where
   notified-fits :
-      (o : ℕ) {w : ℕ} {r : Receiver} {next : Option Node} →
-      w < 4294967296 →
+      (o : ℕ) {w : List ℕ} {r : Receiver} {next : Option Node} →
+      AllBelow 4294967296 w →
       FitsReceiver r →
       All (Fits (code false) anywhere) next →
       All (FitsExchange n issued) (notified issued vs o w r next)
   unfolding notified
   notified-fits o b deafFits k = allNone
-  notified-fits o b (hearsFits {o = op} {x = x} c d) k =
-      all-guarded (eqb o op) λ t. allSome (record { later = le-refl issued; sender = nilSound; receiver = followed-sound nilSound k; values = values-set v b x })
+  notified-fits o {w} b (hearsFits {o = op} {x = x} c d) k =
+      all-guarded _ λ t.
+      allSome (record { later = le-refl issued; sender = nilSound; receiver = followed-sound nilSound k; values = values-set-all v b x })
   notified-fits o b (servesFits c d e f) k = allNone
 
   solicited-fits :
-      {client server o w x : ℕ} {l : Entries} {r : Receiver} {next : Option Node} →
+      {client server o : ℕ} {w x : List ℕ} {l : Entries} {r : Receiver} {next : Option Node} →
       client < n →
       server < n →
       o < 64 →
-      w < 4294967296 →
-      x < 32 →
+      AllBelow 4294967296 w →
+      FitsDistinct x →
       FitsEntries false zero l →
       FitsReceiver r →
       All (Fits (code false) anywhere) next →
@@ -176,31 +189,31 @@ module _ {n issued : ℕ} {vs : List ℕ} (v : FitValues vs) where
   unfolding solicited
   solicited-fits c s a b d l deafFits k = allNone
   solicited-fits c s a b d l (hearsFits e f) k = allNone
-  solicited-fits {o = o} c s a b d l (servesFits {o = op} {x = x'} e f y p) k =
-      all-guarded (eqb o op) λ t.
+  solicited-fits {o = o} {w} {x} c s a b d l (servesFits {o = op} {x = x'} {y = ys} e f y p) k =
+      all-guarded _ λ t.
       allSome
       (record {
         later = omega arith;
         sender = waiterSound a d (end-fits (record { below = s; positive = omega arith; given = le-refl (suc issued) })) l;
         receiver = followed-sound (executorSound a y (end-fits (record { below = c; positive = omega arith; given = le-refl (suc issued) })) (enable-sound n (suc issued) p)) k;
-        values = values-set v b x';
+        values = values-set-all v b x';
       })
 
   awaited-fits :
-      {p : Run} (sender receiver i o client serial : ℕ) {k : ℕ → Bool → Entries → Exchange} →
+      {p : Run} (sender receiver i o client serial : ℕ) (alike : List ℕ → Bool) {k : List ℕ → Bool → Entries → Exchange} →
       Sound n issued p →
-      ((x : ℕ) (dead : Bool) (l : Entries) → FitsEntries false zero l → FitsExchange n issued (k x dead l)) →
-      All (FitsExchange n issued) (awaited sender receiver i o client serial p k)
+      ((x : List ℕ) (dead : Bool) (l : Entries) → FitsEntries false zero l → FitsExchange n issued (k x dead l)) →
+      All (FitsExchange n issued) (awaited sender receiver i o client serial alike p k)
   unfolding awaited
-  awaited-fits s r i o c e nilSound f = allNone
-  awaited-fits s r i o c e (seqSound g t q) f = allNone
-  awaited-fits s r i o c e (parSound g t k u) f = allNone
-  awaited-fits s r i o c e (scopeSound a m d g) f = allNone
-  awaited-fits s r i o c e (executorSound a y d g) f = allNone
-  awaited-fits s r i o c e (waiterSound {o = op} {x = x} {server = server} {serial = serial} {dead = dead} {l = l} a b d g) f =
-      all-guarded (eqb i 0 && eqb e serial && eqb o op && eqb c r && eqb server s) λ t. allSome (f x dead l g)
-  awaited-fits s r i o c e (noticeSound a b d) f = allNone
-  awaited-fits s r i o c e (actSound t g) f = allNone
+  awaited-fits s r i o c e q nilSound f = allNone
+  awaited-fits s r i o c e q (seqSound g t m) f = allNone
+  awaited-fits s r i o c e q (parSound g t k u) f = allNone
+  awaited-fits s r i o c e q (scopeSound a m d g) f = allNone
+  awaited-fits s r i o c e q (executorSound a y d g) f = allNone
+  awaited-fits s r i o c e q (waiterSound {o = op} {x = x} {server = server} {serial = serial} {dead = dead} {l = l} a b d g) f =
+      all-guarded _ λ t. allSome (f x dead l g)
+  awaited-fits s r i o c e q (noticeSound a b d) f = allNone
+  awaited-fits s r i o c e q (actSound t g) f = allNone
 
   pub exchange-fits :
       {sender receiver : ℕ} (i : ℕ) {p : Run} {m : Message} →
@@ -215,10 +228,10 @@ module _ {n issued : ℕ} {vs : List ℕ} (v : FitValues vs) where
   exchange-fits {receiver = receiver} i {p = p} s r g (solicitationFits {z = z} o b x l) =
       all-guarded (eqb z receiver) λ t. solicited-fits s r o b x l (offer-fits g i .receives) (offer-fits g i .next)
   exchange-fits {sender} {receiver} i s r g (replyFits {o = o} {client = client} {serial = serial} b) =
-      awaited-fits sender receiver i o client serial g λ x dead l f.
-      record { later = le-refl issued; sender = nilSound; receiver = inst-sound f; values = values-set v b x }
+      awaited-fits sender receiver i o client serial _ g λ x dead l f.
+      record { later = le-refl issued; sender = nilSound; receiver = inst-sound f; values = values-set-all v b x }
   exchange-fits {sender} {receiver} i s r g (failureFits {o = o} {f = f} {client = client} {serial = serial} b) =
-      awaited-fits sender receiver i o client serial g λ x dead l h.
+      awaited-fits sender receiver i o client serial _ g λ x dead l h.
       record {
         later = le-refl issued;
         sender = nilSound;

@@ -1,15 +1,16 @@
 -- What it is for a tree to fit the format: the conditions that the reader tests, by the tree's shape. Depth and length are kept apart.
 -- A node fits in a stratum at a place; what is enabled is sound among n engines and the serials issued.
 -- Assumes nothing.
-use Prim.Native.Nat.{ℕ, zero, suc, _≤_, _<_}
+use Prim.Native.Nat.{ℕ, zero, suc, _-_, _≤_, _<_}
 use mathlib.Core.Path.{_≡_}
 use mathlib.Core.Bool.{Bool, true, false, not, _&&_, _||_}
-use mathlib.Core.List.{List, [], _∷_}
-use lib.Dec.{T, eqb}
+use mathlib.Core.List.{List, [], _∷_, _++_}
+use lib.Dec.{T, leb, ltb, eqb}
 use lib.ListN.{length}
 use Rattle.sock.specs.Kind
-use Rattle.sock.specs.Kind.{rowOf}
+use Rattle.sock.specs.Kind.{Own, word, variables, rowOf}
 use Rattle.sock.specs.Words.{isWord, clear, kindOf}
+use Rattle.sock.specs.Variables.{distinct}
 use Rattle.sock.specs.Term.{Expr, constant, variable, apply, Operator, Node, node, Block, absent, list, Entries, noEntries, entry, Nodes, noParts, _&_, kind, processesOf}
 use Rattle.sock.specs.Reading.{Stratum, running, code, Place, anywhere, notNil, guard, root, headFits, nodeFits, entryFits, endFits, holds, entryStratum, partStratum, partPlace}
 use Rattle.sock.specs.Running.{Mark, unmarked, faulted, ownName, Run, nil, seq, par, scope, executor, waiter, notice, act}
@@ -17,6 +18,10 @@ use Rattle.sock.specs.Configuration.{Limits, Engine, Config, encode, eng
 use Rattle.sock.specs.Frames.{Frame, seqFrame, leftFrame, rightFrame, scopeFrame, executorFrame, isDone}
 
 -- ---- nodes
+
+pub data AllBelow (m : ℕ) : List ℕ → Type 0 where
+  noneBelow : AllBelow m []
+  oneBelow : {v : ℕ} {vs : List ℕ} → v < m → AllBelow m vs → AllBelow m (v ∷ vs)
 
 pub data FitsExpr : Expr → Type 0 where
   constantFits : {v : ℕ} → v < 4294967296 → FitsExpr (constant v)
@@ -27,9 +32,19 @@ pub data FitsExprs : ℕ → List Expr → Type 0 where
   noExprs : FitsExprs zero []
   oneExpr : {n : ℕ} {e : Expr} {es : List Expr} → FitsExpr e → FitsExprs n es → FitsExprs (suc n) (e ∷ es)
 
-pub data FitsFixed : List ℕ → List ℕ → Type 0 where
+pub data FitsFurther : ℕ → List ℕ → Type 0 where
+  noFurther : FitsFurther zero []
+  oneFurther : {n w : ℕ} {v : List ℕ} → T (isWord w && clear 2048 w) → FitsFurther n v → FitsFurther (suc n) (w ∷ v)
+
+pub data FitsFixed : List Own → List ℕ → Type 0 where
   noFixed : FitsFixed [] []
-  oneFixed : {m : ℕ} {ms : List ℕ} {w : ℕ} {f : List ℕ} → T (isWord w && clear m w) → FitsFixed ms f → FitsFixed (m ∷ ms) (w ∷ f)
+  oneFixed : {m : ℕ} {os : List Own} {w : ℕ} {f : List ℕ} → T (isWord w && clear m w) → FitsFixed os f → FitsFixed (word m ∷ os) (w ∷ f)
+  someVariables :
+      {c : ℕ} {os : List Own} {v f : List ℕ} →
+      T (ltb 0 c && leb c 4) →
+      FitsFurther (c - 1) v →
+      FitsFixed os f →
+      FitsFixed (variables ∷ os) (c ∷ v ++ f)
 
 mutual
   pub data Fits : Stratum → Place → Node → Type 0 where
@@ -69,6 +84,17 @@ mutual
 
 -- ---- what is enabled
 
+-- the variables of a message: 1 to 4
+pub record FitsVariables (xs : List ℕ) : Type 0 where
+  pub some : 0 < length xs
+  pub few : length xs ≤ 4
+  pub below : AllBelow 32 xs
+
+-- and those that receive: none twice
+pub record FitsDistinct (xs : List ℕ) : Type 0 where
+  pub fitting : FitsVariables xs
+  pub apart : T (distinct xs)
+
 -- mark 1 with a fault that the list holds; mark 2 only on a zombie
 abbrev pub MarkFits : Mark → Bool → Entries → Type 0
 MarkFits unmarked zombie h = Unit {0}
@@ -91,16 +117,16 @@ pub data Sound (n issued : ℕ) : Run → Type 0 where
       Sound n issued a →
       Sound n issued (scope name mark zombie h a)
   executorSound :
-      {o y client serial : ℕ} {a : Run} →
+      {o : ℕ} {y : List ℕ} {client serial : ℕ} {a : Run} →
       o < 64 →
-      y < 32 →
+      FitsVariables y →
       T (endFits n issued client serial) →
       Sound n issued a →
       Sound n issued (executor o y client serial a)
   waiterSound :
-      {o x server serial : ℕ} {dead : Bool} {l : Entries} →
+      {o : ℕ} {x : List ℕ} {server serial : ℕ} {dead : Bool} {l : Entries} →
       o < 64 →
-      x < 32 →
+      FitsDistinct x →
       T (endFits n issued server serial) →
       FitsEntries false zero l →
       Sound n issued (waiter o x dead server serial l)
@@ -128,17 +154,13 @@ pub data SoundFrame (n issued : ℕ) : Frame → Type 0 where
       FitsEntries true zero h →
       SoundFrame n issued (scopeFrame name mark zombie h)
   executorFrameSound :
-      {o y client serial : ℕ} → o < 64 → y < 32 → T (endFits n issued client serial) → SoundFrame n issued (executorFrame o y client serial)
+      {o : ℕ} {y : List ℕ} {client serial : ℕ} → o < 64 → FitsVariables y → T (endFits n issued client serial) → SoundFrame n issued (executorFrame o y client serial)
 
 pub data SoundFrames (n issued : ℕ) : List Frame → Type 0 where
   noFrames : SoundFrames n issued []
   oneFrame : {f : Frame} {fs : List Frame} → SoundFrame n issued f → SoundFrames n issued fs → SoundFrames n issued (f ∷ fs)
 
 -- ---- configurations
-
-pub data AllBelow (m : ℕ) : List ℕ → Type 0 where
-  noneBelow : AllBelow m []
-  oneBelow : {v : ℕ} {vs : List ℕ} → v < m → AllBelow m vs → AllBelow m (v ∷ vs)
 
 pub record FitsEngine (n issued : ℕ) (e : Engine) : Type 0 where
   pub counted : length (e .values) ≡ 32

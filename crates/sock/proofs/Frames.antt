@@ -9,6 +9,7 @@ use mathlib.Core.List.{List, [], _∷_}
 use lib.Dec.{T, leb, ltb, eqb, ltb→lt, lt→ltb, leb→le, le→leb}
 use lib.ListN.{length}
 use Rattle.sock.specs.Term.{Node, Entries}
+use Rattle.sock.specs.Variables.{firstOf, variableWords}
 use Rattle.sock.specs.Layout.{entriesWords}
 use Rattle.sock.specs.Reading.{code, anywhere, endFits, holds}
 use Rattle.sock.specs.Running.{Mark, unmarked, faulted, ownName, Run, nil, seq, par, scope, executor, waiter, notice, act, size, enable}
@@ -65,8 +66,8 @@ locate-sound {n} {issued} (parSound {a = a} g t f u) p k =
     (λ v. locate-sound f (i - size a) (oneFrame (rightFrameSound g t) k)))
 locate-sound (scopeSound {h = h} a b c g) p k =
     all-here p _ (record { frames = k; process = scopeSound a b c g }) (all-past (3 + length (entriesWords h)) p λ i. locate-sound g i (oneFrame (scopeFrameSound a b c) k))
-locate-sound (executorSound a b c g) p k =
-    all-here p _ (record { frames = k; process = executorSound a b c g }) (all-past 3 p λ i. locate-sound g i (oneFrame (executorFrameSound a b c) k))
+locate-sound (executorSound {y = y} a b c g) p k =
+    all-here p _ (record { frames = k; process = executorSound a b c g }) (all-past (3 + length (variableWords y)) p λ i. locate-sound g i (oneFrame (executorFrameSound a b c) k))
 locate-sound (waiterSound a b c d) p k = all-here p _ (record { frames = k; process = waiterSound a b c d }) allNone
 locate-sound (noticeSound a b c) p k = all-here p _ (record { frames = k; process = noticeSound a b c }) allNone
 locate-sound (actSound a b) p k = all-here p _ (record { frames = k; process = actSound a b }) allNone
@@ -115,7 +116,7 @@ locate-based (par a b) p fs t =
 locate-based (scope name mark zombie h a) p fs t =
     all-here p _ t (all-past (3 + length (entriesWords h)) p λ i. locate-based a i (scopeFrame name mark zombie h ∷ fs) t)
 locate-based (executor o y client serial a) p fs t =
-    all-here p _ t (all-past 3 p λ i. locate-based a i (executorFrame o y client serial ∷ fs) t)
+    all-here p _ t (all-past (3 + length (variableWords y)) p λ i. locate-based a i (executorFrame o y client serial ∷ fs) t)
 locate-based (waiter o x dead server serial l) p fs t = all-here p _ t allNone
 locate-based (notice o f client serial) p fs t = all-here p _ t allNone
 locate-based (act a) p fs t = all-here p _ t allNone

@@ -18,7 +18,7 @@ use Rattle.sock.specs.Reading.{Stratum, code, Place, anywhere, notNil, g
 use Rattle.sock.specs.Handlers.{handler, without, put, rebuilt, replaced, allReplaced, installed, update}
 use Rattle.sock.proofs.Logic.{and-left, and-right, and-both, or-case, or-right, cond-case, true-test, false-test, test-false}
 use Rattle.sock.proofs.Fits.{FitsExprs, FitsFixed, Fits, fits, FitsBlock, FitsEntries, emptyFits, entryFitsOn, FitsParts, noPart, onePart}
-use Rattle.sock.proofs.Nodes.{Head, head-tests, head-moves, loosen, nil-fits, code-more, entries-lower}
+use Rattle.sock.proofs.Nodes.{code-fields, Head, head-tests, head-moves, loosen, nil-fits, code-more, entries-lower}
 
 -- ---- looking up and dropping
 
@@ -274,16 +274,15 @@ by-head :
     Slack (kindOf h) (processesOf h) ps →
     T (nodeFits (code true) h f b) →
     Fits (code false) (slack p) (cond (eqb (kindOf h) Kind.cH) old (rebuilt h f es b ps))
-unfolding nodeFits
 by-head old g p h f es b ps t x e y sl w =
     let q : Head (code true) p h = head-tests t in
     cond-case (λ m. Fits (code false) (slack p) m) (eqb (kindOf h) Kind.cH)
     (λ u. subst (λ r. Fits (code false) r old) (sym (slack-cH p (kindOf h) (q .places) u)) g)
-    (λ u. rebuilt-fits q u x e y sl w)
+    (λ u. rebuilt-fits q u x e y sl (code-fields true false h f b w))
 
 module _ (old : Node) (g : Fits (code false) anywhere old) where
   mutual
-    unfolding replaced partStratum nodeFits
+    unfolding replaced partStratum
 
     replaces : {s : Stratum} {p : Place} {m : Node} → Fits s p m → s ≡ code true → Fits (code false) (slack p) (replaced old m)
     replaces {p = p} (fits {h = h} {f = f} {es = es} {b = b} {ps = ps} t x e y xs w) q =

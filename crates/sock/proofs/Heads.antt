@@ -9,6 +9,7 @@ use lib.Dec.{eqb}
 use lib.ListN.{length, getD, drop}
 use borrow.Author.Tests.{ne-eqb}
 use Rattle.sock.specs.Words.{kindOf}
+use Rattle.sock.specs.Variables.{variableWords}
 use Rattle.sock.specs.Term.{Node, node, Entries, headWord}
 use Rattle.sock.specs.Layout.{count, words, entriesWords, depth}
 use Rattle.sock.specs.Running.{Mark, Run, seq, par, scope, executor, asNode, runWords, size}
@@ -92,7 +93,9 @@ scope-parts ws name mark zombie h a at rest e =
     (list, ap (λ n. drop n ws) place ∙ at-past ws (count h ∷ entriesWords h) (runWords a ++ rest) (at + 2) list)
 
 pub executor-parts :
-    (ws : List ℕ) (o y client serial : ℕ) (a : Run) (at : ℕ) (rest : List ℕ) → drop at ws ≡ runWords (executor o y client serial a) ++ rest →
-    drop (at + 3) ws ≡ runWords a ++ rest
+    (ws : List ℕ) (o : ℕ) (y : List ℕ) (client serial : ℕ) (a : Run) (at : ℕ) (rest : List ℕ) → drop at ws ≡ runWords (executor o y client serial a) ++ rest →
+    drop (at + 3 + length (variableWords y)) ws ≡ runWords a ++ rest
 executor-parts ws o y client serial a at rest e =
-    drop-after ws (_ ∷ _ ∷ _ ∷ []) (runWords a) rest at (e ∙ ap (λ l. l ++ rest) (words-executor o y client serial a))
+    at-past ws (variableWords y) (runWords a ++ rest) (at + 3)
+    (drop-after ws (_ ∷ _ ∷ _ ∷ []) (variableWords y ++ runWords a) rest at (e ∙ ap (λ l. l ++ rest) (words-executor o y client serial a))
+    ∙ append-assoc (variableWords y) (runWords a) rest)

@@ -11,8 +11,9 @@ use lib.Dec.{T, ltb, ltb→lt, lt→ltb, nltb→le, not-T}
 use lib.ListN.{length, getD, take, drop, length-append, length-drop}
 use lib.Seq.{split-at, drop-append-le, drop-append-add}
 use Rattle.sock.specs.Kind
-use Rattle.sock.specs.Words.{bit, headOf}
+use Rattle.sock.specs.Words.{bit, headOf, nameFields}
 use Rattle.sock.specs.Term.{Node, node}
+use Rattle.sock.specs.Variables.{firstOf, variableWords}
 use Rattle.sock.specs.Layout.{exprsWords, count, words, entriesWords}
 use Rattle.sock.specs.Running.{Run, nil, seq, par, scope, executor, waiter, notice, act, markedFault, scopeHead, asNode, runWords, size}
 use Rattle.sock.specs.Frames.{Frame, seqFrame, leftFrame, rightFrame, scopeFrame, executorFrame, Located, hereOr, past, locate}
@@ -45,13 +46,13 @@ bit-set true h = tt
 bit-set false h = absurd (omega arith)
 
 -- past its own words a process looks in its part
-beyond : {A : Type 0} (own i p : ℕ) (o : A) (find : ℕ → A) → p ≡ own + i → cond (ltb p own) o (find (p - own)) ≡ find i
+pub beyond : {A : Type 0} (own i p : ℕ) (o : A) (find : ℕ → A) → p ≡ own + i → cond (ltb p own) o (find (p - own)) ≡ find i
 beyond own i p o find e =
     let out : ltb p own ≡ false = test-false (ltb p own) (not-T (ltb p own) (λ t. omega (arith, ltb→lt p own t))) in
     let rest : p - own ≡ i = omega arith in
     rw (out, rest)
 
-inside : (own i p : ℕ) (l : Located) (find : ℕ → Option Located) → 0 < own → p ≡ own + i → hereOr p l (past own p find) ≡ find i
+pub inside : (own i p : ℕ) (l : Located) (find : ℕ → Option Located) → 0 < own → p ≡ own + i → hereOr p l (past own p find) ≡ find i
 unfolding hereOr past
 inside own i zero l find h e = absurd (omega arith)
 inside own i (suc p) l find h e = beyond own i (suc p) none find e
@@ -85,7 +86,8 @@ module _ (t : Run → Bool) where
       (λ m. (0, omega (arith, size-executor o y client serial a), record { frames = fs; process = executor o y client serial a }, refl, bit-set (t (executor o y client serial a)) m))
       (λ m.
       let (i, w, l, e, u) = position a (executorFrame o y client serial ∷ fs) m in
-      (3 + i, omega (arith, size-executor o y client serial a), l, inside 3 i (3 + i) _ _ (omega arith) refl ∙ e, u))
+      let own : ℕ = 3 + length (variableWords y) in
+      (own + i, omega (arith, size-executor o y client serial a), l, inside own i (own + i) _ _ (omega arith) refl ∙ e, u))
   position (waiter o x dead server serial l) fs h =
       (0, omega (arith, size-waiter o x dead server serial l), record { frames = fs; process = waiter o x dead server serial l }, refl, bit-set (t (waiter o x dead server serial l)) h)
   position (notice o f client serial) fs h =
@@ -174,7 +176,7 @@ located (scope name mark zombie h a) p fs =
     (past-own own (3 + length (entriesWords h)) p (omega arith) λ i. all-map (λ l. stands-behind []) (located a i (scopeFrame name mark zombie h ∷ fs)))
 located (executor o y client serial a) p fs =
     here-or (executor o y client serial a) fs p
-    (past-own (_ ∷ _ ∷ _ ∷ []) 3 p refl λ i. all-map (λ l. stands-behind []) (located a i (executorFrame o y client serial ∷ fs)))
+    (past-own (headOf Kind.executor (nameFields o (firstOf y)) ∷ (client * 8192) ∷ serial ∷ variableWords y) (3 + length (variableWords y)) p (omega arith) λ i. all-map (λ l. stands-behind []) (located a i (executorFrame o y client serial ∷ fs)))
 located (waiter o x dead server serial l) p fs = here-or _ fs p allNone
 located (notice o f client serial) p fs = here-or _ fs p allNone
 located (act a) p fs = here-or _ fs p allNone

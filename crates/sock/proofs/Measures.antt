@@ -4,10 +4,11 @@ use Prim.Native.Nat.{ℕ, suc, _+_, _*_, max}
 use native.Mathlib.Omega.{arith}
 use mathlib.Core.Path.{_≡_, refl, ap}
 use mathlib.Core.Bool.{Bool}
-use mathlib.Core.List.{[], _∷_, _++_, append-nil}
+use mathlib.Core.List.{List, [], _∷_, _++_, append-nil}
 use lib.ListN.{length, length-append}
 use Rattle.sock.specs.Kind
 use Rattle.sock.specs.Words.{bit, headOf, nameFields}
+use Rattle.sock.specs.Variables.{firstOf, variableWords}
 use Rattle.sock.specs.Term.{Node, Entries}
 use Rattle.sock.specs.Layout.{exprsWords, count, words, entriesWords, exprsDepth, depth, entriesDepth}
 use Rattle.sock.specs.Running.{Mark, markedFault, scopeHead, Run, nil, seq, par, scope, executor, waiter, notice, act, asNode, runWords, size, runDepth}
@@ -33,15 +34,15 @@ unfolding runWords asNode words exprsWords
 words-scope name mark zombie h a = simp append-nil
 
 pub words-executor :
-    (o y client serial : ℕ) (a : Run) →
-    runWords (executor o y client serial a) ≡ headOf Kind.executor (nameFields o y) ∷ (client * 8192) ∷ serial ∷ runWords a
+    (o : ℕ) (y : List ℕ) (client serial : ℕ) (a : Run) →
+    runWords (executor o y client serial a) ≡ headOf Kind.executor (nameFields o (firstOf y)) ∷ (client * 8192) ∷ serial ∷ (variableWords y ++ runWords a)
 unfolding runWords asNode words exprsWords
 words-executor o y client serial a = simp append-nil
 
 pub words-waiter :
-    (o x : ℕ) (dead : Bool) (server serial : ℕ) (l : Entries) →
+    (o : ℕ) (x : List ℕ) (dead : Bool) (server serial : ℕ) (l : Entries) →
     runWords (waiter o x dead server serial l) ≡
-    headOf Kind.waiter (nameFields o x) ∷ (bit dead * 32768 + server * 4096) ∷ serial ∷ count l ∷ entriesWords l
+    headOf Kind.waiter (nameFields o (firstOf x)) ∷ (bit dead * 32768 + server * 4096) ∷ serial ∷ (variableWords x ++ (count l ∷ entriesWords l))
 unfolding runWords asNode words exprsWords
 words-waiter o x dead server serial l = simp append-nil
 
@@ -72,13 +73,13 @@ pub size-scope : (name : ℕ) (mark : Mark) (zombie : Bool) (h : Entries) (a : R
 unfolding size
 size-scope name mark zombie h a = rw words-scope (omega (arith, length-append (entriesWords h) (runWords a)))
 
-pub size-executor : (o y client serial : ℕ) (a : Run) → size (executor o y client serial a) ≡ 3 + size a
+pub size-executor : (o : ℕ) (y : List ℕ) (client serial : ℕ) (a : Run) → size (executor o y client serial a) ≡ 3 + length (variableWords y) + size a
 unfolding size
-size-executor o y client serial a = rw words-executor (omega arith)
+size-executor o y client serial a = rw words-executor (omega (arith, length-append (variableWords y) (runWords a)))
 
-pub size-waiter : (o x : ℕ) (dead : Bool) (server serial : ℕ) (l : Entries) → size (waiter o x dead server serial l) ≡ 4 + length (entriesWords l)
+pub size-waiter : (o : ℕ) (x : List ℕ) (dead : Bool) (server serial : ℕ) (l : Entries) → size (waiter o x dead server serial l) ≡ 4 + length (variableWords x) + length (entriesWords l)
 unfolding size
-size-waiter o x dead server serial l = rw words-waiter (omega arith)
+size-waiter o x dead server serial l = rw words-waiter (omega (arith, length-append (variableWords x) (count l ∷ entriesWords l)))
 
 pub size-notice : (o f client serial : ℕ) → size (notice o f client serial) ≡ 3
 unfolding size
@@ -107,11 +108,11 @@ pub depth-scope :
 unfolding runDepth asNode depth exprsDepth
 depth-scope name mark zombie h a = omega arith
 
-pub depth-executor : (o y client serial : ℕ) (a : Run) → runDepth (executor o y client serial a) ≡ suc (runDepth a)
+pub depth-executor : (o : ℕ) (y : List ℕ) (client serial : ℕ) (a : Run) → runDepth (executor o y client serial a) ≡ suc (runDepth a)
 unfolding runDepth asNode depth exprsDepth
 depth-executor o y client serial a = omega arith
 
-pub depth-waiter : (o x : ℕ) (dead : Bool) (server serial : ℕ) (l : Entries) → runDepth (waiter o x dead server serial l) ≡ suc (entriesDepth l)
+pub depth-waiter : (o : ℕ) (x : List ℕ) (dead : Bool) (server serial : ℕ) (l : Entries) → runDepth (waiter o x dead server serial l) ≡ suc (entriesDepth l)
 unfolding runDepth asNode depth exprsDepth
 depth-waiter o x dead server serial l = omega arith
 

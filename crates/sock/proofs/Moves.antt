@@ -11,7 +11,8 @@ use lib.Dec.{eqb, lit<}
 use lib.ListN.{getD}
 use borrow.Author.Tests.{ne-eqb}
 use Rattle.sock.specs.Kind
-use Rattle.sock.specs.Words.{bit, headOf, nameFields, kindOf, variableOf, nameOf, secondOf, faultKey, firstVariable, nextVariable, scopeKey}
+use Rattle.sock.specs.Words.{bit, headOf, nameFields, kindOf, variableOf, nameOf, faultKey, firstVariable, nextVariable, scopeKey}
+use Rattle.sock.specs.Variables.{firstOf, headVariables, laterVariables}
 use Rattle.sock.specs.Term.{Node, node, Entries, noEntries, entry, kind, partAt, firstExpr, entriesOf}
 use Rattle.sock.specs.Reading.{fixedAt, holds}
 use Rattle.sock.specs.Running.{Mark, unmarked, faulted, ownName, markNumber, Run, nil, seq, par, scope, executor, waiter, notice, act, asNode, enable}
@@ -98,8 +99,8 @@ action-asks (node h f es b ps) = by (kindOf h)
         ∷ still
         ∷ still
         ∷ still
-        ∷ notify (nameOf h) (secondOf h) (firstVariable (fixedAt f 0))
-        ∷ solicit (nameOf h) (secondOf h) (firstVariable (fixedAt f 0)) (nextVariable (fixedAt f 0)) (entriesOf b)
+        ∷ notify (nameOf h) (headVariables 1 h f) (firstVariable (fixedAt f 0))
+        ∷ solicit (nameOf h) (headVariables 1 h f) (firstVariable (fixedAt f 0)) (laterVariables (nextVariable (fixedAt f 0)) f) (entriesOf b)
         ∷ still
         ∷ install (entriesOf b)
         ∷ throw (nameOf h)
@@ -148,14 +149,14 @@ pub data Moves (fs : List Frame) (p : Run) : Move → Type 0 where
   stuckMoves : Moves fs p stuck
   unvaluedMoves : Moves fs p unvalued
   aloneMoves : {vs : List ℕ} {o : Option Run} → Quiet p → All (Holds (λ t. around t fs + tally t p)) o → Moves fs p (alone vs o)
-  notifies : {o v z : ℕ} → Quiet p → Endless p → Moves fs p (sends (notification o v z))
+  notifies : {o z : ℕ} {v : List ℕ} → Quiet p → Endless p → Moves fs p (sends (notification o v z))
   asking :
-      {o v z x : ℕ} {l : Entries} →
+      {o z : ℕ} {v x : List ℕ} {l : Entries} →
       isSolicit p ≡ true →
       ((s : ℕ) → carries s p ≡ false) →
       Endless p →
       Moves fs p (sends (solicitation o v z x l))
-  replies : {o v client serial : ℕ} → Delivers p serial o client → Moves fs p (sends (reply o v client serial))
+  replies : {o client serial : ℕ} {v : List ℕ} → Delivers p serial o client → Moves fs p (sends (reply o v client serial))
   faults : {o f client serial : ℕ} → Delivers p serial o client → Moves fs p (sends (failure o f client serial))
 
 module _ (vs : List ℕ) (fs : List Frame) where
@@ -218,7 +219,7 @@ module _ (vs : List ℕ) (fs : List Frame) where
       (λ d. stuckMoves)
   move-moves (executor o y client serial p) =
       cond-case (λ m. Moves fs (executor o y client serial p) m) (isDone p)
-      (λ d. replies (record { own = λ t. omega (arith, done-tally t p d); asks = later-kind Kind.executor (nameFields o y) (lit< tt); delivers = λ s. refl }))
+      (λ d. replies (record { own = λ t. omega (arith, done-tally t p d); asks = later-kind Kind.executor (nameFields o (firstOf y)) (lit< tt); delivers = λ s. refl }))
       (λ d. stuckMoves)
   move-moves (waiter o x dead server serial l) = stuckMoves
   move-moves (notice o f client serial) = faults (record { own = λ t. refl; asks = later-kind Kind.notice (nameFields o 0) (lit< tt); delivers = λ s. refl })

@@ -4,19 +4,20 @@ use Prim.Native.Nat.{ℕ, zero, suc, _≤_, _<_}
 use native.Mathlib.Omega.{arith}
 use native.Mathlib.Nat.{le-trans}
 use mathlib.Core.Path.{_≡_, refl, subst, ap}
-use mathlib.Core.Bool.{Bool, true, false}
-use mathlib.Core.List.{List}
-use lib.Dec.{T, lit<, ltb→lt, le→leb}
+use mathlib.Core.Bool.{Bool, true, false, not, _||_, cond}
+use mathlib.Core.List.{List, [], _∷_, _++_}
+use lib.Dec.{T, eqb, leb, ltb, lit<, ltb→lt, leb→le, le→leb}
 use lib.ListN.{length}
 use Rattle.sock.specs.Kind
-use Rattle.sock.specs.Kind.{rowOf, rows}
+use Rattle.sock.specs.Kind.{Own, rowOf, rows}
 use Rattle.sock.specs.Words.{isWord, clear, kindOf}
+use Rattle.sock.specs.Variables.{distinct}
 use Rattle.sock.specs.Term.{Expr, Node, node, Block, Entries, Nodes, nilNode, partAt, firstExpr, entriesOf, processesOf}
 use Rattle.sock.specs.Layout.{depth}
-use Rattle.sock.specs.Reading.{Stratum, code, Place, anywhere, allowed, placed, branched, headFits, nodeFits, partStratum, fixedAt}
-use Rattle.sock.proofs.Logic.{and-left}
+use Rattle.sock.specs.Reading.{Stratum, code, Place, anywhere, allowed, placed, branched, headFits, fieldsFit, receivesIn, nodeFits, partStratum, fixedAt}
+use Rattle.sock.proofs.Logic.{and-left, and-right, and-both}
 use Rattle.sock.proofs.Fields.{four, four-pass}
-use Rattle.sock.proofs.Fits.{FitsExpr, constantFits, FitsExprs, noExprs, oneExpr, FitsFixed, noFixed, oneFixed, Fits, fits, FitsBlock, noList, aList, FitsEntries, emptyFits, entryFitsOn, FitsParts, noPart, onePart}
+use Rattle.sock.proofs.Fits.{FitsExpr, constantFits, FitsExprs, noExprs, oneExpr, FitsFurther, noFurther, oneFurther, FitsFixed, noFixed, oneFixed, someVariables, Fits, fits, FitsBlock, noList, aList, FitsEntries, emptyFits, entryFitsOn, FitsParts, noPart, onePart}
 
 -- ---- a head's four tests
 
@@ -52,10 +53,41 @@ loosen {s} {p} (fits {h = h} t f e b ps g) =
     let q : Head s p h = head-tests t in
     fits (head-moves s anywhere h q (q .allows) tt) f e b ps g
 
+-- ---- a node's two tests: the variables it receives in, and its fields
+
+module _ (s : Stratum) (h : ℕ) (f : List ℕ) (b : Block) where
+  pub distinct-test : T (nodeFits s h f b) → T (distinct (receivesIn h f))
+  unfolding nodeFits
+  distinct-test t = and-left (distinct (receivesIn h f)) (fieldsFit s h f b) t
+
+  pub fields-test : T (nodeFits s h f b) → T (fieldsFit s h f b)
+  unfolding nodeFits
+  fields-test t = and-right (distinct (receivesIn h f)) (fieldsFit s h f b) t
+
+  pub node-fits : T (distinct (receivesIn h f)) → T (fieldsFit s h f b) → T (nodeFits s h f b)
+  unfolding nodeFits
+  node-fits d t = and-both (distinct (receivesIn h f)) (fieldsFit s h f b) d t
+
+-- the kinds that receive
+abbrev pub receives : ℕ → Bool
+receives k = eqb k Kind.one-way || eqb k Kind.request || eqb k Kind.solicit || eqb k Kind.waiter
+
+-- no other has a list x
+pub receives-none : (h k : ℕ) (f : List ℕ) → kindOf h ≡ k → T (not (receives k)) → T (distinct (receivesIn h f))
+unfolding receivesIn distinct
+receives-none h k f e t = rw e (by (eqb k 7) (eqb k 8) (eqb k 10) (eqb k 17) _ _ _ _ t)
+  where
+    by : (a b c d : Bool) (x y z w : List ℕ) → T (not (a || b || c || d)) → T (distinct (cond a x (cond b y (cond c z (cond d w [])))))
+    by false false false false x y z w t = tt
+    by false false false true x y z w t = absurd t
+    by false false true d x y z w t = absurd t
+    by false true c d x y z w t = absurd t
+    by true b c d x y z w t = absurd t
+
 -- ---- nil, and parts with nil for none
 
 pub nil-fits : (c : Bool) → Fits (code c) anywhere nilNode
-unfolding headFits allowed placed branched rowOf rows processesOf nodeFits
+unfolding headFits allowed placed branched rowOf rows processesOf nodeFits distinct receivesIn fieldsFit
 nil-fits true = fits tt noFixed noExprs noList noPart tt
 nil-fits false = fits tt noFixed noExprs noList noPart tt
 
@@ -73,11 +105,18 @@ pub entries-fit : {o : Bool} {n : ℕ} {b : Block} → FitsBlock o n b → FitsE
 entries-fit noList = emptyFits
 entries-fit (aList g) = g
 
--- a fixed word is a word, 0 where there is none
-pub fixed-word : {ms f : List ℕ} → FitsFixed ms f → (i : ℕ) → fixedAt f i < 65536
+-- own words are words, 0 where there is none
+further-word : {n : ℕ} {v : List ℕ} (f : List ℕ) → FitsFurther n v → ((i : ℕ) → fixedAt f i < 65536) → (i : ℕ) → fixedAt (v ++ f) i < 65536
+further-word f noFurther g i = g i
+further-word f (oneFurther {w = w} t v) g zero = ltb→lt w 65536 (and-left (isWord w) (clear 2048 w) t)
+further-word f (oneFurther t v) g (suc i) = further-word f v g i
+
+pub fixed-word : {os : List Own} {f : List ℕ} → FitsFixed os f → (i : ℕ) → fixedAt f i < 65536
 fixed-word noFixed i = lit< tt
 fixed-word (oneFixed {m = m} {w = w} t g) zero = ltb→lt w 65536 (and-left (isWord w) (clear m w) t)
 fixed-word (oneFixed t g) (suc i) = fixed-word g i
+fixed-word (someVariables {c = c} t v g) zero = let h : c ≤ 4 = leb→le c 4 (and-right (ltb 0 c) (leb c 4) t) in omega arith
+fixed-word (someVariables {f = f} t v g) (suc i) = further-word f v (λ i. fixed-word g i) i
 
 -- ---- what holds no cH fits where cH may stand
 
@@ -90,12 +129,17 @@ head-more p h t =
     let q : Head (code false) p h = head-tests t in
     head-moves (code true) p h q (allowed-more (kindOf h) (q .allows)) (q .places)
 
+-- code's own tests say nothing of cH
+pub code-fields : (c c' : Bool) (h : ℕ) (f : List ℕ) (b : Block) → T (nodeFits (code c) h f b) → T (nodeFits (code c') h f b)
+unfolding fieldsFit
+code-fields c c' h f b t = node-fits (code c') h f b (distinct-test (code c) h f b t) (fields-test (code c) h f b t)
+
 mutual
-  unfolding partStratum nodeFits
+  unfolding partStratum
 
   more : {s : Stratum} {p : Place} {m : Node} → Fits s p m → s ≡ code false → Fits (code true) p m
   more {p = p} (fits {h = h} {f = f} {b = b} t x e y ps g) q =
-      fits (head-more p h (subst (λ s. T (headFits s p h)) q t)) x e y (parts-more ps q) (subst (λ s. T (nodeFits s h f b)) q g)
+      fits (head-more p h (subst (λ s. T (headFits s p h)) q t)) x e y (parts-more ps q) (code-fields false true h f b (subst (λ s. T (nodeFits s h f b)) q g))
 
   parts-more : {s : Stratum} {k n : ℕ} {ps : Nodes} → FitsParts s k n ps → s ≡ code false → FitsParts (code true) k n ps
   parts-more noPart q = noPart
@@ -113,9 +157,9 @@ entries-lower lower h (entryFitsOn a b c d e) = entryFitsOn (le-trans h a) b c d
 
 -- ---- sizes
 
-pub fixed-length : {ms f : List ℕ} → FitsFixed ms f → length f ≡ length ms
-fixed-length noFixed = refl
-fixed-length (oneFixed t h) = ap suc (fixed-length h)
+pub further-length : {n : ℕ} {v : List ℕ} → FitsFurther n v → length v ≡ n
+further-length noFurther = refl
+further-length (oneFurther t h) = ap suc (further-length h)
 
 pub depth-some : (m : Node) → 0 < depth m
 unfolding depth

@@ -1,11 +1,11 @@
 -- Opening a process that fits, by the table of its stratum, changes no word and gives something sound: code by the short table that ends at
 -- scope, a process that runs by the whole one. One induction serves both (`good`); `Running` states what follows.
 -- Assumes nothing.
-use Prim.Native.Nat.{ℕ, zero, suc, _+_, _*_, _%_, _<_}
+use Prim.Native.Nat.{ℕ, zero, suc, _+_, _-_, _*_, _%_, _<_}
 use native.Mathlib.Omega.{arith}
 use mathlib.Core.Path.{_≡_, refl, sym, ap, _∙_}
 use mathlib.Core.Bool.{Bool, true, false, not, _&&_, _||_, cond}
-use mathlib.Core.List.{List, [], _∷_}
+use mathlib.Core.List.{List, [], _∷_, _++_, append-nil}
 use lib.Dec.{T, leb, ltb, eqb, leb→le, ltb→lt, le→leb, eqb→eq}
 use lib.ListN.{getD, take}
 use lib.Ieee.Fits.{and-i, and-l, and-r}
@@ -13,12 +13,15 @@ use borrow.Author.Tests.{ne-eqb}
 use Rattle.sock.specs.Kind
 use Rattle.sock.specs.Kind.{rows, rowOf}
 use Rattle.sock.specs.Words.{isWord, clear, kindOf, countOf, nameOf, secondOf, markOf, zombieOf, firstName, executorsClient, deadOf, waitersServer, noticesClient, bit, isOne, headOf, nameFields}
+use Rattle.sock.specs.Variables.{variableWords, variablesOf, distinct}
 use Rattle.sock.specs.Term.{Expr, Node, node, Block, absent, list, Entries, Nodes, noParts, _&_, kind, isNil, processesOf}
-use Rattle.sock.specs.Reading.{Stratum, running, code, Place, anywhere, notNil, allowed, placed, nodeFits, scopeFits, endFits, partStratum, partPlace}
+use Rattle.sock.specs.Reading.{Stratum, running, code, Place, anywhere, notNil, allowed, placed, fieldsFit, receivesIn, nodeFits, scopeFits, endFits, partStratum, partPlace}
 use Rattle.sock.specs.Running.{markedFault, markBy, scopeHead, Run, seq, par, scope, executor, waiter, notice, act, asNode, Form, nilForm, seqForm, parForm, scopeForm, executorForm, waiterForm, noticeForm, plain, forms, inForm, opened, allOpened}
 use Rattle.sock.specs.Frames.{isDone}
-use Rattle.sock.proofs.Fits.{FitsExprs, noExprs, FitsFixed, noFixed, oneFixed, Fits, fits, FitsBlock, noList, aList, FitsEntries, FitsParts, noPart, onePart, isPlain, Sound, nilSound, seqSound, parSound, scopeSound, executorSound, waiterSound, noticeSound, actSound}
+use Rattle.sock.proofs.Fits.{FitsExprs, noExprs, FitsFurther, FitsFixed, noFixed, oneFixed, someVariables, Fits, fits, FitsBlock, noList, aList, FitsEntries, FitsParts, noPart, onePart, FitsDistinct, isPlain, Sound, nilSound, seqSound, parSound, scopeSound, executorSound, waiterSound, noticeSound, actSound}
 use Rattle.sock.proofs.Fields.{From, end, _then_, fact-at, four, plain-kind, mark-of, resting-fits, bit-isOne, name-below, second-below, scope-head}
+use Rattle.sock.proofs.Nodes.{distinct-test, fields-test, node-fits}
+use Rattle.sock.proofs.Variables.{variables-same, variables-fit}
 use Rattle.sock.proofs.ByKind.{head-tests, at-place, fitsAs, recoded, kind-asNode, done-kind}
 
 module _ (n issued : ℕ) where
@@ -60,8 +63,8 @@ module _ (n issued : ℕ) where
     plain-part ofCode left = refl
     plain-part ofRunning left = let p = plain-kind k i in rw (p .3, p .2, p .1, ne-eqb k 16 (omega arith))
 
-    plain-node : {s : Stratum} {t : List Form} → Opening s t → (h : ℕ) (f : List ℕ) (l : Block) → kindOf h ≡ k → T (nodeFits s h f l)
-    unfolding nodeFits
+    plain-node : {s : Stratum} {t : List Form} → Opening s t → (h : ℕ) (f : List ℕ) (l : Block) → kindOf h ≡ k → T (fieldsFit s h f l)
+    unfolding fieldsFit
     plain-node ofCode h f l e = rw (e, plain-kind k i .3) tt
     plain-node ofRunning h f l e = rw (e, plain-kind k i .3, ne-eqb k 16 (omega arith), ne-eqb k 17 (omega arith), ne-eqb k 18 (omega arith)) tt
 
@@ -75,10 +78,11 @@ module _ (n issued : ℕ) where
       Fits s p m →
       Fits s′ p′ m
   unfolding processesOf
-  plain-fits {s} {p = p} o o′ i b l (fits {h = h} {f} {b = bk} t fx ex bl pt nf) =
+  plain-fits {s} {s′} {p = p} o o′ i b l (fits {h = h} {f} {b = bk} t fx ex bl pt nf) =
       let tests = head-tests s p h t in
       let parts = recoded (λ left. plain-part (kindOf h) i b o left ∙ sym (plain-part (kindOf h) i b o′ left)) pt in
-      fitsAs refl (plain-allowed (kindOf h) i b o′, l, tests .2, tests .3) fx ex bl parts (plain-node (kindOf h) i b o′ h f bk refl)
+      fitsAs refl (plain-allowed (kindOf h) i b o′, l, tests .2, tests .3) fx ex bl parts
+      (node-fits s′ h f bk (distinct-test s h f bk nf) (plain-node (kindOf h) i b o′ h f bk refl))
 
   -- ---- the form in which each kind opens
 
@@ -176,8 +180,8 @@ module _ (n issued : ℕ) where
   scope-fits :
       {s : Stratum} {t : List Form} →
       Opening s t →
-      (h w : ℕ) (l : Entries) → kindOf h ≡ 11 → T (nodeFits s h (w ∷ []) (list l)) → T (scopeFits (markOf h) (zombieOf h) (firstName w) l)
-  unfolding nodeFits
+      (h w : ℕ) (l : Entries) → kindOf h ≡ 11 → T (fieldsFit s h (w ∷ []) (list l)) → T (scopeFits (markOf h) (zombieOf h) (firstName w) l)
+  unfolding fieldsFit
   scope-fits ofCode h w l e t = resting-fits (markOf h) (zombieOf h) (firstName w) l (rw e at t)
   scope-fits ofRunning h w l e t = four (scopeFits (markOf h) (zombieOf h) (firstName w) l) true true true (rw e at t) .0
 
@@ -202,44 +206,53 @@ module _ (n issued : ℕ) where
       record { same = cc; sound = scopeSound (name-below h) (mark .2) fl (g .sound) }
 
   goodExecutor :
-      {h w v : ℕ} {a : Node} {r : Run} →
+      {h w v c : ℕ} {u : List ℕ} {a : Node} {r : Run} →
       kindOf h ≡ 16 →
       T (isWord w && clear 8192 w) →
-      T (nodeFits (running n issued) h (w ∷ v ∷ []) absent) →
+      T (ltb 0 c && leb c 4) →
+      FitsFurther (c - 1) u →
+      T (fieldsFit (running n issued) h (w ∷ v ∷ c ∷ u ++ []) absent) →
       Good a r →
-      Good (node h (w ∷ v ∷ []) [] absent (a & noParts)) (executor (nameOf h) (secondOf h) (executorsClient w) v r)
-  unfolding asNode nodeFits
-  goodExecutor {h} {w} {v} {a} {r} e fw t g =
+      Good (node h (w ∷ v ∷ c ∷ u ++ []) [] absent (a & noParts)) (executor (nameOf h) (variablesOf (secondOf h) (c ∷ u ++ [])) (executorsClient w) v r)
+  unfolding asNode fieldsFit variablesOf
+  goodExecutor {h} {w} {v} {c} {u} {a} {r} e fw few fu t g =
       let ew : executorsClient w * 8192 ≡ w = omega (arith, eqb→eq (w % 8192) 0 (and-r (isWord w) (clear 8192 w) fw)) in
       let eh : headOf Kind.executor (nameFields (nameOf h) (secondOf h)) ≡ h = omega arith in
       let ea : asNode r ≡ a = g .same in
+      let ev : variableWords (variablesOf (secondOf h) (c ∷ u ++ [])) ≡ c ∷ u ++ [] = variables-same c (secondOf h) few fu [] ∙ ap (λ l. c ∷ l) (sym (append-nil u)) in
       let ended = four true (endFits n issued (executorsClient w) v) true true (rw e at t) .1 in
-      record { same = cc; sound = executorSound (name-below h) (second-below h) ended (g .sound) }
+      record { same = cc; sound = executorSound (name-below h) (variables-fit c (secondOf h) few fu [] (second-below h)) ended (g .sound) }
 
   goodWaiter :
-      {h w v : ℕ} {l : Entries} →
+      {h w v c : ℕ} {u : List ℕ} {l : Entries} →
       kindOf h ≡ 17 →
       T (isWord w && clear 4096 w) →
-      T (nodeFits (running n issued) h (w ∷ v ∷ []) (list l)) →
+      T (ltb 0 c && leb c 4) →
+      FitsFurther (c - 1) u →
+      T (distinct (receivesIn h (w ∷ v ∷ c ∷ u ++ []))) →
+      T (fieldsFit (running n issued) h (w ∷ v ∷ c ∷ u ++ []) (list l)) →
       FitsEntries false 0 l →
-      Good (node h (w ∷ v ∷ []) [] (list l) noParts) (waiter (nameOf h) (secondOf h) (isOne (deadOf w)) (waitersServer w) v l)
-  unfolding asNode nodeFits
-  goodWaiter {h} {w} {v} {l} e fw t fl =
+      Good (node h (w ∷ v ∷ c ∷ u ++ []) [] (list l) noParts) (waiter (nameOf h) (variablesOf (secondOf h) (c ∷ u ++ [])) (isOne (deadOf w)) (waitersServer w) v l)
+  unfolding asNode fieldsFit variablesOf receivesIn
+  goodWaiter {h} {w} {v} {c} {u} {l} e fw few fu dx t fl =
       let bw : w < 65536 = ltb→lt w 65536 (and-l (isWord w) (clear 4096 w) fw) in
       let d : bit (isOne (deadOf w)) ≡ deadOf w = bit-isOne (deadOf w) (omega arith) in
       let ew : bit (isOne (deadOf w)) * 32768 + waitersServer w * 4096 ≡ w = omega (arith, eqb→eq (w % 4096) 0 (and-r (isWord w) (clear 4096 w) fw)) in
       let eh : headOf Kind.waiter (nameFields (nameOf h) (secondOf h)) ≡ h = omega arith in
+      let ev : variableWords (variablesOf (secondOf h) (c ∷ u ++ [])) ≡ c ∷ u ++ [] = variables-same c (secondOf h) few fu [] ∙ ap (λ l. c ∷ l) (sym (append-nil u)) in
       let ended = four true true (endFits n issued (waitersServer w) v) true (rw e at t) .2 in
-      record { same = cc; sound = waiterSound (name-below h) (second-below h) ended fl }
+      let fx : FitsDistinct (variablesOf (secondOf h) (c ∷ u ++ [])) =
+      record { fitting = variables-fit c (secondOf h) few fu [] (second-below h); apart = rw e at dx } in
+      record { same = cc; sound = waiterSound (name-below h) fx ended fl }
 
   goodNotice :
       {h w v : ℕ} →
       kindOf h ≡ 18 →
       T (clear 32 h) →
       T (isWord w && clear 128 w) →
-      T (nodeFits (running n issued) h (w ∷ v ∷ []) absent) →
+      T (fieldsFit (running n issued) h (w ∷ v ∷ []) absent) →
       Good (node h (w ∷ v ∷ []) [] absent noParts) (notice (nameOf h) (firstName w) (noticesClient w) v)
-  unfolding asNode nodeFits
+  unfolding asNode fieldsFit
   goodNotice {h} {w} {v} e cl fw t =
       let bw : w < 65536 = ltb→lt w 65536 (and-l (isWord w) (clear 128 w) fw) in
       let bf : firstName w < 64 = omega arith in
@@ -281,11 +294,12 @@ module _ (n issued : ℕ) where
       goodSeq e cl (a .fitting) (a .opening (onward o 2 1 tt)) (rw (later o) at (q .fitting))
   goodAs parOpens o m e cl noFixed noExprs noList (oneMore a (oneMore b noneLeft)) nf =
       goodPar e cl (a .fitting) (a .opening (onward o 3 1 tt)) (b .fitting) (b .opening (onward o 3 0 tt))
-  goodAs {h = h} scopeOpens o m e cl (oneFixed w noFixed) noExprs (aList l) (oneMore a noneLeft) nf =
-      goodScope e cl w l (scope-fits o h _ _ e nf) (a .opening (onward o 11 0 tt))
-  goodAs executorOpens o m e cl (oneFixed w (oneFixed v noFixed)) noExprs noList (oneMore a noneLeft) nf = goodExecutor e w nf (a .opening (onward o 16 0 tt))
-  goodAs waiterOpens o m e cl (oneFixed w (oneFixed v noFixed)) noExprs (aList l) noneLeft nf = goodWaiter e w nf l
-  goodAs noticeOpens o m e cl (oneFixed w (oneFixed v noFixed)) noExprs noList noneLeft nf = goodNotice e cl w nf
+  goodAs {s} {h = h} scopeOpens o m e cl (oneFixed w noFixed) noExprs (aList l) (oneMore a noneLeft) nf =
+      goodScope e cl w l (scope-fits o h _ _ e (fields-test s h _ _ nf)) (a .opening (onward o 11 0 tt))
+  goodAs executorOpens o m e cl (oneFixed w (oneFixed v (someVariables few u noFixed))) noExprs noList (oneMore a noneLeft) nf =
+      goodExecutor e w few u (fields-test _ _ _ _ nf) (a .opening (onward o 16 0 tt))
+  goodAs waiterOpens o m e cl (oneFixed w (oneFixed v (someVariables few u noFixed))) noExprs (aList l) noneLeft nf = goodWaiter e w few u (distinct-test _ _ _ _ nf) (fields-test _ _ _ _ nf) l
+  goodAs noticeOpens o m e cl (oneFixed w (oneFixed v noFixed)) noExprs noList noneLeft nf = goodNotice e cl w (fields-test _ _ _ _ nf)
   goodAs {k = k} {h = h} {f} {es} {b} {ps} (plainOpens i l) o m e cl fx ex bl pt nf =
       let ik : T (isPlain (kind (node h f es b ps))) = rw e i in
       record { same = refl; sound = actSound ik (plain-fits o ofCode ik (omega (arith, ltb→lt k 15 l)) tt m) }

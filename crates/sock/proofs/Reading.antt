@@ -1,19 +1,19 @@
 -- Reading and laying out undo one another: what is read is the layout of a tree that fits and is not too deep (`found`), and the layout
 -- of such a tree is read back (`finds`).
 -- Assumes nothing.
-use Prim.Native.Nat.{ℕ, zero, suc, _+_, _*_, _%_, _≤_, _<_}
+use Prim.Native.Nat.{ℕ, zero, suc, _+_, _-_, _*_, _%_, _≤_, _<_}
 use native.Mathlib.Omega.{arith}
 use mathlib.Core.Path.{_≡_, refl, ap, _∙_}
 use mathlib.Core.Bool.{Bool, true, false, _&&_}
 use mathlib.Core.List.{List, [], _∷_, _++_, append-assoc}
 use lib.Dec.{T, eqb, leb, eqb→eq, leb→le, ltb→lt, le→leb, lt→ltb, eqb-refl}
 use Rattle.sock.specs.Kind
-use Rattle.sock.specs.Kind.{rowOf}
+use Rattle.sock.specs.Kind.{Own, word, variables, rowOf}
 use Rattle.sock.specs.Words.{isWord, clear, kindOf, keyOf, keyWord, tagOf, readVariable, valueOf, highWord, lowWord}
 use Rattle.sock.specs.Term.{Operator, sum, difference, less, equal, decimalSum, decimalDifference, Expr, constant, variable, apply, Node, node, Block, absent, list, Entries, noEntries, entry, Nodes, noParts, _&_, processesOf}
 use Rattle.sock.specs.Layout.{operatorTag, exprWords, exprsWords, count, words, blockWords, entriesWords, nodesWords, exprDepth, exprsDepth, depth, blockDepth, entriesDepth, nodesDepth}
-use Rattle.sock.specs.Reading.{Got, fail, got, andThen, check, Stratum, Place, anywhere, headFits, nodeFits, entryFits, entryStratum, partStratum, partPlace, fixedWords, wide, operands, exprBy, expr, exprs, entries, block, parts, partBy, nodeBy, process}
-use Rattle.sock.proofs.Fits.{FitsExpr, constantFits, variableFits, applyFits, FitsExprs, noExprs, oneExpr, FitsFixed, noFixed, oneFixed, Fits, fits, FitsBlock, noList, aList, FitsEntries, emptyFits, entryFitsOn, FitsParts, noPart, onePart}
+use Rattle.sock.specs.Reading.{Got, fail, got, andThen, check, Stratum, Place, anywhere, headFits, nodeFits, entryFits, entryStratum, partStratum, partPlace, further, fixedWords, wide, operands, exprBy, expr, exprs, entries, block, parts, partBy, nodeBy, process}
+use Rattle.sock.proofs.Fits.{FitsExpr, constantFits, variableFits, applyFits, FitsExprs, noExprs, oneExpr, FitsFurther, noFurther, oneFurther, FitsFixed, noFixed, oneFixed, someVariables, Fits, fits, FitsBlock, noList, aList, FitsEntries, emptyFits, entryFitsOn, FitsParts, noPart, onePart}
 
 -- ---- tests
 
@@ -66,11 +66,23 @@ passes false t e = absurd t
 abbrev pub Takes : {A : Type 0} → (A → List ℕ) → (A → Type 0) → List ℕ → A → List ℕ → Type 0
 Takes laid Good ws a rest = (ws ≡ laid a ++ rest) × Good a
 
-fixed-found : (ms ws : List ℕ) → Holds (Takes (λ f. f) (FitsFixed ms) ws) (fixedWords ms ws)
+further-found : (n : ℕ) (ws : List ℕ) → Holds (Takes (λ v. v) (FitsFurther n) ws) (further n ws)
+unfolding further
+further-found zero ws = something (refl, noFurther)
+further-found (suc n) [] = nothing
+further-found (suc n) (w ∷ ws) = holds-check _ λ t. holds-then (further-found n ws) λ v rest q. something (ap (λ l. w ∷ l) (q .0), oneFurther t (q .1))
+
+fixed-found : (os : List Own) (ws : List ℕ) → Holds (Takes (λ f. f) (FitsFixed os) ws) (fixedWords os ws)
 unfolding fixedWords
 fixed-found [] ws = something (refl, noFixed)
-fixed-found (m ∷ ms) [] = nothing
-fixed-found (m ∷ ms) (w ∷ ws) = holds-check _ λ t. holds-then (fixed-found ms ws) λ f rest q. something (ap (λ l. w ∷ l) (q .0), oneFixed t (q .1))
+fixed-found (word m ∷ os) [] = nothing
+fixed-found (word m ∷ os) (w ∷ ws) = holds-check _ λ t. holds-then (fixed-found os ws) λ f rest q. something (ap (λ l. w ∷ l) (q .0), oneFixed t (q .1))
+fixed-found (variables ∷ os) [] = nothing
+fixed-found (variables ∷ os) (c ∷ ws) =
+    holds-check _ λ t.
+    holds-then (further-found (c - 1) ws) λ v then p.
+    holds-then (fixed-found os then) λ f rest q.
+    something (simp append-assoc (cc), someVariables t (p .1) (q .1))
 
 pub wide-found : (ws : List ℕ) → Holds (λ v rest. (ws ≡ highWord v ∷ lowWord v ∷ rest) × (v < 4294967296)) (wide ws)
 unfolding wide
@@ -89,7 +101,7 @@ wide-finds v h rest =
     let p : valueOf (highWord v) (lowWord v) ≡ v = omega arith in
     passes _ (both (isWord (highWord v)) (isWord (lowWord v)) (omega tests) (omega tests)) (cc)
 
-abbrev ExprFound : ℕ → List ℕ → Expr → List ℕ → Type 0
+abbrev pub ExprFound : ℕ → List ℕ → Expr → List ℕ → Type 0
 ExprFound d = Takes exprWords (λ e. FitsExpr e × (exprDepth e ≤ d))
 
 module _ (d : ℕ) (sub : List ℕ → Got Expr) (below : (ws : List ℕ) → Holds (ExprFound d ws) (sub ws)) where
@@ -119,13 +131,13 @@ module _ (d : ℕ) (sub : List ℕ → Got Expr) (below : (ws : List ℕ) → Ho
   exprBy-found (suc (suc (suc (suc (suc (suc (suc zero))))))) w ws e = operands-found decimalDifference w ws e
   exprBy-found (suc (suc (suc (suc (suc (suc (suc (suc tag)))))))) w ws e = nothing
 
-expr-found : (d : ℕ) (ws : List ℕ) → Holds (ExprFound d ws) (expr d ws)
+pub expr-found : (d : ℕ) (ws : List ℕ) → Holds (ExprFound d ws) (expr d ws)
 unfolding expr
 expr-found zero ws = nothing
 expr-found (suc d) [] = nothing
 expr-found (suc d) (w ∷ ws) = exprBy-found d (expr d) (expr-found d) (tagOf w) w ws refl
 
-exprs-found :
+pub exprs-found :
     (d : ℕ) (sub : List ℕ → Got Expr) → ((ws : List ℕ) → Holds (ExprFound d ws) (sub ws)) →
     (n : ℕ) (ws : List ℕ) → Holds (Takes exprsWords (λ es. FitsExprs n es × (exprsDepth es ≤ d)) ws) (exprs sub n ws)
 unfolding exprs exprsWords exprsDepth
@@ -205,13 +217,19 @@ list-found d ofScope ws = block-found d ofScope _ (λ l. found d (entryStratum o
 
 -- ---- what is laid out is read back
 
-fixed-finds : {ms f : List ℕ} → FitsFixed ms f → (rest : List ℕ) → fixedWords ms (f ++ rest) ≡ got f rest
+further-finds : {n : ℕ} {v : List ℕ} → FitsFurther n v → (rest : List ℕ) → further n (v ++ rest) ≡ got v rest
+unfolding further andThen
+further-finds noFurther rest = refl
+further-finds (oneFurther t h) rest = passes _ t (rw (further-finds h rest))
+
+pub fixed-finds : {os : List Own} {f : List ℕ} → FitsFixed os f → (rest : List ℕ) → fixedWords os (f ++ rest) ≡ got f rest
 unfolding fixedWords andThen
 fixed-finds noFixed rest = refl
 fixed-finds (oneFixed t h) rest = passes _ t (rw (fixed-finds h rest))
+fixed-finds (someVariables {v = v} {f = f} t g h) rest = passes _ t (rw (append-assoc v f rest, further-finds g (f ++ rest), fixed-finds h rest))
 
 -- a reader that finds expressions of depth d
-abbrev FindsExpr : ℕ → (List ℕ → Got Expr) → Type 0
+abbrev pub FindsExpr : ℕ → (List ℕ → Got Expr) → Type 0
 FindsExpr d sub = (e : Expr) → FitsExpr e → exprDepth e ≤ d → (rest : List ℕ) → sub (exprWords e ++ rest) ≡ got e rest
 
 by-operator : (sub : List ℕ → Got Expr) (o : Operator) (w : ℕ) (ws : List ℕ) → exprBy sub (tagOf (operatorTag o * 8192)) w ws ≡ operands sub o w ws
@@ -231,13 +249,13 @@ module _ (d : ℕ) (sub : List ℕ → Got Expr) (below : FindsExpr d sub) where
   operands-finds {o} {a} {b} f g p q rest =
       passes (clear 8192 (operatorTag o * 8192)) (omega tests) (rw (append-assoc, below a f p (exprWords b ++ rest), below b g q rest))
 
-  exprs-finds : {n : ℕ} {es : List Expr} → FitsExprs n es → exprsDepth es ≤ d → (rest : List ℕ) → exprs sub n (exprsWords es ++ rest) ≡ got es rest
+  pub exprs-finds : {n : ℕ} {es : List Expr} → FitsExprs n es → exprsDepth es ≤ d → (rest : List ℕ) → exprs sub n (exprsWords es ++ rest) ≡ got es rest
   unfolding exprs exprsWords exprsDepth andThen
   exprs-finds noExprs shallow rest = refl
   exprs-finds (oneExpr {e} {es} f fs) shallow rest =
       rw (append-assoc, below e f (omega arith) (exprsWords es ++ rest), exprs-finds fs (omega arith) rest)
 
-expr-finds : (d : ℕ) → FindsExpr d (expr d)
+pub expr-finds : (d : ℕ) → FindsExpr d (expr d)
 unfolding exprDepth exprWords expr exprBy andThen check
 expr-finds zero (constant v) h shallow rest = absurd (omega arith)
 expr-finds zero (variable x) h shallow rest = absurd (omega arith)

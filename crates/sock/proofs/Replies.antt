@@ -26,16 +26,19 @@ use Rattle.sock.proofs.Delivery.{Meets, replyMeets, faultMeets, deliver
 use Rattle.sock.proofs.Turns.{endsAt, Standing, enabled-standing}
 use Rattle.sock.proofs.Ledger.{pending, openOf, Apart, Ledger, waiting-same, working-same}
 use Rattle.sock.proofs.Accounts.{stands, waits-all, by-waiting, by-working, ends-paired}
+use Rattle.sock.proofs.Kept.{executorKept, waiterKept}
+use Rattle.sock.proofs.KeptSteps.{enabled-kept}
+use Rattle.sock.proofs.Agreement.{any-closed, Counted, counted-on, Agrees, Agreed}
 use Rattle.sock.proofs.Placed.{OnlyEnds, end-only, named-somewhere, everywhere-all}
 
 -- ---- the two ends seen
 
 data Ready (s : ℕ) : Run → Type 0 where
-  replyReady : (o y client : ℕ) → Ready s (executor o y client s nil)
+  replyReady : (o : ℕ) (y : List ℕ) (client : ℕ) → Ready s (executor o y client s nil)
   faultReady : (o f client : ℕ) → Ready s (notice o f client s)
 
 data Awaiting (s : ℕ) : Run → Type 0 where
-  awaiting : (o x : ℕ) (dead : Bool) (server : ℕ) (l : Entries) → Awaiting s (waiter o x dead server s l)
+  awaiting : (o : ℕ) (x : List ℕ) (dead : Bool) (server : ℕ) (l : Entries) → Awaiting s (waiter o x dead server s l)
 
 nil-when : (r : Run) → T (isDone r) → nil ≡ r
 unfolding isDone
@@ -97,9 +100,16 @@ awaiting-tally : {s : ℕ} {r : Run} (x : Awaiting s r) → 0 < tally (same (wai
 unfolding tally
 awaiting-tally {s} (awaiting o x dead g l) = omega (arith, waiting-same s o g)
 
-meets : {s e e' : ℕ} {r q : Run} (x : Ready s r) (y : Awaiting s q) → asked y ≡ operation x → server y ≡ e → client x ≡ e' → Meets s e e' r q
-meets (replyReady o y g) (awaiting o' x dead g' l) eo es ec = rw (eo, es, ec) replyMeets
-meets (faultReady o f g) (awaiting o' x dead g' l) eo es ec = rw (eo, es, ec) faultMeets
+meets :
+    {n : ℕ → ℕ} {s e e' : ℕ} {r q : Run} (x : Ready s r) (y : Awaiting s q) →
+    Agrees n r →
+    Agrees n q →
+    asked y ≡ operation x →
+    server y ≡ e →
+    client x ≡ e' →
+    Meets s e e' r q
+meets (replyReady o y g) (awaiting o' x dead g' l) (executorKept c a) (waiterKept c' h) eo es ec = rw (eo, es, ec) (replyMeets (c ∙ sym c'))
+meets (faultReady o f g) (awaiting o' x dead g' l) a (waiterKept c' h) eo es ec = rw (eo, es, ec) faultMeets
 
 -- ---- what an engine and a position name
 
@@ -219,13 +229,14 @@ module _ {limits : Limits} {c : Config} (readable : Readable limits c) where
           (e, p, e', p', n, w)
 
       pub ready-deliverable :
+          Agreed c →
           (e p e' p' : ℕ) (out : List ℕ) →
           names c (ready s) e p →
           names c (awaits s) e' p' →
           length (encode c) ≤ length out →
           (stepAnswer limits (encode c) (delivery e p e' p') out .number ≡ 0)
           × (stepAnswer limits (encode c) (delivery e p e' p') out .serial ≡ s)
-      ready-deliverable e p e' p' out n n' room =
+      ready-deliverable agreed e p e' p' out n n' room =
           let (a, at, t) = spot-named (ready s) (enabledAt c e p) n in
           let (b, at', t') = spot-named (awaits s) (enabledAt c e' p') n' in
           let x : Ready s (a .process) = ready-seen s (a .process) t in
@@ -233,5 +244,8 @@ module _ {limits : Limits} {c : Config} (readable : Readable limits c) where
           let w : stands c e' (waiting s (asked y) (server y)) = stands-there e' p' at' (waiting s (asked y) (server y)) (awaiting-tally y) in
           let (eo, es, ec) = ends-paired l s (asked y) (operation x) (server y) (client x) e' e w (working-there e p at x) in
           let apart : e' ≡ server y → ⊥ = subst Apart (by-waiting l s (asked y) (server y) e' w) (l .apart s) in
-          let z = delivery-accepted limits c readable s e p e' p' a b at at' (λ q. apart (sym q ∙ sym es)) (meets x y eo es ec) (length out) room in
+          let z = delivery-accepted limits c readable s e p e' p' a b at at' (λ q. apart (sym q ∙ sym es)) (meets x y (counts e p at) (counts e' p' at') eo es ec) (length out) room in
           accepted-answers limits (encode c) (delivery e p e' p') out (z .0) (z .1) (z .2)
+        where
+          counts : (e p : ℕ) {a : Spot} → enabledAt c e p ≡ some a → Agrees (agreed .index) (a .process)
+          counts e p at = all-some (enabled-kept any-closed Counted counted-on agreed e p) at .process

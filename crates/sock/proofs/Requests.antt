@@ -11,12 +11,14 @@ use lib.Dec.{T}
 use lib.ListN.{length, getD}
 use borrow.Author.Tests.{lt-ltb, le-leb, eqb-false}
 use Rattle.sock.specs.Words.{bit}
-use Rattle.sock.specs.Running.{Run}
+use Rattle.sock.specs.Term.{Entries}
+use Rattle.sock.specs.Running.{Run, executor, waiter}
 use Rattle.sock.specs.Configuration.{Limits, Config, encode, readConfig, fresh}
 use Rattle.sock.specs.Rules.{also}
 use Rattle.sock.specs.Calls.{unreadable, notFresh, number, Result, refused, done, _>>=_, _>>_, _!_, _unless_, Spot, enabledAt, Stepped, stepAnswer, passed, start, checkStart, End, isEnd, tallyAll, waits, works, known, counted, ends}
 use Rattle.sock.specs.Runs.{Call, accepted, nextWords, run, named, ofSpot, isSolicit, carries, counts, total, solicits, deliveries, lastSerial, awaits, delivery, Matched, EveryRequestHasOneReply}
 use Rattle.sock.specs.Everywhere.{everywhere}
+use Rattle.sock.proofs.Logic.{all-some}
 use Rattle.sock.proofs.Fits.{Readable}
 use Rattle.sock.proofs.Located.{all-equal}
 use Rattle.sock.proofs.Configuration.{config-found}
@@ -25,6 +27,9 @@ use Rattle.sock.proofs.Turns.{Turn, turn-issued, turn-latest, Stepping,
 use Rattle.sock.proofs.Ledger.{Ledger, ledger-turns, ledger-same, openOf}
 use Rattle.sock.proofs.Accepted.{number-positive, Refused, Done, Called, calledRefused, calledDone, called}
 use Rattle.sock.proofs.Accounts.{waits-all, works-all, fresh-ledger}
+use Rattle.sock.proofs.Kept.{executorKept, waiterKept}
+use Rattle.sock.proofs.KeptSteps.{enabled-kept}
+use Rattle.sock.proofs.Agreement.{any-closed, Counted, counted-on, Agrees, Agreed, step-agrees, fresh-agreed}
 use Rattle.sock.proofs.Placed.{everywhere-all}
 use Rattle.sock.proofs.Replies.{end-placed, named-paired, ready-awaited, ready-deliverable}
 
@@ -35,12 +40,13 @@ module _ (limits : Limits) where
     config : Config
     reads : readConfig limits (nextWords limits ws k) ≡ some config
     ledger : Ledger config (λ s. d s + counts (carries s) limits ws k)
+    agreed : Agreed config
     issued : config .issued ≡ c .issued + counts isSolicit limits ws k
     latest :
         (serial : ℕ) → serial ≡ c .issued →
         cond (accepted limits ws k && ofSpot isSolicit (named limits ws k)) (stepAnswer limits ws (k .numbers) (k .output) .serial) serial ≡ config .issued
 
-  module _ (ws : List ℕ) (k : Call) {c : Config} (r : readConfig limits ws ≡ some c) {d : ℕ → ℕ} (l : Ledger c d) where
+  module _ (ws : List ℕ) (k : Call) {c : Config} (r : readConfig limits ws ≡ some c) {d : ℕ → ℕ} (l : Ledger c d) (w : Agreed c) where
     counts-refused : accepted limits ws k ≡ false → (test : Run → Bool) → counts test limits ws k ≡ 0
     unfolding counts
     counts-refused e test = rw e
@@ -52,6 +58,7 @@ module _ (limits : Limits) where
           config = c;
           reads = rw (u .kept) r;
           ledger = ledger-same (λ s. omega (arith, no (carries s))) l;
+          agreed = w;
           issued = omega (arith, no isSolicit);
           latest = λ serial e. rw (u .not-accepted) e;
         }
@@ -77,6 +84,7 @@ module _ (limits : Limits) where
           config = s .config;
           reads = rw (u .next) (step-readable limits ws (k .numbers) (length (k .output)) s (u .step-done));
           ledger = ledger-same (λ n. omega (arith, counting (carries n))) (ledger-turns p l turn);
+          agreed = sure-done (step-agrees limits ws (k .numbers) (length (k .output)) r w) (u .step-done);
           issued = omega (arith, turn-issued turn, counting isSolicit);
           latest = λ serial e. rw (u .is-accepted, found, u .serial) (turn-latest turn serial e);
         }
@@ -94,20 +102,22 @@ module _ (limits : Limits) where
     config : Config
     reads : readConfig limits (run limits ws calls) ≡ some config
     ledger : Ledger config (λ s. d s + deliveries s limits ws calls)
+    agreed : Agreed config
     issued : config .issued ≡ c .issued + solicits limits ws calls
     latest : (serial : ℕ) → serial ≡ c .issued → lastSerial serial limits ws calls ≡ config .issued
 
-  after : (calls : List Call) (ws : List ℕ) {c : Config} → readConfig limits ws ≡ some c → {d : ℕ → ℕ} → Ledger c d → After ws calls c d
+  after : (calls : List Call) (ws : List ℕ) {c : Config} → readConfig limits ws ≡ some c → {d : ℕ → ℕ} → Ledger c d → Agreed c → After ws calls c d
   unfolding run total lastSerial
-  after [] ws {c} r {d} l =
-      record { config = c; reads = r; ledger = ledger-same (λ s. omega arith) l; issued = omega arith; latest = λ serial e. e }
-  after (k ∷ ks) ws {c} r {d} l =
-      let x : OneCall ws k c d = one-call ws k r l in
-      let y = after ks (nextWords limits ws k) (x .reads) (x .ledger) in
+  after [] ws {c} r {d} l w =
+      record { config = c; reads = r; ledger = ledger-same (λ s. omega arith) l; agreed = w; issued = omega arith; latest = λ serial e. e }
+  after (k ∷ ks) ws {c} r {d} l w =
+      let x : OneCall ws k c d = one-call ws k r l w in
+      let y = after ks (nextWords limits ws k) (x .reads) (x .ledger) (x .agreed) in
       record {
         config = y .config;
         reads = y .reads;
         ledger = ledger-same (λ s. omega arith) (y .ledger);
+        agreed = y .agreed;
         issued = omega (arith, y .issued, x .issued);
         latest = λ serial e. y .latest _ (x .latest serial e);
       }
@@ -157,7 +167,7 @@ module _ (limits : Limits) where
             length ws ≤ length out →
             (stepAnswer limits ws (delivery e p e' p') out .number ≡ 0)
             × (stepAnswer limits ws (delivery e p e' p') out .serial ≡ s))
-            words (ready-deliverable good l s e p e' p' out n n') room;
+            words (ready-deliverable good l s (x .agreed) e p e' p' out n n') room;
       }
     where
       c : Config
@@ -188,5 +198,37 @@ pub everyRequest : EveryRequestHasOneReply
 everyRequest limits start h calls =
     let (c, r, f) = started limits start h in
     let (z, l) = fresh-ledger c f in
-    let x = after limits calls start r l in
+    let x = after limits calls start r l (fresh-agreed c f) in
     (x .config, matched limits start z calls x)
+
+-- ---- counts
+
+executor-count : {n : ℕ → ℕ} {o client s : ℕ} {y : List ℕ} {r : Run} → Agrees n (executor o y client s r) → length y ≡ n s
+executor-count (executorKept e g) = e
+
+waiter-count : {n : ℕ → ℕ} {o server s : ℕ} {x : List ℕ} {dead : Bool} {l : Entries} → Agrees n (waiter o x dead server s l) → length x ≡ n s
+waiter-count (waiterKept e h) = e
+
+-- In a run from a fresh start the executor of an open request, done or not, sends as many values as its waiter receives
+pub openCounts :
+    (limits : Limits) (start : List ℕ) →
+    checkStart limits start ≡ 0 →
+    (calls : List Call) (c : Config) →
+    readConfig limits (run limits start calls) ≡ some c →
+    (e p e' p' : ℕ) (a b : Spot) →
+    enabledAt c e p ≡ some a →
+    enabledAt c e' p' ≡ some b →
+    (s o o' client server : ℕ) (y x : List ℕ) (r : Run) (dead : Bool) (l : Entries) →
+    a .process ≡ executor o y client s r →
+    b .process ≡ waiter o' x dead server s l →
+    length y ≡ length x
+openCounts limits start h calls c reads e p e' p' a b at at' s o o' client server y x r dead l working waiting =
+    let (c₀, first, f) = started limits start h in
+    let all = after limits calls start first (fresh-ledger c₀ f .1) (fresh-agreed c₀ f) in
+    let same : all .config ≡ c = cc (all .reads) in
+    let agreed : Agreed c = subst Agreed same (all .agreed) in
+    let sends : Agrees (agreed .index) (executor o y client s r) =
+    subst (Agrees (agreed .index)) working (all-some (enabled-kept any-closed Counted counted-on agreed e p) at .process) in
+    let receives : Agrees (agreed .index) (waiter o' x dead server s l) =
+    subst (Agrees (agreed .index)) waiting (all-some (enabled-kept any-closed Counted counted-on agreed e' p') at' .process) in
+    executor-count sends ∙ sym (waiter-count receives)

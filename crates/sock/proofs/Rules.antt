@@ -12,6 +12,7 @@ use lib.ListN.{length, getD, set, length-set}
 use lib.Signed.{ltZ}
 use Rattle.sock.specs.Kind
 use Rattle.sock.specs.Words.{kindOf, variableOf, nameOf, secondOf, faultKey, firstVariable, nextVariable, scopeKey, bit}
+use Rattle.sock.specs.Variables.{headVariables, laterVariables, valuesAt, setAll}
 use Rattle.sock.specs.Term.{Operator, sum, difference, less, equal, decimalSum, decimalDifference, Expr, constant, variable, apply, Node, node, Entries, noEntries, entry, kind, partAt, firstExpr, entriesOf}
 use Rattle.sock.specs.Reading.{code, anywhere, allowed, endFits, entryFits, fixedAt, holds}
 use Rattle.sock.specs.Running.{Mark, unmarked, faulted, ownName, Run, nil, seq, par, scope, executor, waiter, notice, act, enable}
@@ -23,8 +24,9 @@ use Rattle.sock.specs.Handlers.{handler, without, update}
 use Rattle.sock.specs.Frames.{Frame, seqFrame, leftFrame, rightFrame, scopeFrame, executorFrame, isDone, seqOf, parOf, plug, nearest, onNearest}
 use Rattle.sock.specs.Rules.{also, kill, climb, Action, still, assign, branch, repeat, notify, solicit, install, throw, compensate, action, Message, notification, solicitation, reply, failure, Move, stuck, alone, unvalued, sends, valued, ending, acting, onceDone, moveOf}
 use Rattle.sock.proofs.Logic.{and-left, and-right, and-both, cond-case, All, allNone, allSome, all-also, all-any, all-guarded, all-map}
-use Rattle.sock.proofs.Fits.{FitsExpr, constantFits, variableFits, applyFits, Fits, fits, FitsEntries, emptyFits, entryFitsOn, MarkFits, Sound, nilSound, seqSound, parSound, scopeSound, executorSound, waiterSound, noticeSound, actSound, rootable, SoundFrame, seqFrameSound, leftFrameSound, rightFrameSound, scopeFrameSound, executorFrameSound, SoundFrames, noFrames, oneFrame, AllBelow, noneBelow, oneBelow}
-use Rattle.sock.proofs.Nodes.{part-fits, expr-fits, entries-fit, code-more}
+use Rattle.sock.proofs.Fits.{FitsExpr, constantFits, variableFits, applyFits, Fits, fits, FitsEntries, emptyFits, entryFitsOn, FitsFixed, FitsDistinct, MarkFits, Sound, nilSound, seqSound, parSound, scopeSound, executorSound, waiterSound, noticeSound, actSound, rootable, SoundFrame, seqFrameSound, leftFrameSound, rightFrameSound, scopeFrameSound, executorFrameSound, SoundFrames, noFrames, oneFrame, AllBelow, noneBelow, oneBelow}
+use Rattle.sock.proofs.Nodes.{distinct-test, part-fits, expr-fits, entries-fit, code-more}
+use Rattle.sock.proofs.Variables.{solicit-list}
 use Rattle.sock.proofs.Handlers.{handler-fits, without-fits, update-fits, holds-without, holds-update}
 use Rattle.sock.proofs.Running.{enable-sound}
 use Rattle.sock.proofs.Frames.{seqOf-sound, parOf-sound, plug-sound, based, based-any, plug-rootable, nearest-fits, Keeps, nearest-sound, nearest-based}
@@ -98,6 +100,18 @@ value-below g x = below-at (lit< tt) (g .bounded) x
 pub values-set : {vs : List ℕ} {v : ℕ} → FitValues vs → v < 4294967296 → (x : ℕ) → FitValues (set vs x v)
 values-set {vs} {v} g h x = record { counted = length-set vs x v ∙ g .counted; bounded = below-set h (g .bounded) x }
 
+-- the values of some variables, and some variables set
+pub values-below : {vs : List ℕ} → FitValues vs → (xs : List ℕ) → AllBelow 4294967296 (valuesAt vs xs)
+unfolding valuesAt
+values-below g [] = noneBelow
+values-below g (x ∷ xs) = oneBelow (value-below g x) (values-below g xs)
+
+pub values-set-all : {vs us : List ℕ} → FitValues vs → AllBelow 4294967296 us → (xs : List ℕ) → FitValues (setAll vs xs us)
+unfolding setAll
+values-set-all g b [] = g
+values-set-all g noneBelow (x ∷ xs) = g
+values-set-all g (oneBelow h b) (x ∷ xs) = values-set-all (values-set g h x) b xs
+
 bit-below : (b : Bool) → bit b < 4294967296
 bit-below true = lit< tt
 bit-below false = lit< tt
@@ -135,8 +149,8 @@ pub data FitsAction : Action → Type 0 where
   assignFits : {x : ℕ} {e : Expr} → x < 32 → FitsExpr e → FitsAction (assign x e)
   branchFits : {e : Expr} {p q : Node} → FitsExpr e → Fits (code false) anywhere p → Fits (code false) anywhere q → FitsAction (branch e p q)
   repeatFits : {e : Expr} {p : Node} → FitsExpr e → Fits (code false) anywhere p → FitsAction (repeat e p)
-  notifyFits : {o y z : ℕ} → o < 64 → FitsAction (notify o y z)
-  solicitFits : {o y z x : ℕ} {l : Entries} → o < 64 → x < 32 → FitsEntries false zero l → FitsAction (solicit o y z x l)
+  notifyFits : {o z : ℕ} {y : List ℕ} → o < 64 → FitsAction (notify o y z)
+  solicitFits : {o z : ℕ} {y x : List ℕ} {l : Entries} → o < 64 → FitsDistinct x → FitsEntries false zero l → FitsAction (solicit o y z x l)
   installFits : {l : Entries} → FitsEntries false zero l → FitsAction (install l)
   throwFits : {f : ℕ} → f < 64 → FitsAction (throw f)
   compensateFits : {q : ℕ} → q < 64 → FitsAction (compensate q)
@@ -161,8 +175,8 @@ action-fits (fits {h = h} {f = f} {es = es} {b = b} {ps = ps} t x e y qs g) = by
         ∷ still
         ∷ still
         ∷ still
-        ∷ notify (nameOf h) (secondOf h) (firstVariable (fixedAt f 0))
-        ∷ solicit (nameOf h) (secondOf h) (firstVariable (fixedAt f 0)) (nextVariable (fixedAt f 0)) (entriesOf b)
+        ∷ notify (nameOf h) (headVariables 1 h f) (firstVariable (fixedAt f 0))
+        ∷ solicit (nameOf h) (headVariables 1 h f) (firstVariable (fixedAt f 0)) (laterVariables (nextVariable (fixedAt f 0)) f) (entriesOf b)
         ∷ still
         ∷ install (entriesOf b)
         ∷ throw (nameOf h)
@@ -179,7 +193,8 @@ action-fits (fits {h = h} {f = f} {es = es} {b = b} {ps = ps} t x e y qs g) = by
     by (suc (suc (suc (suc (suc (suc (suc zero))))))) q = stillFits
     by (suc (suc (suc (suc (suc (suc (suc (suc zero)))))))) q = stillFits
     by (suc (suc (suc (suc (suc (suc (suc (suc (suc zero))))))))) q = notifyFits name
-    by (suc (suc (suc (suc (suc (suc (suc (suc (suc (suc zero)))))))))) q = solicitFits name (mod-lt (fixedAt f 0 / 64) (lit< tt)) (plain 10 q refl)
+    by (suc (suc (suc (suc (suc (suc (suc (suc (suc (suc zero)))))))))) q =
+        solicitFits name (solicit-list h f (distinct-test (code false) h f b g) q (rw q at x)) (plain 10 q refl)
     by (suc (suc (suc (suc (suc (suc (suc (suc (suc (suc (suc zero))))))))))) q = stillFits
     by (suc (suc (suc (suc (suc (suc (suc (suc (suc (suc (suc (suc zero)))))))))))) q = installFits (plain 12 q refl)
     by (suc (suc (suc (suc (suc (suc (suc (suc (suc (suc (suc (suc (suc zero))))))))))))) q = throwFits name
@@ -189,9 +204,15 @@ action-fits (fits {h = h} {f = f} {es = es} {b = b} {ps = ps} t x e y qs g) = by
 -- ---- moves
 
 pub data FitsMessage : Message → Type 0 where
-  notificationFits : {o v z : ℕ} → o < 64 → v < 4294967296 → FitsMessage (notification o v z)
-  solicitationFits : {o v z x : ℕ} {l : Entries} → o < 64 → v < 4294967296 → x < 32 → FitsEntries false zero l → FitsMessage (solicitation o v z x l)
-  replyFits : {o v client serial : ℕ} → v < 4294967296 → FitsMessage (reply o v client serial)
+  notificationFits : {o z : ℕ} {v : List ℕ} → o < 64 → AllBelow 4294967296 v → FitsMessage (notification o v z)
+  solicitationFits :
+      {o z : ℕ} {v x : List ℕ} {l : Entries} →
+      o < 64 →
+      AllBelow 4294967296 v →
+      FitsDistinct x →
+      FitsEntries false zero l →
+      FitsMessage (solicitation o v z x l)
+  replyFits : {o client serial : ℕ} {v : List ℕ} → AllBelow 4294967296 v → FitsMessage (reply o v client serial)
   failureFits : {o f client serial : ℕ} → f < 64 → FitsMessage (failure o f client serial)
 
 pub data FitsMove (n issued : ℕ) : Move → Type 0 where
@@ -273,8 +294,8 @@ module _ {n issued : ℕ} {vs : List ℕ} (v : FitValues vs) {fs : List Frame} (
       let r : Run = cond (isTrue w) (seqOf (enable q) p) nil in
       let f : Sound n issued r = cond-case (λ m. Sound n issued m) (isTrue w) (λ u. seqOf-sound (enable-sound n issued x) g) (λ u. nilSound) in
       done-alone v k f (based-any fs (rootable r) t)
-  acting-fits g t (notifyFits {y = y} o) = sendsFits (notificationFits o (value-below v y))
-  acting-fits g t (solicitFits {y = y} o x l) = sendsFits (solicitationFits o (value-below v y) x l)
+  acting-fits g t (notifyFits {y = y} o) = sendsFits (notificationFits o (values-below v y))
+  acting-fits g t (solicitFits {y = y} o x l) = sendsFits (solicitationFits o (values-below v y) x l)
   acting-fits g t (installFits l) = changed-alone v (update-keeps l) k nilSound (based-any fs (rootable nil) t)
   acting-fits g t (throwFits {f = f} b) = aloneFits v (climb-sound b k nilSound) (climb-rootable f fs nil (based-any fs (rootable nil) t))
   acting-fits g t (compensateFits {q = q} b) =
@@ -291,7 +312,7 @@ module _ {n issued : ℕ} {vs : List ℕ} (v : FitValues vs) {fs : List Frame} (
   move-fits (seqSound g u q) t = stuckFits
   move-fits (parSound g u h w) t = stuckFits
   move-fits (scopeSound {mark = mark} {zombie = zombie} {a = p} a m c g) t = once-fits p (ending-fits mark zombie a c t)
-  move-fits (executorSound {y = y} {a = p} o b e g) t = once-fits p (sendsFits (replyFits (value-below v y)))
+  move-fits (executorSound {y = y} {a = p} o b e g) t = once-fits p (sendsFits (replyFits (values-below v y)))
   move-fits (waiterSound o x e l) t = stuckFits
   move-fits (noticeSound o f e) t = sendsFits (failureFits f)
   move-fits (actSound u g) t = acting-fits g t (action-fits g)

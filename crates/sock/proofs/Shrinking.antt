@@ -27,11 +27,11 @@ pub record NoLarger (a b : Run) : Type 0 where
   pub shorter : size a ≤ size b
   pub shallower : runDepth a ≤ runDepth b
 
-enable-size : {q : Node} → Fits (code false) anywhere q → size (enable q) ≡ length (words q)
+pub enable-size : {q : Node} → Fits (code false) anywhere q → size (enable q) ≡ length (words q)
 unfolding size runWords
 enable-size f = ap (λ m. length (words m)) (enable-asNode f)
 
-enable-depth : {q : Node} → Fits (code false) anywhere q → runDepth (enable q) ≡ depth q
+pub enable-depth : {q : Node} → Fits (code false) anywhere q → runDepth (enable q) ≡ depth q
 unfolding runDepth
 enable-depth f = ap depth (enable-asNode f)
 
@@ -64,7 +64,7 @@ scope-shrinks {a} {b} name mark zombie h s =
       shallower = omega (arith, depth-scope name mark zombie h a, depth-scope name mark zombie h b);
     }
 
-executor-shrinks : {a b : Run} (o y client serial : ℕ) → NoLarger a b → NoLarger (executor o y client serial a) (executor o y client serial b)
+executor-shrinks : {a b : Run} (o : ℕ) (y : List ℕ) (client serial : ℕ) → NoLarger a b → NoLarger (executor o y client serial a) (executor o y client serial b)
 executor-shrinks {a} {b} o y client serial s =
     record {
       shorter = omega (arith, size-executor o y client serial a, size-executor o y client serial b);

@@ -20,7 +20,7 @@ use Rattle.sock.proofs.Examples.{Case, then, outcome, Shown, Every, lea
 
 -- a solicit with a list
 asks : Entries → Node
-asks l = node (headOf Kind.solicit (4 * 32 + 2)) ((3 * 2048 + 6 * 64) ∷ []) [] (list l) noParts
+asks l = node (headOf Kind.solicit (4 * 32 + 2)) ((3 * 2048 + 6 * 64) ∷ 1 ∷ 1 ∷ []) [] (list l) noParts
 
 -- one engine
 alone : Run → Config
@@ -41,14 +41,14 @@ cases =
     }
     -- a killed waiter removed: it stays, dead, and its server works on
     ∷ record {
-      given = double (live (par (act P) (waits false))) (live (executor 4 6 0 1 (act B)));
+      given = double (live (par (act P) (waits false))) (live (executor 4 (6 ∷ []) 0 1 (act B)));
       steps = at 0 4 ∷ [];
       number = 0;
-      gives = double (zombie (waits true)) (live (executor 4 6 0 1 (act B)));
+      gives = double (zombie (waits true)) (live (executor 4 (6 ∷ []) 0 1 (act B)));
     }
     -- the reply to a dead waiter skipping its inst: x takes y, and the inst then updates H
     ∷ record {
-      given = record { issued = 1; engines = engine zeros (zombie (waits true)) ∷ engine (set zeros 6 9) (live (executor 4 6 0 1 nil)) ∷ [] };
+      given = record { issued = 1; engines = engine zeros (zombie (waits true)) ∷ engine (set zeros 6 9) (live (executor 4 (6 ∷ []) 0 1 nil)) ∷ [] };
       steps = to 1 3 0 3 ∷ at 0 3 ∷ [];
       number = 0;
       gives =
@@ -70,8 +70,8 @@ cases =
     }
     -- a climb that forgets the notice: the executor becomes its body par the notice, the right side
     ∷ record {
-      given = double (live (executor 4 6 1 1 (par (act P) (waits false)))) (live nil);
-      steps = at 0 7 ∷ [];
+      given = double (live (executor 4 (6 ∷ []) 1 1 (par (act P) (waits false)))) (live nil);
+      steps = at 0 8 ∷ [];
       number = 0;
       gives = double (zombie (par (waits true) (notice 4 7 1 1))) (live nil);
     }
@@ -89,8 +89,8 @@ cases =
     ∷ unread (single (one 3 cH) nil)
     ∷ unread (single (one (scopeKey 5) nilNode) nil)
     -- serial 0, or one above issued
-    ∷ unread (double (live (waiter 4 6 false 1 0 noEntries)) (live nil))
-    ∷ unread (double (live (waiter 4 6 false 1 2 noEntries)) (live nil))
+    ∷ unread (double (live (waiter 4 (6 ∷ []) false 1 0 noEntries)) (live nil))
+    ∷ unread (double (live (waiter 4 (6 ∷ []) false 1 2 noEntries)) (live nil))
     ∷ []
 
 pub slips : Every Shown cases

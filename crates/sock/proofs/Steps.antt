@@ -53,7 +53,7 @@ done-sure (sureDone h) = h
 pub sure-done : {A : Type 0} {P : A → Type 0} {r : Result A} {a : A} → Sure P r → r ≡ done a → P a
 sure-done {P = P} h e = subst (λ r. Done P r) e (done-sure h)
 
-all-both : {A : Type 0} {P Q : A → Type 0} {o : Option A} → All P o → All Q o → All (λ a. P a × Q a) o
+pub all-both : {A : Type 0} {P Q : A → Type 0} {o : Option A} → All P o → All Q o → All (λ a. P a × Q a) o
 all-both allNone allNone = allNone
 all-both (allSome p) (allSome q) = allSome (p, q)
 

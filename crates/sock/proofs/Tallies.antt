@@ -9,6 +9,7 @@ use lib.Dec.{T, ltb}
 use lib.ListN.{length, getD, take}
 use Rattle.sock.specs.Words.{bit, kindOf}
 use Rattle.sock.specs.Term.{Expr, Node, node, Block, Entries, Nodes, noParts, _&_}
+use Rattle.sock.specs.Variables.{firstOf, variableWords}
 use Rattle.sock.specs.Layout.{entriesWords}
 use Rattle.sock.specs.Running.{Run, nil, seq, par, scope, executor, waiter, notice, act, size, Form, nilForm, seqForm, parForm, scopeForm, executorForm, waiterForm, noticeForm, plain, forms, inForm, opened, allOpened, enable}
 use Rattle.sock.specs.Frames.{Frame, seqFrame, leftFrame, rightFrame, scopeFrame, executorFrame, Located, locate, isDone, seqOf, parOf, plug, onNearest}
@@ -29,7 +30,7 @@ endless waiterForm = false
 endless noticeForm = false
 endless plain = true
 
-code-endless : (k : ℕ) → T (endless (getD (take 12 forms) k plain))
+pub code-endless : (k : ℕ) → T (endless (getD (take 12 forms) k plain))
 unfolding forms
 code-endless zero = tt
 code-endless (suc zero) = tt
@@ -149,7 +150,7 @@ locate-tally (par a b) p fs n h =
 locate-tally (scope name mark zombie hs a) p fs n h =
     all-here p _ h (all-past (3 + length (entriesWords hs)) p λ i. locate-tally a i (scopeFrame name mark zombie hs ∷ fs) n h)
 locate-tally (executor o y client serial a) p fs n h =
-    all-here p _ h (all-past 3 p λ i. locate-tally a i (executorFrame o y client serial ∷ fs) n (λ t. omega (arith, h t)))
+    all-here p _ h (all-past (3 + length (variableWords y)) p λ i. locate-tally a i (executorFrame o y client serial ∷ fs) n (λ t. omega (arith, h t)))
 locate-tally (waiter o x dead server serial l) p fs n h = all-here p _ h allNone
 locate-tally (notice o f client serial) p fs n h = all-here p _ h allNone
 locate-tally (act a) p fs n h = all-here p _ h allNone

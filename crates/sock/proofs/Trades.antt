@@ -61,28 +61,29 @@ unfolding followed
 followed-tally t p none = refl
 followed-tally t p (some q) = seqOf-tally t p q
 
--- the last four of five tests
-five : (i j k l m : Bool) → T (i && j && k && l && m) → T j × T k × T l × T m
-five true true true true m t = (tt, tt, tt, t)
-five true true true false m t = absurd t
-five true true false l m t = absurd t
-five true false k l m t = absurd t
-five false j k l m t = absurd t
+-- the four middle ones of six tests
+six : (i j k l m n : Bool) → T (i && j && k && l && m && n) → T j × T k × T l × T m
+six true true true true true n t = (tt, tt, tt, tt)
+six true true true true false n t = absurd t
+six true true true false m n t = absurd t
+six true true false l m n t = absurd t
+six true false k l m n t = absurd t
+six false j k l m n t = absurd t
 
 module _ (issued a b : ℕ) (p q : Run) (vs : List ℕ) where
   notified-trade :
-      (o v : ℕ) {r : Receiver} (next : Option Node) →
+      (o : ℕ) (v : List ℕ) {r : Receiver} (next : Option Node) →
       Quiet p → Endless p → Hearing q r →
       All (Trade issued a b p q) (notified issued vs o v r next)
   unfolding notified tally
   notified-trade o v next u z hearsNothing = allNone
   notified-trade o v next u z (hearsAny deaf w) = allNone
   notified-trade o v next u z (hearsAny (hears op x) w) =
-      all-guarded (eqb o op) λ g. allSome (quietTrade u refl (λ t. sym (z t)) (λ t. followed-tally t nil next ∙ sym (w t)))
+      all-guarded _ λ g. allSome (quietTrade u refl (λ t. sym (z t)) (λ t. followed-tally t nil next ∙ sym (w t)))
   notified-trade o v next u z (hearsAny (serves op x y r) w) = allNone
 
   solicited-trade :
-      (o v x : ℕ) (l : Entries) {r : Receiver} (next : Option Node) →
+      (o : ℕ) (v x : List ℕ) (l : Entries) {r : Receiver} (next : Option Node) →
       isSolicit p ≡ true → ((s : ℕ) → carries s p ≡ false) → Endless p → Hearing q r →
       All (Trade issued a b p q) (solicited issued a b vs o v x l r next)
   unfolding solicited tally
@@ -90,28 +91,28 @@ module _ (issued a b : ℕ) (p q : Run) (vs : List ℕ) where
   solicited-trade o v x l next u k z (hearsAny deaf w) = allNone
   solicited-trade o v x l next u k z (hearsAny (hears op x') w) = allNone
   solicited-trade o v x l next u k z (hearsAny (serves op x' y r) w) =
-      all-guarded (eqb o op) λ g.
+      all-guarded _ λ g.
       allSome
       (newTrade o u k refl refl (λ t. omega (arith, z t))
       (λ t. omega (arith, w t, enable-tally t r, followed-tally t (executor o y a (suc issued) (enable r)) next)))
 
   awaited-trade :
-      (i o client serial : ℕ) (k : ℕ → Bool → Entries → Exchange) →
+      (i o client serial : ℕ) (alike : List ℕ → Bool) (k : List ℕ → Bool → Entries → Exchange) →
       Delivers p serial o client →
-      ((x : ℕ) (dead : Bool) (l : Entries) → (k x dead l .issued ≡ issued) × Endless (k x dead l .sender) × Endless (k x dead l .receiver)) →
+      ((x : List ℕ) (dead : Bool) (l : Entries) → (k x dead l .issued ≡ issued) × Endless (k x dead l .sender) × Endless (k x dead l .receiver)) →
       (r : Run) → r ≡ q →
-      All (Trade issued a b p q) (awaited a b i o client serial r k)
+      All (Trade issued a b p q) (awaited a b i o client serial alike r k)
   unfolding awaited tally
-  awaited-trade i o client serial k u z nil e = allNone
-  awaited-trade i o client serial k u z (seq r r') e = allNone
-  awaited-trade i o client serial k u z (par r r') e = allNone
-  awaited-trade i o client serial k u z (scope name mark zombie h r) e = allNone
-  awaited-trade i o client serial k u z (executor o' y c s r) e = allNone
-  awaited-trade i o client serial k u z (notice o' f c s) e = allNone
-  awaited-trade i o client serial k u z (act r) e = allNone
-  awaited-trade i o client serial k u z (waiter op x dead server s l) e =
-      all-guarded (eqb i 0 && eqb serial s && eqb o op && eqb client b && eqb server a) λ g.
-      let h = five (eqb i 0) (eqb serial s) (eqb o op) (eqb client b) (eqb server a) g in
+  awaited-trade i o client serial alike k u z nil e = allNone
+  awaited-trade i o client serial alike k u z (seq r r') e = allNone
+  awaited-trade i o client serial alike k u z (par r r') e = allNone
+  awaited-trade i o client serial alike k u z (scope name mark zombie h r) e = allNone
+  awaited-trade i o client serial alike k u z (executor o' y c s r) e = allNone
+  awaited-trade i o client serial alike k u z (notice o' f c s) e = allNone
+  awaited-trade i o client serial alike k u z (act r) e = allNone
+  awaited-trade i o client serial alike k u z (waiter op x dead server s l) e =
+      all-guarded (eqb i 0 && eqb serial s && eqb o op && eqb client b && eqb server a && alike x) λ g.
+      let h = six (eqb i 0) (eqb serial s) (eqb o op) (eqb client b) (eqb server a) (alike x) g in
       let es : serial ≡ s = eqb→eq serial s (h .0) in
       let eo : o ≡ op = eqb→eq o op (h .1) in
       let ec : client ≡ b = eqb→eq client b (h .2) in
@@ -128,11 +129,11 @@ module _ (issued a b : ℕ) (p q : Run) (vs : List ℕ) where
 
   pub exchange-trade : {fs : List Frame} {m : Message} (i : ℕ) → Moves fs p (sends m) → All (Trade issued a b p q) (exchange issued a b i vs q m)
   unfolding exchange replied faulting tally
-  exchange-trade i (notifies {o = o} {v = v} {z = z} u w) =
+  exchange-trade i (notifies {o = o} {z = z} {v = v} u w) =
       all-guarded (eqb z b) λ g. notified-trade o v (offer q i .next) u w (offer-hearing q i)
-  exchange-trade i (asking {o = o} {v = v} {z = z} {x = x} {l = l} u k w) =
+  exchange-trade i (asking {o = o} {z = z} {v = v} {x = x} {l = l} u k w) =
       all-guarded (eqb z b) λ g. solicited-trade o v x l (offer q i .next) u k w (offer-hearing q i)
   exchange-trade i (replies {o = o} {client = client} {serial = serial} u) =
-      awaited-trade i o client serial _ u (λ x dead l. (refl, (λ t. refl), (λ t. refl))) q refl
+      awaited-trade i o client serial _ _ u (λ x dead l. (refl, (λ t. refl), (λ t. refl))) q refl
   exchange-trade i (faults {o = o} {f = f} {client = client} {serial = serial} u) =
-      awaited-trade i o client serial _ u (λ x dead l. (refl, (λ t. refl), (λ t. cond-case (λ r. tally t r ≡ 0) dead (λ d. refl) (λ d. refl)))) q refl
+      awaited-trade i o client serial _ _ u (λ x dead l. (refl, (λ t. refl), (λ t. cond-case (λ r. tally t r ≡ 0) dead (λ d. refl) (λ d. refl)))) q refl

@@ -11,19 +11,19 @@ use Rattle.sock.specs.Bytes.{bytesOf, wordsAfter, handover}
 use Rattle.sock.proofs.Computed.{computed}
 
 -- n 2, issued 0, all values 0 but engine 0's variable 1, which is 1
-pub configuration : List ℕ
+unfoldable pub configuration : List ℕ
 configuration =
     2 ∷ 0
     ∷ 0 ∷ 0 ∷ 0 ∷ 1
     ∷ replicate 60 0
-    ++ (0x5800 ∷ 0x0000 ∷ 0x0000 ∷ 0x5020 ∷ 0x0880 ∷ 0x0000 ∷ [])
+    ++ (0x5800 ∷ 0x0000 ∷ 0x0000 ∷ 0x5020 ∷ 0x0880 ∷ 0x0001 ∷ 0x0001 ∷ 0x0000 ∷ [])
     ++ replicate 64 0
-    ++ (0x5800 ∷ 0x0000 ∷ 0x0000 ∷ 0x4020 ∷ 0x0000 ∷ 0x0000 ∷ [])
+    ++ (0x5800 ∷ 0x0000 ∷ 0x0000 ∷ 0x4020 ∷ 0x0000 ∷ 0x0001 ∷ 0x0001 ∷ 0x0000 ∷ [])
 
 abbrev numbers : ℕ → ℕ → ℕ → ℕ → ℕ → Numbers
 numbers e p f q b = record { engine = e; position = p; second = f; secondPosition = q; branch = b }
 
-pub steps : List Numbers
+unfoldable pub steps : List Numbers
 steps = numbers 0 3 1 3 0 ∷ numbers 1 3 0 3 0 ∷ numbers 1 3 0 3 0 ∷ numbers 0 3 0 0 0 ∷ numbers 0 0 0 0 0 ∷ []
 
 -- the answers of a list of steps, each on the words that the last accepted one gave, with an output of `room` words
@@ -40,7 +40,7 @@ unfolding computed configuration
 startsFresh = refl
 
 pub fiveAnswers :
-    answers 8192 configuration steps ≡ answer 0 10 1 0 144 ∷ answer 0 16 1 0 139 ∷ answer 3 0 0 0 0 ∷ answer 0 12 0 0 138 ∷ answer 0 11 0 0 135 ∷ []
+    answers 8192 configuration steps ≡ answer 0 10 1 0 146 ∷ answer 0 16 1 0 139 ∷ answer 3 0 0 0 0 ∷ answer 0 12 0 0 138 ∷ answer 0 11 0 0 135 ∷ []
 unfolding computed configuration steps answers
 fiveAnswers = refl
 

@@ -5,6 +5,7 @@ use mathlib.Core.Option.{Option, none, some}
 use mathlib.Core.List.{List, [], _∷_}
 use lib.Dec.{ltb}
 use lib.ListN.{length}
+use Rattle.sock.specs.Variables.{variableWords}
 use Rattle.sock.specs.Term.{Node, Entries, noEntries}
 use Rattle.sock.specs.Layout.{entriesWords}
 use Rattle.sock.specs.Running.{Mark, Run, nil, seq, par, scope, executor, waiter, notice, act, size, enable}
@@ -14,7 +15,7 @@ pub data Frame : Type 0 where
   leftFrame : Run → Frame  -- the left side of a par, and the right, beside the other
   rightFrame : Run → Frame
   scopeFrame : ℕ → Mark → Bool → Entries → Frame  -- the body of a scope: name, mark, zombie, list
-  executorFrame : ℕ → ℕ → ℕ → ℕ → Frame  -- the body of an executor: operation, y, client engine, serial
+  executorFrame : ℕ → List ℕ → ℕ → ℕ → Frame  -- the body of an executor: operation, variables y, client engine, serial
 
 pub record Located : Type 0 where
   pub frames : List Frame
@@ -40,7 +41,7 @@ locate (scope name mark zombie h a) p fs =
     (past (3 + length (entriesWords h)) p λ i. locate a i (scopeFrame name mark zombie h ∷ fs))
 locate (executor o y client serial a) p fs =
     hereOr p (record { frames = fs; process = executor o y client serial a })
-    (past 3 p λ i. locate a i (executorFrame o y client serial ∷ fs))
+    (past (3 + length (variableWords y)) p λ i. locate a i (executorFrame o y client serial ∷ fs))
 locate (waiter o x dead server serial l) p fs = hereOr p (record { frames = fs; process = waiter o x dead server serial l }) none
 locate (notice o f client serial) p fs = hereOr p (record { frames = fs; process = notice o f client serial }) none
 locate (act a) p fs = hereOr p (record { frames = fs; process = act a }) none

@@ -1,5 +1,6 @@
 pub mod Kind
 pub mod Words
+pub mod Variables
 pub mod Term
 pub mod Layout
 pub mod Reading
@@ -11,6 +12,7 @@ pub mod Handlers
 pub mod Frames
 pub mod Rules
 pub mod Calls
+pub mod Earlier
 pub mod Bytes
 pub mod Pending
 pub mod Counts

@@ -1,12 +1,13 @@
 -- Reading a process, with every condition of document 01's "Readable" that concerns one. What a condition needs to know of the place is handed down.
-use Prim.Native.Nat.{ℕ, zero, suc, _%_}
+use Prim.Native.Nat.{ℕ, zero, suc, _-_, _%_}
 use mathlib.Core.Bool.{Bool, true, false, not, _&&_, _||_, cond}
-use mathlib.Core.List.{List, [], _∷_}
+use mathlib.Core.List.{List, [], _∷_, _++_}
 use lib.Dec.{leb, ltb, eqb}
 use lib.ListN.{getD}
 use Rattle.sock.specs.Kind
-use Rattle.sock.specs.Kind.{Row, rowOf}
-use Rattle.sock.specs.Words.{isWord, clear, kindOf, countOf, markOf, zombieOf, firstName, executorsClient, waitersServer, noticesClient, keyOf, tagOf, readVariable, valueOf}
+use Rattle.sock.specs.Kind.{Own, word, variables, Row, rowOf}
+use Rattle.sock.specs.Words.{isWord, clear, kindOf, countOf, markOf, zombieOf, nextVariable, firstName, executorsClient, waitersServer, noticesClient, keyOf, tagOf, readVariable, valueOf}
+use Rattle.sock.specs.Variables.{headVariables, laterVariables, distinct}
 use Rattle.sock.specs.Term.{Operator, sum, difference, less, equal, decimalSum, decimalDifference, Expr, constant, variable, apply, Node, node, Block, absent, list, Entries, noEntries, entry, Nodes, noParts, _&_, isNil, processesOf, entriesOf}
 
 -- What is read, and the words behind it
@@ -98,23 +99,45 @@ abbrev pub fixedAt : List ℕ → ℕ → ℕ
 fixedAt f i = getD f i 0
 
 -- What a node's fields have to be, once its list is read
-unfoldable pub nodeFits : Stratum → ℕ → List ℕ → Block → Bool
-nodeFits (running n issued) h f b =
+unfoldable pub fieldsFit : Stratum → ℕ → List ℕ → Block → Bool
+fieldsFit (running n issued) h f b =
     (eqb (kindOf h) Kind.scope ⇒ scopeFits (markOf h) (zombieOf h) (firstName (fixedAt f 0)) (entriesOf b))
     && (eqb (kindOf h) Kind.executor ⇒ endFits n issued (executorsClient (fixedAt f 0)) (fixedAt f 1))
     && (eqb (kindOf h) Kind.waiter ⇒ endFits n issued (waitersServer (fixedAt f 0)) (fixedAt f 1))
     && (eqb (kindOf h) Kind.notice ⇒ endFits n issued (noticesClient (fixedAt f 0)) (fixedAt f 1))
-nodeFits (code c) h f b = eqb (kindOf h) Kind.scope ⇒ restingFits (markOf h) (zombieOf h) (firstName (fixedAt f 0)) (entriesOf b)
+fieldsFit (code c) h f b = eqb (kindOf h) Kind.scope ⇒ restingFits (markOf h) (zombieOf h) (firstName (fixedAt f 0)) (entriesOf b)
+
+-- The variables x that a one-way, a request, a solicit or a waiter receives in; none for the other kinds
+unfoldable pub receivesIn : ℕ → List ℕ → List ℕ
+receivesIn h f =
+    cond (eqb (kindOf h) Kind.one-way) (headVariables 0 h f)
+    (cond (eqb (kindOf h) Kind.request) (headVariables 1 h f)
+    (cond (eqb (kindOf h) Kind.solicit) (laterVariables (nextVariable (fixedAt f 0)) f)
+    (cond (eqb (kindOf h) Kind.waiter) (headVariables 2 h f) [])))
+
+-- No x list has a variable twice
+unfoldable pub nodeFits : Stratum → ℕ → List ℕ → Block → Bool
+nodeFits s h f b = distinct (receivesIn h f) && fieldsFit s h f b
 
 -- A scope's list has no scope key with nil
 unfoldable pub entryFits : Bool → ℕ → Node → Bool
 entryFits ofScope key p = not (ofScope && leb 64 key && isNil p)
 
--- Fixed words, each clear below its number in the table
-unfoldable pub fixedWords : List ℕ → List ℕ → Got (List ℕ)
+-- Words with a variable in their first 5 bits
+unfoldable pub further : ℕ → List ℕ → Got (List ℕ)
+further zero ws = got [] ws
+further (suc n) [] = fail
+further (suc n) (w ∷ ws) = check (isWord w && clear 2048 w) (andThen (further n ws) λ v rest. got (w ∷ v) rest)
+
+-- A process's own words behind its head: fixed words, each clear below its number in the table, and lists of 1 to 4 variables
+unfoldable pub fixedWords : List Own → List ℕ → Got (List ℕ)
 fixedWords [] ws = got [] ws
-fixedWords (m ∷ ms) [] = fail
-fixedWords (m ∷ ms) (w ∷ ws) = check (isWord w && clear m w) (andThen (fixedWords ms ws) λ f rest. got (w ∷ f) rest)
+fixedWords (word m ∷ os) [] = fail
+fixedWords (word m ∷ os) (w ∷ ws) = check (isWord w && clear m w) (andThen (fixedWords os ws) λ f rest. got (w ∷ f) rest)
+fixedWords (variables ∷ os) [] = fail
+fixedWords (variables ∷ os) (c ∷ ws) =
+    check (ltb 0 c && leb c 4)
+    (andThen (further (c - 1) ws) λ v then. andThen (fixedWords os then) λ f rest. got (c ∷ v ++ f) rest)
 
 -- Two words, high first
 unfoldable pub wide : List ℕ → Got ℕ

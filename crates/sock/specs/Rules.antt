@@ -4,9 +4,10 @@ use mathlib.Core.Bool.{Bool, true, false, not, _&&_, cond}
 use mathlib.Core.Option.{Option, none, some}
 use mathlib.Core.List.{List, [], _∷_}
 use lib.Dec.{leb, ltb, eqb}
-use lib.ListN.{getD, set}
+use lib.ListN.{length, getD, set}
 use Rattle.sock.specs.Kind
 use Rattle.sock.specs.Words.{kindOf, countOf, variableOf, nameOf, secondOf, firstVariable, nextVariable, faultKey, scopeKey, headOf}
+use Rattle.sock.specs.Variables.{headVariables, laterVariables, valuesAt, setAll}
 use Rattle.sock.specs.Term.{Expr, Node, node, Block, absent, list, Entries, noEntries, entry, Nodes, noParts, kind, partAt, firstExpr, entriesOf}
 use Rattle.sock.specs.Reading.{holds, fixedAt}
 use Rattle.sock.specs.Running.{Mark, unmarked, faulted, ownName, Run, nil, seq, par, scope, executor, waiter, notice, act, enable}
@@ -58,8 +59,8 @@ pub data Action : Type 0 where
   assign : ℕ → Expr → Action
   branch : Expr → Node → Node → Action  -- if and while, by their conditions
   repeat : Expr → Node → Action
-  notify : ℕ → ℕ → ℕ → Action  -- operation, y, z; and x with the list
-  solicit : ℕ → ℕ → ℕ → ℕ → Entries → Action
+  notify : ℕ → List ℕ → ℕ → Action  -- operation, variables y, z; and variables x with the list
+  solicit : ℕ → List ℕ → ℕ → List ℕ → Entries → Action
   install : Entries → Action
   throw : ℕ → Action
   compensate : ℕ → Action
@@ -76,8 +77,8 @@ action (node h f es b ps) =
     ∷ still
     ∷ still
     ∷ still
-    ∷ notify (nameOf h) (secondOf h) (firstVariable (fixedAt f 0))
-    ∷ solicit (nameOf h) (secondOf h) (firstVariable (fixedAt f 0)) (nextVariable (fixedAt f 0)) (entriesOf b)
+    ∷ notify (nameOf h) (headVariables 1 h f) (firstVariable (fixedAt f 0))
+    ∷ solicit (nameOf h) (headVariables 1 h f) (firstVariable (fixedAt f 0)) (laterVariables (nextVariable (fixedAt f 0)) f) (entriesOf b)
     ∷ still
     ∷ install (entriesOf b)
     ∷ throw (nameOf h)
@@ -88,9 +89,9 @@ action (node h f es b ps) =
 -- ---- what an enabled process does: nothing; a move alone, which gives the engine's values and process; or it sends a message
 
 pub data Message : Type 0 where
-  notification : ℕ → ℕ → ℕ → Message  -- operation, value sent, value of z
-  solicitation : ℕ → ℕ → ℕ → ℕ → Entries → Message  -- and the variable x and the list of the waiter to be
-  reply : ℕ → ℕ → ℕ → ℕ → Message  -- operation, value sent, client engine, serial
+  notification : ℕ → List ℕ → ℕ → Message  -- operation, values sent, value of z
+  solicitation : ℕ → List ℕ → ℕ → List ℕ → Entries → Message  -- and the variables x and the list of the waiter to be
+  reply : ℕ → List ℕ → ℕ → ℕ → Message  -- operation, values sent, client engine, serial
   failure : ℕ → ℕ → ℕ → ℕ → Message  -- operation, fault, client engine, serial
 
 pub data Move : Type 0 where
@@ -126,8 +127,8 @@ acting vs fs p (compensate q) =
     alone vs (some (plug (onNearest (without (scopeKey q)) fs) (enable (handler (scopeKey q) (nearest fs)))))
 -- throw(f) becomes nil and climbs
 acting vs fs p (throw f) = alone vs (climb f fs nil)
-acting vs fs p (notify o y z) = sends (notification o (valueAt vs y) (valueAt vs z))
-acting vs fs p (solicit o y z x l) = sends (solicitation o (valueAt vs y) (valueAt vs z) x l)
+acting vs fs p (notify o y z) = sends (notification o (valuesAt vs y) (valueAt vs z))
+acting vs fs p (solicit o y z x l) = sends (solicitation o (valuesAt vs y) (valueAt vs z) x l)
 
 unfoldable pub onceDone : Run → Move → Move
 onceDone p m = cond (isDone p) m stuck
@@ -137,7 +138,7 @@ moveOf vs fs nil = stuck
 moveOf vs fs (seq p q) = stuck
 moveOf vs fs (par p q) = stuck
 moveOf vs fs (scope name mark zombie h p) = onceDone p (alone vs (some (ending name mark zombie h fs)))
-moveOf vs fs (executor o y client serial p) = onceDone p (sends (reply o (valueAt vs y) client serial))
+moveOf vs fs (executor o y client serial p) = onceDone p (sends (reply o (valuesAt vs y) client serial))
 moveOf vs fs (waiter o x dead server serial l) = stuck
 moveOf vs fs (notice o f client serial) = sends (failure o f client serial)
 moveOf vs fs (act p) = acting vs fs p (action p)
@@ -147,13 +148,15 @@ moveOf vs fs (act p) = acting vs fs p (action p)
 -- What a process can receive: a one-way by operation and x; a request by operation, x, y and P
 pub data Receiver : Type 0 where
   deaf : Receiver
-  hears : ℕ → ℕ → Receiver
-  serves : ℕ → ℕ → ℕ → Node → Receiver
+  hears : ℕ → List ℕ → Receiver
+  serves : ℕ → List ℕ → List ℕ → Node → Receiver
 
 unfoldable pub receiver : Node → Receiver
 receiver (node h f es b ps) =
-    cond (eqb (kindOf h) Kind.one-way) (hears (nameOf h) (secondOf h))
-    (cond (eqb (kindOf h) Kind.request) (serves (nameOf h) (secondOf h) (firstVariable (fixedAt f 0)) (partAt ps 0)) deaf)
+    cond (eqb (kindOf h) Kind.one-way) (hears (nameOf h) (headVariables 0 h f))
+    (cond (eqb (kindOf h) Kind.request)
+    (serves (nameOf h) (headVariables 1 h f) (laterVariables (firstVariable (fixedAt f 0)) f) (partAt ps 0))
+    deaf)
 
 -- A chosen branch is followed by its P
 pub record Offer : Type 0 where
@@ -199,24 +202,24 @@ pub record Exchange : Type 0 where
   pub fault : ℕ
 
 -- a notify in a one-way: x takes y
-unfoldable pub notified : ℕ → List ℕ → ℕ → ℕ → Receiver → Option Node → Option Exchange
+unfoldable pub notified : ℕ → List ℕ → ℕ → List ℕ → Receiver → Option Node → Option Exchange
 notified issued vs o v deaf next = none
 notified issued vs o v (hears op x) next =
-    guarded (eqb o op)
-    (some (record { sender = nil; receiver = followed nil next; values = set vs x v; issued = issued; serial = 0; fault = 0 }))
+    guarded (eqb o op && eqb (length v) (length x))
+    (some (record { sender = nil; receiver = followed nil next; values = setAll vs x v; issued = issued; serial = 0; fault = 0 }))
 notified issued vs o v (serves op x y p) next = none
 
 -- a solicit in a request: it becomes a live waiter, the request an executor; issued is raised by 1, that is the serial
-unfoldable pub solicited : ℕ → ℕ → ℕ → List ℕ → ℕ → ℕ → ℕ → Entries → Receiver → Option Node → Option Exchange
+unfoldable pub solicited : ℕ → ℕ → ℕ → List ℕ → ℕ → List ℕ → List ℕ → Entries → Receiver → Option Node → Option Exchange
 solicited issued client server vs o v x l deaf next = none
 solicited issued client server vs o v x l (hears op x') next = none
 solicited issued client server vs o v x l (serves op x' y p) next =
-    guarded (eqb o op)
+    guarded (eqb o op && eqb (length v) (length x') && eqb (length y) (length x))
     (some
     (record {
       sender = waiter o x false server (suc issued) l;
       receiver = followed (executor o y client (suc issued) (enable p)) next;
-      values = set vs x' v;
+      values = setAll vs x' v;
       issued = suc issued;
       serial = suc issued;
       fault = 0;
@@ -229,9 +232,9 @@ abbrev pub throwOf : ℕ → Node
 throwOf f = node (headOf Kind.throw (f * 32)) [] [] absent noParts
 
 -- Reply: x takes y, and the waiter, dead or live, becomes inst of its list
-unfoldable pub replied : ℕ → ℕ → List ℕ → ℕ → ℕ → Entries → Exchange
+unfoldable pub replied : ℕ → ℕ → List ℕ → List ℕ → List ℕ → Entries → Exchange
 replied issued serial vs v x l =
-    record { sender = nil; receiver = act (instOf l); values = set vs x v; issued = issued; serial = serial; fault = 0 }
+    record { sender = nil; receiver = act (instOf l); values = setAll vs x v; issued = issued; serial = serial; fault = 0 }
 
 -- Fault: a live waiter becomes throw(f), a dead one nil
 unfoldable pub faulting : ℕ → ℕ → List ℕ → ℕ → Bool → Exchange
@@ -239,16 +242,16 @@ faulting issued serial vs f dead =
     record { sender = nil; receiver = cond dead nil (act (throwOf f)); values = vs; issued = issued; serial = serial; fault = 1 }
 
 -- a waiter with the end's serial and operation, the two naming each other's engine, and branch 0
-unfoldable pub awaited : ℕ → ℕ → ℕ → ℕ → ℕ → ℕ → Run → (ℕ → Bool → Entries → Exchange) → Option Exchange
-awaited sender receiver i o client serial nil k = none
-awaited sender receiver i o client serial (seq p q) k = none
-awaited sender receiver i o client serial (par p q) k = none
-awaited sender receiver i o client serial (scope name mark zombie h p) k = none
-awaited sender receiver i o client serial (executor op y c s p) k = none
-awaited sender receiver i o client serial (waiter op x dead server s l) k =
-    guarded (eqb i 0 && eqb serial s && eqb o op && eqb client receiver && eqb server sender) (some (k x dead l))
-awaited sender receiver i o client serial (notice op f c s) k = none
-awaited sender receiver i o client serial (act p) k = none
+unfoldable pub awaited : ℕ → ℕ → ℕ → ℕ → ℕ → ℕ → (List ℕ → Bool) → Run → (List ℕ → Bool → Entries → Exchange) → Option Exchange
+awaited sender receiver i o client serial alike nil k = none
+awaited sender receiver i o client serial alike (seq p q) k = none
+awaited sender receiver i o client serial alike (par p q) k = none
+awaited sender receiver i o client serial alike (scope name mark zombie h p) k = none
+awaited sender receiver i o client serial alike (executor op y c s p) k = none
+awaited sender receiver i o client serial alike (waiter op x dead server s l) k =
+    guarded (eqb i 0 && eqb serial s && eqb o op && eqb client receiver && eqb server sender && alike x) (some (k x dead l))
+awaited sender receiver i o client serial alike (notice op f c s) k = none
+awaited sender receiver i o client serial alike (act p) k = none
 
 -- what the message does to the receiver `p` with values `vs`, among the serials issued
 unfoldable pub exchange : ℕ → ℕ → ℕ → ℕ → List ℕ → Run → Message → Option Exchange
@@ -256,6 +259,6 @@ exchange issued sender receiver i vs p (notification o v z) = guarded (eqb z rec
 exchange issued sender receiver i vs p (solicitation o v z x l) =
     guarded (eqb z receiver) (solicited issued sender receiver vs o v x l (offer p i .receives) (offer p i .next))
 exchange issued sender receiver i vs p (reply o v client serial) =
-    awaited sender receiver i o client serial p (λ x dead l. replied issued serial vs v x l)
+    awaited sender receiver i o client serial (λ x. eqb (length v) (length x)) p (λ x dead l. replied issued serial vs v x l)
 exchange issued sender receiver i vs p (failure o f client serial) =
-    awaited sender receiver i o client serial p (λ x dead l. faulting issued serial vs f dead)
+    awaited sender receiver i o client serial (λ x. true) p (λ x dead l. faulting issued serial vs f dead)

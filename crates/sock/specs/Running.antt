@@ -5,6 +5,7 @@ use mathlib.Core.List.{List, [], _∷_, _++_}
 use lib.ListN.{length, getD, take}
 use Rattle.sock.specs.Kind
 use Rattle.sock.specs.Words.{kindOf, nameOf, secondOf, markOf, zombieOf, firstName, executorsClient, deadOf, waitersServer, noticesClient, bit, isOne, headOf, nameFields}
+use Rattle.sock.specs.Variables.{firstOf, variableWords, headVariables}
 use Rattle.sock.specs.Term.{Expr, Node, node, Block, absent, list, Entries, noEntries, entry, Nodes, noParts, _&_, nilNode, partAt, entriesOf}
 use Rattle.sock.specs.Layout.{words, depth}
 use Rattle.sock.specs.Reading.{fixedAt}
@@ -20,8 +21,8 @@ pub data Run : Type 0 where
   seq : Run → Node → Run
   par : Run → Run → Run
   scope : ℕ → Mark → Bool → Entries → Run → Run  -- name, mark, zombie, list, body
-  executor : ℕ → ℕ → ℕ → ℕ → Run → Run  -- operation, y, client engine, serial, body
-  waiter : ℕ → ℕ → Bool → ℕ → ℕ → Entries → Run  -- operation, x, dead, server engine, serial, list
+  executor : ℕ → List ℕ → ℕ → ℕ → Run → Run  -- operation, variables y, client engine, serial, body
+  waiter : ℕ → List ℕ → Bool → ℕ → ℕ → Entries → Run  -- operation, variables x, dead, server engine, serial, list
   notice : ℕ → ℕ → ℕ → ℕ → Run  -- operation, fault, client engine, serial
   act : Node → Run  -- any other process
 
@@ -44,9 +45,9 @@ asNode nil = nilNode
 asNode (seq p q) = node (headOf Kind.seq 0) [] [] absent (asNode p & q & noParts)
 asNode (par p q) = node (headOf Kind.par 0) [] [] absent (asNode p & asNode q & noParts)
 asNode (scope name mark zombie h p) = node (scopeHead name mark zombie) ((markedFault mark * 1024) ∷ []) [] (list h) (asNode p & noParts)
-asNode (executor o y client serial p) = node (headOf Kind.executor (nameFields o y)) ((client * 8192) ∷ serial ∷ []) [] absent (asNode p & noParts)
+asNode (executor o y client serial p) = node (headOf Kind.executor (nameFields o (firstOf y))) ((client * 8192) ∷ serial ∷ variableWords y) [] absent (asNode p & noParts)
 asNode (waiter o x dead server serial l) =
-    node (headOf Kind.waiter (nameFields o x)) ((bit dead * 32768 + server * 4096) ∷ serial ∷ []) [] (list l) noParts
+    node (headOf Kind.waiter (nameFields o (firstOf x))) ((bit dead * 32768 + server * 4096) ∷ serial ∷ variableWords x) [] (list l) noParts
 asNode (notice o f client serial) = node (headOf Kind.notice (nameFields o 0)) ((f * 1024 + client * 128) ∷ serial ∷ []) [] absent noParts
 asNode (act p) = p
 
@@ -82,9 +83,9 @@ inForm seqForm h f es b ps rs = seq (getD rs 0 nil) (partAt ps 1)
 inForm parForm h f es b ps rs = par (getD rs 0 nil) (getD rs 1 nil)
 inForm scopeForm h f es b ps rs =
     scope (nameOf h) (markBy (markOf h) (firstName (fixedAt f 0))) (isOne (zombieOf h)) (entriesOf b) (getD rs 0 nil)
-inForm executorForm h f es b ps rs = executor (nameOf h) (secondOf h) (executorsClient (fixedAt f 0)) (fixedAt f 1) (getD rs 0 nil)
+inForm executorForm h f es b ps rs = executor (nameOf h) (headVariables 2 h f) (executorsClient (fixedAt f 0)) (fixedAt f 1) (getD rs 0 nil)
 inForm waiterForm h f es b ps rs =
-    waiter (nameOf h) (secondOf h) (isOne (deadOf (fixedAt f 0))) (waitersServer (fixedAt f 0)) (fixedAt f 1) (entriesOf b)
+    waiter (nameOf h) (headVariables 2 h f) (isOne (deadOf (fixedAt f 0))) (waitersServer (fixedAt f 0)) (fixedAt f 1) (entriesOf b)
 inForm noticeForm h f es b ps rs = notice (nameOf h) (firstName (fixedAt f 0)) (noticesClient (fixedAt f 0)) (fixedAt f 1)
 inForm plain h f es b ps rs = act (node h f es b ps)
 

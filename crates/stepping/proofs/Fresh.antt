@@ -10,13 +10,14 @@ use lib.ListN.{length, getD, set, length-set, length-replicate}
 use Rattle.sock.specs.Words.{deadOf}
 use Rattle.layout.specs.Positions.{onward}
 use Rattle.writers.proofs.Laid.{Near, near-of}
-use Rattle.rules.specs.Storing.{takes, unchanged}
+use Rattle.rules.specs.Storing.{unchanged}
+use Rattle.rules.specs.declared.store.Store.{Store}
 use Rattle.rules.specs.declared.pair.Offer.{Offer}
 use Rattle.rules.specs.declared.rewriting.Rewriting.{Rewriting}
 use Rattle.finding.specs.declared.find.Site.{Site}
-use Rattle.evaluating.specs.Evaluating.{valueIn}
 use Rattle.rules.specs.Rewriting.{Rewritten, rewritten, vanishing, keeping, partW, partEnd}
 use Rattle.layout.specs.Heads.{throwHead}
+use Rattle.rules.specs.Messages.{heardW, servedW, answeredW}
 use Rattle.rules.specs.Offering.{placed, hearW, seqFirst, threeW, serveW, askW, answerW, failW}
 use Rattle.rules.specs.Editing.{edited, hollowW, nilW, plainW}
 use Rattle.rules.proofs.Exchanges.{three-to, first-place}
@@ -63,18 +64,18 @@ module _ (fresh : List ℕ) (near : Near (length fresh)) (room : 4 ≤ length fr
       by true = (omega (arith, three-to fresh 0 near (omega arith)), three-length fresh 0 _ _ _)
       by false = (omega arith, refl)
 
-  hear-few : (ws : List ℕ) (o : Offer) (v : ℕ) → hearW ws o v .fresh ≤ 4
+  hear-few : (ws : List ℕ) (o : Offer) (store : Store) → hearW ws o store .fresh ≤ 4
   unfolding hearW partW
-  hear-few ws o v = by (eqb (o .next) 0) (eqb (getD ws (o .next) 0) 0)
+  hear-few ws o store = by (eqb (o .next) 0) (eqb (getD ws (o .next) 0) 0)
     where
-      by : (a b : Bool) → cond a (vanishing (takes (getD ws (o .guard) 0 % 32) v)) (cond b (vanishing (takes (getD ws (o .guard) 0 % 32) v)) (keeping 0 (o .next) (o .upto) (o .end) (takes (getD ws (o .guard) 0 % 32) v))) .fresh ≤ 4
+      by : (a b : Bool) → cond a (vanishing store) (cond b (vanishing store) (keeping 0 (o .next) (o .upto) (o .end) store)) .fresh ≤ 4
       by true b = omega arith
       by false true = omega arith
       by false false = omega arith
 
-  serve-few : (ws : List ℕ) (o : Offer) (client serial v : ℕ) → Few (serveW ws o client serial v fresh) fresh
+  serve-few : (ws : List ℕ) (o : Offer) (client serial : ℕ) (store : Store) → Few (serveW ws o client serial store fresh) fresh
   unfolding serveW
-  serve-few ws o client serial v =
+  serve-few ws o client serial store =
       let l = first-length (o .next) fresh in
       let t = first-to (o .next) fresh in
       let n = three-to (seqFirst (o .next) fresh .fresh) (seqFirst (o .next) fresh .to) (rw l near) (omega arith) in
@@ -96,9 +97,9 @@ module _ (fresh : List ℕ) (near : Near (length fresh)) (room : 4 ≤ length fr
     where
       by :
           (a b d : Bool) →
-          Few (cond a (rewritten (hearW other o (valueIn vs (getD ws 0 0 % 32))) fresh)
-          (cond b (serveW other o client serial (valueIn vs (getD ws 0 0 % 32)) fresh)
-          (cond d (answerW other (valueIn vs (getD ws 0 0 % 32)) fresh) (failW other (getD ws 1 0) fresh)))) fresh
+          Few (cond a (rewritten (hearW other o (heardW ws vs other (o .guard))) fresh)
+          (cond b (serveW other o client serial (servedW ws vs other (o .guard)) fresh)
+          (cond d (answerW other (answeredW ws vs other) fresh) (failW other (getD ws 1 0) fresh)))) fresh
       by true b d = (hear-few other o _, refl)
       by false true d = serve-few other o client serial _
       by false false true = (omega (arith, first-place), length-set fresh 0 24576)
@@ -113,10 +114,10 @@ module _ (fresh : List ℕ) (near : Near (length fresh)) (room : 4 ≤ length fr
           (a b : Bool) →
           cond a
           (edited
-          (record { number = 0; list = start; past = start; listed = 0; from = s .from; upto = s .upto; fresh = cond b (placed (onward 0 1) (set fresh 0 0)) (placed 0 fresh) .to; gap = s .gap; end = s .end; store = record { variable = t .store .variable; value = t .store .value } })
+          (record { number = 0; list = start; past = start; listed = 0; from = s .from; upto = s .upto; fresh = cond b (placed (onward 0 1) (set fresh 0 0)) (placed 0 fresh) .to; gap = s .gap; end = s .end; store = t .store })
           (cond b (placed (onward 0 1) (set fresh 0 0)) (placed 0 fresh) .fresh))
           (edited
-          (record { number = t .number; list = start; past = start; listed = 0; from = s .at; upto = onward (s .at) (t .from); fresh = t .fresh; gap = onward (s .at) (t .upto); end = onward (s .at) (t .end); store = record { variable = t .store .variable; value = t .store .value } })
+          (record { number = t .number; list = start; past = start; listed = 0; from = s .at; upto = onward (s .at) (t .from); fresh = t .fresh; gap = onward (s .at) (t .upto); end = onward (s .at) (t .end); store = t .store })
           fresh) .edit .fresh ≤ 4
       by true true = omega (arith, first-place)
       by true false = omega arith

@@ -13,11 +13,11 @@ use Rattle.sock.proofs.Fits.{FitsConfig}
 use Rattle.sock.proofs.Located.{startOf}
 use Rattle.rules.specs.declared.edit.Edit.{Edit}
 use Rattle.rules.proofs.Edits.{Edits}
+use Rattle.rules.proofs.Stores.{stored}
 use Rattle.layout.specs.declared.limit.Limits.{Limits}
 use Rattle.stepping.proofs.Modest.{Modest}
 use Rattle.stepping.specs.Answering.{changed, answered, refusing, sizedW, lengthOf, writeOneW, oneW, writeTwoW, twoW}
 use Rattle.stepping.proofs.Goal.{given, fitted, fitted-deep, fitted-by}
-use Rattle.stepping.proofs.Writes.{valued}
 use Rattle.stepping.proofs.Results.{next-sized, next-few, next-fits, next-written}
 use Rattle.stepping.proofs.TwoResults as two
 
@@ -69,12 +69,12 @@ module _ {limits : Limits} (modest : Modest limits) (c : Config) (fits : FitsCon
 
     pub one-given :
         (vs : List ℕ) (q : Run) → p .number ≡ 0 → Edits ws start end p fresh q → runDepth q ≤ limits .deepest →
-        vs ≡ valued (engineAt c e .values) (p .store .variable) (p .store .value) →
+        vs ≡ stored (engineAt c e .values) (p .store) →
         oneW limits ws start end p kind fresh out ≡ given (fitted limits (length out) (made vs q)) out
     unfolding oneW
     one-given vs q z edits d v =
         rw (eq-eqb (p .number) 0 z, v)
-        (fitted-by limits (made (valued (engineAt c e .values) (p .store .variable) (p .store .value)) q) out (writeOneW ws start end p fresh out .out) (sizedW limits (length ws) p) (sizedW limits (length ws) p % 65536)
+        (fitted-by limits (made (stored (engineAt c e .values) (p .store)) q) out (writeOneW ws start end p fresh out .out) (sizedW limits (length ws) p) (sizedW limits (length ws) p % 65536)
         (omega (arith, fits .word)) (depth-set (c .engines) e _ (limits .deepest) deep d) (next-fits c fits e h ws same p fresh q edits modest short (length out)) λ a b.
         let s = next-sized c fits e h ws same p fresh q edits modest short (omega (arith, next-few c fits e h ws same p fresh q edits)) in
         (ap (λ k. k % 65536) s ∙ told _ (omega (arith, a, modest .few)), next-written c fits e h ws same p fresh q edits out (omega (arith, a, modest .few)) b))

@@ -6,7 +6,7 @@ use mathlib.Core.Path.{_≡_, refl, subst, sym, ap, _∙_}
 use mathlib.Core.Bool.{Bool, true, false, cond}
 use mathlib.Core.Option.{Option, none, some}
 use mathlib.Core.List.{List, [], _∷_, _++_}
-use borrow.Author.Tests.{le-ltb, lt-leb}
+use borrow.Author.Tests.{le-ltb}
 use lib.Dec.{eqb, lit<}
 use lib.ListN.{length, getD, drop, set, length-drop, length-set}
 use lib.Seq.{take-all, getD-drop}
@@ -17,7 +17,8 @@ use Rattle.sock.specs.Reading.{code, anywhere}
 use Rattle.sock.specs.Running.{Mark, Run, nil, seq, par, scope, executor, waiter, notice, act, asNode, runWords, size, runDepth, enable}
 use Rattle.sock.specs.Configuration.{standard, Engine, Config, valuesWords, enginesDepth}
 use Rattle.sock.specs.Calls.{engineAt}
-use Rattle.sock.specs.Evaluation.{valueAt, evaluate, isTrue}
+use Rattle.sock.specs.Variables.{valuesAt}
+use Rattle.sock.specs.Evaluation.{evaluate, isTrue}
 use Rattle.sock.specs.Frames.{Located, isDone, seqOf, plug, nearest, onNearest}
 use Rattle.sock.specs.Handlers.{handler, without, update}
 use Rattle.sock.specs.Rules.{climb, action, Message, reply, Move, stuck, alone, unvalued, sends, ending, valued as valuing, acting, onceDone, moveOf}
@@ -50,6 +51,7 @@ use Rattle.rules.specs.Rewriting.{rewritten, vanishing, keeping, refused, at, p
 use Rattle.rules.specs.Editing.{Edited, plainW}
 use Rattle.rules.proofs.Rewrites.{Becomes, becomes-nil, Outcome, deepens, becomes, valuedAt, expr-value, assign-rewrites, branch-rewrites, repeat-rewrites}
 use Rattle.rules.proofs.Edits.{done-nil}
+use Rattle.rules.proofs.Stores.{stored, stored-none, stored-one}
 use Rattle.rules.proofs.Shapes.{Shape, assigns, branches, repeats, chooses, hears, serves, notifies, solicits, installs, throws, compensates, shape}
 use Rattle.rules.proofs.Outcomes.{Ruled, becomes-ruled, outcome-ruled}
 use Rattle.scopes.proofs.ScopeLists.{whole-inside, frames-deep, process-inside, level-low}
@@ -65,7 +67,6 @@ use Rattle.stepping.specs.declared.bundles.Side.{Side}
 use Rattle.stepping.proofs.Modest.{Modest}
 use Rattle.stepping.specs.Exchanging.{lent}
 use Rattle.stepping.specs.Alone.{settledW, rewrittenW, valuedW, scopedW, ruleW}
-use Rattle.stepping.proofs.Writes.{valued}
 use Rattle.stepping.proofs.Results.{one-stands, one-behind, one-values}
 
 -- no engine is deeper than all
@@ -81,22 +82,22 @@ unfolding runDepth
 enabled-depth f = ap depth (enable-asNode f)
 
 -- no rewriting of an if takes a value
-part-none : (ws : List ℕ) (from upto end : ℕ) → partW ws from upto end unchanged .store .variable ≡ 32
+part-none : (ws : List ℕ) (from upto end : ℕ) → partW ws from upto end unchanged .store ≡ unchanged
 unfolding partW
 part-none ws from upto end = by (eqb (at ws from) 0)
   where
-    by : (b : Bool) → cond b (vanishing unchanged) (keeping 0 from upto end unchanged) .store .variable ≡ 32
+    by : (b : Bool) → cond b (vanishing unchanged) (keeping 0 from upto end unchanged) .store ≡ unchanged
     by true = refl
     by false = refl
 
-branch-none : (ws : List ℕ) (e : Evaluated) → branchW ws e .store .variable ≡ 32
+branch-none : (ws : List ℕ) (e : Evaluated) → branchW ws e .store ≡ unchanged
 unfolding branchW
 branch-none ws e = by (eqb (e .value) 0)
   where
     by : (b : Bool) →
         (let middle : ℕ = partEnd ws (e .end) in
         let last : ℕ = partEnd ws middle in
-        cond b (partW ws middle last last unchanged) (partW ws (e .end) middle last unchanged) .store .variable ≡ 32)
+        cond b (partW ws middle last last unchanged) (partW ws (e .end) middle last unchanged) .store ≡ unchanged)
     by true = part-none ws _ _ _
     by false = part-none ws _ _ _
 
@@ -181,14 +182,14 @@ module _ (ws : List ℕ) (ok : Words ws) (n issued : ℕ) (few : n ≤ 8) (small
     abbrev Makes : Edited → Move → Type 0
     Makes u stuck = Unit {0}
     Makes u (alone vs' q) =
-        Ruled (limits .deepest) ws start (start + size r) (u .edit) (u .fresh) q × (u .edit .number ≡ 0 → vs' ≡ valued vs (u .edit .store .variable) (u .edit .store .value))
+        Ruled (limits .deepest) ws start (start + size r) (u .edit) (u .fresh) q × (u .edit .number ≡ 0 → vs' ≡ stored vs (u .edit .store))
     Makes u unvalued = u .edit .number ≡ 13
     Makes u (sends m) = Unit {0}
 
     -- no value changes
     still : (u : Edited) (q : Option Run) →
-        Ruled (limits .deepest) ws start (start + size r) (u .edit) (u .fresh) q × (u .edit .store .variable ≡ 32) → Makes u (alone vs q)
-    still u q (a, b) = (a, λ z. rw b)
+        Ruled (limits .deepest) ws start (start + size r) (u .edit) (u .fresh) q × (u .edit .store ≡ unchanged) → Makes u (alone vs q)
+    still u q (a, b) = (a, λ z. sym (stored-none vs (u .edit .store) (ap (λ s. s .variable) b)))
 
     made-scope : (name : ℕ) (mark : Mark) (zombie : Bool) (h : Entries) (a : Run) → l .process ≡ scope name mark zombie h a →
         (b : Bool) → isDone a ≡ b →
@@ -220,7 +221,7 @@ module _ (ws : List ℕ) (ok : Words ws) (n issued : ℕ) (few : n ≤ 8) (small
         )
 
     -- the process becomes q, and no value changes
-    turns : (q : Run) (t : Rewriting) (made : List ℕ) → length made ≡ length fresh → Becomes (l .process) q t made → t .store .variable ≡ 32 →
+    turns : (q : Run) (t : Rewriting) (made : List ℕ) → length made ≡ length fresh → Becomes (l .process) q t made → t .store ≡ unchanged →
         s .level + runDepth q ≤ suc (limits .deepest) → Makes (plainW s start t made) (alone vs (some (plug (l .frames) q)))
     turns q t made same b x high =
         let u = becomes-ruled (faultAt ws target) target r start l s ws words-at spotted near (standing .frames) deep q t made
@@ -264,8 +265,8 @@ module _ (ws : List ℕ) (ok : Words ws) (n issued : ℕ) (few : n ≤ 8) (small
         assign-rewrites n issued (drop (s .at) ws) (words-part ws (s .at) ok) few small vs below rest h e g
         (omega (arith, node-deep m is, deep .low)) (node-at m is) v in
         let u = becomes-ruled (faultAt ws target) target r start l s ws words-at spotted near (standing .frames) deep nil
-        (vanishing (takes x v)) fresh (omega arith) big (becomes-nil (l .process) x v fresh) (omega (arith, depth-nil, level)) in
-        rw turn (u .0, λ z. rw (u .1, u .2, lt-leb 32 x (omega arith)))
+        (vanishing (takes x v)) fresh (omega arith) big (becomes-nil (l .process) (takes x v) fresh) (omega (arith, depth-nil, level)) in
+        rw turn (u .0, λ z. sym (ap (stored vs) (u .1) ∙ stored-one vs x v (omega arith)))
 
     made-branch : (h : ℕ) (e : Expr) (p q : Node) → FitsExpr e → Fits (code false) anywhere p → Fits (code false) anywhere q →
         l .process ≡ act (node h [] (e ∷ []) absent (p & q & noParts)) →
@@ -344,10 +345,10 @@ module _ (ws : List ℕ) (ok : Words ws) (n issued : ℕ) (few : n ≤ 8) (small
     made-act m is f (branches {h} {e} {p} {q} k g fp fq) = rw k (made-branch h e p q g fp fq is)
     made-act m is f (repeats {h} {e} {p} k g fp) = rw k (made-repeat h e p k g fp f is)
     made-act m is f (chooses k c pt) = rw k tt
-    made-act m is f (hears k) = rw k tt
-    made-act m is f (serves k t fp) = rw k tt
-    made-act m is f (notifies k t) = rw k tt
-    made-act m is f (solicits k t fl) = rw k tt
+    made-act m is f (hears k x) = rw k tt
+    made-act m is f (serves k t x y fp) = rw k tt
+    made-act m is f (notifies k t y) = rw k tt
+    made-act m is f (solicits k t y x fl) = rw k tt
     made-act m is f (installs {h} {l = new} k t fl) = rw k (made-install h new k fl is)
     made-act m is f (throws {h} k t) = rw k (made-throw h k is)
     made-act m is f (compensates {h} k t) = rw k (made-compensate h is)
@@ -358,7 +359,7 @@ module _ (ws : List ℕ) (ok : Words ws) (n issued : ℕ) (few : n ≤ 8) (small
     made (seq a q) is g = tt
     made (par a b) is g = tt
     made (scope name mark zombie h a) is g = made-scope name mark zombie h a is (isDone a) refl
-    made (executor o y client serial a) is g = made-executor (isDone a) _ (reply o (valueAt vs y) client serial)
+    made (executor o y client serial a) is g = made-executor (isDone a) _ (reply o (valuesAt vs y) client serial)
     made (waiter o x dead server serial q) is g = tt
     made (notice o f client serial) is g = tt
     made (act m) is (actSound i f) = made-act m is f (shape i f)
@@ -367,7 +368,7 @@ module _ (ws : List ℕ) (ok : Words ws) (n issued : ℕ) (few : n ≤ 8) (small
     pub lone :
         (vs' : List ℕ) (q : Option Run) → moveOf vs (l .frames) (l .process) ≡ alone vs' q →
         (let u = ruleW limits ws notes side (kind (asNode (l .process))) bound fresh in
-        Ruled (limits .deepest) ws start (start + size r) (u .edit) (u .fresh) q × (u .edit .number ≡ 0 → vs' ≡ valued vs (u .edit .store .variable) (u .edit .store .value)))
+        Ruled (limits .deepest) ws start (start + size r) (u .edit) (u .fresh) q × (u .edit .number ≡ 0 → vs' ≡ stored vs (u .edit .store)))
     lone vs' q e =
         rw (kind-asNode (standing .process))
         (subst (Makes (ruleW limits ws notes side (runKind (l .process)) bound fresh)) e (made (l .process) refl (standing .process)))
@@ -416,7 +417,7 @@ module _ (ws : List ℕ) (ok : Words ws) (starts : Starts) {limits : Limits} (mo
         (vs' : List ℕ) (q : Option Run) → moveOf (engineAt c e .values) (l .frames) (l .process) ≡ alone vs' q →
         (let u = ruleW limits ws notes (record { start = startOf c e; end = end; site = s }) (kind (asNode (l .process))) (length (c .engines) * 65536 + c .issued) fresh in
         Ruled (limits .deepest) ws (startOf c e) (startOf c e + size run) (u .edit) (u .fresh) q
-        × (u .edit .number ≡ 0 → vs' ≡ valued (engineAt c e .values) (u .edit .store .variable) (u .edit .store .value)))
+        × (u .edit .number ≡ 0 → vs' ≡ stored (engineAt c e .values) (u .edit .store)))
     known-lone end notes right fresh room wide big =
         lone ws ok (length (c .engines)) (c .issued) (known .readable .fitting .few) (known .readable .fitting .word) run (fit .sound)
         (startOf c e) run-stands (omega arith) limits run-deep run-short target l s place spotted end (engineAt c e .values)

@@ -25,6 +25,7 @@ use Rattle.finding.specs.declared.find.Site.{Site}
 use Rattle.rules.specs.Editing.{Edited}
 use Rattle.writers.proofs.Laid.{Near, near-of}
 use Rattle.rules.proofs.Outcomes.{Ruled, unkillable, tooDeep, ruled}
+use Rattle.rules.proofs.Stores.{stored}
 use Rattle.scopes.proofs.Scratch.{Roomy, Spacious}
 use Rattle.layout.specs.declared.limit.Limits.{Limits}
 use Rattle.layout.specs.Limits.{figures}
@@ -34,7 +35,6 @@ use Rattle.stepping.specs.Answering.{Answered, answered, refusing, oneW}
 use Rattle.stepping.specs.Alone.{ruleW, loneW, large, small, shortW, aloneW, surely}
 use Rattle.stepping.proofs.Goal.{given, given-refused}
 use Rattle.stepping.proofs.Given.{one-refused, one-deep, one-given}
-use Rattle.stepping.proofs.Writes.{valued}
 use Rattle.stepping.proofs.Whole.{loneOf}
 use Rattle.stepping.proofs.Lone.{known-lone, known-unvalued}
 use Rattle.stepping.proofs.Seeking.{Seen, placed}
@@ -76,7 +76,7 @@ module _ (ws : List ℕ) (ok : Words ws) (s : Starts) {limits : Limits} (modest 
 
   by-rule :
       (u : Edited) (vs' : List ℕ) (q : Option Run) → Ruled (limits .deepest) ws start end (u .edit) (u .fresh) q →
-      (u .edit .number ≡ 0 → vs' ≡ valued (engineAt c e .values) (u .edit .store .variable) (u .edit .store .value)) → (out : List ℕ) →
+      (u .edit .number ≡ 0 → vs' ≡ stored (engineAt c e .values) (u .edit .store)) → (out : List ℕ) →
       oneW limits ws start end (u .edit) k (u .fresh) out ≡ given (loneOf limits c a vs' q (length out)) out
   unfolding loneOf
   by-rule u vs' none (unkillable z) v out =

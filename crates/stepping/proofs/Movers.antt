@@ -9,16 +9,19 @@ use mathlib.Core.List.{List, _∷_, _++_, append-assoc}
 use borrow.Author.Tests.{ne-eqb, eqb-false}
 use lib.Dec.{eqb}
 use lib.ListN.{length, drop}
-use Rattle.sock.specs.Words.{kindOf}
+use Rattle.sock.specs.Kind.{rows, rowOf}
+use Rattle.sock.specs.Words.{kindOf, headOf, nameFields}
+use Rattle.sock.specs.Variables.{firstOf, variableWords, valuesAt}
 use Rattle.sock.specs.Term.{Node, Entries, headWord, kind}
 use Rattle.sock.specs.Layout.{count, entriesWords, entriesDepth}
 use Rattle.sock.specs.Running.{Mark, markedFault, scopeHead, Run, nil, seq, par, scope, executor, waiter, notice, act, asNode, runWords, size, runDepth}
 use Rattle.sock.specs.Configuration.{standard, Config}
 use Rattle.sock.specs.Calls.{engineAt}
-use Rattle.sock.specs.Evaluation.{valueAt}
 use Rattle.sock.specs.Frames.{Located, isDone}
 use Rattle.sock.specs.Rules.{action, Message, reply, Move, stuck, alone, sends, ending, acting, onceDone, moveOf, unvalued, valued}
-use Rattle.sock.proofs.Fits.{FitsEntries, FitsEngine, Sound, scopeSound, executorSound, actSound}
+use Rattle.sock.proofs.Fits.{FitsFixed, oneFixed, FitsEntries, FitsEngine, Sound, scopeSound, executorSound, actSound}
+use Rattle.sock.proofs.Fields.{head-kind, fields-below, fixed-fits, end-tests}
+use Rattle.sock.proofs.Variables.{laid, list-fits}
 use Rattle.sock.proofs.Located.{engine-fits, startOf}
 use Rattle.sock.proofs.Measures.{words-scope, words-executor, size-scope, size-executor, depth-scope}
 use Rattle.sock.proofs.ByKind.{runKind, kind-asNode, done-kind}
@@ -28,7 +31,9 @@ use Rattle.skipping.specs.Pass.{passList}
 use Rattle.reading.proofs.Combining.{Words}
 use Rattle.skipping.proofs.Notes.{Right, pass-entries}
 use Rattle.reading.proofs.Known.{Known}
+use Rattle.layout.specs.Own.{ownEnd}
 use Rattle.layout.specs.Positions.{onward}
+use Rattle.layout.proofs.Owns.{own-end}
 use Rattle.writers.proofs.Laid.{onward-near}
 use Rattle.finding.specs.declared.find.Site.{Site}
 use Rattle.finding.specs.Find.{faultAt}
@@ -124,18 +129,24 @@ module _ (ws : List ℕ) (ok : Words ws) (n issued : ℕ) (few : n ≤ 8) (small
 
   -- and an executor's
   work-done :
-      (o y client serial : ℕ) (a : Run) → l .process ≡ executor o y client serial a → Sound n issued a →
-      eqb (at ws (onward (s .at) 3)) 0 ≡ isDone a
-  work-done o y client serial a is g =
+      (o : ℕ) (y : List ℕ) (client serial : ℕ) (a : Run) → l .process ≡ executor o y client serial a → Sound n issued (executor o y client serial a) →
+      eqb (at ws (ownEnd ws (s .at))) 0 ≡ isDone a
+  unfolding rowOf rows
+  work-done o y client serial a is (executorSound bo by t g) =
       let i : ℕ = s .at in
-      let e : drop i ws ≡ _ ∷ _ ∷ _ ∷ (runWords a ++ more) =
-      stands ∙ ap (λ w. w ++ more) (ap runWords is ∙ words-executor o y client serial a) in
-      let first = at-head ws i _ _ e in
-      let second = at-head ws (i + 1) _ _ (first .next) in
-      let third = at-head ws (i + 1 + 1) _ _ (second .next) in
-      let long : size (l .process) ≡ 3 + size a = ap size is ∙ size-executor o y client serial a in
-      let on : onward i 3 ≡ i + 1 + 1 + 1 = onward-at 3 (omega arith) ∙ (let z : i + 3 ≡ i + 1 + 1 + 1 = omega arith in z) in
-      rw on (at-done a (i + 1 + 1 + 1) more g (third .next))
+      let h : ℕ = headOf 16 (nameFields o (firstOf y)) in
+      let own : List ℕ = (client * 8192) ∷ serial ∷ variableWords y in
+      let e : drop i ws ≡ (h ∷ own) ++ (runWords a ++ more) =
+      stands
+      ∙ (ap (λ w. w ++ more) (ap runWords is ∙ words-executor o y client serial a) ∙ append-assoc (h ∷ own) (runWords a) more) in
+      let k : kindOf h ≡ 16 = head-kind 16 (nameFields o (firstOf y)) (fields-below o (firstOf y) bo (laid y by .low)) in
+      let known = end-tests n issued client serial t in
+      let fixed : FitsFixed (rowOf 16 .fixed) own =
+      oneFixed (fixed-fits 8192 (client * 8192) (omega (arith, known)) (omega arith)) (oneFixed (fixed-fits 1 serial (omega (arith, known)) (omega arith)) (list-fits y by)) in
+      let ends : ownEnd ws i ≡ i + 1 + length own = own-end ws {h = h} {f = own} (omega arith) (rw k fixed) i (runWords a ++ more) e in
+      let past : drop (i + 1 + length own) ws ≡ runWords a ++ more =
+      ap (λ k. drop k ws) (let z : i + 1 + length own ≡ i + length (h ∷ own) = omega arith in z) ∙ at-past ws (h ∷ own) (runWords a ++ more) i e in
+      rw ends (at-done a (i + 1 + length own) more g past)
 
   act-moves : (m : Node) → Shape m → Moving (acting vs (l .frames) m (action m)) (movesW ws notes (s .at) (kind m))
   unfolding action acting movesW byKind
@@ -143,10 +154,10 @@ module _ (ws : List ℕ) (ok : Words ws) (n issued : ℕ) (few : n ≤ 8) (small
   act-moves m (branches k g fp fq) = rw k (valued-moving _ λ v. goes)
   act-moves m (repeats k g fp) = rw k (valued-moving _ λ v. goes)
   act-moves m (chooses k c pt) = rw k stays
-  act-moves m (hears k) = rw k stays
-  act-moves m (serves k t fp) = rw k stays
-  act-moves m (notifies k t) = rw k asks
-  act-moves m (solicits k t fl) = rw k asks
+  act-moves m (hears k x) = rw k stays
+  act-moves m (serves k t x y fp) = rw k stays
+  act-moves m (notifies k t y) = rw k asks
+  act-moves m (solicits k t y x fl) = rw k asks
   act-moves m (installs k t fl) = rw k goes
   act-moves m (throws k t) = rw k goes
   act-moves m (compensates k t) = rw k goes
@@ -160,8 +171,8 @@ module _ (ws : List ℕ) (ok : Words ws) (n issued : ℕ) (few : n ≤ 8) (small
       rw (body-done name mark zombie h a is f g)
       (once-moving (isDone a) (alone vs (some (ending name mark zombie h (l .frames)))) 1 goes)
   moves (executor o y client serial a) is (executorSound x z t g) =
-      rw (work-done o y client serial a is g)
-      (once-moving (isDone a) (sends (reply o (valueAt vs y) client serial)) 2 asks)
+      rw (work-done o y client serial a is (executorSound x z t g))
+      (once-moving (isDone a) (sends (reply o (valuesAt vs y) client serial)) 2 asks)
   moves (waiter o x dead server serial q) is g = stays
   moves (notice o f client serial) is g = asks
   moves (act m) is (actSound i f) = act-moves m (shape i f)

@@ -33,6 +33,7 @@ use Rattle.rules.specs.Offering.{offerW}
 use Rattle.rules.specs.Editing.{Edited, plainW}
 use Rattle.rules.proofs.Rewrites.{Becomes, both-ways}
 use Rattle.rules.proofs.Edits.{Edits, plain-edits}
+use Rattle.rules.proofs.Stores.{stored, stored-none}
 use Rattle.rules.proofs.Outcomes.{Ruled, tooDeep, ruled, becomes-ruled}
 use Rattle.layout.specs.declared.limit.Limits.{Limits}
 use Rattle.layout.specs.Limits.{figures}
@@ -45,7 +46,6 @@ use Rattle.stepping.specs.Meeting.{fitW, serialW, sendW, receiveW}
 use Rattle.stepping.specs.Exchanging.{blank, lent, senderW, receiverW, orderedW, nextOf, issuedOf, faultOf, carryW, spentW, meetW, betweenW}
 use Rattle.stepping.proofs.Goal.{given, given-refused, fitted, fitted-spent}
 use Rattle.stepping.proofs.Given.{two-given}
-use Rattle.stepping.proofs.Writes.{valued}
 use Rattle.stepping.proofs.Results.{one-stands, one-behind, one-length}
 use Rattle.stepping.proofs.Whole.{pairOf, exchanged, pair-same, pair-none, pair-some}
 use Rattle.stepping.proofs.Seeking.{Seen, placed}
@@ -68,8 +68,7 @@ module _ (ws : List ℕ) (ok : Words ws) (s : Starts) {limits : Limits} (modest 
     pub edits : Edits ws (startOf c e) (end e) (u .edit) (u .fresh) (plug (l .frames) q)
     pub deep : runDepth (plug (l .frames) q) ≤ limits .deepest
     pub few : u .edit .fresh ≤ limits .longest
-    pub x : u .edit .store .variable ≡ t .store .variable
-    pub v : u .edit .store .value ≡ t .store .value
+    pub takes : u .edit .store ≡ t .store
 
   module _ (e target : ℕ) (l : Located) (sp : Site) (seen : Seen ws ok s modest known e target l sp) where
     stands : drop (startOf c e) ws ≡ runWords (engineAt c e .process) ++ drop (end e) ws
@@ -88,7 +87,7 @@ module _ (ws : List ℕ) (ok : Words ws) (s : Starts) {limits : Limits} (modest 
         becomes-ruled (faultAt ws target) target (engineAt c e .process) (startOf c e) l sp ws stands (seen .spotted) (partners.near ws ok s modest known)
         (partners.found-frames ws ok s modest known e (seen .inside) target l sp (seen .spotted)) (partners.engine-shallow ws ok s modest known e (seen .inside) target l sp (seen .spotted))
         q t fresh (omega arith) near b (omega (arith, seen .spotted .level, deep-in)) in
-        record { edits = p .0; deep = by (g .0) (p .1); few = omega (arith, plain-few fresh near (omega arith) sp (startOf c e) t few, one-length c (known .readable .fitting) e (seen .inside) ws (known .same), short); x = p .2; v = p .3 }
+        record { edits = p .0; deep = by (g .0) (p .1); few = omega (arith, plain-few fresh near (omega arith) sp (startOf c e) t few, one-length c (known .readable .fitting) e (seen .inside) ws (known .same), short); takes = p .2 }
       where
         deep-in : length (l .frames) + runDepth (l .process) ≤ limits .deepest
         deep-in = partners.found-deep ws ok s modest known e (seen .inside) target l sp (seen .spotted)
@@ -115,10 +114,10 @@ module _ (ws : List ℕ) (ok : Words ws) (s : Starts) {limits : Limits} (modest 
       (editsA : Edits ws (startOf c e) (end e) p f qa) (deepA : runDepth qa ≤ limits .deepest) (fewA : p .fresh ≤ limits .longest) (r : Edit) (g : List ℕ) (qb : Run)
       (editsB : Edits ws (startOf c i) (end i) r g qb) (deepB : runDepth qb ≤ limits .deepest) (fewB : r .fresh ≤ limits .longest) (issued : ℕ) (fine : issued ≤ 65535) (kd branch serial fault : ℕ) (sa sb : Site) (out : List ℕ) where
     abbrev va : List ℕ
-    va = valued (engineAt c e .values) (p .store .variable) (p .store .value)
+    va = stored (engineAt c e .values) (p .store)
 
     abbrev vb : List ℕ
-    vb = valued (engineAt c i .values) (r .store .variable) (r .store .value)
+    vb = stored (engineAt c i .values) (r .store)
 
     abbrev told : Told
     told = record { kind = kd % 32; serial = serial; fault = fault; issued = issued }
@@ -244,9 +243,6 @@ module _ (ws : List ℕ) (ok : Words ws) (s : Starts) {limits : Limits} (modest 
     abbrev serial : ℕ
     serial = serialW part kd (suc (c .issued))
 
-    unchanged : (vs : List ℕ) (x v : ℕ) → x ≡ 32 → valued vs x v ≡ vs
-    unchanged vs x v q = rw q
-
     carry-law :
         (other : e ≡ i → ⊥) (x : Exchange) → spentW ws kd ≡ false →
         Trades (la .process) (lb .process) (engineAt c i .values) (issuedOf kd (c .issued) (suc (c .issued))) serial (faultOf kd) (sendW part kd i serial blank)
@@ -263,8 +259,8 @@ module _ (ws : List ℕ) (ok : Words ws) (s : Starts) {limits : Limits} (modest 
         (p2 .deep) (p2 .few) (issuedOf kd (c .issued) (suc (c .issued))) (issued-fine part kd left) kd (k .branch) serial (faultOf kd) sa sb out
         ∙ same-stepped (sym (t .issues))
         (ap₂ (λ (vs us : List ℕ). withEngine i vs (plug (lb .frames) (x .receiver)) (withEngine e us (plug (la .frames) (x .sender)) (c .engines)))
-        (ap₂ (λ (y w : ℕ). valued (engineAt c i .values) y w) (p2 .x) (p2 .v) ∙ sym (t .values))
-        (unchanged (engineAt c e .values) _ _ (p1 .x ∙ t .sender .takes)))
+        (ap (stored (engineAt c i .values)) (p2 .takes) ∙ sym (t .values))
+        (stored-none (engineAt c e .values) _ (ap (λ s. s .variable) (p1 .takes ∙ t .sender .takes))))
         (let z : kd % 32 ≡ kd = omega arith in z) (sym (t .numbers)) (sym (t .fails)) out)
 
     -- where no serial is left

@@ -5,11 +5,12 @@ use native.Mathlib.Omega.{arith}
 use mathlib.Core.Path.{_≡_, refl, sym, ap, _∙_, subst}
 use mathlib.Core.Bool.{Bool, true, false, cond}
 use mathlib.Core.Option.{Option, none, some}
-use mathlib.Core.List.{List, [], _∷_, _++_}
-use borrow.Author.Tests.{lt-leb, ne-eqb}
+use mathlib.Core.List.{List, [], _∷_, _++_, append-assoc, append-nil}
+use borrow.Author.Tests.{ne-eqb}
 use lib.Dec.{eqb}
-use lib.ListN.{length, set}
+use lib.ListN.{length, drop}
 use Rattle.sock.specs.Words.{nameOf, secondOf, firstName, firstVariable, nextVariable, headOf, nameFields}
+use Rattle.sock.specs.Variables.{firstOf, variableWords, valuesAt}
 use Rattle.sock.specs.Term.{Node, node, absent, list, Entries, noParts, kind}
 use Rattle.sock.specs.Layout.{words, depth, exprsWords}
 use Rattle.sock.specs.Reading.{code, anywhere}
@@ -21,33 +22,38 @@ use Rattle.sock.specs.Rules.{Message, notification, solicitation, reply, failur
 use Rattle.sock.proofs.Fits.{Fits, Sound, nilSound, seqSound, parSound, scopeSound, executorSound, waiterSound, noticeSound, actSound, AllBelow}
 use Rattle.sock.proofs.Fields.{name-of, second-of, client-of, noticed-fault, noticed-client, end-tests}
 use Rattle.sock.proofs.ByKind.{kind-asNode}
+use Rattle.sock.proofs.Variables.{laid as variables-laid}
 use Rattle.sock.proofs.Measures.{words-executor, words-notice, words-act, depth-nil, depth-act}
 use Rattle.evaluating.specs.Evaluating.{valueIn}
 use Rattle.evaluating.proofs.Evaluates.{value-in}
 use Rattle.writers.proofs.Laid.{Near}
-use Rattle.rules.specs.Storing.{takes, unchanged}
+use Rattle.rules.specs.Storing.{unchanged}
+use Rattle.rules.specs.declared.store.Store.{Store}
 use Rattle.rules.specs.declared.pair.Offer.{Offer}
 use Rattle.rules.specs.Rewriting.{Rewritten, rewritten, vanishing, at}
+use Rattle.rules.specs.Messages.{hearsW, heardW, servesW, servedW, answersW, answeredW}
 use Rattle.rules.specs.Offering.{offerW, fitsW, hearW, serveW, awaitsW, answerW, failW}
 use Rattle.rules.proofs.Rewrites.{Becomes, becomes-nil}
 use Rattle.rules.proofs.Depths.{depth-some}
-use Rattle.rules.proofs.Shapes.{Shape, assigns, branches, repeats, chooses, hears, serves, notifies, solicits, installs, throws, compensates, shape}
+use Rattle.rules.proofs.Stores.{stored, stored-none}
+use Rattle.rules.proofs.Messages.{Listed}
+use Rattle.rules.proofs.Offers.{first-list, only-list, behind-list}
+use Rattle.rules.proofs.Shapes.{Headed, Shape, assigns, branches, repeats, chooses, hears, serves, notifies, solicits, installs, throws, compensates, shape}
 use Rattle.rules.proofs.Exchanges.{Takes}
-use Rattle.rules.proofs.Waiters.{ask-rewrites, awaited-branch}
-use Rattle.rules.proofs.Meetings.{Meets, meets, misses, Strikes, strikes, spares, notify-meets, solicit-meets, reply-meets, fault-strikes}
-use Rattle.stepping.specs.Meeting.{addressedW, repliesW, takerOf, fitW, serialW, sendW, receiveW}
+use Rattle.rules.proofs.Waiters.{asks-front, asks-back, ask-rewrites, awaited-branch}
+use Rattle.rules.proofs.Meetings.{Meets, meets, misses, notify-meets, solicit-meets, reply-meets, fault-meets}
+use Rattle.stepping.specs.Meeting.{addressedW, repliesW, repliedW, takerOf, countsW, takesW, fitW, serialW, sendW, receiveW}
 use Rattle.stepping.specs.Exchanging.{issuedOf, faultOf}
-use Rattle.stepping.proofs.Writes.{valued}
 
 -- the sender a rewritings as t says, the receiver b as u says, and x is what the rule makes of them
 pub record Trades (a b : Run) (vb : List ℕ) (issued serial fault : ℕ) (t u : Rewritten) (x : Exchange) : Type 0 where
   pub issues : x .issued ≡ issued
   pub numbers : x .serial ≡ serial
   pub fails : x .fault ≡ fault
-  pub sender : Takes a (x .sender) (t .rewriting) (t .fresh) 32 0
+  pub sender : Takes a (x .sender) (t .rewriting) (t .fresh) unchanged
   pub receiver : Becomes b (x .receiver) (u .rewriting) (u .fresh)
   pub shallow : runDepth (x .receiver) ≤ runDepth b
-  pub values : x .values ≡ valued vb (u .rewriting .store .variable) (u .rewriting .store .value)
+  pub values : x .values ≡ stored vb (u .rewriting .store)
 
 -- whether they fit, and then how they trade
 pub data Pairs
@@ -62,16 +68,12 @@ pub data Pairs
       (receiveW part values other (offerW other branch) kind e (serialW part kind (suc issued)) fresh) x →
       Pairs issued e i branch a b vb part values other kind fresh (some x)
 
-taken : (vb : List ℕ) (x v y w : ℕ) → y < 32 → x ≡ y → v ≡ w → set vb y w ≡ valued vb x v
-taken vb x v y w h p q = rw (p, q, lt-leb 32 y h)
-
-vanishes : (a : Run) (fresh : List ℕ) → Takes a nil (vanishing unchanged) fresh 32 0
-vanishes a fresh =
-    record { becomes = becomes-nil a 32 0 fresh; takes = refl; value = refl; shallow = omega (arith, depth-nil, depth-some a) }
+vanishes : (a : Run) (fresh : List ℕ) → Takes a nil (vanishing unchanged) fresh unchanged
+vanishes a fresh = record { becomes = becomes-nil a unchanged fresh; takes = refl; shallow = omega (arith, depth-nil, depth-some a) }
 
 module _ (n issued : ℕ) (few : n ≤ 8) (small : issued < 65536) (e i branch : ℕ) (low-e : e < 8) (low-i : i < 8)
     (fresh : List ℕ) (big : Near (length fresh)) (room : 4 ≤ length fresh)
-    (part values : List ℕ) (va : List ℕ) (below : AllBelow 4294967296 va) (laid : values ≡ valuesWords va)
+    (part : List ℕ) (near-part : Near (length part)) (values : List ℕ) (va : List ℕ) (below : AllBelow 4294967296 va) (laid : values ≡ valuesWords va)
     (other : List ℕ) (close : Near (length other))
     (b : Run) (soundB : Sound n issued b) (deepB : runDepth b ≤ 64)
     (restB : List ℕ) (standsB : other ≡ runWords b ++ restB) (vb : List ℕ) where
@@ -86,28 +88,27 @@ module _ (n issued : ℕ) (few : n ≤ 8) (small : issued < 65536) (e i branch :
 
   -- ---- a notify
 
-  module _ (a : Run) (h w : ℕ) (first : at part 0 ≡ h) (second : at part 1 ≡ w) where
-    notify-fits : fitW part values other o 9 branch e i ≡ cond (eqb (valueAt va (w / 2048)) i) (fitsW other o 7 h) false
-    unfolding fitW addressedW takerOf
+  module _ (a : Run) (h w : ℕ) (y : List ℕ) (first : at part 0 ≡ h) (second : at part 1 ≡ w) (headed : secondOf h ≡ firstOf y) (sent : Listed part 2 y) where
+    abbrev hearing : Bool
+    hearing = cond (fitsW other o 7 h) (hearsW part other (o .guard)) false
+
+    notify-fits : fitW part values other o 9 branch e i ≡ cond (eqb (valueAt va (w / 2048)) i) hearing false
+    unfolding fitW addressedW takesW countsW takerOf
     notify-fits = rw (first, second, value (w / 2048))
 
-    notify-receives : receiveW part values other o 9 e 0 fresh ≡ rewritten (hearW other o (valueAt va (h % 32))) fresh
-    unfolding receiveW
-    notify-receives = rw (first, value (h % 32))
+    abbrev heard : Store
+    heard = heardW part values other (o .guard)
 
-    abbrev notified-as : Run → ℕ → Exchange
-    notified-as q x = record { sender = nil; receiver = q; values = set vb x (valueAt va (h % 32)); issued = issued; serial = 0; fault = 0 }
+    abbrev notified-as : Run → Exchange
+    notified-as q = record { sender = nil; receiver = q; values = stored vb heard; issued = issued; serial = 0; fault = 0 }
 
     notify-found :
-        {x : Option Exchange} → fitW part values other o 9 branch e i ≡ fitsW other o 7 h →
-        Meets (fitsW other o 7 h) b (hearW other o (valueAt va (h % 32))) fresh (valueAt va (h % 32))
-        notified-as x →
+        {x : Option Exchange} → fitW part values other o 9 branch e i ≡ hearing → Meets hearing b (hearW other o heard) fresh heard notified-as x →
         PairsOf a 9 x
-    unfolding serialW sendW issuedOf faultOf
+    unfolding serialW sendW receiveW issuedOf faultOf
     notify-found f (misses z) = misfit (f ∙ z)
-    notify-found f (meets {q} {x} z low k) =
-        fit {x = notified-as q x} (f ∙ z)
-        (rw notify-receives
+    notify-found f (meets {q} z k) =
+        fit {x = notified-as q} (f ∙ z)
         (record {
           issues = refl;
           numbers = refl;
@@ -115,116 +116,111 @@ module _ (n issued : ℕ) (few : n ≤ 8) (small : issued < 65536) (e i branch :
           sender = vanishes a fresh;
           receiver = k .becomes;
           shallow = k .shallow;
-          values = taken vb _ _ x _ low (k .takes) (k .value);
-        }))
+          values = ap (stored vb) (sym (k .takes));
+        })
 
-    notify-pairs :
-        PairsOf a 9
-        (exchange issued e i branch vb b (notification (nameOf h) (valueAt va (secondOf h)) (valueAt va (firstVariable w))))
+    notify-pairs : PairsOf a 9 (exchange issued e i branch vb b (notification (nameOf h) (valuesAt va y) (valueAt va (firstVariable w))))
     unfolding exchange guarded
     notify-pairs = by (eqb (valueAt va (w / 2048)) i) refl
       where
         by :
             (t : Bool) → eqb (valueAt va (w / 2048)) i ≡ t →
-            PairsOf a 9 (guarded t (notified issued vb (nameOf h) (valueAt va (h % 32)) (offer b branch .receives) (offer b branch .next)))
+            PairsOf a 9 (guarded t (notified issued vb (nameOf h) (valuesAt va y) (offer b branch .receives) (offer b branch .next)))
         by true z =
-            notify-found (notify-fits ∙ ap (λ t. cond t (fitsW other o 7 h) false) z)
-            (notify-meets n issued other few small restB b soundB deepB standsB vb branch h (valueAt va (h % 32)) fresh)
-        by false z = misfit (notify-fits ∙ ap (λ t. cond t (fitsW other o 7 h) false) z)
+            notify-found (notify-fits ∙ ap (λ t. cond t hearing false) z)
+            (notify-meets n issued other few small restB b soundB deepB standsB close vb part near-part values va value y (ap secondOf first ∙ headed) sent branch h fresh)
+        by false z = misfit (notify-fits ∙ ap (λ t. cond t hearing false) z)
 
   -- ---- a solicit
 
-  module _ (h w : ℕ) (l : Entries) (f : Fits (code false) anywhere (node h (w ∷ []) [] (list l) noParts))
-      (deep : depth (node h (w ∷ []) [] (list l) noParts) ≤ 64) (rest : List ℕ)
-      (stands : part ≡ words (node h (w ∷ []) [] (list l) noParts) ++ rest) (first : at part 0 ≡ h) (second : at part 1 ≡ w) where
+  module _ (h w : ℕ) (y x : List ℕ) (front : Headed (secondOf h) y) (back : Headed (nextVariable w) x) (l : Entries)
+      (f : Fits (code false) anywhere (node h (w ∷ variableWords y ++ variableWords x) [] (list l) noParts))
+      (deep : depth (node h (w ∷ variableWords y ++ variableWords x) [] (list l) noParts) ≤ 64) (rest : List ℕ)
+      (stands : part ≡ words (node h (w ∷ variableWords y ++ variableWords x) [] (list l) noParts) ++ rest) (first : at part 0 ≡ h) (second : at part 1 ≡ w) where
     abbrev asker : Run
-    asker = act (node h (w ∷ []) [] (list l) noParts)
+    asker = act (node h (w ∷ variableWords y ++ variableWords x) [] (list l) noParts)
 
-    solicit-fits : fitW part values other o 10 branch e i ≡ cond (eqb (valueAt va (w / 2048)) i) (fitsW other o 8 h) false
-    unfolding fitW addressedW takerOf
+    abbrev serving : Bool
+    serving = cond (fitsW other o 8 h) (servesW part other (o .guard)) false
+
+    solicit-fits : fitW part values other o 10 branch e i ≡ cond (eqb (valueAt va (w / 2048)) i) serving false
+    unfolding fitW addressedW takesW countsW takerOf
     solicit-fits = rw (first, second, value (w / 2048))
 
-    solicit-receives :
-        receiveW part values other o 10 e (suc issued) fresh ≡ serveW other o e (suc issued) (valueAt va (h % 32)) fresh
-    unfolding receiveW
-    solicit-receives = rw (first, value (h % 32))
+    abbrev served : Store
+    served = servedW part values other (o .guard)
 
-    abbrev solicited-as : Run → ℕ → Exchange
-    solicited-as q y =
+    abbrev solicited-as : Run → Exchange
+    solicited-as q =
         record {
-          sender = waiter (nameOf h) (nextVariable w) false i (suc issued) l;
+          sender = waiter (nameOf h) x false i (suc issued) l;
           receiver = q;
-          values = set vb y (valueAt va (h % 32));
+          values = stored vb served;
           issued = suc issued;
           serial = suc issued;
           fault = 0;
         }
 
     solicit-found :
-        {x : Option Exchange} → fitW part values other o 10 branch e i ≡ fitsW other o 8 h →
-        Meets (fitsW other o 8 h) b (serveW other o e (suc issued) (valueAt va (h % 32)) fresh .rewriting)
-        (serveW other o e (suc issued) (valueAt va (h % 32)) fresh .fresh) (valueAt va (h % 32))
-        solicited-as x →
-        PairsOf asker 10 x
-    unfolding serialW sendW issuedOf faultOf
+        {z : Option Exchange} → fitW part values other o 10 branch e i ≡ serving →
+        Meets serving b (serveW other o e (suc issued) served fresh .rewriting) (serveW other o e (suc issued) served fresh .fresh) served solicited-as z →
+        PairsOf asker 10 z
+    unfolding serialW sendW receiveW issuedOf faultOf
     solicit-found g (misses z) = misfit (g ∙ z)
-    solicit-found g (meets {q} {x} z low k) =
-        fit {x = solicited-as q x} (g ∙ z)
-        (rw solicit-receives
+    solicit-found g (meets {q} z k) =
+        fit {x = solicited-as q} (g ∙ z)
         (record {
           issues = refl;
           numbers = refl;
           fails = refl;
-          sender = ask-rewrites n issued part few small rest h w l f deep stands i (suc issued) low-i fresh big (omega arith);
+          sender = ask-rewrites n issued part few small rest h w y x front back l f deep stands i (suc issued) low-i fresh big (omega arith);
           receiver = k .becomes;
           shallow = k .shallow;
-          values = taken vb _ _ x _ low (k .takes) (k .value);
-        }))
+          values = ap (stored vb) (sym (k .takes));
+        })
 
     solicit-pairs :
-        PairsOf asker 10
-        (exchange issued e i branch vb b
-        (solicitation (nameOf h) (valueAt va (secondOf h)) (valueAt va (firstVariable w)) (nextVariable w) l))
+        PairsOf asker 10 (exchange issued e i branch vb b (solicitation (nameOf h) (valuesAt va y) (valueAt va (firstVariable w)) x l))
     unfolding exchange guarded
     solicit-pairs = by (eqb (valueAt va (w / 2048)) i) refl
       where
         by :
             (t : Bool) → eqb (valueAt va (w / 2048)) i ≡ t →
             PairsOf asker 10
-            (guarded t
-            (solicited issued e i vb (nameOf h) (valueAt va (h % 32)) (nextVariable w) l (offer b branch .receives) (offer b branch .next)))
+            (guarded t (solicited issued e i vb (nameOf h) (valuesAt va y) x l (offer b branch .receives) (offer b branch .next)))
         by true z =
-            solicit-found (solicit-fits ∙ ap (λ t. cond t (fitsW other o 8 h) false) z)
-            (solicit-meets n issued other few small restB b soundB deepB standsB vb branch h (valueAt va (h % 32)) e i
-            (nextVariable w) low-e l fresh close big room)
-        by false z = misfit (solicit-fits ∙ ap (λ t. cond t (fitsW other o 8 h) false) z)
+            solicit-found (solicit-fits ∙ ap (λ t. cond t serving false) z)
+            (solicit-meets n issued other few small restB b soundB deepB standsB close vb part near-part values va value y (ap secondOf first ∙ sym (front .begins))
+            (asks-front n issued part few small rest h w y x front back l f deep stands) branch h e i low-e x
+            (asks-back n issued part few small rest h w y x front back l f deep stands) l fresh big room)
+        by false z = misfit (solicit-fits ∙ ap (λ t. cond t serving false) z)
 
   -- ---- an executor's reply
 
-  module _ (a : Run) (h client serial : ℕ) (first : at part 0 ≡ h) (second : at part 1 / 8192 ≡ client) (third : at part 2 ≡ serial) where
-    reply-fits : fitW part values other o 16 branch e i ≡ cond (eqb branch 0) (awaitsW other h serial client e i) false
-    unfolding fitW repliesW
+  module _ (a : Run) (h client serial : ℕ) (y : List ℕ) (first : at part 0 ≡ h) (second : at part 1 / 8192 ≡ client) (third : at part 2 ≡ serial)
+      (headed : secondOf h ≡ firstOf y) (sent : Listed part 3 y) where
+    abbrev replying : Bool
+    replying = cond (awaitsW other h serial client e i) (answersW part other) false
+
+    reply-fits : fitW part values other o 16 branch e i ≡ cond (cond (eqb branch 0) (awaitsW other h serial client e i) false) (answersW part other) false
+    unfolding fitW repliedW repliesW
     reply-fits = rw (first, second, third)
 
-    reply-receives : receiveW part values other o 16 e serial fresh ≡ answerW other (valueAt va (h % 32)) fresh
-    unfolding receiveW
-    reply-receives = rw (first, value (h % 32))
+    abbrev answered : Store
+    answered = answeredW part values other
 
-    abbrev replied-as : Run → ℕ → Exchange
-    replied-as q x =
-        record { sender = nil; receiver = q; values = set vb x (valueAt va (h % 32)); issued = issued; serial = serial; fault = 0 }
+    abbrev replied-as : Run → Exchange
+    replied-as q = record { sender = nil; receiver = q; values = stored vb answered; issued = issued; serial = serial; fault = 0 }
 
     reply-found :
-        {x : Option Exchange} → fitW part values other o 16 branch e i ≡ awaitsW other h serial client e i →
-        Meets (awaitsW other h serial client e i) b (answerW other (valueAt va (h % 32)) fresh .rewriting)
-        (answerW other (valueAt va (h % 32)) fresh .fresh) (valueAt va (h % 32))
-        replied-as x →
+        {x : Option Exchange} → fitW part values other o 16 branch e i ≡ replying →
+        Meets replying b (answerW other answered fresh .rewriting) (answerW other answered fresh .fresh) answered replied-as x →
         PairsOf a 16 x
-    unfolding serialW sendW issuedOf faultOf
+    unfolding serialW sendW receiveW issuedOf faultOf
     reply-found g (misses z) = misfit (g ∙ z)
-    reply-found g (meets {q} {x} z low k) =
-        fit {x = replied-as q x} (g ∙ z)
-        (rw (third, reply-receives)
+    reply-found g (meets {q} z k) =
+        fit {x = replied-as q} (g ∙ z)
+        (rw third
         (record {
           issues = refl;
           numbers = refl;
@@ -232,28 +228,31 @@ module _ (n issued : ℕ) (few : n ≤ 8) (small : issued < 65536) (e i branch :
           sender = vanishes a fresh;
           receiver = k .becomes;
           shallow = k .shallow;
-          values = taken vb _ _ x _ low (k .takes) (k .value);
+          values = ap (stored vb) (sym (k .takes));
         }))
 
-    reply-pairs : PairsOf a 16 (exchange issued e i branch vb b (reply (nameOf h) (valueAt va (h % 32)) client serial))
+    -- the exchange, by branch
+    abbrev Replied : ℕ → Option Exchange
+    Replied j =
+        awaited e i j (nameOf h) client serial (λ x. eqb (length (valuesAt va y)) (length x)) b
+        (λ x dead l. replied issued serial vb (valuesAt va y) x l)
+
+    reply-pairs : PairsOf a 16 (exchange issued e i branch vb b (reply (nameOf h) (valuesAt va y) client serial))
     unfolding exchange
     reply-pairs = by branch refl
       where
-        by :
-            (j : ℕ) → branch ≡ j →
-            PairsOf a 16 (awaited e i branch (nameOf h) client serial b (λ x dead l. replied issued serial vb (valueAt va (h % 32)) x l))
+        by : (j : ℕ) → branch ≡ j → PairsOf a 16 (Replied branch)
         by zero z =
-            subst
-            (λ j. PairsOf a 16 (awaited e i j (nameOf h) client serial b (λ x dead l. replied issued serial vb (valueAt va (h % 32)) x l)))
-            (sym z)
-            (reply-found (reply-fits ∙ ap (λ j. cond (eqb j 0) (awaitsW other h serial client e i) false) z)
-            (reply-meets n issued other few small restB b soundB deepB standsB vb h serial client e i fresh (omega arith)
-            (valueAt va (h % 32))))
+            subst (λ j. PairsOf a 16 (Replied j)) (sym z)
+            (reply-found
+            (reply-fits ∙ ap (λ j. cond (cond (eqb j 0) (awaitsW other h serial client e i) false) (answersW part other) false) z)
+            (reply-meets n issued other few small restB b soundB deepB standsB close vb part near-part values va value y (ap secondOf first ∙ headed) sent
+            h serial client e i fresh (omega arith)))
         by (suc j) z =
-            subst (λ x. PairsOf a 16 x)
-            (sym (ap (λ j. awaited e i j (nameOf h) client serial b (λ x dead l. replied issued serial vb (valueAt va (h % 32)) x l)) z
-            ∙ awaited-branch e i j (nameOf h) client serial b (λ x dead l. replied issued serial vb (valueAt va (h % 32)) x l)))
-            (misfit (reply-fits ∙ ap (λ t. cond t (awaitsW other h serial client e i) false) (ne-eqb branch 0 (λ y. omega arith))))
+            subst (λ x. PairsOf a 16 x) (sym (ap Replied z ∙ awaited-branch e i j (nameOf h) client serial _ b _))
+            (misfit
+            (reply-fits
+            ∙ ap (λ t. cond (cond t (awaitsW other h serial client e i) false) (answersW part other) false) (ne-eqb branch 0 (λ y. omega arith))))
 
   -- ---- a notice
 
@@ -272,12 +271,12 @@ module _ (n issued : ℕ) (few : n ≤ 8) (small : issued < 65536) (e i branch :
 
     notice-found :
         {x : Option Exchange} → fitW part values other o 18 branch e i ≡ awaitsW other h serial client e i →
-        Strikes (awaitsW other h serial client e i) b (failW other w fresh .rewriting) (failW other w fresh .fresh)
+        Meets (awaitsW other h serial client e i) b (failW other w fresh .rewriting) (failW other w fresh .fresh) unchanged
         failed-as x →
         PairsOf a 18 x
     unfolding serialW sendW issuedOf faultOf
-    notice-found g (spares z) = misfit (g ∙ z)
-    notice-found g (strikes {q} z k) =
+    notice-found g (misses z) = misfit (g ∙ z)
+    notice-found g (meets {q} z k) =
         fit {x = failed-as q} (g ∙ z)
         (rw (third, notice-receives)
         (record {
@@ -287,26 +286,24 @@ module _ (n issued : ℕ) (few : n ≤ 8) (small : issued < 65536) (e i branch :
           sender = vanishes a fresh;
           receiver = k .becomes;
           shallow = k .shallow;
-          values = rw (k .takes);
+          values = sym (stored-none vb _ (ap (λ s. s .variable) (k .takes)));
         }))
+
+    -- the exchange, by branch
+    abbrev Failed : ℕ → Option Exchange
+    Failed j = awaited e i j (nameOf h) client serial (λ x. true) b (λ x dead l. faulting issued serial vb (firstName w) dead)
 
     notice-pairs : PairsOf a 18 (exchange issued e i branch vb b (failure (nameOf h) (firstName w) client serial))
     unfolding exchange
     notice-pairs = by branch refl
       where
-        by :
-            (j : ℕ) → branch ≡ j →
-            PairsOf a 18 (awaited e i branch (nameOf h) client serial b (λ x dead l. faulting issued serial vb (firstName w) dead))
+        by : (j : ℕ) → branch ≡ j → PairsOf a 18 (Failed branch)
         by zero z =
-            subst
-            (λ j. PairsOf a 18 (awaited e i j (nameOf h) client serial b (λ x dead l. faulting issued serial vb (firstName w) dead)))
-            (sym z)
+            subst (λ j. PairsOf a 18 (Failed j)) (sym z)
             (notice-found (notice-fits ∙ ap (λ j. cond (eqb j 0) (awaitsW other h serial client e i) false) z)
-            (fault-strikes n issued other few small restB b soundB deepB standsB vb h serial client e i fresh (omega arith) w))
+            (fault-meets n issued other few small restB b soundB deepB standsB close vb h serial client e i fresh (omega arith) w))
         by (suc j) z =
-            subst (λ x. PairsOf a 18 x)
-            (sym (ap (λ j. awaited e i j (nameOf h) client serial b (λ x dead l. faulting issued serial vb (firstName w) dead)) z
-            ∙ awaited-branch e i j (nameOf h) client serial b (λ x dead l. faulting issued serial vb (firstName w) dead)))
+            subst (λ x. PairsOf a 18 x) (sym (ap Failed z ∙ awaited-branch e i j (nameOf h) client serial (λ x. true) b _))
             (misfit (notice-fits ∙ ap (λ t. cond t (awaitsW other h serial client e i) false) (ne-eqb branch 0 (λ y. omega arith))))
 
   -- ---- by what moves
@@ -344,12 +341,20 @@ module _ (n issued : ℕ) (few : n ≤ 8) (small : issued < 65536) (e i branch :
     act-pairs (branches q x y z) f deep stands = rw q (one-valued _ _ _ λ v. tt)
     act-pairs (repeats q x y) f deep stands = rw q (one-valued _ _ _ λ v. tt)
     act-pairs (chooses q x y) f deep stands = rw q tt
-    act-pairs (hears q) f deep stands = rw q tt
-    act-pairs (serves q x y) f deep stands = rw q tt
-    act-pairs (notifies {h} {w} q x) f deep stands =
-        rw q (kinded q (notify-pairs (act (node h (w ∷ []) [] absent noParts)) h w (ap (λ l. at l 0) stands) (ap (λ l. at l 1) stands)))
-    act-pairs (solicits {h} {w} {l} q x y) f deep stands =
-        rw q (kinded q (solicit-pairs h w l f deep rest stands (ap (λ l. at l 0) stands) (ap (λ l. at l 1) stands)))
+    act-pairs (hears q x) f deep stands = rw q tt
+    act-pairs (serves q x y z v) f deep stands = rw q tt
+    act-pairs (notifies {h} {w} {y} q x g) f deep stands =
+        rw (q, only-list g)
+        (kinded q
+        (notify-pairs (act (node h (w ∷ variableWords y) [] absent noParts)) h w y (ap (λ l. at l 0) stands) (ap (λ l. at l 1) stands) (sym (g .begins))
+        (record {
+          fitting = g .fitting;
+          behind = rest;
+          stands = ap (drop 2) stands ∙ ap (λ l. l ++ rest) (append-nil (variableWords y));
+        })))
+    act-pairs (solicits {h} {w} {y} {x} {l} q t g k v) f deep stands =
+        rw (q, first-list g (variableWords x), behind-list g (variableWords x), only-list k)
+        (kinded q (solicit-pairs h w y x g k l f deep rest stands (ap (λ l. at l 0) stands) (ap (λ l. at l 1) stands)))
     act-pairs (installs q x y) f deep stands = rw q tt
     act-pairs (throws q x) f deep stands = rw q tt
     act-pairs (compensates q x) f deep stands = rw q tt
@@ -362,14 +367,18 @@ module _ (n issued : ℕ) (few : n ≤ 8) (small : issued < 65536) (e i branch :
     run-pairs {a} (scopeSound {a = p} x m l s) deep stands = one-alone a (isDone p) _ _
     run-pairs (executorSound {o} {y} {client} {serial} {a = p} bo by t s) deep stands =
         let a : Run = executor o y client serial p in
-        let h : ℕ = headOf 16 (nameFields o y) in
-        let whole : part ≡ h ∷ (client * 8192) ∷ serial ∷ (runWords p ++ rest) =
-        stands ∙ ap (λ l. l ++ rest) (words-executor o y client serial p) in
+        let h : ℕ = headOf 16 (nameFields o (firstOf y)) in
+        let low : firstOf y < 32 = variables-laid y by .low in
+        let whole : part ≡ h ∷ (client * 8192) ∷ serial ∷ (variableWords y ++ (runWords p ++ rest)) =
+        stands
+        ∙ (ap (λ l. l ++ rest) (words-executor o y client serial p)
+        ∙ ap (λ l. h ∷ (client * 8192) ∷ serial ∷ l) (append-assoc (variableWords y) (runWords p) rest)) in
         let second : at part 1 / 8192 ≡ client = ap (λ l. at l 1 / 8192) whole ∙ client-of client in
-        let made : PairsOf a 16 (exchange issued e i branch vb b (reply (nameOf h) (valueAt va (h % 32)) client serial)) =
-        reply-pairs a h client serial (ap (λ l. at l 0) whole) second (ap (λ l. at l 2) whole) in
-        one-sends a (isDone p) (reply o (valueAt va y) client serial)
-        (kinded (kind-asNode (executorSound bo by t s)) (rw (name-of 16 o y bo by, second-of 16 o y by) at made))
+        let list : Listed part 3 y = record { fitting = by; behind = runWords p ++ rest; stands = ap (drop 3) whole } in
+        let made : PairsOf a 16 (exchange issued e i branch vb b (reply (nameOf h) (valuesAt va y) client serial)) =
+        reply-pairs a h client serial y (ap (λ l. at l 0) whole) second (ap (λ l. at l 2) whole) (second-of 16 o (firstOf y) low) list in
+        one-sends a (isDone p) (reply o (valuesAt va y) client serial)
+        (kinded (kind-asNode (executorSound bo by t s)) (rw (name-of 16 o (firstOf y) bo low) at made))
     run-pairs (waiterSound x y z l) deep stands = tt
     run-pairs (noticeSound {o} {f} {client} {serial} bo bf t) deep stands =
         let a : Run = notice o f client serial in

@@ -54,7 +54,7 @@ scope-frame : {n issued name : ℕ} {mark : Mark} {zombie : Bool} {h : Entries} 
     SoundFrame n issued (scopeFrame name mark zombie h)
 scope-frame (scopeSound x y z g) = scopeFrameSound x y z
 
-executor-frame : {n issued o y client serial : ℕ} {a : Run} → Sound n issued (executor o y client serial a) →
+executor-frame : {n issued o client serial : ℕ} {y : List ℕ} {a : Run} → Sound n issued (executor o y client serial a) →
     SoundFrame n issued (executorFrame o y client serial)
 executor-frame (executorSound x y z g) = executorFrameSound x y z
 
@@ -146,7 +146,7 @@ module _ (ws : List ℕ) (ok : Words ws) (s : Starts) {limits : Limits} (modest 
         sender-pairs (length (c .engines)) (c .issued) (known .readable .fitting .few) (known .readable .fitting .word) e i branch
         (omega (arith, known .readable .fitting .few)) (omega (arith, known .readable .fitting .few)) blank
         blank-near (omega (arith, blank-length))
-        (lent (sa .at) (length ws) ws) (lent (startOf c e - 64) (startOf c e) ws) (engineAt c e .values)
+        (lent (sa .at) (length ws) ws) (lent-near (sa .at)) (lent (startOf c e - 64) (startOf c e) ws) (engineAt c e .values)
         (engine-fits _ (known .readable .fitting .engines) e he .bounded) (one-values c (known .readable .fitting) e he ws (known .same))
         (lent (sb .at) (length ws) ws) (lent-near (sb .at))
         (lb .process) (found-sound i hi targetB lb sb spottedB) (found-shallow i hi targetB lb sb spottedB)

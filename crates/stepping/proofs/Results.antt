@@ -18,12 +18,13 @@ use Rattle.writers.proofs.Laid.{Near, near-of, near-below, onward-near}
 use Rattle.finding.proofs.Edits.{part}
 use Rattle.rules.specs.declared.edit.Edit.{Edit}
 use Rattle.rules.proofs.Edits.{Ordered, Edits, part-first, fresh-room}
+use Rattle.rules.proofs.Stores.{stored, stored-length}
 use Rattle.layout.specs.declared.limit.Limits.{Limits}
 use Rattle.stepping.proofs.Modest.{Modest}
 use Rattle.stepping.specs.Writing.{engineW}
 use Rattle.stepping.specs.Answering.{sizedW, writeOneW, lengthOf}
 use Rattle.stepping.proofs.Overs.{Wrote, wrote-copy}
-use Rattle.stepping.proofs.Writes.{valued, engine-wrote}
+use Rattle.stepping.proofs.Writes.{engine-wrote}
 
 -- ---- lengths
 
@@ -137,16 +138,16 @@ module _ (c : Config) (fits : FitsConfig c) (e : ℕ) (h : e < length (c .engine
   -- the engine changed
   module _ (p : Edit) (fresh : List ℕ) (q : Run) (edits : Edits ws start end p fresh q) where
     abbrev next : Config
-    next = record { issued = c .issued; engines = withEngine e (valued values (p .store .variable) (p .store .value)) q (c .engines) }
+    next = record { issued = c .issued; engines = withEngine e (stored values (p .store)) q (c .engines) }
 
     abbrev pre : List ℕ
     pre = length (c .engines) ∷ c .issued ∷ enginesWords (take e (c .engines))
 
-    pub next-words : encode next ≡ ((pre ++ valuesWords (valued values (p .store .variable) (p .store .value))) ++ runWords q) ++ wordsAfter c e
+    pub next-words : encode next ≡ ((pre ++ valuesWords (stored values (p .store))) ++ runWords q) ++ wordsAfter c e
     unfolding encode engineWords
     next-words =
         ap₂ (λ (n : ℕ) (l : List ℕ). n ∷ c .issued ∷ l) (length-set (c .engines) e _) (engines-set (c .engines) e _ h)
-        ∙ regrouped pre (valuesWords (valued values (p .store .variable) (p .store .value))) (runWords q) (wordsAfter c e)
+        ∙ regrouped pre (valuesWords (stored values (p .store))) (runWords q) (wordsAfter c e)
       where
         regrouped : (a b x d : List ℕ) → a ++ ((b ++ x) ++ d) ≡ ((a ++ b) ++ x) ++ d
         regrouped a b x d = simp append-assoc
@@ -157,16 +158,12 @@ module _ (c : Config) (fits : FitsConfig c) (e : ℕ) (h : e < length (c .engine
     next-length : length (encode next) ≡ start + size q + length (wordsAfter c e)
     unfolding size
     next-length =
-        let v : List ℕ = valuesWords (valued values (p .store .variable) (p .store .value)) in
+        let v : List ℕ = valuesWords (stored values (p .store)) in
         let a = length-append ((pre ++ v) ++ runWords q) (wordsAfter c e) in
         let b = length-append (pre ++ v) (runWords q) in
         let d = length-append pre v in
-        let n : length v ≡ 64 = omega (arith, values-length (valued values (p .store .variable) (p .store .value)), valued-length (leb 32 (p .store .variable))) in
+        let n : length v ≡ 64 = omega (arith, values-length (stored values (p .store)), stored-length values (p .store), many) in
         ap length next-words ∙ (let z : length (((pre ++ v) ++ runWords q) ++ wordsAfter c e) ≡ start + length (runWords q) + length (wordsAfter c e) = omega arith in z)
-      where
-        valued-length : (b : Bool) → length (cond b values (set values (p .store .variable) (p .store .value))) ≡ 32
-        valued-length true = many
-        valued-length false = length-set values (p .store .variable) (p .store .value) ∙ many
 
     -- how long the result is
     pub next-sized : {limits : Limits} → Modest limits → length ws ≤ limits .longest → p .fresh ≤ limits .longest → sizedW limits (length ws) p ≡ length (encode next)
@@ -199,12 +196,12 @@ module _ (c : Config) (fits : FitsConfig c) (e : ℕ) (h : e < length (c .engine
         let first : part 0 start ws ≡ pre ++ valuesWords values = part-first start ws ∙ one-front in
         let l = length-append pre (valuesWords values) in
         let m : length (valuesWords values) ≡ 64 = omega (arith, values-length values, many) in
-        let w : Wrote out 0 ((pre ++ valuesWords (valued values (p .store .variable) (p .store .value))) ++ runWords q) (engineW ws 0 start end p fresh out 0) =
+        let w : Wrote out 0 ((pre ++ valuesWords (stored values (p .store))) ++ runWords q) (engineW ws 0 start end p fresh out 0) =
         engine-wrote ws 0 start end p fresh q edits (omega (arith, one-length)) (omega arith) g wide pre values many first out 0 (omega (arith, next-length)) 8192 near (omega (arith, next-length)) in
         let tail : part end (length ws) ws ≡ wordsAfter c e = take-all (length ws - end) (drop end ws) (omega (arith, length-drop end ws)) ∙ one-behind in
-        let whole : ((pre ++ valuesWords (valued values (p .store .variable) (p .store .value))) ++ runWords q) ++ part end (length ws) ws ≡ encode next =
-        ap (λ l. ((pre ++ valuesWords (valued values (p .store .variable) (p .store .value))) ++ runWords q) ++ l) tail ∙ sym next-words in
-        let fit : 0 + length (((pre ++ valuesWords (valued values (p .store .variable) (p .store .value))) ++ runWords q) ++ part end (length ws) ws) ≤ length out = omega (arith, ap length whole) in
+        let whole : ((pre ++ valuesWords (stored values (p .store))) ++ runWords q) ++ part end (length ws) ws ≡ encode next =
+        ap (λ l. ((pre ++ valuesWords (stored values (p .store))) ++ runWords q) ++ l) tail ∙ sym next-words in
+        let fit : 0 + length (((pre ++ valuesWords (stored values (p .store))) ++ runWords q) ++ part end (length ws) ws) ≤ length out = omega (arith, ap length whole) in
         let all = wrote-copy ws end (length ws) (omega (arith, one-length)) (omega arith) fit 8192 near (omega (arith, ap length whole)) w in
         all .over .all
         ∙ ap₂ (λ (x : List ℕ) (n : ℕ). x ++ drop n out) whole (ap (λ l. 0 + length l) whole ∙ (let z : 0 + length (encode next) ≡ length (encode next) = omega arith in z))

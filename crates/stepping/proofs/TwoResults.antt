@@ -16,13 +16,15 @@ use Rattle.sock.proofs.Located.{values-length, engines-split, engine-fits, star
 use Rattle.writers.proofs.Laid.{Near, near-of}
 use Rattle.finding.proofs.Edits.{part}
 use Rattle.rules.specs.declared.edit.Edit.{Edit}
+use Rattle.rules.specs.declared.store.Store.{Store}
 use Rattle.rules.proofs.Edits.{Edits, part-first, fresh-room}
+use Rattle.rules.proofs.Stores.{stored, stored-length}
 use Rattle.layout.specs.declared.limit.Limits.{Limits}
 use Rattle.stepping.proofs.Modest.{Modest}
 use Rattle.stepping.specs.Writing.{Written, engineW}
 use Rattle.stepping.specs.Answering.{changed, sizedW, writeTwoW}
 use Rattle.stepping.proofs.Overs.{over-length, over-then, Wrote, wrote-copy}
-use Rattle.stepping.proofs.Writes.{valued, engine-wrote}
+use Rattle.stepping.proofs.Writes.{engine-wrote}
 use Rattle.stepping.proofs.Results.{edit-sized, fresh-few, engines-set, one-split, one-length, one-front, one-behind}
 
 -- one writing behind another
@@ -35,13 +37,6 @@ wrote-then {out} {to} {a} {b} {w} {v} room x y =
       reaches = y .reaches ∙ (let z : w .to + length b ≡ to + length (a ++ b) = omega arith in z);
       over = over-then (x .over) (omega arith) (omega arith) (rw r at (y .over));
     }
-
-valued-length : (vs : List ℕ) (x v : ℕ) → length (valued vs x v) ≡ length vs
-valued-length vs x v = by (leb 32 x)
-  where
-    by : (b : Bool) → length (cond b vs (set vs x v)) ≡ length vs
-    by true = refl
-    by false = length-set vs x v
 
 -- ---- the words between two engines
 
@@ -144,10 +139,10 @@ module _ (c : Config) (fits : FitsConfig c) (e i : ℕ) (low : e < i) (high : i 
 
   module _ (p1 : Edit) (f1 : List ℕ) (q1 : Run) (edits1 : Edits ws s1 e1 p1 f1 q1) (p2 : Edit) (f2 : List ℕ) (q2 : Run) (edits2 : Edits ws s2 e2 p2 f2 q2) (issued : ℕ) where
     abbrev w1 : List ℕ
-    w1 = valued v1 (p1 .store .variable) (p1 .store .value)
+    w1 = stored v1 (p1 .store)
 
     abbrev w2 : List ℕ
-    w2 = valued v2 (p2 .store .variable) (p2 .store .value)
+    w2 = stored v2 (p2 .store)
 
     abbrev pub next : Config
     next = record { issued = issued; engines = withEngine i w2 q2 (withEngine e w1 q1 es) }
@@ -165,8 +160,8 @@ module _ (c : Config) (fits : FitsConfig c) (e i : ℕ) (low : e < i) (high : i 
         regrouped : (a b x d f g h : List ℕ) → a ++ ((b ++ x) ++ (d ++ ((f ++ g) ++ h))) ≡ (((a ++ b) ++ x) ++ ((d ++ f) ++ g)) ++ h
         regrouped a b x d f g h = simp append-assoc
 
-    value-words : (vs : List ℕ) (x v : ℕ) → length vs ≡ 32 → length (valuesWords (valued vs x v)) ≡ 64
-    value-words vs x v m = omega (arith, values-length (valued vs x v), valued-length vs x v)
+    stored-words : (vs : List ℕ) (s : Store) → length vs ≡ 32 → length (valuesWords (stored vs s)) ≡ 64
+    stored-words vs s m = omega (arith, values-length (stored vs s), stored-length vs s)
 
     same-words : (vs : List ℕ) → length vs ≡ 32 → length (valuesWords vs) ≡ 64
     same-words vs m = omega (arith, values-length vs)
@@ -182,8 +177,8 @@ module _ (c : Config) (fits : FitsConfig c) (e i : ℕ) (low : e < i) (high : i 
         let j = length-append (mid ++ valuesWords w2) (runWords q2) in
         let k = length-append mid (valuesWords w2) in
         let l = length-append mid (valuesWords v2) in
-        let m1 = value-words v1 (p1 .store .variable) (p1 .store .value) many1 in
-        let m2 = value-words v2 (p2 .store .variable) (p2 .store .value) many2 in
+        let m1 = stored-words v1 (p1 .store) many1 in
+        let m2 = stored-words v2 (p2 .store) many2 in
         let m3 = same-words v2 many2 in
         omega (arith, second-start, one-length c fits i high ws same)
 
@@ -224,8 +219,8 @@ module _ (c : Config) (fits : FitsConfig c) (e i : ℕ) (low : e < i) (high : i 
         let a6 = length-append ((length es ∷ c .issued ∷ enginesWords (take e es)) ++ valuesWords w1) (runWords q1) in
         let a7 = length-append (length es ∷ c .issued ∷ enginesWords (take e es)) (valuesWords w1) in
         let a8 = length-append (length es ∷ c .issued ∷ enginesWords (take e es)) (valuesWords v1) in
-        let m1 = value-words v1 (p1 .store .variable) (p1 .store .value) many1 in
-        let m2 = value-words v2 (p2 .store .variable) (p2 .store .value) many2 in
+        let m1 = stored-words v1 (p1 .store) many1 in
+        let m2 = stored-words v2 (p2 .store) many2 in
         let m3 = same-words v2 many2 in
         let m4 = same-words v1 many1 in
         let within1 : e1 ≤ length ws = omega (arith, one-length c fits e inside ws same) in

@@ -2,7 +2,7 @@
 -- Assumes nothing.
 use Prim.Native.Nat.{ℕ, zero, suc, _+_, _-_, _*_, _/_, _%_, _≤_, _<_}
 use native.Mathlib.Omega.{arith}
-use mathlib.Core.Path.{_≡_, refl, sym, ap, _∙_}
+use mathlib.Core.Path.{_≡_, refl, subst, sym, ap, _∙_}
 use mathlib.Core.Bool.{Bool, true, false, cond}
 use mathlib.Core.List.{List, [], _∷_, _++_, append-nil, append-assoc}
 use borrow.Author.Tests.{le-ltb, leb-false}
@@ -17,8 +17,10 @@ use Rattle.layout.specs.Positions.{onward}
 use Rattle.writers.proofs.Laid.{Near, onward-near}
 use Rattle.finding.proofs.Edits.{part}
 use Rattle.rules.specs.declared.edit.Edit.{Edit}
+use Rattle.rules.specs.declared.store.Store.{Store}
 use Rattle.rules.proofs.Edits.{Ordered, Edits, part-first}
-use Rattle.stepping.specs.Writing.{written, copyW, frontW, backW, processW, valueW, lentW, engineW}
+use Rattle.rules.proofs.Stores.{valued, stored, valued-length, stored-length}
+use Rattle.stepping.specs.Writing.{written, copyW, frontW, backW, processW, valueW, storeW, lentW, engineW}
 use Rattle.stepping.proofs.Overs.{Over, over-length, over-then, over-set, Wrote, wrote-none, wrote-copy}
 
 -- the words in front of others are no more than all
@@ -125,10 +127,6 @@ module _ (ws : List ℕ) (start end : ℕ) (p : Edit) (fresh : List ℕ) (q : Ru
 
 -- ---- a value
 
--- variable x takes v; 32 is none
-abbrev pub valued : List ℕ → ℕ → ℕ → List ℕ
-valued vs x v = cond (leb 32 x) vs (set vs x v)
-
 set-words : (vs : List ℕ) (x v : ℕ) → x < length vs → set (set (valuesWords vs) (x * 2) (v / 65536)) (x * 2 + 1) (v % 65536) ≡ valuesWords (set vs x v)
 unfolding valuesWords
 set-words [] x v h = absurd (omega arith)
@@ -146,7 +144,7 @@ set-after (p ∷ pre) l (suc k) i w e = ap (λ r. p ∷ r) (set-after pre l k i 
 module _ {out : List ℕ} {to : ℕ} (pre vs : List ℕ) {last : List ℕ} (o : Over out to (pre ++ valuesWords vs) last) (room : to + length (pre ++ valuesWords vs) ≤ length out)
     (many : length vs ≡ 32) (x v : ℕ) where
   pub value-over : Over out to (pre ++ valuesWords (valued vs x v)) (valueW last (to + length (pre ++ valuesWords vs)) x v)
-  unfolding valueW
+  unfolding valueW valued
   value-over = by (leb 32 x) refl
     where
       n : length (valuesWords vs) ≡ 64
@@ -181,23 +179,70 @@ module _ {out : List ℕ} {to : ℕ} (pre vs : List ℕ) {last : List ℕ} (o : 
           rw (le-ltb (to + length (pre ++ valuesWords vs)) 64 (omega (arith, l)), le-ltb (length last) (to + length (pre ++ valuesWords vs)) (omega (arith, len)), i1, i2)
           (rw same at second)
 
+-- ---- and all of a store
+
+module _ (out : List ℕ) (to : ℕ) (pre : List ℕ) (t : ℕ) (reaches : t ≡ to + (length pre + 64)) (room : t ≤ length out) where
+  values-at : (vs : List ℕ) → length vs ≡ 32 → t ≡ to + length (pre ++ valuesWords vs)
+  values-at vs many = omega (arith, length-append pre (valuesWords vs), values-length vs)
+
+  value-on :
+      (vs : List ℕ) → length vs ≡ 32 → {last : List ℕ} → Over out to (pre ++ valuesWords vs) last → (x v : ℕ) →
+      Over out to (pre ++ valuesWords (valued vs x v)) (valueW last t x v)
+  value-on vs many {last} o x v =
+      let e = values-at vs many in
+      subst (λ k. Over out to (pre ++ valuesWords (valued vs x v)) (valueW last k x v)) (sym e) (value-over pre vs o (omega arith) many x v)
+
+  pub store-over :
+      (vs : List ℕ) → length vs ≡ 32 → {last : List ℕ} → Over out to (pre ++ valuesWords vs) last → (s : Store) →
+      Over out to (pre ++ valuesWords (stored vs s)) (storeW last t s)
+  unfolding storeW stored
+  store-over vs many {last} o s = by (leb 32 (s .variable))
+    where
+      one : List ℕ
+      one = valued vs (s .variable) (s .value)
+
+      two : List ℕ
+      two = valued one (s .second .variable) (s .second .value)
+
+      three : List ℕ
+      three = valued two (s .third .variable) (s .third .value)
+
+      many1 : length one ≡ 32
+      many1 = valued-length vs (s .variable) (s .value) ∙ many
+
+      many2 : length two ≡ 32
+      many2 = valued-length one (s .second .variable) (s .second .value) ∙ many1
+
+      many3 : length three ≡ 32
+      many3 = valued-length two (s .third .variable) (s .third .value) ∙ many2
+
+      by :
+          (b : Bool) →
+          Over out to (pre ++ valuesWords (cond b vs (valued three (s .fourth .variable) (s .fourth .value))))
+          (cond b last
+          (valueW
+          (valueW (valueW (valueW last t (s .variable) (s .value)) t (s .second .variable) (s .second .value)) t (s .third .variable) (s .third .value))
+          t (s .fourth .variable) (s .fourth .value)))
+      by true = o
+      by false =
+          let o1 = value-on vs many o (s .variable) (s .value) in
+          let o2 = value-on one many1 o1 (s .second .variable) (s .second .value) in
+          let o3 = value-on two many2 o2 (s .third .variable) (s .third .value) in
+          value-on three many3 o3 (s .fourth .variable) (s .fourth .value)
+
 -- ---- the words in front, the values and the process
 
 module _ (ws : List ℕ) (from start end : ℕ) (p : Edit) (fresh : List ℕ) (q : Run) (edits : Edits ws start end p fresh q) (inside : end ≤ length ws) (before : from ≤ start)
     (few : p .fresh ≤ 8192) (wide : p .fresh ≤ length fresh) (pre vs : List ℕ) (many : length vs ≡ 32) (stands : part from start ws ≡ pre ++ valuesWords vs)
     (out : List ℕ) (to : ℕ) (room : to + (length (pre ++ valuesWords vs) + size q) ≤ length out) (most : ℕ) (near : Near most)
     (under : to + (length (pre ++ valuesWords vs) + size q) ≤ most) where
-  same-length : length (pre ++ valuesWords (valued vs (p .store .variable) (p .store .value))) ≡ length (pre ++ valuesWords vs)
+  same-length : length (pre ++ valuesWords (stored vs (p .store))) ≡ length (pre ++ valuesWords vs)
   same-length =
-      length-append pre (valuesWords (valued vs (p .store .variable) (p .store .value)))
-      ∙ (ap (λ k. length pre + k) (values-length (valued vs (p .store .variable) (p .store .value)) ∙ (ap (λ k. k + k) (by (leb 32 (p .store .variable))) ∙ sym (values-length vs)))
+      length-append pre (valuesWords (stored vs (p .store)))
+      ∙ (ap (λ k. length pre + k) (values-length (stored vs (p .store)) ∙ (ap (λ k. k + k) (stored-length vs (p .store)) ∙ sym (values-length vs)))
       ∙ sym (length-append pre (valuesWords vs)))
-    where
-      by : (b : Bool) → length (cond b vs (set vs (p .store .variable) (p .store .value))) ≡ length vs
-      by true = refl
-      by false = length-set vs (p .store .variable) (p .store .value)
 
-  pub engine-wrote : Wrote out to ((pre ++ valuesWords (valued vs (p .store .variable) (p .store .value))) ++ runWords q) (engineW ws from start end p fresh out to)
+  pub engine-wrote : Wrote out to ((pre ++ valuesWords (stored vs (p .store))) ++ runWords q) (engineW ws from start end p fresh out to)
   unfolding engineW size
   engine-wrote =
       let in-ws : start ≤ length ws = omega (arith, edits .order .l-in, edits .order .m-in, edits .order .a-in, edits .order .b-in, edits .order .c-in, edits .order .d-in, edits .order .end-in) in
@@ -205,14 +250,15 @@ module _ (ws : List ℕ) (from start end : ℕ) (p : Edit) (fresh : List ℕ) (q
       let w : Wrote out to (pre ++ valuesWords vs) (copyW ws from start (written to out)) =
       rw stands at (wrote-copy ws from start before in-ws (omega arith) most near (omega arith) (wrote-none out to)) in
       let t : copyW ws from start (written to out) .to ≡ to + length (pre ++ valuesWords vs) = w .reaches in
-      let o = value-over pre vs (w .over) (omega arith) many (p .store .variable) (p .store .value) in
-      let room1 : to + length (pre ++ valuesWords (valued vs (p .store .variable) (p .store .value))) ≤ length out = omega (arith, same-length) in
-      let len : length (valueW (copyW ws from start (written to out) .out) (to + length (pre ++ valuesWords vs)) (p .store .variable) (p .store .value)) ≡ length out = over-length o room1 in
+      let n : length (pre ++ valuesWords vs) ≡ length pre + 64 = omega (arith, length-append pre (valuesWords vs), values-length vs) in
+      let o = store-over out to pre (to + length (pre ++ valuesWords vs)) (ap (λ k. to + k) n) (omega arith) vs many (w .over) (p .store) in
+      let room1 : to + length (pre ++ valuesWords (stored vs (p .store))) ≤ length out = omega (arith, same-length) in
+      let len : length (storeW (copyW ws from start (written to out) .out) (to + length (pre ++ valuesWords vs)) (p .store)) ≡ length out = over-length o room1 in
       let l = lent-wrote ws start end p fresh q edits inside few wide
-      (valueW (copyW ws from start (written to out) .out) (to + length (pre ++ valuesWords vs)) (p .store .variable) (p .store .value)) (to + length (pre ++ valuesWords vs))
+      (storeW (copyW ws from start (written to out) .out) (to + length (pre ++ valuesWords vs)) (p .store)) (to + length (pre ++ valuesWords vs))
       (omega (arith, len)) most near (omega arith) in
       rw t
       (record {
-        reaches = l .reaches ∙ (let a = length-append (pre ++ valuesWords (valued vs (p .store .variable) (p .store .value))) (runWords q) in let b = same-length in let z : to + length (pre ++ valuesWords vs) + length (runWords q) ≡ to + length ((pre ++ valuesWords (valued vs (p .store .variable) (p .store .value))) ++ runWords q) = omega arith in z);
+        reaches = l .reaches ∙ (let a = length-append (pre ++ valuesWords (stored vs (p .store))) (runWords q) in let b = same-length in let z : to + length (pre ++ valuesWords vs) + length (runWords q) ≡ to + length ((pre ++ valuesWords (stored vs (p .store))) ++ runWords q) = omega arith in z);
         over = over-then o room1 (omega (arith, same-length)) (rw same-length (l .over));
       })

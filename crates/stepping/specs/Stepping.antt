@@ -9,6 +9,7 @@ use Rattle.sock.specs.Words.{kindOf}
 use Rattle.skipping.specs.Pass.{passList}
 use Rattle.reading.specs.Survey.{surveyed}
 use Rattle.noting.specs.Noting.{surveyNotes}
+use Rattle.layout.specs.Own.{ownEnd}
 use Rattle.layout.specs.Positions.{onward}
 use Rattle.layout.specs.Limits.{figures}
 use Rattle.finding.specs.declared.find.Site.{Site}
@@ -40,7 +41,7 @@ byKind kind =
 unfoldable pub movesW : List ℕ → List ℕ → ℕ → ℕ → ℕ
 movesW ws notes i kind =
     cond (eqb kind Kind.scope) (cond (bodyNil ws notes i) 1 0)
-    (cond (eqb kind Kind.executor) (cond (eqb (at ws (onward i 3)) 0) 2 0) (byKind kind))
+    (cond (eqb kind Kind.executor) (cond (eqb (at ws (ownEnd ws i)) 0) 2 0) (byKind kind))
 
 unfoldable pub partnerW : Limits → List ℕ → Engines → Numbers → Site → ℕ → List ℕ → Found → Answered
 partnerW limits ws g k a kind out (Past p) = answered (refusing 4) out

@@ -8,6 +8,7 @@ use Rattle.sock.specs.Words.{highWord, lowWord}
 use Rattle.layout.specs.Positions.{onward}
 use Rattle.writers.specs.Writing.{pasted, pastedEnd}
 use Rattle.rules.specs.declared.edit.Edit.{Edit}
+use Rattle.rules.specs.declared.store.Store.{Store}
 
 -- a place in the output, and the output
 pub record Written : Type 0 where
@@ -38,6 +39,13 @@ valueW out to x v =
     (cond (ltb to 64) out
     (cond (ltb (length out) to) out (set (set out (to - 64 + x * 2) (highWord v)) (to - 64 + x * 2 + 1) (lowWord v))))
 
+unfoldable pub storeW : List ℕ → ℕ → Store → List ℕ
+storeW out to s =
+    cond (leb 32 (s .variable)) out
+    (valueW
+    (valueW (valueW (valueW out to (s .variable) (s .value)) to (s .second .variable) (s .second .value)) to (s .third .variable) (s .third .value))
+    to (s .fourth .variable) (s .fourth .value))
+
 -- the process into the part of the output behind a place
 unfoldable pub lentW : List ℕ → ℕ → ℕ → Edit → List ℕ → List ℕ → ℕ → Written
 lentW ws start end p fresh out t =
@@ -47,4 +55,4 @@ lentW ws start end p fresh out t =
 unfoldable pub engineW : List ℕ → ℕ → ℕ → ℕ → Edit → List ℕ → List ℕ → ℕ → Written
 engineW ws from start end p fresh out to =
     let w = copyW ws from start (written to out) in
-    lentW ws start end p fresh (valueW (w .out) (w .to) (p .store .variable) (p .store .value)) (w .to)
+    lentW ws start end p fresh (storeW (w .out) (w .to) (p .store)) (w .to)

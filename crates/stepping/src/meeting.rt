@@ -3,9 +3,9 @@ use evaluating::evaluate::variable;
 use layout::field::executors_client;
 use layout::field::first_variable;
 use layout::field::notices_client;
-use layout::field::second_of;
 use layout::kind;
 use layout::number::word;
+use rules::message;
 use rules::pair::Offer;
 use rules::pair::answer;
 use rules::pair::ask;
@@ -18,7 +18,7 @@ use rules::rewriting::Rewriting;
 use rules::rewriting::to_nil;
 use rules::store::nothing;
 ghost use mathlib.Core.Path.{_≡_};
-ghost use Rattle.stepping.specs.Meeting.{addressedW, repliesW, takerOf, fitW, sendW, receiveW, serialW};
+ghost use Rattle.stepping.specs.Meeting.{addressedW, repliesW, repliedW, takerOf, countsW, takesW, fitW, sendW, receiveW, serialW};
 
 // Whether a notify or solicit is sent to the engine that receives.
 fn addressed(part: &[u16], values: &[u16], receiver: usize) -> bool
@@ -52,6 +52,17 @@ fn replies(
     )
 }
 
+// Whether an executor's reply has its waiter in `other`, and that has as many variables.
+fn answers(part: &[u16], other: &[u16], branch: usize, sender: usize, receiver: usize) -> bool
+    ensures { λ r. ⌜ r ≡ repliedW (now (part .entry)) (now (other .entry)) branch sender receiver ⌝ }
+{
+    let client = executors_client(word(part, 1));
+    if replies(part, other, client, branch, sender, receiver) {
+        return message::answers(part, other);
+    }
+    false
+}
+
 // The kind that hears a notify, and a solicit.
 fn taker(kind: usize) -> usize
     ensures { λ r. ⌜ r ≡ takerOf kind ⌝ }
@@ -61,6 +72,26 @@ fn taker(kind: usize) -> usize
     } else {
         kind::REQUEST
     }
+}
+
+// Whether a notify, or a solicit, has as many variables as what it is for, which stands at `guard`.
+fn counts(part: &[u16], other: &[u16], guard: usize, kind: usize) -> bool
+    ensures { λ r. ⌜ r ≡ countsW (now (part .entry)) (now (other .entry)) guard kind ⌝ }
+{
+    if kind == kind::NOTIFY {
+        return message::hears(part, other, guard);
+    }
+    message::serves(part, other, guard)
+}
+
+// Whether a notify, or a solicit, is for what `other` offers.
+fn takes(part: &[u16], other: &[u16], o: Offer, kind: usize) -> bool
+    ensures { λ r. ⌜ r ≡ takesW (now (part .entry)) (now (other .entry)) o kind ⌝ }
+{
+    if fits(other, o, taker(kind), word(part, 0)) {
+        return counts(part, other, o.guard, kind);
+    }
+    false
 }
 
 // Whether the process in `part` of the kind given may send to the one in `other`.
@@ -76,15 +107,15 @@ pub(crate) fn fit(
 ) -> bool
     ensures { λ r. ⌜ r ≡ fitW (now (part .entry)) (now (values .entry)) (now (other .entry)) o kind branch sender receiver ⌝ }
 {
-    let w = word(part, 1);
     if kind == kind::EXECUTOR {
-        return replies(part, other, executors_client(w), branch, sender, receiver);
+        return answers(part, other, branch, sender, receiver);
     }
     if kind == kind::NOTICE {
-        return replies(part, other, notices_client(w), branch, sender, receiver);
+        let client = notices_client(word(part, 1));
+        return replies(part, other, client, branch, sender, receiver);
     }
     if addressed(part, values, receiver) {
-        return fits(other, o, taker(kind), word(part, 0));
+        return takes(part, other, o, kind);
     }
     false
 }
@@ -133,15 +164,16 @@ pub(crate) fn receive(
     ensures rewritten { λ r. ⌜ r ≡ receiveW (now (part .entry)) (now (values .entry)) (now (other .entry)) o kind client serial (now (fresh .entry)) .rewriting ⌝ }
     ensures fresh { λ r. ⌜ now (fresh .exit) ≡ receiveW (now (part .entry)) (now (values .entry)) (now (other .entry)) o kind client serial (now (fresh .entry)) .fresh ⌝ }
 {
-    let v = variable(values, second_of(word(part, 0)));
+    let guard = o.guard;
     if kind == kind::NOTIFY {
-        return hear(other, o, v);
+        return hear(other, o, message::heard(part, values, other, guard));
     }
     if kind == kind::SOLICIT {
-        return serve(other, o, client, serial, v, fresh);
+        let store = message::served(part, values, other, guard);
+        return serve(other, o, client, serial, store, fresh);
     }
     if kind == kind::EXECUTOR {
-        return answer(other, v, fresh);
+        return answer(other, message::answered(part, values, other), fresh);
     }
     fail(other, word(part, 1), fresh)
 }

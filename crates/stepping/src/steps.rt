@@ -20,6 +20,7 @@ use layout::limit::standard;
 use layout::number::further;
 use layout::number::wide;
 use layout::number::word;
+use layout::own::own_end;
 use noting::survey::survey;
 use skipping::pass::pass_list;
 ghost use mathlib.Core.Path.{_≡_};
@@ -85,7 +86,7 @@ fn moves(ws: &[u16], notes: &[u16], at: usize, kind: usize) -> usize
         return 0;
     }
     if kind == kind::EXECUTOR {
-        if word(ws, further(at, 3)) == 0 {
+        if word(ws, own_end(ws, at)) == 0 {
             return 2;
         }
         return 0;

@@ -5,10 +5,11 @@ use layout::limit::VALUES;
 use layout::limit::VARIABLES;
 use layout::number::further;
 use rules::edit::Edit;
+use rules::store::Store;
 use writers::write::copy;
 use writers::write::put;
 ghost use mathlib.Core.Path.{_≡_};
-ghost use Rattle.stepping.specs.Writing.{frontW, backW, processW, valueW, lentW, engineW};
+ghost use Rattle.stepping.specs.Writing.{frontW, backW, processW, valueW, storeW, lentW, engineW};
 
 // What an edit puts in front: up to its second fresh words.
 fn front(ws: &[u16], start: usize, p: Edit, fresh: &[u16], out: &mut [u16]) -> usize
@@ -66,6 +67,23 @@ fn value(out: &mut [u16], to: usize, x: usize, v: u32) -> usize
     0
 }
 
+// The variables of a store take their values, if it has any.
+fn store(out: &mut [u16], to: usize, s: Store) -> usize
+    ensures nothing { λ r. ⌜ r ≡ 0 ⌝ }
+    ensures written { λ r. ⌜ now (out .exit) ≡ storeW (now (out .entry)) to s ⌝ }
+{
+    if VARIABLES <= s.variable {
+        return 0;
+    }
+    let second = s.second;
+    let third = s.third;
+    let fourth = s.fourth;
+    value(out, to, s.variable, s.value);
+    value(out, to, second.variable, second.value);
+    value(out, to, third.variable, third.value);
+    value(out, to, fourth.variable, fourth.value)
+}
+
 // The output's part from a place on is lent to the process writer.
 fn lend(
     ws: &[u16],
@@ -101,6 +119,6 @@ pub fn engine(
     ensures written { λ r. ⌜ now (out .exit) ≡ engineW (now (ws .entry)) from start end p (now (fresh .entry)) (now (out .entry)) to .out ⌝ }
 {
     let t = copy(ws, from, start, out, to);
-    value(out, t, p.store.variable, p.store.value);
+    store(out, t, p.store);
     lend(ws, start, end, p, fresh, out, t)
 }

@@ -61,8 +61,10 @@ pub fn arbitrary(random: &mut Random, length: usize) -> Vec<u8> {
 
 /// Seq and par, which begin two processes.
 const TWO: [u16; 2] = [2 << 11, 3 << 11];
-/// Processes of one word: nil, one-way, throw, comp.
-const LEAVES: [u16; 6] = [0, 7 << 11, 13 << 11, 13 << 11 | 32, 14 << 11, 14 << 11 | 32];
+/// Processes of one word: nil, throw, comp.
+const LEAVES: [u16; 5] = [0, 13 << 11, 13 << 11 | 32, 14 << 11, 14 << 11 | 32];
+/// A one-way and its count of variables, mostly 1.
+const ONE_WAYS: [[u16; 2]; 4] = [[7 << 11, 1], [7 << 11 | 32, 1], [7 << 11, 1], [7 << 11, 0]];
 
 /// One engine, all values 0, a scope around seq, par and leaves: often readable where the length
 /// lets the leaves come out even.
@@ -74,8 +76,12 @@ pub fn almost(random: &mut Random, length: usize) -> Vec<u8> {
     while words.len() < length / 2 {
         let left = length / 2 - words.len();
         let two = open < left && (open == 1 || random.percent(50));
-        let heads = if two { &TWO[..] } else { &LEAVES[..] };
-        words.push(heads[random.below(heads.len())]);
+        if !two && open < left && random.percent(20) {
+            words.extend(ONE_WAYS[random.below(ONE_WAYS.len())]);
+        } else {
+            let heads = if two { &TWO[..] } else { &LEAVES[..] };
+            words.push(heads[random.below(heads.len())]);
+        }
         open = if two { open + 1 } else { open.saturating_sub(1) };
     }
     let mut bytes = reference::bytes::from_words(&words);

@@ -14,7 +14,10 @@ pub type Shape = (String, Configuration);
 /// Levels of nesting, behind a root, a par and what acts, and before what is innermost.
 const LEVELS: usize = 60;
 /// Words of code that is not enabled, beside what acts.
-const BESIDE: usize = 7_000;
+const BESIDE: usize = 6_900;
+
+/// The variables of a message that has as many as there can be.
+const FOUR: [u8; 4] = [2, 3, 4, 5];
 
 /// A name, how many levels it adds, and what it makes of the process inside.
 type Wrap = (&'static str, usize, fn(Part) -> Part);
@@ -26,9 +29,9 @@ const RUNNING: [Wrap; 7] = [
     ("right sides", 1, |inner| build::par(idle(), inner)),
     ("scopes", 1, |inner| build::scope(1, inner)),
     ("zombies", 1, |inner| build::scope_with(1, Mark::None, true, List::new(), inner)),
-    ("executors", 1, |inner| build::executor(1, 1, 1, 1, inner)),
+    ("executors", 1, |inner| build::executor(1, [1, 2, 2, 1], 1, 1, inner)),
     ("all of these", 5, |inner| {
-        let executor = build::executor(1, 1, 1, 1, build::seq(inner, build::comp(1)));
+        let executor = build::executor(1, [1, 2], 1, 1, build::seq(inner, build::comp(1)));
         build::par(idle(), build::scope(1, build::par(executor, idle())))
     }),
 ];
@@ -107,14 +110,15 @@ fn innermost() -> Vec<Shape> {
         all.push((format!("inst in {}", wrap.0), shape));
         let ending = build::scope_with(1, Mark::Fault(1), false, fault(build::comp(3)), nil());
         all.push((format!("scope in {}", wrap.0), alone(List::new(), inside(ending))));
-        let asks = build::solicit(2, 2, 1, 2, fault(build::comp(3)));
-        let serves = build::choice(vec![(build::request(2, 2, 2, build::comp(3)), nil())]);
+        let asks = build::solicit(2, FOUR, 1, FOUR, fault(build::comp(3)));
+        let request = build::request(2, FOUR, FOUR, build::comp(3));
+        let serves = build::choice(vec![(request, nil())]);
         all.push((
             format!("solicit in {}", wrap.0),
             engines(List::new(), inside(asks), inside(serves)),
         ));
         let notice = build::par(build::notice(2, 2, 1, 1), build::comp(3));
-        let waits = build::waiter(2, 2, false, 0, 1, List::new());
+        let waits = build::waiter(2, FOUR, false, 0, 1, List::new());
         all.push((
             format!("notice in {}", wrap.0),
             engines(List::new(), inside(notice), inside(waits)),
@@ -140,14 +144,14 @@ fn holding() -> Vec<Shape> {
         add("while of", alone(List::new(), build::while_true(build::constant(1), deep())));
         add("if of", alone(List::new(), build::if_else(build::constant(1), deep(), nil())));
         let serves =
-            build::choice(vec![(idle(), nil()), (build::request(2, 2, 2, deep()), deep())]);
-        let asks = build::solicit(2, 2, 1, 2, fault(deep()));
+            build::choice(vec![(idle(), nil()), (build::request(2, FOUR, FOUR, deep()), deep())]);
+        let asks = build::solicit(2, FOUR, 1, FOUR, fault(deep()));
         add("solicit with", engines(List::new(), asks, serves));
-        let waits = build::waiter(2, 2, false, 0, 1, fault(deep()));
-        add("reply over", engines(List::new(), build::executor(2, 2, 1, 1, nil()), waits));
+        let waits = build::waiter(2, FOUR, false, 0, 1, fault(deep()));
+        add("reply over", engines(List::new(), build::executor(2, FOUR, 1, 1, nil()), waits));
         add("notify beside", {
-            let sides = build::par(build::seq(build::comp(1), deep()), build::one_way(2, 2));
-            engines(List::new(), build::notify(2, 2, 1), sides)
+            let sides = build::par(build::seq(build::comp(1), deep()), build::one_way(2, FOUR));
+            engines(List::new(), build::notify(2, FOUR, 1), sides)
         });
     }
     all

@@ -73,7 +73,7 @@ fn damaged_words_are_answered_alike() {
 #[test]
 fn damaged_bytes_are_answered_alike() {
     let mut comparison = Comparison::new(Plain::default());
-    for seed in 0..1500 {
+    for seed in 0..6000 {
         let (configuration, numbers) = undamaged(seed);
         let bytes = from_words(&write::configuration(&configuration));
         let mut random = Random::new(seed);

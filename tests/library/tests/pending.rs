@@ -77,7 +77,7 @@ fn side(leaf: fn() -> Part, process: Part, place: usize, words: usize) -> Part {
 fn around(side: Part, handles: bool, first: bool) -> (Configuration, u16, u16) {
     let handlers = if handles { build::list([(Key::Fault(2), idle())]) } else { List::new() };
     let throw = build::throw(2);
-    let own = 2 + 1 + if handles { 1 + 1 } else { 0 };
+    let own = 2 + 1 + if handles { 1 + size(&idle()) } else { 0 };
     let (body, throws, searched) = if first {
         let at = own + 1 + 1;
         (build::par(throw, side), own + 1, at)
@@ -154,7 +154,7 @@ fn many_sides_are_passed() {
                 if level + 1 == stops {
                     let handler = build::list([(Key::Fault(2), idle())]);
                     inside = build::scope_with(4, Mark::None, false, handler, inside);
-                    heads += 5;
+                    heads += 2 + 1 + 1 + size(&idle()) as u16;
                 }
             }
             let root = build::scope(1, inside);

@@ -1,9 +1,10 @@
 //! Short constructors for trees, for tests and generators. They build what they are told, also
-//! what is not readable: nothing is dropped.
+//! what is not readable: nothing is dropped. Variables of a message are one, or an array of them.
 
 use crate::configuration::{Configuration, Engine};
 use crate::expression::{Expression, Operator};
 use crate::process::{Branch, Executor, Key, List, Mark, Notice, Part, Process, Scope, Waiter};
+use crate::variables::Variables;
 use std::rc::Rc;
 
 pub use crate::process::nil;
@@ -46,20 +47,31 @@ pub fn choice(branches: Vec<(Part, Part)>) -> Part {
     Rc::new(Process::Choice(branches.collect()))
 }
 
-pub fn one_way(operation: u8, x: u8) -> Part {
-    Rc::new(Process::OneWay { operation, x })
+pub fn one_way(operation: u8, x: impl Into<Variables>) -> Part {
+    Rc::new(Process::OneWay { operation, x: x.into() })
 }
 
-pub fn request(operation: u8, x: u8, y: u8, body: Part) -> Part {
-    Rc::new(Process::Request { operation, x, y, body })
+pub fn request(
+    operation: u8,
+    x: impl Into<Variables>,
+    y: impl Into<Variables>,
+    body: Part,
+) -> Part {
+    Rc::new(Process::Request { operation, x: x.into(), y: y.into(), body })
 }
 
-pub fn notify(operation: u8, y: u8, z: u8) -> Part {
-    Rc::new(Process::Notify { operation, y, z })
+pub fn notify(operation: u8, y: impl Into<Variables>, z: u8) -> Part {
+    Rc::new(Process::Notify { operation, y: y.into(), z })
 }
 
-pub fn solicit(operation: u8, y: u8, z: u8, x: u8, list: List) -> Part {
-    Rc::new(Process::Solicit { operation, y, z, x, list })
+pub fn solicit(
+    operation: u8,
+    y: impl Into<Variables>,
+    z: u8,
+    x: impl Into<Variables>,
+    list: List,
+) -> Part {
+    Rc::new(Process::Solicit { operation, y: y.into(), z, x: x.into(), list })
 }
 
 pub fn scope(name: u8, body: Part) -> Part {
@@ -87,12 +99,25 @@ pub fn current_handler() -> Part {
     Rc::new(Process::CurrentHandler)
 }
 
-pub fn executor(operation: u8, y: u8, client: u8, serial: u16, body: Part) -> Part {
-    Rc::new(Process::Executor(Executor { operation, y, client, serial }, body))
+pub fn executor(
+    operation: u8,
+    y: impl Into<Variables>,
+    client: u8,
+    serial: u16,
+    body: Part,
+) -> Part {
+    Rc::new(Process::Executor(Executor { operation, y: y.into(), client, serial }, body))
 }
 
-pub fn waiter(operation: u8, x: u8, dead: bool, server: u8, serial: u16, list: List) -> Part {
-    Rc::new(Process::Waiter(Waiter { operation, x, dead, server, serial, list }))
+pub fn waiter(
+    operation: u8,
+    x: impl Into<Variables>,
+    dead: bool,
+    server: u8,
+    serial: u16,
+    list: List,
+) -> Part {
+    Rc::new(Process::Waiter(Waiter { operation, x: x.into(), dead, server, serial, list }))
 }
 
 pub fn notice(operation: u8, fault: u8, client: u8, serial: u16) -> Part {

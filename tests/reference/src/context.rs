@@ -50,7 +50,8 @@ fn descend(at: &Part, here: usize, wanted: usize, frames: &mut Vec<Frame>) -> Op
             (Frame::ScopeBody(scope.clone()), body, start)
         }
         Process::Executor(executor, body) => {
-            (Frame::ExecutorBody(executor.clone()), body, here + 3)
+            let start = here + measure::executor_size(executor);
+            (Frame::ExecutorBody(executor.clone()), body, start)
         }
         _ => return None,
     };
@@ -76,7 +77,9 @@ fn collect(process: &Part, here: usize, found: &mut Vec<(usize, Part)>) {
         Process::Scope(scope, body) => {
             collect(body, here + 2 + measure::list_size(&scope.list), found);
         }
-        Process::Executor(_, body) => collect(body, here + 3, found),
+        Process::Executor(executor, body) => {
+            collect(body, here + measure::executor_size(executor), found);
+        }
         _ => {}
     }
 }

@@ -7,6 +7,7 @@ use crate::context::{locate, Frame, Place};
 use crate::expression::value;
 use crate::handlers::substitute;
 use crate::process::{nil, Key, List, Mark, Part, Process, Scope, Waiter};
+use crate::variables::{Variables, MOST};
 use std::collections::BTreeMap;
 
 /// Every row that generated runs must meet.
@@ -22,7 +23,9 @@ pub const ROWS: &[&str] = &[
     "5: address alike in 16 bits only", "5: branch for a bare receiver",
     "5: branch for a waiter", "5: branch 0 for a choice", "5: branch above the count",
     "5: branch of the other kind", "5: other serial", "5: other client", "5: other server",
-    "5: solicit at 65,535",
+    "5: solicit at 65,535", "5: counts at 65,535",
+    "5: counts of a notify", "5: counts of a solicit", "5: counts of a reply to be",
+    "5: counts of a reply",
     "6: inst", "6: live scope with nil body", "6: marked live scope with nil body",
     "6: inside a zombie", "6: inside an executor", "6: inside a live scope", "6: first of a seq",
     "assign", "if true", "if false", "while true", "while true, nil body", "while false",
@@ -31,6 +34,12 @@ pub const ROWS: &[&str] = &[
     "branch after the first", "request with body", "solicit with list", "issued above 65,000",
     "reply to a live waiter", "reply to a dead waiter", "reply with list",
     "fault to a live waiter", "fault to a dead waiter",
+    "notify of one value", "notify of several values", "notify of four values",
+    "solicit of one value", "solicit of several values", "solicit of four values",
+    "solicit for one value", "solicit for several values", "solicit for four values",
+    "reply of one value", "reply of several values", "reply of four values",
+    "a variable sent twice", "fault to a waiter of several values",
+    "acts inside an executor of several values",
     "inst adds a fault", "inst replaces a fault", "inst of nil for a fault",
     "inst adds a scope key", "inst replaces a scope key", "inst removes a scope key",
     "inst of nil for an absent scope key", "scope key nil only after substitution",
@@ -61,6 +70,16 @@ pub const ROWS: &[&str] = &[
     "seq drops to its second", "par drops to its right", "par drops to its left",
     "root becomes nil",
 ];
+
+/// Messages of one, of several and of four values.
+const NOTIFIES: [&str; 3] =
+    ["notify of one value", "notify of several values", "notify of four values"];
+const SOLICITS: [&str; 3] =
+    ["solicit of one value", "solicit of several values", "solicit of four values"];
+const AWAITED: [&str; 3] =
+    ["solicit for one value", "solicit for several values", "solicit for four values"];
+const REPLIES: [&str; 3] =
+    ["reply of one value", "reply of several values", "reply of four values"];
 
 #[derive(Clone, Debug, Default)]
 pub struct Coverage {
@@ -144,10 +163,12 @@ impl Coverage {
         }
         match (&*sender.process, &*receiver.process) {
             (Process::Notify { operation, z, .. }, _) => {
-                self.no_meeting(before, numbers, (*operation, *z, 7), &receiver.process);
+                let offer = (*operation, *z, 7);
+                self.no_meeting(before, numbers, offer, &sender.process, &receiver.process);
             }
             (Process::Solicit { operation, z, .. }, _) => {
-                self.no_meeting(before, numbers, (*operation, *z, 8), &receiver.process);
+                let offer = (*operation, *z, 8);
+                self.no_meeting(before, numbers, offer, &sender.process, &receiver.process);
             }
             (Process::Executor(e, _), Process::Waiter(waiter)) => {
                 self.no_delivery(numbers, (e.operation, e.client, e.serial), waiter);
@@ -164,6 +185,7 @@ impl Coverage {
         before: &Configuration,
         numbers: Numbers,
         (operation, z, wanted): (u8, u8, u8),
+        sender: &Process,
         receiver: &Process,
     ) {
         let (offer, bare) = match receiver {
@@ -196,6 +218,23 @@ impl Coverage {
         self.note_if(address != u32::from(second), "5: other address");
         let alike = address != u32::from(second) && address as u16 == second;
         self.note_if(alike, "5: address alike in 16 bits only");
+        let at_fault = (bare == (numbers.branch == 0)) && operation == offered;
+        if at_fault && address == u32::from(second) {
+            self.no_counts(before, sender, offer);
+        }
+    }
+
+    /// Two that fit but for their counts.
+    fn no_counts(&mut self, before: &Configuration, sender: &Process, offer: &Process) {
+        match (sender, offer) {
+            (Process::Notify { .. }, _) => self.note("5: counts of a notify"),
+            (Process::Solicit { y, x, .. }, Process::Request { x: into, y: answer, .. }) => {
+                self.note_if(y.count() != into.count(), "5: counts of a solicit");
+                self.note_if(x.count() != answer.count(), "5: counts of a reply to be");
+                self.note_if(before.issued == u16::MAX, "5: counts at 65,535");
+            }
+            _ => {}
+        }
     }
 
     fn no_delivery(
@@ -209,6 +248,12 @@ impl Coverage {
         self.note_if(serial != waiter.serial, "5: other serial");
         self.note_if(u16::from(client) != numbers.second_engine, "5: other client");
         self.note_if(u16::from(waiter.server) != numbers.engine, "5: other server");
+        let fits = numbers.branch == 0
+            && (operation, serial) == (waiter.operation, waiter.serial)
+            && u16::from(client) == numbers.second_engine
+            && u16::from(waiter.server) == numbers.engine;
+        // Then only the counts are left.
+        self.note_if(fits, "5: counts of a reply");
     }
 
     fn installing(&mut self, before: &Configuration, numbers: Numbers) {
@@ -258,6 +303,9 @@ impl Coverage {
         let Some(place) = find(before, numbers.engine, numbers.position) else { return };
         let values = before.engines.get(usize::from(numbers.engine)).map(|e| e.values);
         let values = values.unwrap_or([0; 32]);
+        let several = |frame: &Frame| matches!(frame, Frame::ExecutorBody(e) if e.y.count() > 1);
+        let inside = place.frames.iter().any(several);
+        self.note_if(inside, "acts inside an executor of several values");
         match &*place.process {
             Process::Assign(..) => {
                 self.note("assign");
@@ -556,8 +604,9 @@ impl Coverage {
         let Some(receiver) = second else { return };
         let dead = matches!(&*receiver.process, Process::Waiter(waiter) if waiter.dead);
         match &*sender.process {
-            Process::Executor(..) => {
+            Process::Executor(executor, _) => {
                 self.becomes_nil(sender);
+                self.message(REPLIES, &executor.y);
                 self.note(if dead { "reply to a dead waiter" } else { "reply to a live waiter" });
                 if let Process::Waiter(waiter) = &*receiver.process {
                     self.note_if(!waiter.list.is_empty(), "reply with list");
@@ -565,18 +614,38 @@ impl Coverage {
             }
             Process::Notice(_) => {
                 self.becomes_nil(sender);
+                if let Process::Waiter(waiter) = &*receiver.process {
+                    let several = waiter.x.count() > 1;
+                    self.note_if(several, "fault to a waiter of several values");
+                }
                 self.note(if dead { "fault to a dead waiter" } else { "fault to a live waiter" });
             }
-            Process::Solicit { list, .. } => {
+            Process::Solicit { list, y, x, .. } => {
+                self.message(SOLICITS, y);
+                self.counted(AWAITED, x.count());
                 self.note_if(!list.is_empty(), "solicit with list");
                 self.note_if(before.issued > 65_000, "issued above 65,000");
                 self.met(numbers, &receiver.process);
             }
-            _ => {
+            other => {
+                if let Process::Notify { y, .. } = other {
+                    self.message(NOTIFIES, y);
+                }
                 self.becomes_nil(sender);
                 self.met(numbers, &receiver.process);
             }
         }
+    }
+
+    /// What is sent, by its count.
+    fn message(&mut self, rows: [&'static str; 3], y: &Variables) {
+        self.counted(rows, y.count());
+        self.note_if(!y.are_distinct(), "a variable sent twice");
+    }
+
+    fn counted(&mut self, [one, several, four]: [&'static str; 3], count: usize) {
+        self.note(if count == 1 { one } else { several });
+        self.note_if(count == MOST, four);
     }
 
     fn met(&mut self, numbers: Numbers, receiver: &Process) {

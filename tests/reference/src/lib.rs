@@ -1,5 +1,5 @@
-//! A second implementation of document 01 (SOCK engines with dynamic handlers), in plain Rust
-//! over trees. It is the oracle for an implementation that works on the words themselves, so
+//! A second implementation of document 01 (SOCK engines with dynamic handlers) as document 02
+//! changes it, in plain Rust over trees. It is the oracle for an implementation that works on the words themselves, so
 //! it follows the document sentence by sentence and prefers clarity to speed.
 //!
 //! Words become trees (`read`, `readable`), rules change trees (`alone`, `pair`, with `fault`,
@@ -19,7 +19,8 @@
 //!   in its line, in place of "end" and the length.
 //!
 //! `window` is document 02's change h, and stands by itself; `pending` is change b: what a side has
-//! that can't be killed is searched apart from killing it.
+//! that can't be killed is searched apart from killing it. `earlier` is the format before change c,
+//! with no lists of variables, and how it is rewritten.
 
 pub mod alone;
 pub mod billing;
@@ -29,6 +30,7 @@ pub mod calls;
 pub mod configuration;
 pub mod context;
 pub mod coverage;
+pub mod earlier;
 pub mod expression;
 pub mod fault;
 pub mod fields;
@@ -43,6 +45,7 @@ pub mod process;
 pub mod read;
 pub mod readable;
 pub mod refusal;
+pub mod variables;
 pub mod window;
 pub mod write;
 

@@ -1,15 +1,11 @@
 //! Size in words and depth of processes, lists and expressions.
 
 use crate::expression::Expression;
-use crate::process::{List, Process};
+use crate::process::{Executor, List, Process};
 
 pub fn size(process: &Process) -> usize {
     match process {
-        Process::Nil
-        | Process::OneWay { .. }
-        | Process::Throw(_)
-        | Process::Comp(_)
-        | Process::CurrentHandler => 1,
+        Process::Nil | Process::Throw(_) | Process::Comp(_) | Process::CurrentHandler => 1,
         Process::Assign(_, expression) => 1 + expression_size(expression),
         Process::Seq(first, second) => 1 + size(first) + size(second),
         Process::Par(left, right) => 1 + size(left) + size(right),
@@ -18,15 +14,21 @@ pub fn size(process: &Process) -> usize {
         Process::Choice(branches) => {
             1 + branches.iter().map(|b| size(&b.receiver) + size(&b.then)).sum::<usize>()
         }
-        Process::Request { body, .. } => 2 + size(body),
-        Process::Notify { .. } => 2,
-        Process::Solicit { list, .. } => 2 + list_size(list),
+        Process::OneWay { x, .. } => 1 + x.words(),
+        Process::Request { x, y, body, .. } => 2 + x.words() + y.words() + size(body),
+        Process::Notify { y, .. } => 2 + y.words(),
+        Process::Solicit { y, x, list, .. } => 2 + y.words() + x.words() + list_size(list),
         Process::Scope(scope, body) => 2 + list_size(&scope.list) + size(body),
         Process::Inst(list) => 1 + list_size(list),
-        Process::Executor(_, body) => 3 + size(body),
-        Process::Waiter(waiter) => 3 + list_size(&waiter.list),
+        Process::Executor(executor, body) => executor_size(executor) + size(body),
+        Process::Waiter(waiter) => 3 + waiter.x.words() + list_size(&waiter.list),
         Process::Notice(_) => 3,
     }
+}
+
+/// The words of an executor that stand before its body.
+pub fn executor_size(executor: &Executor) -> usize {
+    3 + executor.y.words()
 }
 
 pub fn list_size(list: &List) -> usize {

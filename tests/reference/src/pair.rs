@@ -2,9 +2,10 @@
 
 use crate::configuration::{Configuration, Engine};
 use crate::context::{plug, Place};
-use crate::expression::{assign, value};
+use crate::expression::value;
 use crate::process::{nil, seq, Executor, Part, Process, Waiter};
 use crate::refusal::Refusal;
+use crate::variables::Variables;
 use std::rc::Rc;
 
 /// Where the two stand, and the branch that the step names.
@@ -20,8 +21,8 @@ pub struct Meeting {
 struct Exchange {
     sender: Part,
     receiver: Part,
-    /// The receiver's variable and the value it takes.
-    message: Option<(u8, u32)>,
+    /// The receiver's variables and the values they take.
+    message: Option<(Variables, Vec<u32>)>,
     issued: u16,
     serial: u16,
     fault: u8,
@@ -44,8 +45,8 @@ pub fn step(before: &Configuration, meeting: Meeting) -> Result<Moved, Refusal> 
     }
     if let Some(engine) = configuration.engines.get_mut(meeting.second) {
         engine.process = plug(meeting.receiver.frames, exchange.receiver);
-        if let Some((x, value)) = exchange.message {
-            assign(&mut engine.values, x, value);
+        if let Some((x, sent)) = exchange.message {
+            x.take(&mut engine.values, &sent);
         }
     }
     Ok(Moved { configuration, serial: exchange.serial, fault: exchange.fault })
@@ -101,13 +102,14 @@ fn followed_by(process: Part, then: Option<&Part>) -> Part {
 fn notify(before: &Configuration, engine: &Engine, meeting: &Meeting) -> Option<Exchange> {
     let Process::Notify { operation, y, z } = &*meeting.sender.process else { return None };
     let (Process::OneWay { operation: offered, x }, then) = chosen(meeting)? else { return None };
-    if operation != offered || !addressed(engine, *z, meeting.second) {
+    let fits = operation == offered && y.count() == x.count();
+    if !fits || !addressed(engine, *z, meeting.second) {
         return None;
     }
     Some(Exchange {
         sender: nil(),
         receiver: followed_by(nil(), then),
-        message: Some((*x, value(&engine.values, *y))),
+        message: Some((x.clone(), y.values(&engine.values))),
         issued: before.issued,
         serial: 0,
         fault: 0,
@@ -123,14 +125,16 @@ fn solicit(before: &Configuration, engine: &Engine, meeting: &Meeting) -> Option
     else {
         return None;
     };
-    if operation != offered || !addressed(engine, *z, meeting.second) {
+    // The counts of the message and, already now, those of its reply.
+    let fits = operation == offered && y.count() == into.count() && answer.count() == x.count();
+    if !fits || !addressed(engine, *z, meeting.second) {
         return None;
     }
     // Wraps only where the caller refuses: serials spent.
     let serial = before.issued.wrapping_add(1);
     let waiter = Waiter {
         operation: *operation,
-        x: *x,
+        x: x.clone(),
         dead: false,
         server: u8::try_from(meeting.second).ok()?,
         serial,
@@ -138,7 +142,7 @@ fn solicit(before: &Configuration, engine: &Engine, meeting: &Meeting) -> Option
     };
     let executor = Executor {
         operation: *operation,
-        y: *answer,
+        y: answer.clone(),
         client: u8::try_from(meeting.first).ok()?,
         serial,
     };
@@ -146,7 +150,7 @@ fn solicit(before: &Configuration, engine: &Engine, meeting: &Meeting) -> Option
     Some(Exchange {
         sender: Rc::new(Process::Waiter(waiter)),
         receiver: followed_by(working, then),
-        message: Some((*into, value(&engine.values, *y))),
+        message: Some((into.clone(), y.values(&engine.values))),
         issued: serial,
         serial,
         fault: 0,
@@ -164,7 +168,7 @@ fn waiting(meeting: &Meeting, operation: u8, client: u8, serial: u16) -> Option<
     fits.then_some(waiter)
 }
 
-/// A reply: x takes y as it is now, and the waiter, dead or live, becomes inst of its list.
+/// A reply, whose counts agree: x takes y as it is now, and the waiter, dead or live, becomes inst of its list.
 fn reply(
     before: &Configuration,
     engine: &Engine,
@@ -172,10 +176,13 @@ fn reply(
     executor: &Executor,
 ) -> Option<Exchange> {
     let waiter = waiting(meeting, executor.operation, executor.client, executor.serial)?;
+    if executor.y.count() != waiter.x.count() {
+        return None;
+    }
     Some(Exchange {
         sender: nil(),
         receiver: Rc::new(Process::Inst(waiter.list.clone())),
-        message: Some((waiter.x, value(&engine.values, executor.y))),
+        message: Some((waiter.x.clone(), executor.y.values(&engine.values))),
         issued: before.issued,
         serial: executor.serial,
         fault: 0,

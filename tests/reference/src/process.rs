@@ -1,6 +1,7 @@
 //! The tree of a process: the nineteen kinds, handler lists, and the rebuilding of seq and par.
 
 use crate::expression::Expression;
+use crate::variables::Variables;
 use std::collections::BTreeMap;
 use std::rc::Rc;
 
@@ -35,24 +36,24 @@ pub enum Process {
     Choice(Vec<Branch>),
     OneWay {
         operation: u8,
-        x: u8,
+        x: Variables,
     },
     Request {
         operation: u8,
-        x: u8,
-        y: u8,
+        x: Variables,
+        y: Variables,
         body: Part,
     },
     Notify {
         operation: u8,
-        y: u8,
+        y: Variables,
         z: u8,
     },
     Solicit {
         operation: u8,
-        y: u8,
+        y: Variables,
         z: u8,
-        x: u8,
+        x: Variables,
         list: List,
     },
     Scope(Scope, Part),
@@ -86,7 +87,7 @@ pub struct Scope {
 #[derive(Clone, Debug, PartialEq, Eq)]
 pub struct Executor {
     pub operation: u8,
-    pub y: u8,
+    pub y: Variables,
     pub client: u8,
     pub serial: u16,
 }
@@ -94,7 +95,7 @@ pub struct Executor {
 #[derive(Clone, Debug, PartialEq, Eq)]
 pub struct Waiter {
     pub operation: u8,
-    pub x: u8,
+    pub x: Variables,
     pub dead: bool,
     pub server: u8,
     pub serial: u16,

@@ -5,6 +5,7 @@ use crate::expression::{Expression, Operator, Values};
 use crate::fields::Fields;
 use crate::limits::Limits;
 use crate::process::{Branch, Executor, Key, List, Mark, Notice, Part, Process, Scope, Waiter};
+use crate::variables::{Variables, MOST};
 use std::rc::Rc;
 
 /// The configuration that the words lay out, all of them; None if there is none.
@@ -66,7 +67,7 @@ impl Reader<'_> {
             4 => Process::If(self.expression(below)?, self.process(below)?, self.process(below)?),
             5 => Process::While(self.expression(below)?, self.process(below)?),
             6 => self.choice(head.take(11), below)?,
-            7 => Process::OneWay { operation: head.small(6), x: head.small(5) },
+            7 => self.one_way(head.small(6), head.small(5))?,
             8 => self.request(head.small(6), head.small(5), below)?,
             9 => self.notify(head.small(6), head.small(5))?,
             10 => self.solicit(head.small(6), head.small(5), below)?,
@@ -100,10 +101,33 @@ impl Reader<'_> {
         Some(Process::Choice(branches))
     }
 
+    /// The variables of a message whose first one was read: a count of 1 to 4, as a plain number,
+    /// and the further ones.
+    fn variables(&mut self, first: u8) -> Option<Variables> {
+        let count = usize::from(self.word()?);
+        if !(1..=MOST).contains(&count) {
+            return None;
+        }
+        let mut variables = vec![first];
+        for _ in 1..count {
+            let mut further = Fields::of(self.word()?);
+            variables.push(further.small(5));
+            further.end()?;
+        }
+        Some(Variables(variables))
+    }
+
+    fn one_way(&mut self, operation: u8, x: u8) -> Option<Process> {
+        let x = self.variables(x)?;
+        Some(Process::OneWay { operation, x })
+    }
+
     fn request(&mut self, operation: u8, x: u8, below: usize) -> Option<Process> {
         let mut fixed = Fields::of(self.word()?);
         let y = fixed.small(5);
         fixed.end()?;
+        let x = self.variables(x)?;
+        let y = self.variables(y)?;
         let body = self.process(below)?;
         Some(Process::Request { operation, x, y, body })
     }
@@ -112,6 +136,7 @@ impl Reader<'_> {
         let mut fixed = Fields::of(self.word()?);
         let z = fixed.small(5);
         fixed.end()?;
+        let y = self.variables(y)?;
         Some(Process::Notify { operation, y, z })
     }
 
@@ -119,6 +144,8 @@ impl Reader<'_> {
         let mut fixed = Fields::of(self.word()?);
         let (z, x) = (fixed.small(5), fixed.small(5));
         fixed.end()?;
+        let y = self.variables(y)?;
+        let x = self.variables(x)?;
         let list = self.list(below)?;
         Some(Process::Solicit { operation, y, z, x, list })
     }
@@ -143,6 +170,7 @@ impl Reader<'_> {
         let client = fixed.small(3);
         fixed.end()?;
         let serial = self.word()?;
+        let y = self.variables(y)?;
         let body = self.process(below)?;
         Some(Process::Executor(Executor { operation, y, client, serial }, body))
     }
@@ -152,6 +180,7 @@ impl Reader<'_> {
         let (dead, server) = (fixed.small(1) == 1, fixed.small(3));
         fixed.end()?;
         let serial = self.word()?;
+        let x = self.variables(x)?;
         let list = self.list(below)?;
         Some(Process::Waiter(Waiter { operation, x, dead, server, serial, list }))
     }

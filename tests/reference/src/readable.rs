@@ -1,4 +1,5 @@
-//! Readable and fresh: what document 01 asks of a configuration beyond its layout.
+//! Readable and fresh: what is asked of a configuration beyond its layout, by document 01 and, that
+//! no variable receives twice, by document 02 c.
 
 use crate::configuration::Configuration;
 use crate::limits::Limits;
@@ -59,7 +60,9 @@ impl Bounds {
                 self.end(executor.serial, executor.client) && self.enabled(body)
             }
             Process::Waiter(waiter) => {
-                self.end(waiter.serial, waiter.server) && entries(&waiter.list, true)
+                self.end(waiter.serial, waiter.server)
+                    && waiter.x.are_distinct()
+                    && entries(&waiter.list, true)
             }
             Process::Notice(notice) => self.end(notice.serial, notice.client),
             other => resting(other, false),
@@ -94,7 +97,6 @@ fn resting(process: &Process, handler: bool) -> bool {
     match process {
         Process::Nil
         | Process::Assign(..)
-        | Process::OneWay { .. }
         | Process::Notify { .. }
         | Process::Throw(_)
         | Process::Comp(_) => true,
@@ -105,11 +107,14 @@ fn resting(process: &Process, handler: bool) -> bool {
             !left.is_nil() && !right.is_nil() && resting(left, handler) && resting(right, handler)
         }
         Process::If(_, yes, no) => resting(yes, handler) && resting(no, handler),
-        Process::While(_, body) | Process::Request { body, .. } => resting(body, handler),
+        Process::While(_, body) => resting(body, handler),
+        Process::OneWay { x, .. } => x.are_distinct(),
+        Process::Request { x, body, .. } => x.are_distinct() && resting(body, handler),
         Process::Choice(branches) => branches
             .iter()
             .all(|branch| resting(&branch.receiver, handler) && resting(&branch.then, handler)),
-        Process::Solicit { list, .. } | Process::Inst(list) => entries(list, true),
+        Process::Solicit { x, list, .. } => x.are_distinct() && entries(list, true),
+        Process::Inst(list) => entries(list, true),
         Process::Scope(scope, body) => scope.is_untouched() && resting(body, handler),
         Process::CurrentHandler => handler,
         Process::Executor(..) | Process::Waiter(_) | Process::Notice(_) => false,

@@ -5,6 +5,7 @@ use crate::configuration::Configuration;
 use crate::expression::{Expression, Operator};
 use crate::fields::Packed;
 use crate::process::{Key, List, Mark, Process, Scope};
+use crate::variables::Variables;
 
 pub fn configuration(configuration: &Configuration) -> Vec<u16> {
     let mut words = vec![configuration.engines.len() as u16, configuration.issued];
@@ -41,8 +42,9 @@ fn head(kind: u8) -> Packed {
     Packed::new().put(u16::from(kind), 5)
 }
 
-fn head_with(kind: u8, operation: u8, variable: u8) -> u16 {
-    head(kind).put(u16::from(operation), 6).put(u16::from(variable), 5).word()
+/// A head with an operation and the first of some variables.
+fn head_with(kind: u8, operation: u8, variables: &Variables) -> u16 {
+    head(kind).put(u16::from(operation), 6).put(u16::from(variables.first()), 5).word()
 }
 
 fn named(kind: u8, name: u8) -> u16 {
@@ -51,6 +53,12 @@ fn named(kind: u8, name: u8) -> u16 {
 
 fn variable(variable: u8) -> u16 {
     Packed::new().put(u16::from(variable), 5).word()
+}
+
+/// The count of the variables, and a word for each but the first.
+fn put_variables(words: &mut Vec<u16>, variables: &Variables) {
+    words.push(variables.count() as u16);
+    words.extend(variables.further().iter().map(|each| variable(*each)));
 }
 
 fn put_process(words: &mut Vec<u16>, process: &Process) {
@@ -84,19 +92,27 @@ fn put_process(words: &mut Vec<u16>, process: &Process) {
                 put_process(words, &branch.then);
             }
         }
-        Process::OneWay { operation, x } => words.push(head_with(kind, *operation, *x)),
+        Process::OneWay { operation, x } => {
+            words.push(head_with(kind, *operation, x));
+            put_variables(words, x);
+        }
         Process::Request { operation, x, y, body } => {
-            words.push(head_with(kind, *operation, *x));
-            words.push(variable(*y));
+            words.push(head_with(kind, *operation, x));
+            words.push(variable(y.first()));
+            put_variables(words, x);
+            put_variables(words, y);
             put_process(words, body);
         }
         Process::Notify { operation, y, z } => {
-            words.push(head_with(kind, *operation, *y));
+            words.push(head_with(kind, *operation, y));
             words.push(variable(*z));
+            put_variables(words, y);
         }
         Process::Solicit { operation, y, z, x, list } => {
-            words.push(head_with(kind, *operation, *y));
-            words.push(Packed::new().put(u16::from(*z), 5).put(u16::from(*x), 5).word());
+            words.push(head_with(kind, *operation, y));
+            words.push(Packed::new().put(u16::from(*z), 5).put(u16::from(x.first()), 5).word());
+            put_variables(words, y);
+            put_variables(words, x);
             put_list(words, list);
         }
         Process::Scope(scope, body) => {
@@ -109,16 +125,18 @@ fn put_process(words: &mut Vec<u16>, process: &Process) {
         }
         Process::Throw(name) | Process::Comp(name) => words.push(named(kind, *name)),
         Process::Executor(executor, body) => {
-            words.push(head_with(kind, executor.operation, executor.y));
+            words.push(head_with(kind, executor.operation, &executor.y));
             words.push(Packed::new().put(u16::from(executor.client), 3).word());
             words.push(executor.serial);
+            put_variables(words, &executor.y);
             put_process(words, body);
         }
         Process::Waiter(waiter) => {
-            words.push(head_with(kind, waiter.operation, waiter.x));
+            words.push(head_with(kind, waiter.operation, &waiter.x));
             let dead = u16::from(waiter.dead);
             words.push(Packed::new().put(dead, 1).put(u16::from(waiter.server), 3).word());
             words.push(waiter.serial);
+            put_variables(words, &waiter.x);
             put_list(words, &waiter.list);
         }
         Process::Notice(notice) => {

@@ -4,6 +4,7 @@
 use reference::build;
 use reference::context::enabled;
 use reference::process::{Key, Mark, Part};
+use reference::variables::Variables;
 use reference::{process_range, readable, write, STANDARD};
 
 const DOCUMENT: &str = include_str!("../../../docs/FORMAT.md");
@@ -52,10 +53,26 @@ fn drawn(words: &str) -> Vec<u16> {
     words.split('|').map(word).collect()
 }
 
+/// The variables of a message here: of x and of y another count.
+fn variables(letter: char) -> Variables {
+    let first = value(letter) as u8;
+    match letter {
+        'x' => Variables::from([first, 1, 30, 7]),
+        _ => Variables::from([first, 29, first]),
+    }
+}
+
+/// The words of a list of variables behind the first: a count and a word for each further one.
+fn listed(letter: char) -> Vec<u16> {
+    let Variables(all) = variables(letter);
+    let further = all[1..].iter().map(|each| u16::from(*each) * 0x800);
+    [all.len() as u16].into_iter().chain(further).collect()
+}
+
 /// A process of the kind with these fields.
 fn built(kind: u8) -> Part {
-    let [v, o, x, y, z, n, f, e] =
-        ['v', 'o', 'x', 'y', 'z', 'n', 'f', 'e'].map(|letter| value(letter) as u8);
+    let [v, o, z, n, f, e] = ['v', 'o', 'z', 'n', 'f', 'e'].map(|letter| value(letter) as u8);
+    let (x, y) = (variables('x'), variables('y'));
     let (nil, leaf) = (build::nil, || build::comp(1));
     let none = || build::list([]);
     let one = || build::constant(1);
@@ -91,9 +108,20 @@ fn kinds_are_drawn_as_they_are_written() {
     for line in section("Kinds of process") {
         let Some(drawing) = line.strip_prefix("    ") else { continue };
         let Ok(kind) = drawing[..2].trim().parse::<u8>() else { continue };
-        // Number and name, the bits, what follows.
+        // Number and name, the bits, what follows; of that, the lists of variables come first.
         let end = drawing.len().min(86);
-        let words = drawn(&drawing[15..end]);
+        let mut words = drawn(&drawing[15..end]);
+        let lists = drawing[end..].split(", ").filter_map(|each| each.strip_prefix("variables "));
+        let lists: Vec<char> = lists.filter_map(|letter| letter.chars().next()).collect();
+        let expected: &[char] = match kind {
+            7 | 17 => &['x'],
+            8 => &['x', 'y'],
+            9 | 16 => &['y'],
+            10 => &['y', 'x'],
+            _ => &[],
+        };
+        assert_eq!(lists, expected, "{line}");
+        words.extend(lists.into_iter().flat_map(listed));
         let process = built(kind);
         assert_eq!(process.kind(), kind);
         assert_eq!(write::process(&process)[..words.len()], words, "{line}");
@@ -101,6 +129,32 @@ fn kinds_are_drawn_as_they_are_written() {
         kinds += 1;
     }
     assert_eq!(kinds, 19);
+}
+
+/// Each row of the table of lists is a process of the kind, with the variables, that it says.
+#[test]
+fn lists_of_variables_are_as_they_are_written() {
+    let none = || build::list([]);
+    let processes = [
+        build::notify(2, 2, 1),
+        build::notify(2, [2, 3, 4, 2], 1),
+        build::one_way(2, [5, 6, 0, 8]),
+        build::solicit(1, [2, 3], 1, 6, none()),
+        build::request(1, [2, 3], 6, build::nil()),
+    ];
+    let lines = section("Variables of a message");
+    let rows = lines.iter().filter(|line| line.starts_with("| ")).skip(1);
+    let mut count = 0;
+    for (row, process) in rows.zip(&processes) {
+        let words = row.trim_matches('|').split('|').next().unwrap_or("").split_whitespace();
+        let words: Vec<u16> =
+            words.map(|word| u16::from_str_radix(word, 16).expect("a word")).collect();
+        assert_eq!(write::process(process), words, "{row}");
+        let root = build::configuration(0, vec![build::scope(1, process.clone())]);
+        assert!(readable::read(&STANDARD, &write::configuration(&root)).is_some(), "{row}");
+        count += 1;
+    }
+    assert_eq!(count, processes.len());
 }
 
 /// The words of the text in "A whole file"; `0000*3` is three of them.

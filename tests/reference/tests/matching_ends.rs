@@ -92,6 +92,9 @@ fn paired(words: &[u16], all: &[Stand], serial: u16) {
     assert_eq!(operation, waiter.operation);
     assert_eq!(usize::from(client), waiting.engine);
     assert_eq!(usize::from(waiter.server), stand.engine);
+    if let Process::Executor(executor, _) = &*stand.process {
+        assert_eq!(executor.y.count(), waiter.x.count(), "an open request fails over its counts");
+    }
     if ready {
         let numbers = Numbers::new(
             stand.engine as u16,

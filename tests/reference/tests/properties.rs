@@ -180,7 +180,7 @@ fn every_unused_bit_must_be_0() {
 /// Smaller limits: the same answers where everything fits, else 1, 8 or 9 in the usual order.
 #[test]
 fn smaller_limits_refuse_more_and_answer_the_same() {
-    let small = Limits { depth: 9, words: 260 };
+    let small = Limits { depth: 9, words: 320 };
     let mut met = [0; 14];
     for seed in 0..1500 {
         let mut run = Run::new(0xA000 + seed, Origin::Fresh);

@@ -153,13 +153,13 @@ fn reading_10_words_of_each_kind() {
     assert_eq!(words(if_else(variable(0), nil(), comp(0))), [4 << 11, 1 << 13, 0, 14 << 11]);
     assert_eq!(words(while_true(variable(0), nil())), [5 << 11, 1 << 13, 0]);
     let branches = vec![(one_way(63, 31), nil()), (request(1, 2, 31, nil()), comp(0))];
-    let expected =
-        [6 << 11 | 2, 7 << 11 | 63 << 5 | 31, 0, 8 << 11 | 1 << 5 | 2, 31 << 11, 0, 14 << 11];
+    let mut expected = vec![6 << 11 | 2, 7 << 11 | 63 << 5 | 31, 1, 0];
+    expected.extend([8 << 11 | 1 << 5 | 2, 31 << 11, 1, 1, 0, 14 << 11]);
     assert_eq!(words(choice(branches)), expected);
-    assert_eq!(words(notify(3, 4, 5)), [9 << 11 | 3 << 5 | 4, 5 << 11]);
+    assert_eq!(words(notify(3, 4, 5)), [9 << 11 | 3 << 5 | 4, 5 << 11, 1]);
     let entries = || list([(Key::Fault(2), nil()), (Key::Scope(1), comp(0))]);
     let listed = [2, 2 << 9, 0, 0x8000 | 1 << 9, 14 << 11];
-    let mut expected = vec![10 << 11 | 3 << 5 | 4, 5 << 11 | 6 << 6];
+    let mut expected = vec![10 << 11 | 3 << 5 | 4, 5 << 11 | 6 << 6, 1, 1];
     expected.extend(listed);
     assert_eq!(words(solicit(3, 4, 5, 6, entries())), expected);
     let zombie = scope_with(63, Mark::Fault(62), true, entries(), nil());
@@ -171,9 +171,9 @@ fn reading_10_words_of_each_kind() {
     assert_eq!(words(own), [11 << 11 | 2 << 3 | 1 << 2, 0, 0, 0]);
     assert_eq!(words(inst(List::new())), [12 << 11, 0]);
     assert_eq!(words(current_handler()), [15 << 11]);
-    let expected = [16 << 11 | 3 << 5 | 4, 7 << 13, 0xFFFF, 0];
+    let expected = [16 << 11 | 3 << 5 | 4, 7 << 13, 0xFFFF, 1, 0];
     assert_eq!(words(executor(3, 4, 7, 65_535, nil())), expected);
-    let expected = [17 << 11 | 3 << 5 | 4, 0x8000 | 7 << 12, 9, 0];
+    let expected = [17 << 11 | 3 << 5 | 4, 0x8000 | 7 << 12, 9, 1, 0];
     assert_eq!(words(waiter(3, 4, true, 7, 9, List::new())), expected);
     assert_eq!(words(notice(3, 63, 7, 9)), [18 << 11 | 3 << 5, 63 << 10 | 7 << 7, 9]);
 }

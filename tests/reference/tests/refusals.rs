@@ -176,20 +176,25 @@ fn number_6_installing_after_3_and_before_10() {
 }
 
 #[test]
-fn number_7_serials_spent_after_5_and_before_9_and_10() {
+fn number_7_serials_spent_after_5_and_before_10() {
     let spent = serials(65_535);
     let fits = between(&spent, (0, 10), (1, 8));
     assert_eq!(refuse(&spent, fits), 7);
     assert_eq!(refuse_words(&words(&spent), fits, 0), 7);
     assert_eq!(refuse(&spent, Numbers { branch: 1, ..fits }), 5);
     assert_eq!(refuse(&spent, Numbers { second_engine: 0, ..fits }), 5);
-    // A result two words longer than 8,191 is too long, but the serials come first.
-    for (issued, refusal) in [(65_534, 9), (65_535, 7)] {
+    // A solicit does not lengthen a configuration, so a full one is no hindrance; room for it is
+    // asked for after the serials.
+    for (issued, refusal) in [(65_534, 10), (65_535, 7)] {
         let mut full = serials(issued);
-        let rest = filler(8191 - full.size() - 1).expect("some");
+        let rest = filler(8192 - full.size() - 1).expect("some");
         full.engines[1].process = scope(2, par(body(&full, 1).clone(), rest));
-        assert_eq!(full.size(), 8191);
-        assert_eq!(refuse(&full, between(&full, (0, 10), (1, 8))), refusal);
+        assert_eq!(full.size(), 8192);
+        let numbers = between(&full, (0, 10), (1, 8));
+        assert_eq!(refuse_words(&words(&full), numbers, 8191), refusal);
+        if issued < 65_535 {
+            assert_eq!(accept(&full, numbers).0.length, 8192);
+        }
     }
 }
 

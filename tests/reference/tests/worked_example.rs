@@ -1,4 +1,4 @@
-//! Document 01's handover example, and the program's other texts.
+//! Document 01's handover example with the counts of document 02 c, and the program's other texts.
 
 mod common;
 
@@ -15,9 +15,9 @@ fn start() -> Vec<u16> {
     let mut values = vec![0; 64];
     values[3] = 1;
     words.extend(&values);
-    words.extend([0x5800, 0, 0, 0x5020, 0x0880, 0]);
+    words.extend([0x5800, 0, 0, 0x5020, 0x0880, 1, 1, 0]);
     words.extend([0; 64]);
-    words.extend([0x5800, 0, 0, 0x4020, 0, 0]);
+    words.extend([0x5800, 0, 0, 0x4020, 0, 1, 1, 0]);
     words
 }
 
@@ -52,31 +52,36 @@ fn the_whole_text() {
 #[test]
 fn lengths_and_short_output() {
     let (first, one) = after(&start(), STEPS[0], 8192);
-    assert_eq!((first.number, first.length), (0, 144));
-    let one = &one[..144];
+    assert_eq!(start().len(), 146);
+    assert_eq!((first.number, first.length), (0, 146));
+    let one = &one[..146];
     let (second, two) = after(one, STEPS[1], 8192);
     assert_eq!((second.number, second.length), (0, 139));
     assert_eq!(after(one, STEPS[1], 139).0, second);
     let (short, untouched) = after(one, STEPS[1], 138);
     assert_eq!(short, Answer { number: 10, ..Answer::default() });
     assert!(untouched.iter().all(|word| *word == FILL));
-    let (last, _) = after(&two[..139], STEPS[3], 8192);
-    assert_eq!(last.length, 138);
+    let (fourth, four) = after(&two[..139], STEPS[3], 8192);
+    assert_eq!((fourth.number, fourth.length), (0, 138));
+    let (last, _) = after(&four[..138], STEPS[4], 8192);
+    assert_eq!((last.number, last.length), (0, 135));
 }
 
 #[test]
 fn words_after_the_first_step() {
-    let (_, words) = after(&start(), STEPS[0], 144);
+    let (_, words) = after(&start(), STEPS[0], 146);
     assert_eq!(words[..2], [2, 1]);
-    // Engine 0: scope around a live waiter, operation 1, x 2, server 1, serial 1, empty list.
-    assert_eq!(words[66..73], [0x5800, 0, 0, 0x8822, 0x1000, 1, 0]);
-    // Engine 1: scope around an executor, operation 1, y 0, client 0, serial 1, nil body.
-    assert_eq!(words[137..144], [0x5800, 0, 0, 0x8020, 0x0000, 1, 0]);
+    // Engine 0: scope around a live waiter, operation 1, x 2, server 1, serial 1, count 1 of x, empty
+    // list.
+    assert_eq!(words[66..74], [0x5800, 0, 0, 0x8822, 0x1000, 1, 1, 0]);
+    // Engine 1: scope around an executor, operation 1, y 0, client 0, serial 1, count 1 of y, nil
+    // body.
+    assert_eq!(words[138..146], [0x5800, 0, 0, 0x8020, 0x0000, 1, 1, 0]);
 }
 
 #[test]
 fn end_with_no_steps_prints_the_current_length() {
-    assert_eq!(text(&input(&start(), &[])), "start 0\nend 142\n");
+    assert_eq!(text(&input(&start(), &[])), "start 0\nend 146\n");
 }
 
 #[test]
@@ -103,6 +108,6 @@ fn missing_words_and_great_lengths_are_start_1() {
 
 #[test]
 fn a_start_that_is_not_fresh_is_start_11() {
-    let (_, words) = after(&start(), STEPS[0], 144);
+    let (_, words) = after(&start(), STEPS[0], 146);
     assert_eq!(text(&input(&words, &STEPS)), "start 11\n");
 }

@@ -56,14 +56,14 @@ fn run(
     (calls, words)
 }
 
-/// Document 01's configuration and steps.
+/// Document 01's configuration, with counts of variables, and its steps.
 fn worked() -> (Vec<u16>, Vec<Numbers>) {
     let mut words = vec![2, 0];
     words.extend([0; 64]);
     words[2 + 3] = 1;
-    words.extend([0x5800, 0, 0, 0x5020, 0x0880, 0]);
+    words.extend([0x5800, 0, 0, 0x5020, 0x0880, 1, 1, 0]);
     words.extend([0; 64]);
-    words.extend([0x5800, 0, 0, 0x4020, 0, 0]);
+    words.extend([0x5800, 0, 0, 0x4020, 0, 1, 1, 0]);
     let numbers =
         |engine, position, second, place| Numbers::new(engine, position, second, place, 0);
     let reply = numbers(1, 3, 0, 3);
@@ -121,7 +121,7 @@ fn accepted() -> Vec<Input> {
         all.push(Input { name: name.to_string(), bytes, first: "start 0\n", last });
     };
     add("document 01's", &words, &calls, 0, "\n5 0 11 0 0\nend 135\n");
-    add("no steps", &words, &[], 0, "start 0\nend 142\n");
+    add("no steps", &words, &[], 0, "start 0\nend 146\n");
     for left in 1..10 {
         add("cut", &words, &calls, left, "\n5 0 11 0 0\ncut\n");
         add("cut at once", &words, &[], left, "start 0\ncut\n");

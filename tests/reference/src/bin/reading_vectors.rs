@@ -1,6 +1,7 @@
 //! Writes the cases of the program crate `reading_cases`: its standard input (big-endian words: the count, a serial, an
 //! engine, a position, then the configuration) and the lines that it has to print. The argument is the crate's folder.
 
+use reference::build;
 use reference::bytes::from_words;
 use reference::configuration::Configuration;
 use reference::generate::random::Random;
@@ -96,12 +97,36 @@ fn of_edges(cases: &mut Cases) {
     cases.add(&[1], 0, 0);
 }
 
+/// Lists of one to five variables in each place, of which five are too many, and one that has a variable twice: lists that are sent may.
+fn of_lists(cases: &mut Cases) {
+    let lists = (1..=5).map(|count| (5..5 + count).collect::<Vec<u8>>());
+    for list in lists.chain([vec![5, 6, 5]]) {
+        let list = || list.clone();
+        let none = || build::list([]);
+        for process in [
+            build::one_way(1, list()),
+            build::request(1, list(), 2, build::nil()),
+            build::request(1, 2, list(), build::nil()),
+            build::notify(1, list(), 2),
+            build::solicit(1, list(), 2, 3, none()),
+            build::solicit(1, 2, 3, list(), none()),
+            build::executor(1, list(), 0, 1, build::nil()),
+            build::waiter(1, list(), false, 0, 1, none()),
+        ] {
+            let processes = vec![build::scope(1, process), build::scope(2, build::nil())];
+            let both = build::configuration(1, processes);
+            cases.add(&write::configuration(&both), 1, 0);
+        }
+    }
+}
+
 fn main() -> std::io::Result<()> {
     let folder = std::env::args().nth(1).unwrap_or_else(|| ".".to_string());
     let mut cases = Cases { input: Vec::new(), output: String::new(), count: 0 };
     of_runs(&mut cases);
     of_damage(&mut cases);
     of_edges(&mut cases);
+    of_lists(&mut cases);
     fs::write(Path::new(&folder).join("stdin"), &cases.input)?;
     fs::write(Path::new(&folder).join("stdout"), &cases.output)?;
     println!("{} cases", cases.count);

@@ -12,6 +12,7 @@ use reference::generate::random::Random;
 use reference::generate::run::{Origin, Run, ORIGINS};
 use reference::generate::{damage, steps};
 use reference::process::{Key, List, Mark, Part};
+use reference::variables::{Variables, MOST};
 use reference::{measure, readable, step, write, Answer, Numbers, STANDARD};
 use std::collections::BTreeMap;
 use std::fs;
@@ -368,6 +369,178 @@ fn of_meetings(cases: &mut Cases) {
     }
 }
 
+/// So many variables; those that are sent have one twice.
+fn receiving(count: usize) -> Variables {
+    Variables([5, 31, 0, 6][..count].to_vec())
+}
+
+fn sent(count: usize) -> Variables {
+    Variables([2, 9, 2, 30][..count].to_vec())
+}
+
+/// Every two counts between one and four.
+fn counts() -> impl Iterator<Item = (usize, usize)> {
+    (1..=MOST).flat_map(|one| (1..=MOST).map(move |other| (one, other)))
+}
+
+/// Messages of one to four values: counts that agree, and each that does not, of the message and of its reply; at issued 65,535 counts that
+/// do not fit are 5 and not 7.
+fn of_counts(cases: &mut Cases) {
+    let meets = Numbers::new(0, 3, 1, 3, 0);
+    let list = build::list([(Key::Scope(5), build::throw(6))]);
+    let branch = |receiver: &Part| build::choice(vec![(receiver.clone(), build::comp(8))]);
+    let mut both = |from: &Part, to: &Part, issued: u16, number: u8| {
+        for (to, branch) in [(to.clone(), 0), (branch(to), 1)] {
+            let mut before = pair(from, &to, 1);
+            before.engines[0].values[9] = 0x0001_0002;
+            before.engines[0].values[30] = u32::MAX;
+            before.issued = issued;
+            cases.edge(&before, Numbers { branch, ..meets }, 1000, number);
+        }
+    };
+    for (y, x) in counts() {
+        let number = if y == x { 0 } else { 5 };
+        both(&build::notify(7, sent(y), 3), &build::one_way(7, receiving(x)), 4, number);
+        let asks = build::solicit(7, sent(y), 3, receiving(2), list.clone());
+        let serves = build::request(7, receiving(x), sent(2), build::comp(7));
+        both(&asks, &serves, 4, number);
+        let asks = build::solicit(7, sent(3), 3, receiving(x), list.clone());
+        let serves = build::request(7, receiving(3), sent(y), build::comp(7));
+        both(&asks, &serves, 65_534, number);
+        both(&asks, &serves, 65_535, if y == x { 7 } else { 5 });
+    }
+    let asks = build::solicit(7, sent(4), 3, receiving(4), list);
+    let serves = build::request(7, receiving(4), sent(4), build::comp(7));
+    of_room(cases, &Case::of(&pair(&asks, &serves, 1), meets, 1000));
+}
+
+/// Replies of one to four values, to a live waiter and to a dead one, and faults, which have none.
+fn of_replies(cases: &mut Cases) {
+    let delivers = Numbers::new(0, 3, 1, 3, 0);
+    let list = build::list([(Key::Scope(5), build::throw(6))]);
+    for (y, x) in counts() {
+        for dead in [false, true] {
+            let waits = build::waiter(7, receiving(x), dead, 0, 3, list.clone());
+            let replies = pair(&build::executor(7, sent(y), 1, 3, build::nil()), &waits, 0);
+            cases.edge(&replies, delivers, 1000, if y == x { 0 } else { 5 });
+            if y == x {
+                // A delivery needs no more output than the configuration is long.
+                cases.edge(&replies, delivers, replies.size(), 0);
+                of_room(cases, &Case::of(&replies, delivers, 1000));
+                let faults = pair(&build::notice(7, 9, 1, 3), &waits, 0);
+                cases.edge(&faults, delivers, faults.size(), 0);
+            }
+        }
+    }
+}
+
+/// Each kind with lists of variables, of so many in each list.
+fn listed(x: usize, y: usize) -> Vec<Part> {
+    let list = build::list([(Key::Fault(5), build::throw(6))]);
+    vec![
+        build::one_way(6, receiving(x)),
+        build::request(6, receiving(x), sent(y), build::comp(1)),
+        build::notify(6, sent(y), 3),
+        build::solicit(6, sent(y), 3, receiving(x), list.clone()),
+        build::executor(6, sent(y), 0, 1, build::one_way(6, receiving(x))),
+        build::waiter(6, receiving(x), false, 0, 1, list),
+    ]
+}
+
+/// A process of each width beside what moves, killed by it, in what a step copies, and with what moves inside it.
+fn of_widths(cases: &mut Cases) {
+    for (x, y) in [(1, 1), (4, 1), (1, 4), (2, 3), (4, 4)] {
+        for process in listed(x, y) {
+            let mut beside = |left: Part, right: Part, kind: u8| {
+                let root = build::scope(1, build::par(left, right));
+                let before = build::configuration(1, vec![root]);
+                cases.edge(&before, first(&before, kind), 1000, 0);
+            };
+            beside(process.clone(), build::comp(2), 14);
+            beside(build::throw(9), process.clone(), 13);
+            if process.kind() < 16 {
+                let code = build::seq(build::comp(2), process.clone());
+                beside(build::one_way(1, 1), code, 14);
+                let entry = build::list([(Key::Fault(4), process.clone())]);
+                beside(build::one_way(1, 1), build::inst(entry), 12);
+                let around = build::seq(build::throw(2), build::current_handler());
+                let fresh = build::inst(build::list([(Key::Scope(1), around)]));
+                let held = holding(Key::Scope(1), process.clone(), fresh);
+                cases.edge(&held, first(&held, 12), 1000, 0);
+            }
+        }
+        for inner in [build::comp(2), build::throw(9), build::scope(2, build::nil())] {
+            let kind = inner.kind();
+            let works =
+                build::executor(6, sent(y), 0, 1, build::par(inner, listed(x, y)[5].clone()));
+            let root = build::scope_with(1, Mark::None, true, List::new(), works);
+            let before = build::configuration(1, vec![root]);
+            let stands = steps::stands(&before);
+            let found = stands.iter().rev().find(|s| s.process.kind() == kind);
+            let position = found.map_or(0, |s| s.position as u16);
+            cases.edge(&before, alone(position), 1000, 0);
+        }
+    }
+}
+
+/// Lists that are not readable: counts out of range, in each place; a variable that receives twice; an unused bit.
+fn of_unreadable_lists(cases: &mut Cases) {
+    let mut refused = |process: &Part, change: &dyn Fn(&mut Vec<u16>)| {
+        let root = build::scope(1, build::par(build::comp(2), process.clone()));
+        let before = build::configuration(1, vec![root]);
+        let mut words = write::configuration(&before);
+        assert_eq!(Case::new(&words, alone(4), 1000).answer().0.number, 0);
+        change(&mut words);
+        let case = Case::new(&words, alone(4), 1000);
+        assert_eq!(case.answer().0.number, 1, "{process:?}");
+        cases.add(case);
+    };
+    // The processes begin at position 5 behind n, issued and 64 words of values.
+    let at = |place: usize| 66 + 5 + place;
+    let places = [&[1][..], &[2, 3], &[2], &[2, 3], &[3], &[3]];
+    for (process, places) in listed(1, 1).iter().zip(places) {
+        for place in places {
+            for count in [0, 5, 0x0800, 0x0101] {
+                refused(process, &|words| words[at(*place)] = count);
+            }
+        }
+    }
+    for (process, place) in listed(4, 4).iter().zip([1, 2, 2, 2, 3, 3]) {
+        refused(process, &|words| words[at(place + 3)] |= 1);
+        refused(process, &|words| words[at(place)] = 5);
+    }
+    // Variables 5, 31, 0 and 6: the first again, the second again, and the first is the last.
+    for (kind, place) in [(7, 1), (8, 2), (10, 6), (17, 3)] {
+        let process = listed(4, 4).into_iter().find(|p| p.kind() == kind);
+        let process = process.expect("each kind is listed");
+        refused(&process, &|words| words[at(place + 1)] = 5 << 11);
+        refused(&process, &|words| words[at(place + 3)] = 31 << 11);
+        refused(&process, &|words| words[at(place + 3)] = 5 << 11);
+        refused(&process, &|words| words[at(place + 3)] = words[at(place + 2)]);
+    }
+}
+
+/// Lists of four variables and of five, laid out whole, in each place.
+fn of_five(cases: &mut Cases) {
+    for (count, number) in [(4, 0), (5, 1)] {
+        let list = || Variables((5..5 + count).collect());
+        for process in [
+            build::one_way(6, list()),
+            build::request(6, list(), 2, build::nil()),
+            build::request(6, 2, list(), build::nil()),
+            build::notify(6, list(), 2),
+            build::solicit(6, list(), 2, 3, List::new()),
+            build::solicit(6, 2, 3, list(), List::new()),
+            build::executor(6, list(), 0, 1, build::nil()),
+            build::waiter(6, list(), true, 0, 1, List::new()),
+        ] {
+            let root = build::scope(1, build::par(process, build::comp(2)));
+            let before = build::configuration(1, vec![root]);
+            cases.edge(&before, first(&before, 14), 1000, number);
+        }
+    }
+}
+
 /// Eight branches and eight engines are read and nine are not; the sender behind the receiver.
 fn of_eight(cases: &mut Cases) {
     let notify = build::notify(7, 2, 3);
@@ -716,6 +889,11 @@ fn main() -> std::io::Result<()> {
     of_length(&mut cases);
     of_serials(&mut cases);
     of_meetings(&mut cases);
+    of_counts(&mut cases);
+    of_replies(&mut cases);
+    of_widths(&mut cases);
+    of_unreadable_lists(&mut cases);
+    of_five(&mut cases);
     of_eight(&mut cases);
     of_places(&mut cases);
     of_deep_places(&mut cases);

@@ -5,6 +5,7 @@ use crate::build;
 use crate::expression::{Expression, Operator, Values};
 use crate::generate::random::Random;
 use crate::process::{Key, List, Part};
+use crate::variables::{Variables, MOST};
 use std::rc::Rc;
 
 /// Variables from here on hold the engines' numbers at the start.
@@ -20,6 +21,8 @@ pub struct Alphabet {
     pub operations: u8,
     pub names: u8,
     pub engines: u8,
+    /// Variables of an operation's message and of its reply, by the operation's last two bits.
+    pub counts: [(usize, usize); 4],
 }
 
 impl Alphabet {
@@ -29,6 +32,7 @@ impl Alphabet {
             operations: 1 + random.small(3),
             names: 1 + random.small(3),
             engines,
+            counts: [(); 4].map(|_| (count(random), count(random))),
         }
     }
 
@@ -64,6 +68,34 @@ impl Alphabet {
         }
     }
 
+    /// How many variables a message with this operation has, and its reply: mostly the usual
+    /// counts, so that processes meet.
+    pub fn counts(&self, random: &mut Random, operation: u8) -> (usize, usize) {
+        let (message, reply) = self.counts[usize::from(operation & 3)];
+        match random.below(14) {
+            0 => (random.between(1, MOST), reply),
+            1 => (message, random.between(1, MOST)),
+            _ => (message, reply),
+        }
+    }
+
+    /// Variables that are sent; one may stand there twice.
+    pub fn sent(&self, random: &mut Random, count: usize) -> Variables {
+        Variables((0..count).map(|_| self.variable(random)).collect())
+    }
+
+    /// Variables that receive, all different.
+    pub fn receiving(&self, random: &mut Random, count: usize) -> Variables {
+        let mut variables = Vec::new();
+        while variables.len() < count {
+            let next = self.variable(random);
+            if !variables.contains(&next) {
+                variables.push(next);
+            }
+        }
+        Variables(variables)
+    }
+
     /// A variable that mostly holds the number of an engine in the configuration.
     pub fn address(&self, random: &mut Random) -> u8 {
         match random.below(20) {
@@ -72,6 +104,11 @@ impl Alphabet {
             _ => ENGINE_NUMBERS + random.small(self.engines),
         }
     }
+}
+
+/// 1 as often as all other counts.
+fn count(random: &mut Random) -> usize {
+    1 + random.weighted(&[3, 1, 1, 1])
 }
 
 /// Values as the alphabet's addresses need them, the others small or at the edges.
@@ -157,28 +194,32 @@ impl Maker<'_> {
 
     fn one_way(&mut self) -> Part {
         let operation = self.alphabet.operation(self.random);
-        build::one_way(operation, self.alphabet.variable(self.random))
+        let (message, _) = self.alphabet.counts(self.random, operation);
+        build::one_way(operation, self.alphabet.receiving(self.random, message))
     }
 
     fn notify(&mut self) -> Part {
         let operation = self.alphabet.operation(self.random);
-        let y = self.alphabet.variable(self.random);
+        let (message, _) = self.alphabet.counts(self.random, operation);
+        let y = self.alphabet.sent(self.random, message);
         build::notify(operation, y, self.alphabet.address(self.random))
     }
 
     fn request(&mut self, below: usize, handler: bool) -> Part {
         let operation = self.alphabet.operation(self.random);
-        let x = self.alphabet.variable(self.random);
-        let y = self.alphabet.variable(self.random);
+        let (message, reply) = self.alphabet.counts(self.random, operation);
+        let x = self.alphabet.receiving(self.random, message);
+        let y = self.alphabet.sent(self.random, reply);
         let body = if below > 1 { self.part(below, handler) } else { build::nil() };
         build::request(operation, x, y, body)
     }
 
     fn solicit(&mut self, below: usize) -> Part {
         let operation = self.alphabet.operation(self.random);
-        let y = self.alphabet.variable(self.random);
+        let (message, reply) = self.alphabet.counts(self.random, operation);
+        let y = self.alphabet.sent(self.random, message);
         let z = self.alphabet.address(self.random);
-        let x = self.alphabet.variable(self.random);
+        let x = self.alphabet.receiving(self.random, reply);
         let list = if below > 1 { self.list(below) } else { List::new() };
         build::solicit(operation, y, z, x, list)
     }

@@ -9,6 +9,7 @@ use crate::generate::roles::{roles, Role};
 use crate::limits::STANDARD;
 use crate::measure;
 use crate::process::{Key, List, Mark, Part, Process};
+use crate::variables::MOST;
 use crate::write;
 use std::rc::Rc;
 
@@ -29,15 +30,17 @@ fn hit(random: &mut Random, words: &mut Vec<u16>) {
         words.push(random.word());
         return;
     }
-    match random.below(11) {
+    match random.below(12) {
         0..=2 => words[at] ^= 1 << random.below(16),
         3 => words[at] = random.word(),
         4 => words[at] = words[other],
         5 => words.insert(at, random.word()),
-        6 => words.insert(at, 0),
+        6 => words.insert(at, random.below(2) as u16),
         7 => drop(words.remove(at)),
         8 => words.swap(at, other),
         9 if random.percent(30) => words.truncate(at),
+        // Counts of variables, if one stands there.
+        10 => words[at] = random.below(6) as u16,
         _ => words[at] = (random.below(20) as u16) << 11 | (words[at] & 0x07FF),
     }
 }
@@ -71,6 +74,7 @@ pub const CONDITIONS: &[(&str, Break)] = &[
     ("unused bit in a word of fields", |r, c| {
         unused(r, c, |role| matches!(role, Role::Fields { .. }))
     }),
+    ("unused bit in a further variable", |r, c| unused(r, c, |role| role == Role::Variable)),
     ("unused bit in a key", |r, c| unused(r, c, |role| matches!(role, Role::Key { .. }))),
     ("unused bit in an expression", |r, c| {
         unused(r, c, |role| matches!(role, Role::Expression { .. }))
@@ -86,6 +90,16 @@ pub const CONDITIONS: &[(&str, Break)] = &[
         let place = Role::Fields { kind: 11, marked: false };
         at_role(r, c, |role| role == place, |r, _| (1 + r.below(63) as u16) << 10)
     }),
+    ("no variables", |r, c| variables(r, c, 0)),
+    ("five variables", |r, c| variables(r, c, 5)),
+    ("count of variables in the top bits", |r, c| variables(r, c, 0x0800)),
+    ("count of variables by a high bit", |r, c| {
+        at_role(r, c, |role| role == Role::Variables, |_, word| word | 0x0100)
+    }),
+    ("x twice in a one-way", |r, c| x_twice(r, c, 7)),
+    ("x twice in a request", |r, c| x_twice(r, c, 8)),
+    ("x twice in a solicit", |r, c| x_twice(r, c, 10)),
+    ("x twice in a waiter", |r, c| x_twice(r, c, 17)),
     ("key repeated", key_repeated),
     ("keys falling", keys_falling),
     ("root neither nil nor scope", other_root),
@@ -233,6 +247,37 @@ fn branch_without_receiver(random: &mut Random, c: &Configuration) -> Option<Vec
         _ => build::throw(1),
     };
     put(random, c, || other.clone(), |around| around.slot == Slot::Guard)
+}
+
+/// The count of a message's variables.
+fn variables(random: &mut Random, configuration: &Configuration, count: u16) -> Option<Vec<u16>> {
+    at_role(random, configuration, |role| role == Role::Variables, |_, _| count)
+}
+
+/// One more variable in a list that receives, and there already; the last of four is another's.
+fn x_twice(random: &mut Random, configuration: &Configuration, kind: u8) -> Option<Vec<u16>> {
+    let (from, to) = (random.below(MOST), random.below(MOST));
+    let change = |process: &Part, _: Surroundings| {
+        if process.kind() != kind {
+            return None;
+        }
+        let mut changed = Process::clone(process);
+        let x = match &mut changed {
+            Process::OneWay { x, .. } | Process::Request { x, .. } => x,
+            Process::Solicit { x, .. } => x,
+            Process::Waiter(waiter) => &mut waiter.x,
+            _ => return None,
+        };
+        let again = x.0[from % x.count()];
+        x.0.truncate(MOST - 1);
+        if !x.0.contains(&again) {
+            x.0[0] = again;
+        }
+        let at = to % (x.count() + 1);
+        x.0.insert(at, again);
+        Some(Rc::new(changed))
+    };
+    one(random, configuration, change).map(|c| write::configuration(&c))
 }
 
 /// The places of two neighbouring keys of a list.

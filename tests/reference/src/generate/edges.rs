@@ -101,7 +101,7 @@ pub fn filler(words: usize) -> Option<Part> {
     match words {
         0 => None,
         1 => Some(build::comp(1)),
-        2 => Some(build::notify(1, 1, 1)),
+        2 => Some(build::one_way(1, 1)),
         _ => {
             let left = (words - 1) / 2;
             Some(build::par(filler(left)?, filler(words - 1 - left)?))

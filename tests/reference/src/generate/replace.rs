@@ -100,10 +100,11 @@ fn inside(process: &Part, around: Surroundings, visit: &mut Visit) -> Part {
             build::choice(changed)
         }
         Process::Request { operation, x, y, body } => {
-            build::request(*operation, *x, *y, inside(body, resting(Slot::Other), visit))
+            let body = inside(body, resting(Slot::Other), visit);
+            build::request(*operation, x.clone(), y.clone(), body)
         }
         Process::Solicit { operation, y, z, x, list } => {
-            build::solicit(*operation, *y, *z, *x, handlers(list, visit))
+            build::solicit(*operation, y.clone(), *z, x.clone(), handlers(list, visit))
         }
         Process::Inst(list) => build::inst(handlers(list, visit)),
         Process::Waiter(waiter) => {

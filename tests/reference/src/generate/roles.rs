@@ -3,6 +3,7 @@
 use crate::configuration::Configuration;
 use crate::expression::{Expression, Operator};
 use crate::process::{List, Mark, Process};
+use crate::variables::Variables;
 
 #[derive(Clone, Copy, Debug, PartialEq, Eq)]
 pub enum Role {
@@ -18,6 +19,9 @@ pub enum Role {
         marked: bool,
     },
     Serial,
+    /// The count of a message's variables, and a variable behind it.
+    Variables,
+    Variable,
     Count,
     /// A key, with the place of its list's count word.
     Key {
@@ -49,6 +53,7 @@ impl Role {
                 17 => 4,
                 _ => 9,
             },
+            Role::Variable => 5,
             Role::Key { .. } => 7,
             Role::Expression { code } => match code {
                 1 => 8,
@@ -78,11 +83,8 @@ fn of_process(roles: &mut Vec<Role>, process: &Process) {
     roles.push(Role::Head { kind });
     let fields = Role::Fields { kind, marked: false };
     match process {
-        Process::Nil
-        | Process::OneWay { .. }
-        | Process::Throw(_)
-        | Process::Comp(_)
-        | Process::CurrentHandler => {}
+        Process::Nil | Process::Throw(_) | Process::Comp(_) | Process::CurrentHandler => {}
+        Process::OneWay { x, .. } => of_variables(roles, x),
         Process::Assign(_, expression) => of_expression(roles, expression),
         Process::Seq(one, two) | Process::Par(one, two) => {
             of_process(roles, one);
@@ -103,13 +105,20 @@ fn of_process(roles: &mut Vec<Role>, process: &Process) {
                 of_process(roles, &branch.then);
             }
         }
-        Process::Request { body, .. } => {
+        Process::Request { x, y, body, .. } => {
             roles.push(fields);
+            of_variables(roles, x);
+            of_variables(roles, y);
             of_process(roles, body);
         }
-        Process::Notify { .. } => roles.push(fields),
-        Process::Solicit { list, .. } => {
+        Process::Notify { y, .. } => {
             roles.push(fields);
+            of_variables(roles, y);
+        }
+        Process::Solicit { y, x, list, .. } => {
+            roles.push(fields);
+            of_variables(roles, y);
+            of_variables(roles, x);
             of_list(roles, list);
         }
         Process::Scope(scope, body) => {
@@ -119,16 +128,23 @@ fn of_process(roles: &mut Vec<Role>, process: &Process) {
             of_process(roles, body);
         }
         Process::Inst(list) => of_list(roles, list),
-        Process::Executor(_, body) => {
+        Process::Executor(executor, body) => {
             roles.extend([fields, Role::Serial]);
+            of_variables(roles, &executor.y);
             of_process(roles, body);
         }
         Process::Waiter(waiter) => {
             roles.extend([fields, Role::Serial]);
+            of_variables(roles, &waiter.x);
             of_list(roles, &waiter.list);
         }
         Process::Notice(_) => roles.extend([fields, Role::Serial]),
     }
+}
+
+fn of_variables(roles: &mut Vec<Role>, variables: &Variables) {
+    roles.push(Role::Variables);
+    roles.extend(variables.further().iter().map(|_| Role::Variable));
 }
 
 fn of_list(roles: &mut Vec<Role>, list: &List) {

@@ -153,7 +153,8 @@ impl RunningMaker<'_> {
 
     fn executor(&mut self, below: usize) -> Part {
         let call = self.call(|call, engine| call.server == engine);
-        let y = self.code.alphabet.variable(self.code.random);
+        let (_, reply) = self.code.alphabet.counts(self.code.random, call.operation);
+        let y = self.code.alphabet.sent(self.code.random, reply);
         let body = match self.code.random.percent(40) {
             true => build::nil(),
             false => self.part(below),
@@ -164,7 +165,8 @@ impl RunningMaker<'_> {
 
     fn waiter(&mut self, below: usize) -> Part {
         let call = self.call(|call, engine| call.client == engine);
-        let x = self.code.alphabet.variable(self.code.random);
+        let (_, reply) = self.code.alphabet.counts(self.code.random, call.operation);
+        let x = self.code.alphabet.receiving(self.code.random, reply);
         let dead = self.code.random.percent(40);
         let list = self.code.list(below);
         let Call { serial, operation, server, .. } = call;

@@ -83,8 +83,9 @@ impl Planner<'_> {
 
     fn client(&mut self, conversation: &Conversation) -> Part {
         let Conversation { operation, server, replied, .. } = *conversation;
-        let y = self.maker.alphabet.variable(self.maker.random);
-        let x = self.maker.alphabet.variable(self.maker.random);
+        let (message, reply) = self.maker.alphabet.counts(self.maker.random, operation);
+        let y = self.maker.alphabet.sent(self.maker.random, message);
+        let x = self.maker.alphabet.receiving(self.maker.random, reply);
         let z = ENGINE_NUMBERS + server;
         let call = match replied {
             true => build::solicit(operation, y, z, x, self.maker.list(4)),
@@ -95,8 +96,9 @@ impl Planner<'_> {
 
     fn server(&mut self, conversation: &Conversation) -> Part {
         let Conversation { operation, replied, .. } = *conversation;
-        let y = self.maker.alphabet.variable(self.maker.random);
-        let x = self.maker.alphabet.variable(self.maker.random);
+        let (message, reply) = self.maker.alphabet.counts(self.maker.random, operation);
+        let y = self.maker.alphabet.sent(self.maker.random, reply);
+        let x = self.maker.alphabet.receiving(self.maker.random, message);
         let receiver = match replied {
             true => build::request(operation, x, y, self.work()),
             false => build::one_way(operation, x),

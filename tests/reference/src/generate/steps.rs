@@ -43,9 +43,22 @@ pub fn fitting(configuration: &Configuration) -> Vec<(Numbers, usize)> {
             }
             _ => {
                 for other in stands.iter().filter(|other| other.engine != stand.engine) {
-                    steps.extend(meetings(configuration, stand, other));
+                    let met = meetings(configuration, stand, other, true);
+                    steps.extend(met.into_iter().map(|numbers| (numbers, 12)));
                 }
             }
+        }
+    }
+    steps
+}
+
+/// Every step between two that fit but for the counts of their variables.
+pub fn miscounted(configuration: &Configuration) -> Vec<Numbers> {
+    let stands = stands(configuration);
+    let mut steps = Vec::new();
+    for stand in &stands {
+        for other in stands.iter().filter(|other| other.engine != stand.engine) {
+            steps.extend(meetings(configuration, stand, other, false));
         }
     }
     steps
@@ -60,19 +73,43 @@ fn together(stand: &Stand, other: &Stand, branch: usize) -> Numbers {
     Numbers::new(stand.engine as u16, stand.position as u16, engine, position, branch as u16)
 }
 
-/// The steps between two enabled processes, one for each branch that fits.
-fn meetings(configuration: &Configuration, stand: &Stand, other: &Stand) -> Vec<(Numbers, usize)> {
+/// The steps between two enabled processes, one for each branch that fits, and whose counts of
+/// variables agree or do not.
+fn meetings(
+    configuration: &Configuration,
+    stand: &Stand,
+    other: &Stand,
+    agree: bool,
+) -> Vec<Numbers> {
+    let fits = |receiver: &Process| {
+        fits(configuration, stand, other, receiver)
+            && counts_agree(&stand.process, receiver) == agree
+    };
     match &*other.process {
         Process::Choice(branches) => {
-            let numbered = branches.iter().enumerate();
-            let good = numbered.filter(|(_, b)| fits(configuration, stand, other, &b.receiver));
-            good.map(|(index, _)| (together(stand, other, index + 1), 12)).collect()
+            let good = branches.iter().enumerate().filter(|(_, branch)| fits(&branch.receiver));
+            good.map(|(index, _)| together(stand, other, index + 1)).collect()
         }
-        bare if fits(configuration, stand, other, bare) => vec![(together(stand, other, 0), 12)],
+        bare if fits(bare) => vec![together(stand, other, 0)],
         _ => Vec::new(),
     }
 }
 
+/// Of two that fit otherwise.
+fn counts_agree(sender: &Process, receiver: &Process) -> bool {
+    match (sender, receiver) {
+        (Process::Notify { y, .. }, Process::OneWay { x, .. }) => y.count() == x.count(),
+        (Process::Solicit { y, x, .. }, Process::Request { x: into, y: answer, .. }) => {
+            y.count() == into.count() && x.count() == answer.count()
+        }
+        (Process::Executor(executor, _), Process::Waiter(waiter)) => {
+            executor.y.count() == waiter.x.count()
+        }
+        _ => true,
+    }
+}
+
+/// By kinds, operations, addresses and serials.
 fn fits(configuration: &Configuration, from: &Stand, to: &Stand, receiver: &Process) -> bool {
     let addressed = |z: u8| {
         let engine = configuration.engines.get(from.engine);
@@ -103,6 +140,10 @@ pub fn choose(random: &mut Random, configuration: &Configuration) -> Numbers {
         }
         2 => pointed(random, configuration),
         3 => near_meeting(random, configuration),
+        4 => {
+            let near = likely(random, configuration);
+            random.pick(&miscounted(configuration)).copied().unwrap_or(near)
+        }
         _ => likely(random, configuration),
     }
 }

@@ -32,6 +32,7 @@ use Rattle.layout.proofs.field.count_of.Reads as count-of-reads
 use Rattle.layout.proofs.field.kind_of.Reads as kind-of-reads
 use Rattle.layout.proofs.number.further.Reads as further-reads
 use Rattle.layout.proofs.number.wide.Reads as wide-reads
+use Rattle.layout.proofs.own.own_end.Reads as own-end-reads
 use Rattle.handling.proofs.measure.+code_levels+expressed+list_levels+parts.{statement}
 use Rattle.handling.proofs.measure.+code_levels+expressed+list_levels+parts.Tie.{close}
 
@@ -76,149 +77,149 @@ parts-at t = and 1 parts-kinds.ps (is 1 parts-kinds.ps μ-parts t) parts.Pre
 abbrev parts-below : ℕ → In 1 parts-kinds.ps
 parts-below t = and 1 parts-kinds.ps (falls 1 parts-kinds.ps _<_ μ-parts t) parts.Pre
 
-code-levels-nowhere-requires : (t : ℕ) → code-levels-lts.Need-nowhere-requires (nowhere-reads.Asked, nowhere-reads.Learnt, kind-of-reads.Asked, kind-of-reads.Learnt, own-reads.Asked, own-reads.Learnt, expressed-below t, expressed.Post, parts-below t, parts.Post, count-of-reads.Asked, count-of-reads.Learnt, further-reads.Asked, further-reads.Learnt, list-levels-below t, list-levels.Post) (code-levels-at t) code-levels.Post
+code-levels-nowhere-requires : (t : ℕ) → code-levels-lts.Need-nowhere-requires (nowhere-reads.Asked, nowhere-reads.Learnt, kind-of-reads.Asked, kind-of-reads.Learnt, own-reads.Asked, own-reads.Learnt, expressed-below t, expressed.Post, parts-below t, parts.Post, count-of-reads.Asked, count-of-reads.Learnt, own-end-reads.Asked, own-end-reads.Learnt, list-levels-below t, list-levels.Post, further-reads.Asked, further-reads.Learnt) (code-levels-at t) code-levels.Post
 code-levels-nowhere-requires t c κs = search needs
 
-code-levels-returns : (t : ℕ) → code-levels-lts.Need-returns (nowhere-reads.Asked, nowhere-reads.Learnt, kind-of-reads.Asked, kind-of-reads.Learnt, own-reads.Asked, own-reads.Learnt, expressed-below t, expressed.Post, parts-below t, parts.Post, count-of-reads.Asked, count-of-reads.Learnt, further-reads.Asked, further-reads.Learnt, list-levels-below t, list-levels.Post) (code-levels-at t) code-levels.Post
+code-levels-returns : (t : ℕ) → code-levels-lts.Need-returns (nowhere-reads.Asked, nowhere-reads.Learnt, kind-of-reads.Asked, kind-of-reads.Learnt, own-reads.Asked, own-reads.Learnt, expressed-below t, expressed.Post, parts-below t, parts.Post, count-of-reads.Asked, count-of-reads.Learnt, own-end-reads.Asked, own-end-reads.Learnt, list-levels-below t, list-levels.Post, further-reads.Asked, further-reads.Learnt) (code-levels-at t) code-levels.Post
 unfolding codeLevels nodeLevels expressedLevels listLevels
 code-levels-returns t c =
     let f0 = c .before .if1 .taken in
     simp (← (c .nowhere .ensures), f0)
 
-code-levels-nowhere-requires-2 : (t : ℕ) → code-levels-lts.Need-nowhere-requires-2 (nowhere-reads.Asked, nowhere-reads.Learnt, kind-of-reads.Asked, kind-of-reads.Learnt, own-reads.Asked, own-reads.Learnt, expressed-below t, expressed.Post, parts-below t, parts.Post, count-of-reads.Asked, count-of-reads.Learnt, further-reads.Asked, further-reads.Learnt, list-levels-below t, list-levels.Post) (code-levels-at t) code-levels.Post
+code-levels-nowhere-requires-2 : (t : ℕ) → code-levels-lts.Need-nowhere-requires-2 (nowhere-reads.Asked, nowhere-reads.Learnt, kind-of-reads.Asked, kind-of-reads.Learnt, own-reads.Asked, own-reads.Learnt, expressed-below t, expressed.Post, parts-below t, parts.Post, count-of-reads.Asked, count-of-reads.Learnt, own-end-reads.Asked, own-end-reads.Learnt, list-levels-below t, list-levels.Post, further-reads.Asked, further-reads.Learnt) (code-levels-at t) code-levels.Post
 code-levels-nowhere-requires-2 t c κs = search needs
 
-code-levels-returns-2 : (t : ℕ) → code-levels-lts.Need-returns-2 (nowhere-reads.Asked, nowhere-reads.Learnt, kind-of-reads.Asked, kind-of-reads.Learnt, own-reads.Asked, own-reads.Learnt, expressed-below t, expressed.Post, parts-below t, parts.Post, count-of-reads.Asked, count-of-reads.Learnt, further-reads.Asked, further-reads.Learnt, list-levels-below t, list-levels.Post) (code-levels-at t) code-levels.Post
+code-levels-returns-2 : (t : ℕ) → code-levels-lts.Need-returns-2 (nowhere-reads.Asked, nowhere-reads.Learnt, kind-of-reads.Asked, kind-of-reads.Learnt, own-reads.Asked, own-reads.Learnt, expressed-below t, expressed.Post, parts-below t, parts.Post, count-of-reads.Asked, count-of-reads.Learnt, own-end-reads.Asked, own-end-reads.Learnt, list-levels-below t, list-levels.Post, further-reads.Asked, further-reads.Learnt) (code-levels-at t) code-levels.Post
 unfolding codeLevels nodeLevels expressedLevels listLevels
 code-levels-returns-2 t c =
     let f0 = c .before .if2 .taken in
     let f1 = c .before .before .if1 .left in
     simp (tests, code-levels-step, ← (c .nowhere2 .ensures), f0, f1)
 
-code-levels-mul-kind-of : (t : ℕ) → code-levels-lts.Need-mul-kind-of (nowhere-reads.Asked, nowhere-reads.Learnt, kind-of-reads.Asked, kind-of-reads.Learnt, own-reads.Asked, own-reads.Learnt, expressed-below t, expressed.Post, parts-below t, parts.Post, count-of-reads.Asked, count-of-reads.Learnt, further-reads.Asked, further-reads.Learnt, list-levels-below t, list-levels.Post) (code-levels-at t) code-levels.Post
+code-levels-mul-kind-of : (t : ℕ) → code-levels-lts.Need-mul-kind-of (nowhere-reads.Asked, nowhere-reads.Learnt, kind-of-reads.Asked, kind-of-reads.Learnt, own-reads.Asked, own-reads.Learnt, expressed-below t, expressed.Post, parts-below t, parts.Post, count-of-reads.Asked, count-of-reads.Learnt, own-end-reads.Asked, own-end-reads.Learnt, list-levels-below t, list-levels.Post, further-reads.Asked, further-reads.Learnt) (code-levels-at t) code-levels.Post
 code-levels-mul-kind-of t c = search needs
 
-code-levels-shared-slice-read-kind-of : (t : ℕ) → code-levels-lts.Need-shared-slice-read-kind-of (nowhere-reads.Asked, nowhere-reads.Learnt, kind-of-reads.Asked, kind-of-reads.Learnt, own-reads.Asked, own-reads.Learnt, expressed-below t, expressed.Post, parts-below t, parts.Post, count-of-reads.Asked, count-of-reads.Learnt, further-reads.Asked, further-reads.Learnt, list-levels-below t, list-levels.Post) (code-levels-at t) code-levels.Post
+code-levels-shared-slice-read-kind-of : (t : ℕ) → code-levels-lts.Need-shared-slice-read-kind-of (nowhere-reads.Asked, nowhere-reads.Learnt, kind-of-reads.Asked, kind-of-reads.Learnt, own-reads.Asked, own-reads.Learnt, expressed-below t, expressed.Post, parts-below t, parts.Post, count-of-reads.Asked, count-of-reads.Learnt, own-end-reads.Asked, own-end-reads.Learnt, list-levels-below t, list-levels.Post, further-reads.Asked, further-reads.Learnt) (code-levels-at t) code-levels.Post
 code-levels-shared-slice-read-kind-of t c = search needs
 
-code-levels-kind-of-requires : (t : ℕ) → code-levels-lts.Need-kind-of-requires (nowhere-reads.Asked, nowhere-reads.Learnt, kind-of-reads.Asked, kind-of-reads.Learnt, own-reads.Asked, own-reads.Learnt, expressed-below t, expressed.Post, parts-below t, parts.Post, count-of-reads.Asked, count-of-reads.Learnt, further-reads.Asked, further-reads.Learnt, list-levels-below t, list-levels.Post) (code-levels-at t) code-levels.Post
+code-levels-kind-of-requires : (t : ℕ) → code-levels-lts.Need-kind-of-requires (nowhere-reads.Asked, nowhere-reads.Learnt, kind-of-reads.Asked, kind-of-reads.Learnt, own-reads.Asked, own-reads.Learnt, expressed-below t, expressed.Post, parts-below t, parts.Post, count-of-reads.Asked, count-of-reads.Learnt, own-end-reads.Asked, own-end-reads.Learnt, list-levels-below t, list-levels.Post, further-reads.Asked, further-reads.Learnt) (code-levels-at t) code-levels.Post
 code-levels-kind-of-requires t c κs = search needs
 
-code-levels-own-requires : (t : ℕ) → code-levels-lts.Need-own-requires (nowhere-reads.Asked, nowhere-reads.Learnt, kind-of-reads.Asked, kind-of-reads.Learnt, own-reads.Asked, own-reads.Learnt, expressed-below t, expressed.Post, parts-below t, parts.Post, count-of-reads.Asked, count-of-reads.Learnt, further-reads.Asked, further-reads.Learnt, list-levels-below t, list-levels.Post) (code-levels-at t) code-levels.Post
+code-levels-own-requires : (t : ℕ) → code-levels-lts.Need-own-requires (nowhere-reads.Asked, nowhere-reads.Learnt, kind-of-reads.Asked, kind-of-reads.Learnt, own-reads.Asked, own-reads.Learnt, expressed-below t, expressed.Post, parts-below t, parts.Post, count-of-reads.Asked, count-of-reads.Learnt, own-end-reads.Asked, own-end-reads.Learnt, list-levels-below t, list-levels.Post, further-reads.Asked, further-reads.Learnt) (code-levels-at t) code-levels.Post
 code-levels-own-requires t c κs = search needs
 
-code-levels-add-expressed : (t : ℕ) → code-levels-lts.Need-add-expressed (nowhere-reads.Asked, nowhere-reads.Learnt, kind-of-reads.Asked, kind-of-reads.Learnt, own-reads.Asked, own-reads.Learnt, expressed-below t, expressed.Post, parts-below t, parts.Post, count-of-reads.Asked, count-of-reads.Learnt, further-reads.Asked, further-reads.Learnt, list-levels-below t, list-levels.Post) (code-levels-at t) code-levels.Post
+code-levels-add-expressed : (t : ℕ) → code-levels-lts.Need-add-expressed (nowhere-reads.Asked, nowhere-reads.Learnt, kind-of-reads.Asked, kind-of-reads.Learnt, own-reads.Asked, own-reads.Learnt, expressed-below t, expressed.Post, parts-below t, parts.Post, count-of-reads.Asked, count-of-reads.Learnt, own-end-reads.Asked, own-end-reads.Learnt, list-levels-below t, list-levels.Post, further-reads.Asked, further-reads.Learnt) (code-levels-at t) code-levels.Post
 code-levels-add-expressed t c = search needs
 
-code-levels-sub-expressed : (t : ℕ) → code-levels-lts.Need-sub-expressed (nowhere-reads.Asked, nowhere-reads.Learnt, kind-of-reads.Asked, kind-of-reads.Learnt, own-reads.Asked, own-reads.Learnt, expressed-below t, expressed.Post, parts-below t, parts.Post, count-of-reads.Asked, count-of-reads.Learnt, further-reads.Asked, further-reads.Learnt, list-levels-below t, list-levels.Post) (code-levels-at t) code-levels.Post
+code-levels-sub-expressed : (t : ℕ) → code-levels-lts.Need-sub-expressed (nowhere-reads.Asked, nowhere-reads.Learnt, kind-of-reads.Asked, kind-of-reads.Learnt, own-reads.Asked, own-reads.Learnt, expressed-below t, expressed.Post, parts-below t, parts.Post, count-of-reads.Asked, count-of-reads.Learnt, own-end-reads.Asked, own-end-reads.Learnt, list-levels-below t, list-levels.Post, further-reads.Asked, further-reads.Learnt) (code-levels-at t) code-levels.Post
 code-levels-sub-expressed t c = search needs
 
-code-levels-expressed-requires : (t : ℕ) → code-levels-lts.Need-expressed-requires (nowhere-reads.Asked, nowhere-reads.Learnt, kind-of-reads.Asked, kind-of-reads.Learnt, own-reads.Asked, own-reads.Learnt, expressed-below t, expressed.Post, parts-below t, parts.Post, count-of-reads.Asked, count-of-reads.Learnt, further-reads.Asked, further-reads.Learnt, list-levels-below t, list-levels.Post) (code-levels-at t) code-levels.Post
+code-levels-expressed-requires : (t : ℕ) → code-levels-lts.Need-expressed-requires (nowhere-reads.Asked, nowhere-reads.Learnt, kind-of-reads.Asked, kind-of-reads.Learnt, own-reads.Asked, own-reads.Learnt, expressed-below t, expressed.Post, parts-below t, parts.Post, count-of-reads.Asked, count-of-reads.Learnt, own-end-reads.Asked, own-end-reads.Learnt, list-levels-below t, list-levels.Post, further-reads.Asked, further-reads.Learnt) (code-levels-at t) code-levels.Post
 code-levels-expressed-requires t c κs = search needs
 
-code-levels-add-parts : (t : ℕ) → code-levels-lts.Need-add-parts (nowhere-reads.Asked, nowhere-reads.Learnt, kind-of-reads.Asked, kind-of-reads.Learnt, own-reads.Asked, own-reads.Learnt, expressed-below t, expressed.Post, parts-below t, parts.Post, count-of-reads.Asked, count-of-reads.Learnt, further-reads.Asked, further-reads.Learnt, list-levels-below t, list-levels.Post) (code-levels-at t) code-levels.Post
+code-levels-add-parts : (t : ℕ) → code-levels-lts.Need-add-parts (nowhere-reads.Asked, nowhere-reads.Learnt, kind-of-reads.Asked, kind-of-reads.Learnt, own-reads.Asked, own-reads.Learnt, expressed-below t, expressed.Post, parts-below t, parts.Post, count-of-reads.Asked, count-of-reads.Learnt, own-end-reads.Asked, own-end-reads.Learnt, list-levels-below t, list-levels.Post, further-reads.Asked, further-reads.Learnt) (code-levels-at t) code-levels.Post
 code-levels-add-parts t c = search needs
 
-code-levels-sub-parts : (t : ℕ) → code-levels-lts.Need-sub-parts (nowhere-reads.Asked, nowhere-reads.Learnt, kind-of-reads.Asked, kind-of-reads.Learnt, own-reads.Asked, own-reads.Learnt, expressed-below t, expressed.Post, parts-below t, parts.Post, count-of-reads.Asked, count-of-reads.Learnt, further-reads.Asked, further-reads.Learnt, list-levels-below t, list-levels.Post) (code-levels-at t) code-levels.Post
+code-levels-sub-parts : (t : ℕ) → code-levels-lts.Need-sub-parts (nowhere-reads.Asked, nowhere-reads.Learnt, kind-of-reads.Asked, kind-of-reads.Learnt, own-reads.Asked, own-reads.Learnt, expressed-below t, expressed.Post, parts-below t, parts.Post, count-of-reads.Asked, count-of-reads.Learnt, own-end-reads.Asked, own-end-reads.Learnt, list-levels-below t, list-levels.Post, further-reads.Asked, further-reads.Learnt) (code-levels-at t) code-levels.Post
 code-levels-sub-parts t c = search needs
 
-code-levels-parts-requires : (t : ℕ) → code-levels-lts.Need-parts-requires (nowhere-reads.Asked, nowhere-reads.Learnt, kind-of-reads.Asked, kind-of-reads.Learnt, own-reads.Asked, own-reads.Learnt, expressed-below t, expressed.Post, parts-below t, parts.Post, count-of-reads.Asked, count-of-reads.Learnt, further-reads.Asked, further-reads.Learnt, list-levels-below t, list-levels.Post) (code-levels-at t) code-levels.Post
+code-levels-parts-requires : (t : ℕ) → code-levels-lts.Need-parts-requires (nowhere-reads.Asked, nowhere-reads.Learnt, kind-of-reads.Asked, kind-of-reads.Learnt, own-reads.Asked, own-reads.Learnt, expressed-below t, expressed.Post, parts-below t, parts.Post, count-of-reads.Asked, count-of-reads.Learnt, own-end-reads.Asked, own-end-reads.Learnt, list-levels-below t, list-levels.Post, further-reads.Asked, further-reads.Learnt) (code-levels-at t) code-levels.Post
 code-levels-parts-requires t c κs = search needs
 
-code-levels-add-parts-2 : (t : ℕ) → code-levels-lts.Need-add-parts-2 (nowhere-reads.Asked, nowhere-reads.Learnt, kind-of-reads.Asked, kind-of-reads.Learnt, own-reads.Asked, own-reads.Learnt, expressed-below t, expressed.Post, parts-below t, parts.Post, count-of-reads.Asked, count-of-reads.Learnt, further-reads.Asked, further-reads.Learnt, list-levels-below t, list-levels.Post) (code-levels-at t) code-levels.Post
+code-levels-add-parts-2 : (t : ℕ) → code-levels-lts.Need-add-parts-2 (nowhere-reads.Asked, nowhere-reads.Learnt, kind-of-reads.Asked, kind-of-reads.Learnt, own-reads.Asked, own-reads.Learnt, expressed-below t, expressed.Post, parts-below t, parts.Post, count-of-reads.Asked, count-of-reads.Learnt, own-end-reads.Asked, own-end-reads.Learnt, list-levels-below t, list-levels.Post, further-reads.Asked, further-reads.Learnt) (code-levels-at t) code-levels.Post
 code-levels-add-parts-2 t c = search needs
 
-code-levels-sub-parts-2 : (t : ℕ) → code-levels-lts.Need-sub-parts-2 (nowhere-reads.Asked, nowhere-reads.Learnt, kind-of-reads.Asked, kind-of-reads.Learnt, own-reads.Asked, own-reads.Learnt, expressed-below t, expressed.Post, parts-below t, parts.Post, count-of-reads.Asked, count-of-reads.Learnt, further-reads.Asked, further-reads.Learnt, list-levels-below t, list-levels.Post) (code-levels-at t) code-levels.Post
+code-levels-sub-parts-2 : (t : ℕ) → code-levels-lts.Need-sub-parts-2 (nowhere-reads.Asked, nowhere-reads.Learnt, kind-of-reads.Asked, kind-of-reads.Learnt, own-reads.Asked, own-reads.Learnt, expressed-below t, expressed.Post, parts-below t, parts.Post, count-of-reads.Asked, count-of-reads.Learnt, own-end-reads.Asked, own-end-reads.Learnt, list-levels-below t, list-levels.Post, further-reads.Asked, further-reads.Learnt) (code-levels-at t) code-levels.Post
 code-levels-sub-parts-2 t c = search needs
 
-code-levels-parts-requires-2 : (t : ℕ) → code-levels-lts.Need-parts-requires-2 (nowhere-reads.Asked, nowhere-reads.Learnt, kind-of-reads.Asked, kind-of-reads.Learnt, own-reads.Asked, own-reads.Learnt, expressed-below t, expressed.Post, parts-below t, parts.Post, count-of-reads.Asked, count-of-reads.Learnt, further-reads.Asked, further-reads.Learnt, list-levels-below t, list-levels.Post) (code-levels-at t) code-levels.Post
+code-levels-parts-requires-2 : (t : ℕ) → code-levels-lts.Need-parts-requires-2 (nowhere-reads.Asked, nowhere-reads.Learnt, kind-of-reads.Asked, kind-of-reads.Learnt, own-reads.Asked, own-reads.Learnt, expressed-below t, expressed.Post, parts-below t, parts.Post, count-of-reads.Asked, count-of-reads.Learnt, own-end-reads.Asked, own-end-reads.Learnt, list-levels-below t, list-levels.Post, further-reads.Asked, further-reads.Learnt) (code-levels-at t) code-levels.Post
 code-levels-parts-requires-2 t c κs = search needs
 
-code-levels-add-expressed-2 : (t : ℕ) → code-levels-lts.Need-add-expressed-2 (nowhere-reads.Asked, nowhere-reads.Learnt, kind-of-reads.Asked, kind-of-reads.Learnt, own-reads.Asked, own-reads.Learnt, expressed-below t, expressed.Post, parts-below t, parts.Post, count-of-reads.Asked, count-of-reads.Learnt, further-reads.Asked, further-reads.Learnt, list-levels-below t, list-levels.Post) (code-levels-at t) code-levels.Post
+code-levels-add-expressed-2 : (t : ℕ) → code-levels-lts.Need-add-expressed-2 (nowhere-reads.Asked, nowhere-reads.Learnt, kind-of-reads.Asked, kind-of-reads.Learnt, own-reads.Asked, own-reads.Learnt, expressed-below t, expressed.Post, parts-below t, parts.Post, count-of-reads.Asked, count-of-reads.Learnt, own-end-reads.Asked, own-end-reads.Learnt, list-levels-below t, list-levels.Post, further-reads.Asked, further-reads.Learnt) (code-levels-at t) code-levels.Post
 code-levels-add-expressed-2 t c = search needs
 
-code-levels-sub-expressed-2 : (t : ℕ) → code-levels-lts.Need-sub-expressed-2 (nowhere-reads.Asked, nowhere-reads.Learnt, kind-of-reads.Asked, kind-of-reads.Learnt, own-reads.Asked, own-reads.Learnt, expressed-below t, expressed.Post, parts-below t, parts.Post, count-of-reads.Asked, count-of-reads.Learnt, further-reads.Asked, further-reads.Learnt, list-levels-below t, list-levels.Post) (code-levels-at t) code-levels.Post
+code-levels-sub-expressed-2 : (t : ℕ) → code-levels-lts.Need-sub-expressed-2 (nowhere-reads.Asked, nowhere-reads.Learnt, kind-of-reads.Asked, kind-of-reads.Learnt, own-reads.Asked, own-reads.Learnt, expressed-below t, expressed.Post, parts-below t, parts.Post, count-of-reads.Asked, count-of-reads.Learnt, own-end-reads.Asked, own-end-reads.Learnt, list-levels-below t, list-levels.Post, further-reads.Asked, further-reads.Learnt) (code-levels-at t) code-levels.Post
 code-levels-sub-expressed-2 t c = search needs
 
-code-levels-expressed-requires-2 : (t : ℕ) → code-levels-lts.Need-expressed-requires-2 (nowhere-reads.Asked, nowhere-reads.Learnt, kind-of-reads.Asked, kind-of-reads.Learnt, own-reads.Asked, own-reads.Learnt, expressed-below t, expressed.Post, parts-below t, parts.Post, count-of-reads.Asked, count-of-reads.Learnt, further-reads.Asked, further-reads.Learnt, list-levels-below t, list-levels.Post) (code-levels-at t) code-levels.Post
+code-levels-expressed-requires-2 : (t : ℕ) → code-levels-lts.Need-expressed-requires-2 (nowhere-reads.Asked, nowhere-reads.Learnt, kind-of-reads.Asked, kind-of-reads.Learnt, own-reads.Asked, own-reads.Learnt, expressed-below t, expressed.Post, parts-below t, parts.Post, count-of-reads.Asked, count-of-reads.Learnt, own-end-reads.Asked, own-end-reads.Learnt, list-levels-below t, list-levels.Post, further-reads.Asked, further-reads.Learnt) (code-levels-at t) code-levels.Post
 code-levels-expressed-requires-2 t c κs = search needs
 
-code-levels-add-expressed-3 : (t : ℕ) → code-levels-lts.Need-add-expressed-3 (nowhere-reads.Asked, nowhere-reads.Learnt, kind-of-reads.Asked, kind-of-reads.Learnt, own-reads.Asked, own-reads.Learnt, expressed-below t, expressed.Post, parts-below t, parts.Post, count-of-reads.Asked, count-of-reads.Learnt, further-reads.Asked, further-reads.Learnt, list-levels-below t, list-levels.Post) (code-levels-at t) code-levels.Post
+code-levels-add-expressed-3 : (t : ℕ) → code-levels-lts.Need-add-expressed-3 (nowhere-reads.Asked, nowhere-reads.Learnt, kind-of-reads.Asked, kind-of-reads.Learnt, own-reads.Asked, own-reads.Learnt, expressed-below t, expressed.Post, parts-below t, parts.Post, count-of-reads.Asked, count-of-reads.Learnt, own-end-reads.Asked, own-end-reads.Learnt, list-levels-below t, list-levels.Post, further-reads.Asked, further-reads.Learnt) (code-levels-at t) code-levels.Post
 code-levels-add-expressed-3 t c = search needs
 
-code-levels-sub-expressed-3 : (t : ℕ) → code-levels-lts.Need-sub-expressed-3 (nowhere-reads.Asked, nowhere-reads.Learnt, kind-of-reads.Asked, kind-of-reads.Learnt, own-reads.Asked, own-reads.Learnt, expressed-below t, expressed.Post, parts-below t, parts.Post, count-of-reads.Asked, count-of-reads.Learnt, further-reads.Asked, further-reads.Learnt, list-levels-below t, list-levels.Post) (code-levels-at t) code-levels.Post
+code-levels-sub-expressed-3 : (t : ℕ) → code-levels-lts.Need-sub-expressed-3 (nowhere-reads.Asked, nowhere-reads.Learnt, kind-of-reads.Asked, kind-of-reads.Learnt, own-reads.Asked, own-reads.Learnt, expressed-below t, expressed.Post, parts-below t, parts.Post, count-of-reads.Asked, count-of-reads.Learnt, own-end-reads.Asked, own-end-reads.Learnt, list-levels-below t, list-levels.Post, further-reads.Asked, further-reads.Learnt) (code-levels-at t) code-levels.Post
 code-levels-sub-expressed-3 t c = search needs
 
-code-levels-expressed-requires-3 : (t : ℕ) → code-levels-lts.Need-expressed-requires-3 (nowhere-reads.Asked, nowhere-reads.Learnt, kind-of-reads.Asked, kind-of-reads.Learnt, own-reads.Asked, own-reads.Learnt, expressed-below t, expressed.Post, parts-below t, parts.Post, count-of-reads.Asked, count-of-reads.Learnt, further-reads.Asked, further-reads.Learnt, list-levels-below t, list-levels.Post) (code-levels-at t) code-levels.Post
+code-levels-expressed-requires-3 : (t : ℕ) → code-levels-lts.Need-expressed-requires-3 (nowhere-reads.Asked, nowhere-reads.Learnt, kind-of-reads.Asked, kind-of-reads.Learnt, own-reads.Asked, own-reads.Learnt, expressed-below t, expressed.Post, parts-below t, parts.Post, count-of-reads.Asked, count-of-reads.Learnt, own-end-reads.Asked, own-end-reads.Learnt, list-levels-below t, list-levels.Post, further-reads.Asked, further-reads.Learnt) (code-levels-at t) code-levels.Post
 code-levels-expressed-requires-3 t c κs = search needs
 
-code-levels-add-parts-3 : (t : ℕ) → code-levels-lts.Need-add-parts-3 (nowhere-reads.Asked, nowhere-reads.Learnt, kind-of-reads.Asked, kind-of-reads.Learnt, own-reads.Asked, own-reads.Learnt, expressed-below t, expressed.Post, parts-below t, parts.Post, count-of-reads.Asked, count-of-reads.Learnt, further-reads.Asked, further-reads.Learnt, list-levels-below t, list-levels.Post) (code-levels-at t) code-levels.Post
+code-levels-add-parts-3 : (t : ℕ) → code-levels-lts.Need-add-parts-3 (nowhere-reads.Asked, nowhere-reads.Learnt, kind-of-reads.Asked, kind-of-reads.Learnt, own-reads.Asked, own-reads.Learnt, expressed-below t, expressed.Post, parts-below t, parts.Post, count-of-reads.Asked, count-of-reads.Learnt, own-end-reads.Asked, own-end-reads.Learnt, list-levels-below t, list-levels.Post, further-reads.Asked, further-reads.Learnt) (code-levels-at t) code-levels.Post
 code-levels-add-parts-3 t c = search needs
 
-code-levels-mul-count-of : (t : ℕ) → code-levels-lts.Need-mul-count-of (nowhere-reads.Asked, nowhere-reads.Learnt, kind-of-reads.Asked, kind-of-reads.Learnt, own-reads.Asked, own-reads.Learnt, expressed-below t, expressed.Post, parts-below t, parts.Post, count-of-reads.Asked, count-of-reads.Learnt, further-reads.Asked, further-reads.Learnt, list-levels-below t, list-levels.Post) (code-levels-at t) code-levels.Post
+code-levels-mul-count-of : (t : ℕ) → code-levels-lts.Need-mul-count-of (nowhere-reads.Asked, nowhere-reads.Learnt, kind-of-reads.Asked, kind-of-reads.Learnt, own-reads.Asked, own-reads.Learnt, expressed-below t, expressed.Post, parts-below t, parts.Post, count-of-reads.Asked, count-of-reads.Learnt, own-end-reads.Asked, own-end-reads.Learnt, list-levels-below t, list-levels.Post, further-reads.Asked, further-reads.Learnt) (code-levels-at t) code-levels.Post
 code-levels-mul-count-of t c = search needs
 
-code-levels-shared-slice-read-count-of : (t : ℕ) → code-levels-lts.Need-shared-slice-read-count-of (nowhere-reads.Asked, nowhere-reads.Learnt, kind-of-reads.Asked, kind-of-reads.Learnt, own-reads.Asked, own-reads.Learnt, expressed-below t, expressed.Post, parts-below t, parts.Post, count-of-reads.Asked, count-of-reads.Learnt, further-reads.Asked, further-reads.Learnt, list-levels-below t, list-levels.Post) (code-levels-at t) code-levels.Post
+code-levels-shared-slice-read-count-of : (t : ℕ) → code-levels-lts.Need-shared-slice-read-count-of (nowhere-reads.Asked, nowhere-reads.Learnt, kind-of-reads.Asked, kind-of-reads.Learnt, own-reads.Asked, own-reads.Learnt, expressed-below t, expressed.Post, parts-below t, parts.Post, count-of-reads.Asked, count-of-reads.Learnt, own-end-reads.Asked, own-end-reads.Learnt, list-levels-below t, list-levels.Post, further-reads.Asked, further-reads.Learnt) (code-levels-at t) code-levels.Post
 code-levels-shared-slice-read-count-of t c = search needs
 
-code-levels-count-of-requires : (t : ℕ) → code-levels-lts.Need-count-of-requires (nowhere-reads.Asked, nowhere-reads.Learnt, kind-of-reads.Asked, kind-of-reads.Learnt, own-reads.Asked, own-reads.Learnt, expressed-below t, expressed.Post, parts-below t, parts.Post, count-of-reads.Asked, count-of-reads.Learnt, further-reads.Asked, further-reads.Learnt, list-levels-below t, list-levels.Post) (code-levels-at t) code-levels.Post
+code-levels-count-of-requires : (t : ℕ) → code-levels-lts.Need-count-of-requires (nowhere-reads.Asked, nowhere-reads.Learnt, kind-of-reads.Asked, kind-of-reads.Learnt, own-reads.Asked, own-reads.Learnt, expressed-below t, expressed.Post, parts-below t, parts.Post, count-of-reads.Asked, count-of-reads.Learnt, own-end-reads.Asked, own-end-reads.Learnt, list-levels-below t, list-levels.Post, further-reads.Asked, further-reads.Learnt) (code-levels-at t) code-levels.Post
 code-levels-count-of-requires t c κs = search needs
 
-code-levels-mul-parts : (t : ℕ) → code-levels-lts.Need-mul-parts (nowhere-reads.Asked, nowhere-reads.Learnt, kind-of-reads.Asked, kind-of-reads.Learnt, own-reads.Asked, own-reads.Learnt, expressed-below t, expressed.Post, parts-below t, parts.Post, count-of-reads.Asked, count-of-reads.Learnt, further-reads.Asked, further-reads.Learnt, list-levels-below t, list-levels.Post) (code-levels-at t) code-levels.Post
+code-levels-mul-parts : (t : ℕ) → code-levels-lts.Need-mul-parts (nowhere-reads.Asked, nowhere-reads.Learnt, kind-of-reads.Asked, kind-of-reads.Learnt, own-reads.Asked, own-reads.Learnt, expressed-below t, expressed.Post, parts-below t, parts.Post, count-of-reads.Asked, count-of-reads.Learnt, own-end-reads.Asked, own-end-reads.Learnt, list-levels-below t, list-levels.Post, further-reads.Asked, further-reads.Learnt) (code-levels-at t) code-levels.Post
 code-levels-mul-parts t c = search needs
 
-code-levels-sub-parts-3 : (t : ℕ) → code-levels-lts.Need-sub-parts-3 (nowhere-reads.Asked, nowhere-reads.Learnt, kind-of-reads.Asked, kind-of-reads.Learnt, own-reads.Asked, own-reads.Learnt, expressed-below t, expressed.Post, parts-below t, parts.Post, count-of-reads.Asked, count-of-reads.Learnt, further-reads.Asked, further-reads.Learnt, list-levels-below t, list-levels.Post) (code-levels-at t) code-levels.Post
+code-levels-sub-parts-3 : (t : ℕ) → code-levels-lts.Need-sub-parts-3 (nowhere-reads.Asked, nowhere-reads.Learnt, kind-of-reads.Asked, kind-of-reads.Learnt, own-reads.Asked, own-reads.Learnt, expressed-below t, expressed.Post, parts-below t, parts.Post, count-of-reads.Asked, count-of-reads.Learnt, own-end-reads.Asked, own-end-reads.Learnt, list-levels-below t, list-levels.Post, further-reads.Asked, further-reads.Learnt) (code-levels-at t) code-levels.Post
 code-levels-sub-parts-3 t c = search needs
 
-code-levels-parts-requires-3 : (t : ℕ) → code-levels-lts.Need-parts-requires-3 (nowhere-reads.Asked, nowhere-reads.Learnt, kind-of-reads.Asked, kind-of-reads.Learnt, own-reads.Asked, own-reads.Learnt, expressed-below t, expressed.Post, parts-below t, parts.Post, count-of-reads.Asked, count-of-reads.Learnt, further-reads.Asked, further-reads.Learnt, list-levels-below t, list-levels.Post) (code-levels-at t) code-levels.Post
+code-levels-parts-requires-3 : (t : ℕ) → code-levels-lts.Need-parts-requires-3 (nowhere-reads.Asked, nowhere-reads.Learnt, kind-of-reads.Asked, kind-of-reads.Learnt, own-reads.Asked, own-reads.Learnt, expressed-below t, expressed.Post, parts-below t, parts.Post, count-of-reads.Asked, count-of-reads.Learnt, own-end-reads.Asked, own-end-reads.Learnt, list-levels-below t, list-levels.Post, further-reads.Asked, further-reads.Learnt) (code-levels-at t) code-levels.Post
 code-levels-parts-requires-3 t c κs = search needs
 
-code-levels-own-requires-2 : (t : ℕ) → code-levels-lts.Need-own-requires-2 (nowhere-reads.Asked, nowhere-reads.Learnt, kind-of-reads.Asked, kind-of-reads.Learnt, own-reads.Asked, own-reads.Learnt, expressed-below t, expressed.Post, parts-below t, parts.Post, count-of-reads.Asked, count-of-reads.Learnt, further-reads.Asked, further-reads.Learnt, list-levels-below t, list-levels.Post) (code-levels-at t) code-levels.Post
+code-levels-own-requires-2 : (t : ℕ) → code-levels-lts.Need-own-requires-2 (nowhere-reads.Asked, nowhere-reads.Learnt, kind-of-reads.Asked, kind-of-reads.Learnt, own-reads.Asked, own-reads.Learnt, expressed-below t, expressed.Post, parts-below t, parts.Post, count-of-reads.Asked, count-of-reads.Learnt, own-end-reads.Asked, own-end-reads.Learnt, list-levels-below t, list-levels.Post, further-reads.Asked, further-reads.Learnt) (code-levels-at t) code-levels.Post
 code-levels-own-requires-2 t c κs = search needs
 
-code-levels-further-requires : (t : ℕ) → code-levels-lts.Need-further-requires (nowhere-reads.Asked, nowhere-reads.Learnt, kind-of-reads.Asked, kind-of-reads.Learnt, own-reads.Asked, own-reads.Learnt, expressed-below t, expressed.Post, parts-below t, parts.Post, count-of-reads.Asked, count-of-reads.Learnt, further-reads.Asked, further-reads.Learnt, list-levels-below t, list-levels.Post) (code-levels-at t) code-levels.Post
-code-levels-further-requires t c κs = search needs
+code-levels-own-end-requires : (t : ℕ) → code-levels-lts.Need-own-end-requires (nowhere-reads.Asked, nowhere-reads.Learnt, kind-of-reads.Asked, kind-of-reads.Learnt, own-reads.Asked, own-reads.Learnt, expressed-below t, expressed.Post, parts-below t, parts.Post, count-of-reads.Asked, count-of-reads.Learnt, own-end-reads.Asked, own-end-reads.Learnt, list-levels-below t, list-levels.Post, further-reads.Asked, further-reads.Learnt) (code-levels-at t) code-levels.Post
+code-levels-own-end-requires t c κs = search needs
 
-code-levels-sub-parts-4 : (t : ℕ) → code-levels-lts.Need-sub-parts-4 (nowhere-reads.Asked, nowhere-reads.Learnt, kind-of-reads.Asked, kind-of-reads.Learnt, own-reads.Asked, own-reads.Learnt, expressed-below t, expressed.Post, parts-below t, parts.Post, count-of-reads.Asked, count-of-reads.Learnt, further-reads.Asked, further-reads.Learnt, list-levels-below t, list-levels.Post) (code-levels-at t) code-levels.Post
+code-levels-sub-parts-4 : (t : ℕ) → code-levels-lts.Need-sub-parts-4 (nowhere-reads.Asked, nowhere-reads.Learnt, kind-of-reads.Asked, kind-of-reads.Learnt, own-reads.Asked, own-reads.Learnt, expressed-below t, expressed.Post, parts-below t, parts.Post, count-of-reads.Asked, count-of-reads.Learnt, own-end-reads.Asked, own-end-reads.Learnt, list-levels-below t, list-levels.Post, further-reads.Asked, further-reads.Learnt) (code-levels-at t) code-levels.Post
 code-levels-sub-parts-4 t c = search needs
 
-code-levels-parts-requires-4 : (t : ℕ) → code-levels-lts.Need-parts-requires-4 (nowhere-reads.Asked, nowhere-reads.Learnt, kind-of-reads.Asked, kind-of-reads.Learnt, own-reads.Asked, own-reads.Learnt, expressed-below t, expressed.Post, parts-below t, parts.Post, count-of-reads.Asked, count-of-reads.Learnt, further-reads.Asked, further-reads.Learnt, list-levels-below t, list-levels.Post) (code-levels-at t) code-levels.Post
+code-levels-parts-requires-4 : (t : ℕ) → code-levels-lts.Need-parts-requires-4 (nowhere-reads.Asked, nowhere-reads.Learnt, kind-of-reads.Asked, kind-of-reads.Learnt, own-reads.Asked, own-reads.Learnt, expressed-below t, expressed.Post, parts-below t, parts.Post, count-of-reads.Asked, count-of-reads.Learnt, own-end-reads.Asked, own-end-reads.Learnt, list-levels-below t, list-levels.Post, further-reads.Asked, further-reads.Learnt) (code-levels-at t) code-levels.Post
 code-levels-parts-requires-4 t c κs = search needs
 
-code-levels-own-requires-3 : (t : ℕ) → code-levels-lts.Need-own-requires-3 (nowhere-reads.Asked, nowhere-reads.Learnt, kind-of-reads.Asked, kind-of-reads.Learnt, own-reads.Asked, own-reads.Learnt, expressed-below t, expressed.Post, parts-below t, parts.Post, count-of-reads.Asked, count-of-reads.Learnt, further-reads.Asked, further-reads.Learnt, list-levels-below t, list-levels.Post) (code-levels-at t) code-levels.Post
+code-levels-own-requires-3 : (t : ℕ) → code-levels-lts.Need-own-requires-3 (nowhere-reads.Asked, nowhere-reads.Learnt, kind-of-reads.Asked, kind-of-reads.Learnt, own-reads.Asked, own-reads.Learnt, expressed-below t, expressed.Post, parts-below t, parts.Post, count-of-reads.Asked, count-of-reads.Learnt, own-end-reads.Asked, own-end-reads.Learnt, list-levels-below t, list-levels.Post, further-reads.Asked, further-reads.Learnt) (code-levels-at t) code-levels.Post
 code-levels-own-requires-3 t c κs = search needs
 
-code-levels-further-requires-2 : (t : ℕ) → code-levels-lts.Need-further-requires-2 (nowhere-reads.Asked, nowhere-reads.Learnt, kind-of-reads.Asked, kind-of-reads.Learnt, own-reads.Asked, own-reads.Learnt, expressed-below t, expressed.Post, parts-below t, parts.Post, count-of-reads.Asked, count-of-reads.Learnt, further-reads.Asked, further-reads.Learnt, list-levels-below t, list-levels.Post) (code-levels-at t) code-levels.Post
-code-levels-further-requires-2 t c κs = search needs
+code-levels-own-end-requires-2 : (t : ℕ) → code-levels-lts.Need-own-end-requires-2 (nowhere-reads.Asked, nowhere-reads.Learnt, kind-of-reads.Asked, kind-of-reads.Learnt, own-reads.Asked, own-reads.Learnt, expressed-below t, expressed.Post, parts-below t, parts.Post, count-of-reads.Asked, count-of-reads.Learnt, own-end-reads.Asked, own-end-reads.Learnt, list-levels-below t, list-levels.Post, further-reads.Asked, further-reads.Learnt) (code-levels-at t) code-levels.Post
+code-levels-own-end-requires-2 t c κs = search needs
 
-code-levels-sub-list-levels : (t : ℕ) → code-levels-lts.Need-sub-list-levels (nowhere-reads.Asked, nowhere-reads.Learnt, kind-of-reads.Asked, kind-of-reads.Learnt, own-reads.Asked, own-reads.Learnt, expressed-below t, expressed.Post, parts-below t, parts.Post, count-of-reads.Asked, count-of-reads.Learnt, further-reads.Asked, further-reads.Learnt, list-levels-below t, list-levels.Post) (code-levels-at t) code-levels.Post
+code-levels-sub-list-levels : (t : ℕ) → code-levels-lts.Need-sub-list-levels (nowhere-reads.Asked, nowhere-reads.Learnt, kind-of-reads.Asked, kind-of-reads.Learnt, own-reads.Asked, own-reads.Learnt, expressed-below t, expressed.Post, parts-below t, parts.Post, count-of-reads.Asked, count-of-reads.Learnt, own-end-reads.Asked, own-end-reads.Learnt, list-levels-below t, list-levels.Post, further-reads.Asked, further-reads.Learnt) (code-levels-at t) code-levels.Post
 code-levels-sub-list-levels t c = search needs
 
-code-levels-list-levels-requires : (t : ℕ) → code-levels-lts.Need-list-levels-requires (nowhere-reads.Asked, nowhere-reads.Learnt, kind-of-reads.Asked, kind-of-reads.Learnt, own-reads.Asked, own-reads.Learnt, expressed-below t, expressed.Post, parts-below t, parts.Post, count-of-reads.Asked, count-of-reads.Learnt, further-reads.Asked, further-reads.Learnt, list-levels-below t, list-levels.Post) (code-levels-at t) code-levels.Post
+code-levels-list-levels-requires : (t : ℕ) → code-levels-lts.Need-list-levels-requires (nowhere-reads.Asked, nowhere-reads.Learnt, kind-of-reads.Asked, kind-of-reads.Learnt, own-reads.Asked, own-reads.Learnt, expressed-below t, expressed.Post, parts-below t, parts.Post, count-of-reads.Asked, count-of-reads.Learnt, own-end-reads.Asked, own-end-reads.Learnt, list-levels-below t, list-levels.Post, further-reads.Asked, further-reads.Learnt) (code-levels-at t) code-levels.Post
 code-levels-list-levels-requires t c κs = search needs
 
-code-levels-further-requires-3 : (t : ℕ) → code-levels-lts.Need-further-requires-3 (nowhere-reads.Asked, nowhere-reads.Learnt, kind-of-reads.Asked, kind-of-reads.Learnt, own-reads.Asked, own-reads.Learnt, expressed-below t, expressed.Post, parts-below t, parts.Post, count-of-reads.Asked, count-of-reads.Learnt, further-reads.Asked, further-reads.Learnt, list-levels-below t, list-levels.Post) (code-levels-at t) code-levels.Post
-code-levels-further-requires-3 t c κs = search needs
+code-levels-further-requires : (t : ℕ) → code-levels-lts.Need-further-requires (nowhere-reads.Asked, nowhere-reads.Learnt, kind-of-reads.Asked, kind-of-reads.Learnt, own-reads.Asked, own-reads.Learnt, expressed-below t, expressed.Post, parts-below t, parts.Post, count-of-reads.Asked, count-of-reads.Learnt, own-end-reads.Asked, own-end-reads.Learnt, list-levels-below t, list-levels.Post, further-reads.Asked, further-reads.Learnt) (code-levels-at t) code-levels.Post
+code-levels-further-requires t c κs = search needs
 
-code-levels-sub-parts-5 : (t : ℕ) → code-levels-lts.Need-sub-parts-5 (nowhere-reads.Asked, nowhere-reads.Learnt, kind-of-reads.Asked, kind-of-reads.Learnt, own-reads.Asked, own-reads.Learnt, expressed-below t, expressed.Post, parts-below t, parts.Post, count-of-reads.Asked, count-of-reads.Learnt, further-reads.Asked, further-reads.Learnt, list-levels-below t, list-levels.Post) (code-levels-at t) code-levels.Post
+code-levels-sub-parts-5 : (t : ℕ) → code-levels-lts.Need-sub-parts-5 (nowhere-reads.Asked, nowhere-reads.Learnt, kind-of-reads.Asked, kind-of-reads.Learnt, own-reads.Asked, own-reads.Learnt, expressed-below t, expressed.Post, parts-below t, parts.Post, count-of-reads.Asked, count-of-reads.Learnt, own-end-reads.Asked, own-end-reads.Learnt, list-levels-below t, list-levels.Post, further-reads.Asked, further-reads.Learnt) (code-levels-at t) code-levels.Post
 code-levels-sub-parts-5 t c = search needs
 
-code-levels-parts-requires-5 : (t : ℕ) → code-levels-lts.Need-parts-requires-5 (nowhere-reads.Asked, nowhere-reads.Learnt, kind-of-reads.Asked, kind-of-reads.Learnt, own-reads.Asked, own-reads.Learnt, expressed-below t, expressed.Post, parts-below t, parts.Post, count-of-reads.Asked, count-of-reads.Learnt, further-reads.Asked, further-reads.Learnt, list-levels-below t, list-levels.Post) (code-levels-at t) code-levels.Post
+code-levels-parts-requires-5 : (t : ℕ) → code-levels-lts.Need-parts-requires-5 (nowhere-reads.Asked, nowhere-reads.Learnt, kind-of-reads.Asked, kind-of-reads.Learnt, own-reads.Asked, own-reads.Learnt, expressed-below t, expressed.Post, parts-below t, parts.Post, count-of-reads.Asked, count-of-reads.Learnt, own-end-reads.Asked, own-end-reads.Learnt, list-levels-below t, list-levels.Post, further-reads.Asked, further-reads.Learnt) (code-levels-at t) code-levels.Post
 code-levels-parts-requires-5 t c κs = search needs
 
-code-levels-add-list-levels : (t : ℕ) → code-levels-lts.Need-add-list-levels (nowhere-reads.Asked, nowhere-reads.Learnt, kind-of-reads.Asked, kind-of-reads.Learnt, own-reads.Asked, own-reads.Learnt, expressed-below t, expressed.Post, parts-below t, parts.Post, count-of-reads.Asked, count-of-reads.Learnt, further-reads.Asked, further-reads.Learnt, list-levels-below t, list-levels.Post) (code-levels-at t) code-levels.Post
+code-levels-add-list-levels : (t : ℕ) → code-levels-lts.Need-add-list-levels (nowhere-reads.Asked, nowhere-reads.Learnt, kind-of-reads.Asked, kind-of-reads.Learnt, own-reads.Asked, own-reads.Learnt, expressed-below t, expressed.Post, parts-below t, parts.Post, count-of-reads.Asked, count-of-reads.Learnt, own-end-reads.Asked, own-end-reads.Learnt, list-levels-below t, list-levels.Post, further-reads.Asked, further-reads.Learnt) (code-levels-at t) code-levels.Post
 code-levels-add-list-levels t c = search needs
 
-code-levels-sub-list-levels-2 : (t : ℕ) → code-levels-lts.Need-sub-list-levels-2 (nowhere-reads.Asked, nowhere-reads.Learnt, kind-of-reads.Asked, kind-of-reads.Learnt, own-reads.Asked, own-reads.Learnt, expressed-below t, expressed.Post, parts-below t, parts.Post, count-of-reads.Asked, count-of-reads.Learnt, further-reads.Asked, further-reads.Learnt, list-levels-below t, list-levels.Post) (code-levels-at t) code-levels.Post
+code-levels-sub-list-levels-2 : (t : ℕ) → code-levels-lts.Need-sub-list-levels-2 (nowhere-reads.Asked, nowhere-reads.Learnt, kind-of-reads.Asked, kind-of-reads.Learnt, own-reads.Asked, own-reads.Learnt, expressed-below t, expressed.Post, parts-below t, parts.Post, count-of-reads.Asked, count-of-reads.Learnt, own-end-reads.Asked, own-end-reads.Learnt, list-levels-below t, list-levels.Post, further-reads.Asked, further-reads.Learnt) (code-levels-at t) code-levels.Post
 code-levels-sub-list-levels-2 t c = search needs
 
-code-levels-list-levels-requires-2 : (t : ℕ) → code-levels-lts.Need-list-levels-requires-2 (nowhere-reads.Asked, nowhere-reads.Learnt, kind-of-reads.Asked, kind-of-reads.Learnt, own-reads.Asked, own-reads.Learnt, expressed-below t, expressed.Post, parts-below t, parts.Post, count-of-reads.Asked, count-of-reads.Learnt, further-reads.Asked, further-reads.Learnt, list-levels-below t, list-levels.Post) (code-levels-at t) code-levels.Post
+code-levels-list-levels-requires-2 : (t : ℕ) → code-levels-lts.Need-list-levels-requires-2 (nowhere-reads.Asked, nowhere-reads.Learnt, kind-of-reads.Asked, kind-of-reads.Learnt, own-reads.Asked, own-reads.Learnt, expressed-below t, expressed.Post, parts-below t, parts.Post, count-of-reads.Asked, count-of-reads.Learnt, own-end-reads.Asked, own-end-reads.Learnt, list-levels-below t, list-levels.Post, further-reads.Asked, further-reads.Learnt) (code-levels-at t) code-levels.Post
 code-levels-list-levels-requires-2 t c κs = search needs
 
-code-levels-own-requires-4 : (t : ℕ) → code-levels-lts.Need-own-requires-4 (nowhere-reads.Asked, nowhere-reads.Learnt, kind-of-reads.Asked, kind-of-reads.Learnt, own-reads.Asked, own-reads.Learnt, expressed-below t, expressed.Post, parts-below t, parts.Post, count-of-reads.Asked, count-of-reads.Learnt, further-reads.Asked, further-reads.Learnt, list-levels-below t, list-levels.Post) (code-levels-at t) code-levels.Post
+code-levels-own-requires-4 : (t : ℕ) → code-levels-lts.Need-own-requires-4 (nowhere-reads.Asked, nowhere-reads.Learnt, kind-of-reads.Asked, kind-of-reads.Learnt, own-reads.Asked, own-reads.Learnt, expressed-below t, expressed.Post, parts-below t, parts.Post, count-of-reads.Asked, count-of-reads.Learnt, own-end-reads.Asked, own-end-reads.Learnt, list-levels-below t, list-levels.Post, further-reads.Asked, further-reads.Learnt) (code-levels-at t) code-levels.Post
 code-levels-own-requires-4 t c κs = search needs
 
-code-levels-returns-3 : (t : ℕ) → code-levels-lts.Need-returns-3 (nowhere-reads.Asked, nowhere-reads.Learnt, kind-of-reads.Asked, kind-of-reads.Learnt, own-reads.Asked, own-reads.Learnt, expressed-below t, expressed.Post, parts-below t, parts.Post, count-of-reads.Asked, count-of-reads.Learnt, further-reads.Asked, further-reads.Learnt, list-levels-below t, list-levels.Post) (code-levels-at t) code-levels.Post
+code-levels-returns-3 : (t : ℕ) → code-levels-lts.Need-returns-3 (nowhere-reads.Asked, nowhere-reads.Learnt, kind-of-reads.Asked, kind-of-reads.Learnt, own-reads.Asked, own-reads.Learnt, expressed-below t, expressed.Post, parts-below t, parts.Post, count-of-reads.Asked, count-of-reads.Learnt, own-end-reads.Asked, own-end-reads.Learnt, list-levels-below t, list-levels.Post, further-reads.Asked, further-reads.Learnt) (code-levels-at t) code-levels.Post
 unfolding codeLevels nodeLevels expressedLevels listLevels
 code-levels-returns-3 t c =
     let f0 = c .before .match .keys1 in
@@ -226,7 +227,7 @@ code-levels-returns-3 t c =
     let f2 = c .before .before .before .before .before .if1 .left in
     simp (tests, code-levels-step, ← (c .own .ensures), f0, ← (c .before .before .kind-of .ensures .0), f1, f2)
 
-code-levels-returns-4 : (t : ℕ) → code-levels-lts.Need-returns-4 (nowhere-reads.Asked, nowhere-reads.Learnt, kind-of-reads.Asked, kind-of-reads.Learnt, own-reads.Asked, own-reads.Learnt, expressed-below t, expressed.Post, parts-below t, parts.Post, count-of-reads.Asked, count-of-reads.Learnt, further-reads.Asked, further-reads.Learnt, list-levels-below t, list-levels.Post) (code-levels-at t) code-levels.Post
+code-levels-returns-4 : (t : ℕ) → code-levels-lts.Need-returns-4 (nowhere-reads.Asked, nowhere-reads.Learnt, kind-of-reads.Asked, kind-of-reads.Learnt, own-reads.Asked, own-reads.Learnt, expressed-below t, expressed.Post, parts-below t, parts.Post, count-of-reads.Asked, count-of-reads.Learnt, own-end-reads.Asked, own-end-reads.Learnt, list-levels-below t, list-levels.Post, further-reads.Asked, further-reads.Learnt) (code-levels-at t) code-levels.Post
 unfolding codeLevels nodeLevels expressedLevels listLevels
 code-levels-returns-4 t c =
     let f0 = c .before .match .keys2 in
@@ -234,7 +235,7 @@ code-levels-returns-4 t c =
     let f2 = c .before .before .before .before .before .if1 .left in
     simp (tests, code-levels-step, ← (c .expressed .ensures), f0, ← (c .before .before .kind-of .ensures .0), f1, f2)
 
-code-levels-returns-5 : (t : ℕ) → code-levels-lts.Need-returns-5 (nowhere-reads.Asked, nowhere-reads.Learnt, kind-of-reads.Asked, kind-of-reads.Learnt, own-reads.Asked, own-reads.Learnt, expressed-below t, expressed.Post, parts-below t, parts.Post, count-of-reads.Asked, count-of-reads.Learnt, further-reads.Asked, further-reads.Learnt, list-levels-below t, list-levels.Post) (code-levels-at t) code-levels.Post
+code-levels-returns-5 : (t : ℕ) → code-levels-lts.Need-returns-5 (nowhere-reads.Asked, nowhere-reads.Learnt, kind-of-reads.Asked, kind-of-reads.Learnt, own-reads.Asked, own-reads.Learnt, expressed-below t, expressed.Post, parts-below t, parts.Post, count-of-reads.Asked, count-of-reads.Learnt, own-end-reads.Asked, own-end-reads.Learnt, list-levels-below t, list-levels.Post, further-reads.Asked, further-reads.Learnt) (code-levels-at t) code-levels.Post
 unfolding codeLevels nodeLevels expressedLevels listLevels
 code-levels-returns-5 t c =
     let f0 = c .before .match .keys3 in
@@ -242,7 +243,7 @@ code-levels-returns-5 t c =
     let f2 = c .before .before .before .before .before .if1 .left in
     simp (tests, code-levels-step, ← (c .parts .ensures), f0, ← (c .before .before .kind-of .ensures .0), f1, f2)
 
-code-levels-returns-6 : (t : ℕ) → code-levels-lts.Need-returns-6 (nowhere-reads.Asked, nowhere-reads.Learnt, kind-of-reads.Asked, kind-of-reads.Learnt, own-reads.Asked, own-reads.Learnt, expressed-below t, expressed.Post, parts-below t, parts.Post, count-of-reads.Asked, count-of-reads.Learnt, further-reads.Asked, further-reads.Learnt, list-levels-below t, list-levels.Post) (code-levels-at t) code-levels.Post
+code-levels-returns-6 : (t : ℕ) → code-levels-lts.Need-returns-6 (nowhere-reads.Asked, nowhere-reads.Learnt, kind-of-reads.Asked, kind-of-reads.Learnt, own-reads.Asked, own-reads.Learnt, expressed-below t, expressed.Post, parts-below t, parts.Post, count-of-reads.Asked, count-of-reads.Learnt, own-end-reads.Asked, own-end-reads.Learnt, list-levels-below t, list-levels.Post, further-reads.Asked, further-reads.Learnt) (code-levels-at t) code-levels.Post
 unfolding codeLevels nodeLevels expressedLevels listLevels
 code-levels-returns-6 t c =
     let f0 = c .before .match .keys4 in
@@ -250,7 +251,7 @@ code-levels-returns-6 t c =
     let f2 = c .before .before .before .before .before .if1 .left in
     simp (tests, code-levels-step, ← (c .parts2 .ensures), f0, ← (c .before .before .kind-of .ensures .0), f1, f2)
 
-code-levels-returns-7 : (t : ℕ) → code-levels-lts.Need-returns-7 (nowhere-reads.Asked, nowhere-reads.Learnt, kind-of-reads.Asked, kind-of-reads.Learnt, own-reads.Asked, own-reads.Learnt, expressed-below t, expressed.Post, parts-below t, parts.Post, count-of-reads.Asked, count-of-reads.Learnt, further-reads.Asked, further-reads.Learnt, list-levels-below t, list-levels.Post) (code-levels-at t) code-levels.Post
+code-levels-returns-7 : (t : ℕ) → code-levels-lts.Need-returns-7 (nowhere-reads.Asked, nowhere-reads.Learnt, kind-of-reads.Asked, kind-of-reads.Learnt, own-reads.Asked, own-reads.Learnt, expressed-below t, expressed.Post, parts-below t, parts.Post, count-of-reads.Asked, count-of-reads.Learnt, own-end-reads.Asked, own-end-reads.Learnt, list-levels-below t, list-levels.Post, further-reads.Asked, further-reads.Learnt) (code-levels-at t) code-levels.Post
 unfolding codeLevels nodeLevels expressedLevels listLevels
 code-levels-returns-7 t c =
     let f0 = c .before .match .keys5 in
@@ -258,7 +259,7 @@ code-levels-returns-7 t c =
     let f2 = c .before .before .before .before .before .if1 .left in
     simp (tests, code-levels-step, ← (c .expressed2 .ensures), f0, ← (c .before .before .kind-of .ensures .0), f1, f2)
 
-code-levels-returns-8 : (t : ℕ) → code-levels-lts.Need-returns-8 (nowhere-reads.Asked, nowhere-reads.Learnt, kind-of-reads.Asked, kind-of-reads.Learnt, own-reads.Asked, own-reads.Learnt, expressed-below t, expressed.Post, parts-below t, parts.Post, count-of-reads.Asked, count-of-reads.Learnt, further-reads.Asked, further-reads.Learnt, list-levels-below t, list-levels.Post) (code-levels-at t) code-levels.Post
+code-levels-returns-8 : (t : ℕ) → code-levels-lts.Need-returns-8 (nowhere-reads.Asked, nowhere-reads.Learnt, kind-of-reads.Asked, kind-of-reads.Learnt, own-reads.Asked, own-reads.Learnt, expressed-below t, expressed.Post, parts-below t, parts.Post, count-of-reads.Asked, count-of-reads.Learnt, own-end-reads.Asked, own-end-reads.Learnt, list-levels-below t, list-levels.Post, further-reads.Asked, further-reads.Learnt) (code-levels-at t) code-levels.Post
 unfolding codeLevels nodeLevels expressedLevels listLevels
 code-levels-returns-8 t c =
     let f0 = c .before .match .keys6 in
@@ -266,7 +267,7 @@ code-levels-returns-8 t c =
     let f2 = c .before .before .before .before .before .if1 .left in
     simp (tests, code-levels-step, ← (c .expressed3 .ensures), f0, ← (c .before .before .kind-of .ensures .0), f1, f2)
 
-code-levels-returns-9 : (t : ℕ) → code-levels-lts.Need-returns-9 (nowhere-reads.Asked, nowhere-reads.Learnt, kind-of-reads.Asked, kind-of-reads.Learnt, own-reads.Asked, own-reads.Learnt, expressed-below t, expressed.Post, parts-below t, parts.Post, count-of-reads.Asked, count-of-reads.Learnt, further-reads.Asked, further-reads.Learnt, list-levels-below t, list-levels.Post) (code-levels-at t) code-levels.Post
+code-levels-returns-9 : (t : ℕ) → code-levels-lts.Need-returns-9 (nowhere-reads.Asked, nowhere-reads.Learnt, kind-of-reads.Asked, kind-of-reads.Learnt, own-reads.Asked, own-reads.Learnt, expressed-below t, expressed.Post, parts-below t, parts.Post, count-of-reads.Asked, count-of-reads.Learnt, own-end-reads.Asked, own-end-reads.Learnt, list-levels-below t, list-levels.Post, further-reads.Asked, further-reads.Learnt) (code-levels-at t) code-levels.Post
 unfolding codeLevels nodeLevels expressedLevels listLevels
 code-levels-returns-9 t c =
     let f0 = c .before .before .before .match .keys7 in
@@ -274,7 +275,7 @@ code-levels-returns-9 t c =
     let f2 = c .before .before .before .before .before .before .before .if1 .left in
     simp (tests, code-levels-step, ← (c .parts3 .ensures), ← (c .before .count-of .ensures .0), f0, ← (c .before .before .before .before .kind-of .ensures .0), f1, f2)
 
-code-levels-returns-10 : (t : ℕ) → code-levels-lts.Need-returns-10 (nowhere-reads.Asked, nowhere-reads.Learnt, kind-of-reads.Asked, kind-of-reads.Learnt, own-reads.Asked, own-reads.Learnt, expressed-below t, expressed.Post, parts-below t, parts.Post, count-of-reads.Asked, count-of-reads.Learnt, further-reads.Asked, further-reads.Learnt, list-levels-below t, list-levels.Post) (code-levels-at t) code-levels.Post
+code-levels-returns-10 : (t : ℕ) → code-levels-lts.Need-returns-10 (nowhere-reads.Asked, nowhere-reads.Learnt, kind-of-reads.Asked, kind-of-reads.Learnt, own-reads.Asked, own-reads.Learnt, expressed-below t, expressed.Post, parts-below t, parts.Post, count-of-reads.Asked, count-of-reads.Learnt, own-end-reads.Asked, own-end-reads.Learnt, list-levels-below t, list-levels.Post, further-reads.Asked, further-reads.Learnt) (code-levels-at t) code-levels.Post
 unfolding codeLevels nodeLevels expressedLevels listLevels
 code-levels-returns-10 t c =
     let f0 = c .before .match .keys8 in
@@ -282,15 +283,15 @@ code-levels-returns-10 t c =
     let f2 = c .before .before .before .before .before .if1 .left in
     simp (tests, code-levels-step, ← (c .own2 .ensures), f0, ← (c .before .before .kind-of .ensures .0), f1, f2)
 
-code-levels-returns-11 : (t : ℕ) → code-levels-lts.Need-returns-11 (nowhere-reads.Asked, nowhere-reads.Learnt, kind-of-reads.Asked, kind-of-reads.Learnt, own-reads.Asked, own-reads.Learnt, expressed-below t, expressed.Post, parts-below t, parts.Post, count-of-reads.Asked, count-of-reads.Learnt, further-reads.Asked, further-reads.Learnt, list-levels-below t, list-levels.Post) (code-levels-at t) code-levels.Post
+code-levels-returns-11 : (t : ℕ) → code-levels-lts.Need-returns-11 (nowhere-reads.Asked, nowhere-reads.Learnt, kind-of-reads.Asked, kind-of-reads.Learnt, own-reads.Asked, own-reads.Learnt, expressed-below t, expressed.Post, parts-below t, parts.Post, count-of-reads.Asked, count-of-reads.Learnt, own-end-reads.Asked, own-end-reads.Learnt, list-levels-below t, list-levels.Post, further-reads.Asked, further-reads.Learnt) (code-levels-at t) code-levels.Post
 unfolding codeLevels nodeLevels expressedLevels listLevels
 code-levels-returns-11 t c =
     let f0 = c .before .before .match .keys9 in
     let f1 = c .before .before .before .before .before .if2 .left in
     let f2 = c .before .before .before .before .before .before .if1 .left in
-    simp (tests, code-levels-step, ← (c .parts4 .ensures), ← (c .before .further .ensures), f0, ← (c .before .before .before .kind-of .ensures .0), f1, f2)
+    simp (tests, code-levels-step, ← (c .parts4 .ensures), ← (c .before .own-end .ensures), f0, ← (c .before .before .before .kind-of .ensures .0), f1, f2)
 
-code-levels-returns-12 : (t : ℕ) → code-levels-lts.Need-returns-12 (nowhere-reads.Asked, nowhere-reads.Learnt, kind-of-reads.Asked, kind-of-reads.Learnt, own-reads.Asked, own-reads.Learnt, expressed-below t, expressed.Post, parts-below t, parts.Post, count-of-reads.Asked, count-of-reads.Learnt, further-reads.Asked, further-reads.Learnt, list-levels-below t, list-levels.Post) (code-levels-at t) code-levels.Post
+code-levels-returns-12 : (t : ℕ) → code-levels-lts.Need-returns-12 (nowhere-reads.Asked, nowhere-reads.Learnt, kind-of-reads.Asked, kind-of-reads.Learnt, own-reads.Asked, own-reads.Learnt, expressed-below t, expressed.Post, parts-below t, parts.Post, count-of-reads.Asked, count-of-reads.Learnt, own-end-reads.Asked, own-end-reads.Learnt, list-levels-below t, list-levels.Post, further-reads.Asked, further-reads.Learnt) (code-levels-at t) code-levels.Post
 unfolding codeLevels nodeLevels expressedLevels listLevels
 code-levels-returns-12 t c =
     let f0 = c .before .match .keys10 in
@@ -298,23 +299,23 @@ code-levels-returns-12 t c =
     let f2 = c .before .before .before .before .before .if1 .left in
     simp (tests, code-levels-step, ← (c .own3 .ensures), f0, ← (c .before .before .kind-of .ensures .0), f1, f2)
 
-code-levels-returns-13 : (t : ℕ) → code-levels-lts.Need-returns-13 (nowhere-reads.Asked, nowhere-reads.Learnt, kind-of-reads.Asked, kind-of-reads.Learnt, own-reads.Asked, own-reads.Learnt, expressed-below t, expressed.Post, parts-below t, parts.Post, count-of-reads.Asked, count-of-reads.Learnt, further-reads.Asked, further-reads.Learnt, list-levels-below t, list-levels.Post) (code-levels-at t) code-levels.Post
+code-levels-returns-13 : (t : ℕ) → code-levels-lts.Need-returns-13 (nowhere-reads.Asked, nowhere-reads.Learnt, kind-of-reads.Asked, kind-of-reads.Learnt, own-reads.Asked, own-reads.Learnt, expressed-below t, expressed.Post, parts-below t, parts.Post, count-of-reads.Asked, count-of-reads.Learnt, own-end-reads.Asked, own-end-reads.Learnt, list-levels-below t, list-levels.Post, further-reads.Asked, further-reads.Learnt) (code-levels-at t) code-levels.Post
 unfolding codeLevels nodeLevels expressedLevels listLevels
 code-levels-returns-13 t c =
     let f0 = c .before .before .match .keys11 in
     let f1 = c .before .before .before .before .before .if2 .left in
     let f2 = c .before .before .before .before .before .before .if1 .left in
-    simp (tests, code-levels-step, ← (c .list-levels .ensures), ← (c .before .further2 .ensures), f0, ← (c .before .before .before .kind-of .ensures .0), f1, f2)
+    simp (tests, code-levels-step, ← (c .list-levels .ensures), ← (c .before .own-end2 .ensures), f0, ← (c .before .before .before .kind-of .ensures .0), f1, f2)
 
-code-levels-returns-14 : (t : ℕ) → code-levels-lts.Need-returns-14 (nowhere-reads.Asked, nowhere-reads.Learnt, kind-of-reads.Asked, kind-of-reads.Learnt, own-reads.Asked, own-reads.Learnt, expressed-below t, expressed.Post, parts-below t, parts.Post, count-of-reads.Asked, count-of-reads.Learnt, further-reads.Asked, further-reads.Learnt, list-levels-below t, list-levels.Post) (code-levels-at t) code-levels.Post
+code-levels-returns-14 : (t : ℕ) → code-levels-lts.Need-returns-14 (nowhere-reads.Asked, nowhere-reads.Learnt, kind-of-reads.Asked, kind-of-reads.Learnt, own-reads.Asked, own-reads.Learnt, expressed-below t, expressed.Post, parts-below t, parts.Post, count-of-reads.Asked, count-of-reads.Learnt, own-end-reads.Asked, own-end-reads.Learnt, list-levels-below t, list-levels.Post, further-reads.Asked, further-reads.Learnt) (code-levels-at t) code-levels.Post
 unfolding codeLevels nodeLevels expressedLevels listLevels
 code-levels-returns-14 t c =
     let f0 = c .before .before .match .keys12 in
     let f1 = c .before .before .before .before .before .if2 .left in
     let f2 = c .before .before .before .before .before .before .if1 .left in
-    simp (tests, code-levels-step, ← (c .parts5 .ensures), ← (c .before .further3 .ensures), f0, ← (c .before .before .before .kind-of .ensures .0), f1, f2)
+    simp (tests, code-levels-step, ← (c .parts5 .ensures), ← (c .before .further .ensures), f0, ← (c .before .before .before .kind-of .ensures .0), f1, f2)
 
-code-levels-returns-15 : (t : ℕ) → code-levels-lts.Need-returns-15 (nowhere-reads.Asked, nowhere-reads.Learnt, kind-of-reads.Asked, kind-of-reads.Learnt, own-reads.Asked, own-reads.Learnt, expressed-below t, expressed.Post, parts-below t, parts.Post, count-of-reads.Asked, count-of-reads.Learnt, further-reads.Asked, further-reads.Learnt, list-levels-below t, list-levels.Post) (code-levels-at t) code-levels.Post
+code-levels-returns-15 : (t : ℕ) → code-levels-lts.Need-returns-15 (nowhere-reads.Asked, nowhere-reads.Learnt, kind-of-reads.Asked, kind-of-reads.Learnt, own-reads.Asked, own-reads.Learnt, expressed-below t, expressed.Post, parts-below t, parts.Post, count-of-reads.Asked, count-of-reads.Learnt, own-end-reads.Asked, own-end-reads.Learnt, list-levels-below t, list-levels.Post, further-reads.Asked, further-reads.Learnt) (code-levels-at t) code-levels.Post
 unfolding codeLevels nodeLevels expressedLevels listLevels
 code-levels-returns-15 t c =
     let f0 = c .before .match .keys13 in
@@ -322,7 +323,7 @@ code-levels-returns-15 t c =
     let f2 = c .before .before .before .before .before .if1 .left in
     simp (tests, code-levels-step, ← (c .list-levels2 .ensures), f0, ← (c .before .before .kind-of .ensures .0), f1, f2)
 
-code-levels-returns-16 : (t : ℕ) → code-levels-lts.Need-returns-16 (nowhere-reads.Asked, nowhere-reads.Learnt, kind-of-reads.Asked, kind-of-reads.Learnt, own-reads.Asked, own-reads.Learnt, expressed-below t, expressed.Post, parts-below t, parts.Post, count-of-reads.Asked, count-of-reads.Learnt, further-reads.Asked, further-reads.Learnt, list-levels-below t, list-levels.Post) (code-levels-at t) code-levels.Post
+code-levels-returns-16 : (t : ℕ) → code-levels-lts.Need-returns-16 (nowhere-reads.Asked, nowhere-reads.Learnt, kind-of-reads.Asked, kind-of-reads.Learnt, own-reads.Asked, own-reads.Learnt, expressed-below t, expressed.Post, parts-below t, parts.Post, count-of-reads.Asked, count-of-reads.Learnt, own-end-reads.Asked, own-end-reads.Learnt, list-levels-below t, list-levels.Post, further-reads.Asked, further-reads.Learnt) (code-levels-at t) code-levels.Post
 unfolding codeLevels nodeLevels expressedLevels listLevels
 code-levels-returns-16 t c =
     let f13 = c .before .before .before .before .if2 .left in
@@ -456,10 +457,12 @@ pub +code-levels+expressed+list-levels+parts-spec : {M : Type 1} → statement M
       parts.Post,
       count-of-reads.Asked,
       count-of-reads.Learnt,
-      further-reads.Asked,
-      further-reads.Learnt,
+      own-end-reads.Asked,
+      own-end-reads.Learnt,
       list-levels-below t,
       list-levels.Post,
+      further-reads.Asked,
+      further-reads.Learnt,
     )
     (code-levels-at t)
     code-levels.Post
@@ -494,14 +497,14 @@ pub +code-levels+expressed+list-levels+parts-spec : {M : Type 1} → statement M
     (code-levels-sub-parts-3 t)
     (code-levels-parts-requires-3 t)
     (code-levels-own-requires-2 t)
-    (code-levels-further-requires t)
+    (code-levels-own-end-requires t)
     (code-levels-sub-parts-4 t)
     (code-levels-parts-requires-4 t)
     (code-levels-own-requires-3 t)
-    (code-levels-further-requires-2 t)
+    (code-levels-own-end-requires-2 t)
     (code-levels-sub-list-levels t)
     (code-levels-list-levels-requires t)
-    (code-levels-further-requires-3 t)
+    (code-levels-further-requires t)
     (code-levels-sub-parts-5 t)
     (code-levels-parts-requires-5 t)
     (code-levels-add-list-levels t)

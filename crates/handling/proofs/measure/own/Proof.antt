@@ -4,12 +4,12 @@ use borrow.Author.Needs.{needs}
 use Rattle.handling.proofs.measure.own.Statement.{statement}
 use Rattle.handling.proofs.measure.own.Tie as tie
 
-further-requires : tie.Need-further-requires
-further-requires c κs = search needs
+own-end-requires : tie.Need-own-end-requires
+own-end-requires c κs = search needs
 
 returns : tie.Need-returns
 returns c =
-    simp (c .further .ensures)
+    simp (c .own-end .ensures)
 
 pub own-spec : {M : Type 1} → statement M
-own-spec = tie.close (tie.spec further-requires returns)
+own-spec = tie.close (tie.spec own-end-requires returns)

@@ -46,6 +46,7 @@ use Rattle.killing.proofs.kill.zombie_head.Reads as zombie-head-reads
 use Rattle.layout.proofs.field.kind_of.Reads as kind-of-reads
 use Rattle.layout.proofs.field.zombie_of.Reads as zombie-of-reads
 use Rattle.layout.proofs.number.less_one.Reads as less-one-reads
+use Rattle.layout.proofs.own.own_end.Reads as own-end-reads
 use Rattle.skipping.proofs.pass.pass.Reads as pass-reads
 use Rattle.skipping.proofs.pass.pass_list.Reads as pass-list-reads
 use Rattle.writers.proofs.write.copy.Reads as copy-reads
@@ -308,59 +309,59 @@ kill-returns-10 t c =
     let f8 = c .before .before .before .before .before .before .before .before .if1 .left in
     (simp (tests, kill-step, ← (c .before .before .vanish .ensures .0), f0, f1, f2, f3, f4, f5, f6, ← (c .before .before .before .before .before .kind-of .ensures .0), f7, f8), simp (tests, kill-step, ← (c .before .before .vanish .ensures .1), f0, f1, f2, f3, f4, f5, f6, ← (c .before .before .before .before .before .kind-of .ensures .0), f7, f8))
 
-kill-executor-stuck-requires : (t : ℕ) → kill-executor-lts.Need-stuck-requires (stuck-reads.Asked, stuck-reads.Learnt, put-reads.Asked, put-reads.Learnt, kill-below t, kill.Post, notice-reads.Asked, notice-reads.Learnt) (kill-executor-at t) kill-executor.Post
+kill-executor-stuck-requires : (t : ℕ) → kill-executor-lts.Need-stuck-requires (stuck-reads.Asked, stuck-reads.Learnt, put-reads.Asked, put-reads.Learnt, own-end-reads.Asked, own-end-reads.Learnt, kill-below t, kill.Post, notice-reads.Asked, notice-reads.Learnt) (kill-executor-at t) kill-executor.Post
 kill-executor-stuck-requires t c κs = search needs
 
-kill-executor-returns : (t : ℕ) → kill-executor-lts.Need-returns (stuck-reads.Asked, stuck-reads.Learnt, put-reads.Asked, put-reads.Learnt, kill-below t, kill.Post, notice-reads.Asked, notice-reads.Learnt) (kill-executor-at t) kill-executor.Post
+kill-executor-returns : (t : ℕ) → kill-executor-lts.Need-returns (stuck-reads.Asked, stuck-reads.Learnt, put-reads.Asked, put-reads.Learnt, own-end-reads.Asked, own-end-reads.Learnt, kill-below t, kill.Post, notice-reads.Asked, notice-reads.Learnt) (kill-executor-at t) kill-executor.Post
 unfolding goes executorOn executorW
 kill-executor-returns t c =
     let f0 = c .before .if1 .taken in
     (simp (tests, ← (c .stuck .ensures), f0), simp (tests, f0))
 
-kill-executor-put-requires : (t : ℕ) → kill-executor-lts.Need-put-requires (stuck-reads.Asked, stuck-reads.Learnt, put-reads.Asked, put-reads.Learnt, kill-below t, kill.Post, notice-reads.Asked, notice-reads.Learnt) (kill-executor-at t) kill-executor.Post
+kill-executor-put-requires : (t : ℕ) → kill-executor-lts.Need-put-requires (stuck-reads.Asked, stuck-reads.Learnt, put-reads.Asked, put-reads.Learnt, own-end-reads.Asked, own-end-reads.Learnt, kill-below t, kill.Post, notice-reads.Asked, notice-reads.Learnt) (kill-executor-at t) kill-executor.Post
 kill-executor-put-requires t c κs = search needs
 
-kill-executor-add-kill : (t : ℕ) → kill-executor-lts.Need-add-kill (stuck-reads.Asked, stuck-reads.Learnt, put-reads.Asked, put-reads.Learnt, kill-below t, kill.Post, notice-reads.Asked, notice-reads.Learnt) (kill-executor-at t) kill-executor.Post
-kill-executor-add-kill t c = search needs
+kill-executor-own-end-requires : (t : ℕ) → kill-executor-lts.Need-own-end-requires (stuck-reads.Asked, stuck-reads.Learnt, put-reads.Asked, put-reads.Learnt, own-end-reads.Asked, own-end-reads.Learnt, kill-below t, kill.Post, notice-reads.Asked, notice-reads.Learnt) (kill-executor-at t) kill-executor.Post
+kill-executor-own-end-requires t c κs = search needs
 
-kill-executor-kill-requires : (t : ℕ) → kill-executor-lts.Need-kill-requires (stuck-reads.Asked, stuck-reads.Learnt, put-reads.Asked, put-reads.Learnt, kill-below t, kill.Post, notice-reads.Asked, notice-reads.Learnt) (kill-executor-at t) kill-executor.Post
+kill-executor-kill-requires : (t : ℕ) → kill-executor-lts.Need-kill-requires (stuck-reads.Asked, stuck-reads.Learnt, put-reads.Asked, put-reads.Learnt, own-end-reads.Asked, own-end-reads.Learnt, kill-below t, kill.Post, notice-reads.Asked, notice-reads.Learnt) (kill-executor-at t) kill-executor.Post
 kill-executor-kill-requires t c κs = search needs
 
-kill-executor-stuck-requires-2 : (t : ℕ) → kill-executor-lts.Need-stuck-requires-2 (stuck-reads.Asked, stuck-reads.Learnt, put-reads.Asked, put-reads.Learnt, kill-below t, kill.Post, notice-reads.Asked, notice-reads.Learnt) (kill-executor-at t) kill-executor.Post
+kill-executor-stuck-requires-2 : (t : ℕ) → kill-executor-lts.Need-stuck-requires-2 (stuck-reads.Asked, stuck-reads.Learnt, put-reads.Asked, put-reads.Learnt, own-end-reads.Asked, own-end-reads.Learnt, kill-below t, kill.Post, notice-reads.Asked, notice-reads.Learnt) (kill-executor-at t) kill-executor.Post
 kill-executor-stuck-requires-2 t c κs = search needs
 
-kill-executor-same-length : (t : ℕ) → kill-executor-lts.Need-same-length (stuck-reads.Asked, stuck-reads.Learnt, put-reads.Asked, put-reads.Learnt, kill-below t, kill.Post, notice-reads.Asked, notice-reads.Learnt) (kill-executor-at t) kill-executor.Post
+kill-executor-same-length : (t : ℕ) → kill-executor-lts.Need-same-length (stuck-reads.Asked, stuck-reads.Learnt, put-reads.Asked, put-reads.Learnt, own-end-reads.Asked, own-end-reads.Learnt, kill-below t, kill.Post, notice-reads.Asked, notice-reads.Learnt) (kill-executor-at t) kill-executor.Post
 kill-executor-same-length t c = search needs
 
-kill-executor-returns-2 : (t : ℕ) → kill-executor-lts.Need-returns-2 (stuck-reads.Asked, stuck-reads.Learnt, put-reads.Asked, put-reads.Learnt, kill-below t, kill.Post, notice-reads.Asked, notice-reads.Learnt) (kill-executor-at t) kill-executor.Post
+kill-executor-returns-2 : (t : ℕ) → kill-executor-lts.Need-returns-2 (stuck-reads.Asked, stuck-reads.Learnt, put-reads.Asked, put-reads.Learnt, own-end-reads.Asked, own-end-reads.Learnt, kill-below t, kill.Post, notice-reads.Asked, notice-reads.Learnt) (kill-executor-at t) kill-executor.Post
 unfolding goes executorOn executorW
 kill-executor-returns-2 t c =
     let f0 = c .before .if2 .taken in
-    let f1 = c .before .before .before .before .before .before .before .before .before .before .before .if1 .left in
-    (simp (tests, ← (c .stuck2 .ensures), f0, ← (c .before .before .before .before .before .kill .ensures .0), ← (c .before .before .before .before .before .kill .ensures .1), ← (c .before .before .before .before .before .before .before .before .before .put .ensures .0), ← (c .before .before .before .before .before .before .before .before .before .put .ensures .1), f1), simp (tests, f0, ← (c .before .before .before .before .before .kill .ensures .0), ← (c .before .before .before .before .before .kill .ensures .1), ← (c .before .before .before .before .before .before .before .before .before .put .ensures .0), ← (c .before .before .before .before .before .before .before .before .before .put .ensures .1), f1))
+    let f1 = c .before .before .before .before .before .before .before .before .before .before .before .before .if1 .left in
+    (simp (tests, ← (c .stuck2 .ensures), f0, ← (c .before .before .before .before .before .kill .ensures .0), ← (c .before .before .before .before .before .kill .ensures .1), ← (c .before .before .before .before .before .before .before .own-end .ensures), ← (c .before .before .before .before .before .before .before .before .before .before .put .ensures .0), ← (c .before .before .before .before .before .before .before .before .before .before .put .ensures .1), f1), simp (tests, f0, ← (c .before .before .before .before .before .kill .ensures .0), ← (c .before .before .before .before .before .kill .ensures .1), ← (c .before .before .before .before .before .before .before .own-end .ensures), ← (c .before .before .before .before .before .before .before .before .before .before .put .ensures .0), ← (c .before .before .before .before .before .before .before .before .before .before .put .ensures .1), f1))
 
-kill-executor-notice-requires : (t : ℕ) → kill-executor-lts.Need-notice-requires (stuck-reads.Asked, stuck-reads.Learnt, put-reads.Asked, put-reads.Learnt, kill-below t, kill.Post, notice-reads.Asked, notice-reads.Learnt) (kill-executor-at t) kill-executor.Post
+kill-executor-notice-requires : (t : ℕ) → kill-executor-lts.Need-notice-requires (stuck-reads.Asked, stuck-reads.Learnt, put-reads.Asked, put-reads.Learnt, own-end-reads.Asked, own-end-reads.Learnt, kill-below t, kill.Post, notice-reads.Asked, notice-reads.Learnt) (kill-executor-at t) kill-executor.Post
 kill-executor-notice-requires t c κs = search needs
 
-kill-executor-same-length-2 : (t : ℕ) → kill-executor-lts.Need-same-length-2 (stuck-reads.Asked, stuck-reads.Learnt, put-reads.Asked, put-reads.Learnt, kill-below t, kill.Post, notice-reads.Asked, notice-reads.Learnt) (kill-executor-at t) kill-executor.Post
+kill-executor-same-length-2 : (t : ℕ) → kill-executor-lts.Need-same-length-2 (stuck-reads.Asked, stuck-reads.Learnt, put-reads.Asked, put-reads.Learnt, own-end-reads.Asked, own-end-reads.Learnt, kill-below t, kill.Post, notice-reads.Asked, notice-reads.Learnt) (kill-executor-at t) kill-executor.Post
 kill-executor-same-length-2 t c = search needs
 
-kill-executor-returns-3 : (t : ℕ) → kill-executor-lts.Need-returns-3 (stuck-reads.Asked, stuck-reads.Learnt, put-reads.Asked, put-reads.Learnt, kill-below t, kill.Post, notice-reads.Asked, notice-reads.Learnt) (kill-executor-at t) kill-executor.Post
+kill-executor-returns-3 : (t : ℕ) → kill-executor-lts.Need-returns-3 (stuck-reads.Asked, stuck-reads.Learnt, put-reads.Asked, put-reads.Learnt, own-end-reads.Asked, own-end-reads.Learnt, kill-below t, kill.Post, notice-reads.Asked, notice-reads.Learnt) (kill-executor-at t) kill-executor.Post
 kill-executor-returns-3 t c =
-    let a = c .before .before .before .before .before .before .before .before .before .before .before .before .before .before .before .before .before .before .before .before .args in
-    let e = executor-alone (killW (a .depth) (a .ws .now) (a .notes .now) (a .fault) (a .hole)) (a .ws .now) (a .fault) (a .at) (a .out .now) (a .to) _ _ _ _ _ _ (c .before .before .before .before .before .before .before .before .before .before .before .before .before .before .before .before .if1 .left) (c .before .before .before .before .before .before .before .before .before .before .before .before .before .before .put .ensures .0) (c .before .before .before .before .before .before .before .before .before .before .before .before .before .before .put .ensures .1) (c .before .before .before .before .before .before .before .before .before .before .kill .ensures .0) (c .before .before .before .before .before .before .before .before .before .before .kill .ensures .1) (c .before .before .before .before .before .before .if2 .left) (c .before .before .before .before .if3 .taken) (c .before .before .notice .ensures .0) (c .before .before .notice .ensures .1) in
+    let a = c .before .before .before .before .before .before .before .before .before .before .before .before .before .before .before .before .before .before .before .before .before .args in
+    let e = executor-alone (killW (a .depth) (a .ws .now) (a .notes .now) (a .fault) (a .hole)) (a .ws .now) (a .fault) (a .at) (a .out .now) (a .to) _ _ _ _ _ _ _ (c .before .before .before .before .before .before .before .before .before .before .before .before .before .before .before .before .before .if1 .left) (c .before .before .before .before .before .before .before .before .before .before .before .before .before .before .before .put .ensures .0) (c .before .before .before .before .before .before .before .before .before .before .before .before .before .before .before .put .ensures .1) (c .before .before .before .before .before .before .before .before .before .before .before .before .own-end .ensures) (c .before .before .before .before .before .before .before .before .before .before .kill .ensures .0) (c .before .before .before .before .before .before .before .before .before .before .kill .ensures .1) (c .before .before .before .before .before .before .if2 .left) (c .before .before .before .before .if3 .taken) (c .before .before .notice .ensures .0) (c .before .before .notice .ensures .1) in
     (ap moved e, ap output e)
 
-kill-executor-notice-requires-2 : (t : ℕ) → kill-executor-lts.Need-notice-requires-2 (stuck-reads.Asked, stuck-reads.Learnt, put-reads.Asked, put-reads.Learnt, kill-below t, kill.Post, notice-reads.Asked, notice-reads.Learnt) (kill-executor-at t) kill-executor.Post
+kill-executor-notice-requires-2 : (t : ℕ) → kill-executor-lts.Need-notice-requires-2 (stuck-reads.Asked, stuck-reads.Learnt, put-reads.Asked, put-reads.Learnt, own-end-reads.Asked, own-end-reads.Learnt, kill-below t, kill.Post, notice-reads.Asked, notice-reads.Learnt) (kill-executor-at t) kill-executor.Post
 kill-executor-notice-requires-2 t c κs = search needs
 
-kill-executor-same-length-3 : (t : ℕ) → kill-executor-lts.Need-same-length-3 (stuck-reads.Asked, stuck-reads.Learnt, put-reads.Asked, put-reads.Learnt, kill-below t, kill.Post, notice-reads.Asked, notice-reads.Learnt) (kill-executor-at t) kill-executor.Post
+kill-executor-same-length-3 : (t : ℕ) → kill-executor-lts.Need-same-length-3 (stuck-reads.Asked, stuck-reads.Learnt, put-reads.Asked, put-reads.Learnt, own-end-reads.Asked, own-end-reads.Learnt, kill-below t, kill.Post, notice-reads.Asked, notice-reads.Learnt) (kill-executor-at t) kill-executor.Post
 kill-executor-same-length-3 t c = search needs
 
-kill-executor-returns-4 : (t : ℕ) → kill-executor-lts.Need-returns-4 (stuck-reads.Asked, stuck-reads.Learnt, put-reads.Asked, put-reads.Learnt, kill-below t, kill.Post, notice-reads.Asked, notice-reads.Learnt) (kill-executor-at t) kill-executor.Post
+kill-executor-returns-4 : (t : ℕ) → kill-executor-lts.Need-returns-4 (stuck-reads.Asked, stuck-reads.Learnt, put-reads.Asked, put-reads.Learnt, own-end-reads.Asked, own-end-reads.Learnt, kill-below t, kill.Post, notice-reads.Asked, notice-reads.Learnt) (kill-executor-at t) kill-executor.Post
 kill-executor-returns-4 t c =
-    let a = c .before .before .before .before .before .before .before .before .before .before .before .before .before .before .before .before .before .before .before .before .args in
-    let e = executor-beside (killW (a .depth) (a .ws .now) (a .notes .now) (a .fault) (a .hole)) (a .ws .now) (a .fault) (a .at) (a .out .now) (a .to) _ _ _ _ _ _ (c .before .before .before .before .before .before .before .before .before .before .before .before .before .before .before .before .if1 .left) (c .before .before .before .before .before .before .before .before .before .before .before .before .before .before .put .ensures .0) (c .before .before .before .before .before .before .before .before .before .before .before .before .before .before .put .ensures .1) (c .before .before .before .before .before .before .before .before .before .before .kill .ensures .0) (c .before .before .before .before .before .before .before .before .before .before .kill .ensures .1) (c .before .before .before .before .before .before .if2 .left) (c .before .before .before .before .if3 .left) (c .before .before .notice2 .ensures .0) (c .before .before .notice2 .ensures .1) in
+    let a = c .before .before .before .before .before .before .before .before .before .before .before .before .before .before .before .before .before .before .before .before .before .args in
+    let e = executor-beside (killW (a .depth) (a .ws .now) (a .notes .now) (a .fault) (a .hole)) (a .ws .now) (a .fault) (a .at) (a .out .now) (a .to) _ _ _ _ _ _ _ (c .before .before .before .before .before .before .before .before .before .before .before .before .before .before .before .before .before .if1 .left) (c .before .before .before .before .before .before .before .before .before .before .before .before .before .before .before .put .ensures .0) (c .before .before .before .before .before .before .before .before .before .before .before .before .before .before .before .put .ensures .1) (c .before .before .before .before .before .before .before .before .before .before .before .before .own-end .ensures) (c .before .before .before .before .before .before .before .before .before .before .kill .ensures .0) (c .before .before .before .before .before .before .before .before .before .before .kill .ensures .1) (c .before .before .before .before .before .before .if2 .left) (c .before .before .before .before .if3 .left) (c .before .before .notice2 .ensures .0) (c .before .before .notice2 .ensures .1) in
     (ap moved e, ap output e)
 
 kill-live-copy-requires : (t : ℕ) → kill-live-lts.Need-copy-requires (copy-reads.Asked, copy-reads.Learnt, kill-below t, kill.Post, stuck-reads.Asked, stuck-reads.Learnt, zombie-head-reads.Asked, zombie-head-reads.Learnt, put-reads.Asked, put-reads.Learnt) (kill-live-at t) kill-live.Post
@@ -741,6 +742,8 @@ pub +kill+kill-executor+kill-live+kill-par+kill-right+kill-scope+kill-seq+kill-z
       stuck-reads.Learnt,
       put-reads.Asked,
       put-reads.Learnt,
+      own-end-reads.Asked,
+      own-end-reads.Learnt,
       kill-below t,
       kill.Post,
       notice-reads.Asked,
@@ -751,7 +754,7 @@ pub +kill+kill-executor+kill-live+kill-par+kill-right+kill-scope+kill-seq+kill-z
     (kill-executor-stuck-requires t)
     (kill-executor-returns t)
     (kill-executor-put-requires t)
-    (kill-executor-add-kill t)
+    (kill-executor-own-end-requires t)
     (kill-executor-kill-requires t)
     (kill-executor-stuck-requires-2 t)
     (kill-executor-same-length t)

@@ -28,13 +28,13 @@ use Rattle.noting.proofs.enabled.+enabled+executor+noted+par+scope+seq.
 use Rattle.noting.proofs.enabled.seq.Reads as seq
 use Rattle.noting.proofs.enabled.seq.Kinds as seq-kinds
 use Rattle.noting.proofs.enabled.+enabled+executor+noted+par+scope+seq.Lts-seq as seq-lts
+use Rattle.layout.proofs.number.wide.Reads as wide-reads
 use Rattle.noting.proofs.enabled.listed.Reads as listed-reads
 use Rattle.noting.proofs.enabled.note.Reads as note-reads
 use Rattle.noting.proofs.enabled.note_list.Reads as note-list-reads
 use Rattle.noting.proofs.enabled.plain_par.Reads as plain-par-reads
-use Rattle.reading.proofs.reader.executor_fixed.Reads as executor-fixed-reads
+use Rattle.reading.proofs.reader.executor_own.Reads as executor-own-reads
 use Rattle.reading.proofs.reader.read.Reads as read-reads
-use Rattle.layout.proofs.number.wide.Reads as wide-reads
 use Rattle.reading.proofs.tables.head_mask.Reads as head-mask-reads
 use Rattle.noting.proofs.enabled.+enabled+executor+noted+par+scope+seq.{statement}
 use Rattle.noting.proofs.enabled.+enabled+executor+noted+par+scope+seq.Tie.{close}
@@ -133,6 +133,21 @@ enabled-returns-3 t c = par-ends _ _ _ _ _ _ _ ((c .before .before .before .befo
 enabled-add-if4 : (t : ℕ) → enabled-lts.Need-add-if4 (enabled-claims t) (enabled-at t) enabled.Post
 enabled-add-if4 t c = search needs
 
+-- what is known where a process is read by its kind
+enabled-head :
+    (t : ℕ) (k : enabled-lts.Else4 (enabled-claims t) (enabled-at t) enabled.Post) →
+    let a = k .before .before .before .before .before .before .before .before .before .before .args in
+    Headed (a .depth) (a .ws .now) (a .context) (a .at) (k .before .before .before .before .wide .result) (k .before .head-mask .result)
+enabled-head t k = record {
+  deep = k .before .before .before .before .before .before .before .if1 .left;
+  inside = k .before .before .before .before .before .before .if2 .left;
+  word = k .before .before .before .before .wide .ensures .0;
+  mask = k .before .head-mask .ensures;
+  clear = k .if4 .left;
+  low = k .before .before .before .before .before .before .before .before .before .before .pre .1 .0;
+  high = k .before .before .before .before .before .before .before .before .before .before .pre .1 .1;
+}
+
 enabled-head-mask-requires : (t : ℕ) → enabled-lts.Need-head-mask-requires (enabled-claims t) (enabled-at t) enabled.Post
 enabled-head-mask-requires t c κs = search needs
 
@@ -154,38 +169,20 @@ enabled-add-par-2 t c = search needs
 enabled-par-requires-2 : (t : ℕ) → enabled-lts.Need-par-requires-2 (enabled-claims t) (enabled-at t) enabled.Post
 enabled-par-requires-2 t c κs = search needs
 
-enabled-add-result-2 : (t : ℕ) → enabled-lts.Need-add-result-2 (enabled-claims t) (enabled-at t) enabled.Post
-enabled-add-result-2 t c = search needs
-
 enabled-scope-requires : (t : ℕ) → enabled-lts.Need-scope-requires (enabled-claims t) (enabled-at t) enabled.Post
 enabled-scope-requires t c κs = search needs
 
+enabled-add-result-2 : (t : ℕ) → enabled-lts.Need-add-result-2 (enabled-claims t) (enabled-at t) enabled.Post
+enabled-add-result-2 t c = search needs
+
 enabled-add-result-3 : (t : ℕ) → enabled-lts.Need-add-result-3 (enabled-claims t) (enabled-at t) enabled.Post
 enabled-add-result-3 t c = search needs
-
-enabled-add-result-4 : (t : ℕ) → enabled-lts.Need-add-result-4 (enabled-claims t) (enabled-at t) enabled.Post
-enabled-add-result-4 t c = search needs
 
 enabled-executor-requires : (t : ℕ) → enabled-lts.Need-executor-requires (enabled-claims t) (enabled-at t) enabled.Post
 enabled-executor-requires t c κs = search needs
 
 enabled-read-requires : (t : ℕ) → enabled-lts.Need-read-requires (enabled-claims t) (enabled-at t) enabled.Post
 enabled-read-requires t c κs = search needs
-
--- what is known where a process is read by its kind
-enabled-head :
-    (t : ℕ) (k : enabled-lts.Else4 (enabled-claims t) (enabled-at t) enabled.Post) →
-    let a = k .before .before .before .before .before .before .before .before .before .before .args in
-    Headed (a .depth) (a .ws .now) (a .context) (a .at) (k .before .before .before .before .wide .result) (k .before .head-mask .result)
-enabled-head t k = record {
-  deep = k .before .before .before .before .before .before .before .if1 .left;
-  inside = k .before .before .before .before .before .before .if2 .left;
-  word = k .before .before .before .before .wide .ensures .0;
-  mask = k .before .head-mask .ensures;
-  clear = k .if4 .left;
-  low = k .before .before .before .before .before .before .before .before .before .before .pre .1 .0;
-  high = k .before .before .before .before .before .before .before .before .before .before .pre .1 .1;
-}
 
 enabled-returns-5 : (t : ℕ) → enabled-lts.Need-returns-5 (enabled-claims t) (enabled-at t) enabled.Post
 unfolding nodeEnd
@@ -204,44 +201,39 @@ enabled-same-length-3 t c = search needs
 enabled-returns-7 : (t : ℕ) → enabled-lts.Need-returns-7 (enabled-claims t) (enabled-at t) enabled.Post
 enabled-returns-7 t c = a-par _ _ _ _ _ _ _ _ (enabled-head t (c .before .before .before .before .before)) _ _ ((c .before .before .before .before .match .keys3)) ((c .before .before .par2 .ensures .0)) ((c .before .before .par2 .ensures .1))
 
-enabled-returns-8 : (t : ℕ) → enabled-lts.Need-returns-8 (enabled-claims t) (enabled-at t) enabled.Post
-unfolding nodeEnd
-enabled-returns-8 t c =
-    one-word _ _ _ _ _ _ _ _ (enabled-head t (c .before)) 7 ((c .match .keys4)) (λ h e. rw e refl) (λ z. omega arith) (λ z. omega arith) (λ z. omega arith) (λ z. omega arith)
-
 enabled-same-length-4 : (t : ℕ) → enabled-lts.Need-same-length-4 (enabled-claims t) (enabled-at t) enabled.Post
 enabled-same-length-4 t c = search needs
 
+enabled-returns-8 : (t : ℕ) → enabled-lts.Need-returns-8 (enabled-claims t) (enabled-at t) enabled.Post
+enabled-returns-8 t c = a-scope _ _ _ _ _ _ _ _ (enabled-head t (c .before .before .before .before .before)) _ _ ((c .before .before .before .before .match .keys4)) ((c .before .before .scope .ensures .0)) ((c .before .before .scope .ensures .1))
+
 enabled-returns-9 : (t : ℕ) → enabled-lts.Need-returns-9 (enabled-claims t) (enabled-at t) enabled.Post
-enabled-returns-9 t c = a-scope _ _ _ _ _ _ _ _ (enabled-head t (c .before .before .before .before .before)) _ _ ((c .before .before .before .before .match .keys5)) ((c .before .before .scope .ensures .0)) ((c .before .before .scope .ensures .1))
+unfolding nodeEnd
+enabled-returns-9 t c =
+    one-word _ _ _ _ _ _ _ _ (enabled-head t (c .before)) 13 ((c .match .keys5)) (λ h e. rw e refl) (λ z. omega arith) (λ z. omega arith) (λ z. omega arith) (λ z. omega arith)
 
 enabled-returns-10 : (t : ℕ) → enabled-lts.Need-returns-10 (enabled-claims t) (enabled-at t) enabled.Post
 unfolding nodeEnd
 enabled-returns-10 t c =
-    one-word _ _ _ _ _ _ _ _ (enabled-head t (c .before)) 13 ((c .match .keys6)) (λ h e. rw e refl) (λ z. omega arith) (λ z. omega arith) (λ z. omega arith) (λ z. omega arith)
-
-enabled-returns-11 : (t : ℕ) → enabled-lts.Need-returns-11 (enabled-claims t) (enabled-at t) enabled.Post
-unfolding nodeEnd
-enabled-returns-11 t c =
-    one-word _ _ _ _ _ _ _ _ (enabled-head t (c .before)) 14 ((c .match .keys7)) (λ h e. rw e refl) (λ z. omega arith) (λ z. omega arith) (λ z. omega arith) (λ z. omega arith)
+    one-word _ _ _ _ _ _ _ _ (enabled-head t (c .before)) 14 ((c .match .keys6)) (λ h e. rw e refl) (λ z. omega arith) (λ z. omega arith) (λ z. omega arith) (λ z. omega arith)
 
 enabled-same-length-5 : (t : ℕ) → enabled-lts.Need-same-length-5 (enabled-claims t) (enabled-at t) enabled.Post
 enabled-same-length-5 t c = search needs
 
-enabled-returns-12 : (t : ℕ) → enabled-lts.Need-returns-12 (enabled-claims t) (enabled-at t) enabled.Post
-enabled-returns-12 t c = an-executor _ _ _ _ _ _ _ _ (enabled-head t (c .before .before .before .before .before)) _ _ ((c .before .before .before .before .match .keys8)) ((c .before .before .executor .ensures .0)) ((c .before .before .executor .ensures .1))
+enabled-returns-11 : (t : ℕ) → enabled-lts.Need-returns-11 (enabled-claims t) (enabled-at t) enabled.Post
+enabled-returns-11 t c = an-executor _ _ _ _ _ _ _ _ (enabled-head t (c .before .before .before .before .before)) _ _ ((c .before .before .before .before .match .keys7)) ((c .before .before .executor .ensures .0)) ((c .before .before .executor .ensures .1))
 
-enabled-returns-13 : (t : ℕ) → enabled-lts.Need-returns-13 (enabled-claims t) (enabled-at t) enabled.Post
-enabled-returns-13 t c = ((c .read .ensures), others _ _ _ _ _ _ _ _ (enabled-head t (c .before .before)) _ refl ((c .before .match .rest .0 .0 .0 .0 .0 .0 .1)) ((c .before .match .rest .0 .0 .0 .0 .0 .1)) ((c .before .match .rest .0 .0 .0 .1)) ((c .before .match .rest .1)))
+enabled-returns-12 : (t : ℕ) → enabled-lts.Need-returns-12 (enabled-claims t) (enabled-at t) enabled.Post
+enabled-returns-12 t c = ((c .read .ensures), others _ _ _ _ _ _ _ _ (enabled-head t (c .before .before)) _ refl ((c .before .match .rest .0 .0 .0 .0 .0 .1)) ((c .before .match .rest .0 .0 .0 .0 .1)) ((c .before .match .rest .0 .0 .0 .1)) ((c .before .match .rest .1)))
 
 abbrev executor-claims : ℕ → executor-lts.Claims
-executor-claims t = (executor-fixed-reads.Asked, executor-fixed-reads.Learnt, noted-below t, noted.Post)
+executor-claims t = (executor-own-reads.Asked, executor-own-reads.Learnt, noted-below t, noted.Post)
 
-executor-executor-fixed-requires : (t : ℕ) → executor-lts.Need-executor-fixed-requires (executor-claims t) (executor-at t) executor.Post
-executor-executor-fixed-requires t c κs = search needs
+executor-executor-own-requires : (t : ℕ) → executor-lts.Need-executor-own-requires (executor-claims t) (executor-at t) executor.Post
+executor-executor-own-requires t c κs = search needs
 
-executor-add-noted : (t : ℕ) → executor-lts.Need-add-noted (executor-claims t) (executor-at t) executor.Post
-executor-add-noted t c = search needs
+executor-returns : (t : ℕ) → executor-lts.Need-returns (executor-claims t) (executor-at t) executor.Post
+executor-returns t c = executor-none _ _ _ _ _ _ _ (c .before .executor-own .ensures) (c .if1 .taken)
 
 executor-noted-requires : (t : ℕ) → executor-lts.Need-noted-requires (executor-claims t) (executor-at t) executor.Post
 executor-noted-requires t c κs = search needs
@@ -249,11 +241,9 @@ executor-noted-requires t c κs = search needs
 executor-same-length : (t : ℕ) → executor-lts.Need-same-length (executor-claims t) (executor-at t) executor.Post
 executor-same-length t c = search needs
 
-executor-returns : (t : ℕ) → executor-lts.Need-returns (executor-claims t) (executor-at t) executor.Post
-executor-returns t c = executor-next _ _ _ _ _ _ _ _ (sym ((c .before .before .before .before .if1 .taken)) ∙ (c .before .before .before .before .before .executor-fixed .ensures)) ((c .before .before .noted .ensures .0)) ((c .before .before .noted .ensures .1))
-
 executor-returns-2 : (t : ℕ) → executor-lts.Need-returns-2 (executor-claims t) (executor-at t) executor.Post
-executor-returns-2 t c = executor-none _ _ _ _ _ _ (sym ((c .if1 .left)) ∙ (c .before .executor-fixed .ensures))
+executor-returns-2 t c =
+    executor-next _ _ _ _ _ _ _ _ _ (c .before .before .before .before .before .executor-own .ensures) (c .before .before .before .before .if1 .left) (c .before .before .noted .ensures .0) (c .before .before .noted .ensures .1)
 
 abbrev noted-claims : ℕ → noted-lts.Claims
 noted-claims t = (enabled-below t, enabled.Post, note-reads.Asked, note-reads.Learnt)
@@ -388,10 +378,9 @@ pub +enabled+executor+noted+par+scope+seq-spec : {M : Type 1} → statement M
     (enabled-seq-requires t)
     (enabled-add-par-2 t)
     (enabled-par-requires-2 t)
-    (enabled-add-result-2 t)
     (enabled-scope-requires t)
+    (enabled-add-result-2 t)
     (enabled-add-result-3 t)
-    (enabled-add-result-4 t)
     (enabled-executor-requires t)
     (enabled-read-requires t)
     (enabled-returns-5 t)
@@ -399,23 +388,25 @@ pub +enabled+executor+noted+par+scope+seq-spec : {M : Type 1} → statement M
     (enabled-returns-6 t)
     (enabled-same-length-3 t)
     (enabled-returns-7 t)
-    (enabled-returns-8 t)
     (enabled-same-length-4 t)
+    (enabled-returns-8 t)
     (enabled-returns-9 t)
     (enabled-returns-10 t)
-    (enabled-returns-11 t)
     (enabled-same-length-5 t)
-    (enabled-returns-12 t)
-    (enabled-returns-13 t))
-    (λ t. executor-lts.spec
-    (executor-fixed-reads.Asked, executor-fixed-reads.Learnt, noted-below t, noted.Post)
+    (enabled-returns-11 t)
+    (enabled-returns-12 t))
+    (λ t. executor-lts.spec (
+      executor-own-reads.Asked,
+      executor-own-reads.Learnt,
+      noted-below t,
+      noted.Post,
+    )
     (executor-at t)
     executor.Post
-    (executor-executor-fixed-requires t)
-    (executor-add-noted t)
+    (executor-executor-own-requires t)
+    (executor-returns t)
     (executor-noted-requires t)
     (executor-same-length t)
-    (executor-returns t)
     (executor-returns-2 t))
     (λ t. noted-lts.spec
     (enabled-below t, enabled.Post, note-reads.Asked, note-reads.Learnt)

@@ -21,6 +21,7 @@ use Rattle.pending.proofs.look.turn.Kinds as turn-kinds
 use Rattle.pending.proofs.look.+look+seq+turn.Lts-turn as turn-lts
 use Rattle.layout.proofs.field.kind_of.Reads as kind-of-reads
 use Rattle.layout.proofs.number.further.Reads as further-reads
+use Rattle.layout.proofs.own.own_end.Reads as own-end-reads
 use Rattle.pending.proofs.look.behind.Reads as behind-reads
 use Rattle.pending.proofs.look.scope.Reads as scope-reads
 use Rattle.pending.proofs.look.stop.Reads as stop-reads
@@ -124,7 +125,7 @@ seq-returns-2 t c =
     simp (tests, ← (c .before .before .before .before .pass .ensures), ← (c .before .before .before .look .ensures), (c .before .if1 .left), ← (c .pass2 .ensures))
 
 abbrev turn-claims : ℕ → turn-lts.Claims
-turn-claims t = (stop-reads.Asked, stop-reads.Learnt, further-reads.Asked, further-reads.Learnt, kind-of-reads.Asked, kind-of-reads.Learnt, seq-below t, seq.Post, scope-reads.Asked, scope-reads.Learnt, pass-reads.Asked, pass-reads.Learnt, behind-reads.Asked, behind-reads.Learnt)
+turn-claims t = (stop-reads.Asked, stop-reads.Learnt, further-reads.Asked, further-reads.Learnt, kind-of-reads.Asked, kind-of-reads.Learnt, seq-below t, seq.Post, scope-reads.Asked, scope-reads.Learnt, own-end-reads.Asked, own-end-reads.Learnt, pass-reads.Asked, pass-reads.Learnt, behind-reads.Asked, behind-reads.Learnt)
 
 turn-stop-requires : (t : ℕ) → turn-lts.Need-stop-requires (turn-claims t) (turn-at t) turn.Post
 turn-stop-requires t c κs = search needs
@@ -167,8 +168,8 @@ turn-scope-requires t c κs = search needs
 turn-stop-requires-2 : (t : ℕ) → turn-lts.Need-stop-requires-2 (turn-claims t) (turn-at t) turn.Post
 turn-stop-requires-2 t c κs = search needs
 
-turn-add-t18 : (t : ℕ) → turn-lts.Need-add-t18 (turn-claims t) (turn-at t) turn.Post
-turn-add-t18 t c = search needs
+turn-own-end-requires : (t : ℕ) → turn-lts.Need-own-end-requires (turn-claims t) (turn-at t) turn.Post
+turn-own-end-requires t c κs = search needs
 
 turn-pass-requires : (t : ℕ) → turn-lts.Need-pass-requires (turn-claims t) (turn-at t) turn.Post
 turn-pass-requires t c κs = search needs
@@ -194,7 +195,7 @@ turn-returns-4 t c =
 turn-returns-5 : (t : ℕ) → turn-lts.Need-returns-5 (turn-claims t) (turn-at t) turn.Post
 unfolding turnW kindW
 turn-returns-5 t c =
-    simp (tests, (c .before .before .before .before .if1 .left), ← (c .before .before .before .further .ensures), ← ((c .before .kind-of .ensures) .0), (c .match .keys4))
+    simp (tests, (c .before .before .before .before .before .if1 .left), ← (c .before .before .before .before .further .ensures), ← ((c .before .before .kind-of .ensures) .0), (c .before .match .keys4), ← (c .own-end .ensures))
 
 turn-returns-6 : (t : ℕ) → turn-lts.Need-returns-6 (turn-claims t) (turn-at t) turn.Post
 unfolding turnW kindW
@@ -244,6 +245,8 @@ pub +look+seq+turn-spec : {M : Type 1} → statement M
       seq.Post,
       scope-reads.Asked,
       scope-reads.Learnt,
+      own-end-reads.Asked,
+      own-end-reads.Learnt,
       pass-reads.Asked,
       pass-reads.Learnt,
       behind-reads.Asked,
@@ -264,7 +267,7 @@ pub +look+seq+turn-spec : {M : Type 1} → statement M
     (turn-add-scope t)
     (turn-scope-requires t)
     (turn-stop-requires-2 t)
-    (turn-add-t18 t)
+    (turn-own-end-requires t)
     (turn-pass-requires t)
     (turn-behind-requires t)
     (turn-returns-2 t)

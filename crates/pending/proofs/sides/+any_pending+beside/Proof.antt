@@ -14,6 +14,7 @@ use Rattle.pending.proofs.sides.beside.Reads as beside
 use Rattle.pending.proofs.sides.beside.Kinds as beside-kinds
 use Rattle.pending.proofs.sides.+any_pending+beside.Lts-beside as beside-lts
 use Rattle.layout.proofs.field.kind_of.Reads as kind-of-reads
+use Rattle.layout.proofs.own.own_end.Reads as own-end-reads
 use Rattle.pending.proofs.sides.found.Reads as found-reads
 use Rattle.skipping.proofs.pass.pass.Reads as pass-reads
 use Rattle.skipping.proofs.pass.pass_list.Reads as pass-list-reads
@@ -41,7 +42,7 @@ abbrev beside-below : ℕ → In 2 beside-kinds.ps
 beside-below t = and 2 beside-kinds.ps (falls 2 beside-kinds.ps _<_ μ-beside t) beside.Pre
 
 abbrev any-pending-claims : ℕ → any-pending-lts.Claims
-any-pending-claims t = (kind-of-reads.Asked, kind-of-reads.Learnt, any-pending-below t, any-pending.Post, beside-below t, beside.Post, pass-list-reads.Asked, pass-list-reads.Learnt)
+any-pending-claims t = (kind-of-reads.Asked, kind-of-reads.Learnt, any-pending-below t, any-pending.Post, beside-below t, beside.Post, pass-list-reads.Asked, pass-list-reads.Learnt, own-end-reads.Asked, own-end-reads.Learnt)
 
 any-pending-returns : (t : ℕ) → any-pending-lts.Need-returns (any-pending-claims t) (any-pending-at t) any-pending.Post
 unfolding sidesW
@@ -93,8 +94,8 @@ any-pending-sub-any-pending-2 t c = search needs
 any-pending-any-pending-requires-2 : (t : ℕ) → any-pending-lts.Need-any-pending-requires-2 (any-pending-claims t) (any-pending-at t) any-pending.Post
 any-pending-any-pending-requires-2 t c κs = search needs
 
-any-pending-add-any-pending-2 : (t : ℕ) → any-pending-lts.Need-add-any-pending-2 (any-pending-claims t) (any-pending-at t) any-pending.Post
-any-pending-add-any-pending-2 t c = search needs
+any-pending-own-end-requires : (t : ℕ) → any-pending-lts.Need-own-end-requires (any-pending-claims t) (any-pending-at t) any-pending.Post
+any-pending-own-end-requires t c κs = search needs
 
 any-pending-sub-any-pending-3 : (t : ℕ) → any-pending-lts.Need-sub-any-pending-3 (any-pending-claims t) (any-pending-at t) any-pending.Post
 any-pending-sub-any-pending-3 t c = search needs
@@ -120,7 +121,7 @@ any-pending-returns-6 t c =
 any-pending-returns-7 : (t : ℕ) → any-pending-lts.Need-returns-7 (any-pending-claims t) (any-pending-at t) any-pending.Post
 unfolding acrossW
 any-pending-returns-7 t c =
-    simp (tests, sides-step, (c .before .before .before .before .before .before .if1 .left), (c .before .before .before .before .before .if2 .left), (c .before .before .before .before .if3 .left), ← ((c .before .before .kind-of .ensures) .0), (c .before .match .keys4), ← (c .any-pending3 .ensures))
+    simp (tests, sides-step, (c .before .before .before .before .before .before .before .if1 .left), (c .before .before .before .before .before .before .if2 .left), (c .before .before .before .before .before .if3 .left), ← ((c .before .before .before .kind-of .ensures) .0), (c .before .before .match .keys4), ← (c .before .own-end .ensures), ← (c .any-pending3 .ensures))
 
 any-pending-returns-8 : (t : ℕ) → any-pending-lts.Need-returns-8 (any-pending-claims t) (any-pending-at t) any-pending.Post
 unfolding acrossW
@@ -175,6 +176,8 @@ pub +any-pending+beside-spec : {M : Type 1} → statement M
   beside.Post,
   pass-list-reads.Asked,
   pass-list-reads.Learnt,
+  own-end-reads.Asked,
+  own-end-reads.Learnt,
 )
     (any-pending-at t)
     any-pending.Post
@@ -194,7 +197,7 @@ pub +any-pending+beside-spec : {M : Type 1} → statement M
     (any-pending-pass-list-requires t)
     (any-pending-sub-any-pending-2 t)
     (any-pending-any-pending-requires-2 t)
-    (any-pending-add-any-pending-2 t)
+    (any-pending-own-end-requires t)
     (any-pending-sub-any-pending-3 t)
     (any-pending-any-pending-requires-3 t)
     (any-pending-returns-4 t)

@@ -4,7 +4,7 @@
 use mathlib.Core.Path.{_≡_, _∙_}
 use borrow.Author.Needs.{needs}
 use native.Mathlib.Omega.{arith}
-use Rattle.reading.proofs.Counting.{tally-step, tally-node, tally-bounded, one-more-below, sums-below}
+use Rattle.reading.proofs.Counting.{tally-step, tally-node, tally-bounded, own-below, sums-below}
 use Rattle.sock.specs.Words.{kindOf}
 use Rattle.layout.specs.Contexts.{running}
 use Rattle.reading.specs.Walk.{processEnd}
@@ -28,14 +28,19 @@ use Rattle.reading.proofs.ends.+tally+tally_executor+tally_par+tally_sc
 use Rattle.reading.proofs.ends.tally_seq.Reads as tally-seq
 use Rattle.reading.proofs.ends.tally_seq.Kinds as tally-seq-kinds
 use Rattle.reading.proofs.ends.+tally+tally_executor+tally_par+tally_scope+tally_seq.Lts-tally_seq as tally-seq-lts
+use Rattle.layout.proofs.number.wide.Reads as wide-reads
 use Rattle.reading.proofs.ends.count.Reads as count-reads
 use Rattle.reading.proofs.ends.not_counted.Reads as not-counted-reads
 use Rattle.reading.proofs.ends.serial_at.Reads as serial-at-reads
+use Rattle.reading.proofs.reader.executor_own.Reads as executor-own-reads
 use Rattle.reading.proofs.reader.list.Reads as list-reads
 use Rattle.reading.proofs.reader.process.Reads as process-reads
-use Rattle.layout.proofs.number.wide.Reads as wide-reads
-use Rattle.reading.proofs.ends.+tally+tally_executor+tally_par+tally_scope+tally_seq.{statement}
-use Rattle.reading.proofs.ends.+tally+tally_executor+tally_par+tally_scope+tally_seq.Tie.{close}
+use Rattle.reading.proofs.ends.+tally+tally_executor+tally_par+tally_scope+tally_seq.{
+  statement,
+}
+use Rattle.reading.proofs.ends.+tally+tally_executor+tally_par+tally_scope+tally_seq.Tie.{
+  close,
+}
 
 abbrev μ-tally : Measures 1 tally-kinds.ps ℕ
 μ-tally κs a = a .1 .1 .0 * 2
@@ -180,7 +185,7 @@ tally-by-kind :
     let a = k .before .before .before .before .before .args in
     tallyAt (a .depth) (a .ws .now) (a .serial) (a .bound) (a .at)
     ≡ nodeTally (tallyAt (a .depth - 1) (a .ws .now) (a .serial) (a .bound)) (processEnd (a .depth - 1) (a .ws .now) (a .bound))
-    (processEnd (a .depth) (a .ws .now) (a .bound) running) (a .ws .now) (a .serial) (kindOf (k .wide .result)) (a .at)
+    (processEnd (a .depth) (a .ws .now) (a .bound) running) (a .ws .now) (a .serial) (a .bound) (kindOf (k .wide .result)) (a .at)
 tally-by-kind t k = tally-node _ _ _ _ _ _ (k .before .before .before .if1 .left) (k .before .before .if2 .left) (k .wide .ensures .0)
 
 tally-returns-3 : (t : ℕ) → tally-lts.Need-returns-3 (tally-claims t) (tally-at t) tally.Post
@@ -231,10 +236,19 @@ tally-returns-9 t c =
     (c .count3 .ensures) ∙ rw (tally-by-kind t (c .before .before .before)) (simp (tests, f0, f1, f2, f3, f4, f5, (c .before .process3 .ensures)))
 
 abbrev tally-executor-claims : ℕ → tally-executor-lts.Claims
-tally-executor-claims t = (tally-below t, tally.Post, serial-at-reads.Asked, serial-at-reads.Learnt, count-reads.Asked, count-reads.Learnt)
+tally-executor-claims t = (executor-own-reads.Asked, executor-own-reads.Learnt, not-counted-reads.Asked, not-counted-reads.Learnt, tally-below t, tally.Post, serial-at-reads.Asked, serial-at-reads.Learnt, count-reads.Asked, count-reads.Learnt)
 
-tally-executor-add-tally : (t : ℕ) → tally-executor-lts.Need-add-tally (tally-executor-claims t) (tally-executor-at t) tally-executor.Post
-tally-executor-add-tally t c = search needs
+tally-executor-executor-own-requires : (t : ℕ) → tally-executor-lts.Need-executor-own-requires (tally-executor-claims t) (tally-executor-at t) tally-executor.Post
+tally-executor-executor-own-requires t c κs = search needs
+
+tally-executor-not-counted-requires : (t : ℕ) → tally-executor-lts.Need-not-counted-requires (tally-executor-claims t) (tally-executor-at t) tally-executor.Post
+tally-executor-not-counted-requires t c κs = search needs
+
+tally-executor-returns : (t : ℕ) → tally-executor-lts.Need-returns (tally-executor-claims t) (tally-executor-at t) tally-executor.Post
+unfolding executorTally
+tally-executor-returns t c =
+    let f0 = c .before .if1 .taken in
+    simp (tests, f0, ← (c .not-counted .ensures), ← (c .before .before .executor-own .ensures))
 
 tally-executor-tally-requires : (t : ℕ) → tally-executor-lts.Need-tally-requires (tally-executor-claims t) (tally-executor-at t) tally-executor.Post
 tally-executor-tally-requires t c κs = search needs
@@ -244,16 +258,20 @@ tally-executor-serial-at-requires t c κs = search needs
 
 tally-executor-add-count : (t : ℕ) → tally-executor-lts.Need-add-count (tally-executor-claims t) (tally-executor-at t) tally-executor.Post
 tally-executor-add-count t c =
-    let b = one-more-below (c .before .before .before .before .pre .1) (rw (← (c .before .before .tally .ensures)) at (tally-bounded ((c .before .before .before .before .args .ws) .now) (λ i. (c .before .before .before .shared-slice-known .given) i .fits) (c .before .before .before .before .args .serial) (c .before .before .before .before .args .bound) (c .before .before .before .before .args .depth) ((c .before .before .before .before .args .at) + 3))) in
-    omega (arith, b)
+    let a = c .before .before .before .before .before .before .args in
+    let more =
+    own-below (a .ws .now) (a .bound) (a .at) (c .before .before .before .before .executor-own .result) (c .before .before .tally .result) (c .before .before .before .before .executor-own .ensures) (c .before .before .before .if1 .left) (c .before .before .before .before .before .before .pre .1)
+    (rw (← (c .before .before .tally .ensures)) at (tally-bounded (a .ws .now) (λ i. (c .before .before .before .before .before .shared-slice-known .given) i .fits) (a .serial) (a .bound) (a .depth) (c .before .before .before .before .executor-own .result))) in
+    omega (arith, more)
 
 tally-executor-count-requires : (t : ℕ) → tally-executor-lts.Need-count-requires (tally-executor-claims t) (tally-executor-at t) tally-executor.Post
 tally-executor-count-requires t c κs = search needs
 
-tally-executor-returns : (t : ℕ) → tally-executor-lts.Need-returns (tally-executor-claims t) (tally-executor-at t) tally-executor.Post
+tally-executor-returns-2 : (t : ℕ) → tally-executor-lts.Need-returns-2 (tally-executor-claims t) (tally-executor-at t) tally-executor.Post
 unfolding executorTally
-tally-executor-returns t c =
-    simp (tests, (c .count .ensures), (c .before .before .before .tally .ensures), (c .before .before .serial-at .ensures .0))
+tally-executor-returns-2 t c =
+    let f0 = c .before .before .before .before .if1 .left in
+    simp (tests, f0, ← (c .count .ensures), ← (c .before .before .serial-at .ensures .0), ← (c .before .before .before .tally .ensures), ← (c .before .before .before .before .before .executor-own .ensures))
 
 abbrev tally-par-claims : ℕ → tally-par-lts.Claims
 tally-par-claims t = (tally-below t, tally.Post, not-counted-reads.Asked, not-counted-reads.Learnt, count-reads.Asked, count-reads.Learnt)
@@ -400,6 +418,10 @@ pub +tally+tally-executor+tally-par+tally-scope+tally-seq-spec : {M : Type 1} �
     (tally-returns-8 t)
     (tally-returns-9 t))
     (λ t. tally-executor-lts.spec (
+      executor-own-reads.Asked,
+      executor-own-reads.Learnt,
+      not-counted-reads.Asked,
+      not-counted-reads.Learnt,
       tally-below t,
       tally.Post,
       serial-at-reads.Asked,
@@ -409,12 +431,14 @@ pub +tally+tally-executor+tally-par+tally-scope+tally-seq-spec : {M : Type 1} �
     )
     (tally-executor-at t)
     tally-executor.Post
-    (tally-executor-add-tally t)
+    (tally-executor-executor-own-requires t)
+    (tally-executor-not-counted-requires t)
+    (tally-executor-returns t)
     (tally-executor-tally-requires t)
     (tally-executor-serial-at-requires t)
     (tally-executor-add-count t)
     (tally-executor-count-requires t)
-    (tally-executor-returns t))
+    (tally-executor-returns-2 t))
     (λ t. tally-par-lts.spec (
       tally-below t,
       tally.Post,

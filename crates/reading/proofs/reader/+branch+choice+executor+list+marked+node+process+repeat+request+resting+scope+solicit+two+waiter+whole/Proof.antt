@@ -63,20 +63,26 @@ use Rattle.reading.proofs.reader.+branch+choice+executor+list+marked+no
 use Rattle.reading.proofs.reader.whole.Reads as whole
 use Rattle.reading.proofs.reader.whole.Kinds as whole-kinds
 use Rattle.reading.proofs.reader.+branch+choice+executor+list+marked+node+process+repeat+request+resting+scope+solicit+two+waiter+whole.Lts-whole as whole-lts
+use Rattle.layout.proofs.field.next_variable.Reads as next-variable-reads
+use Rattle.layout.proofs.number.wide.Reads as wide-reads
+use Rattle.layout.proofs.number.word.Reads as word-reads
 use Rattle.reading.proofs.reader.end.Reads as end-reads
 use Rattle.reading.proofs.reader.entry_context.Reads as entry-context-reads
+use Rattle.reading.proofs.reader.executor_own.Reads as executor-own-reads
 use Rattle.reading.proofs.reader.expression.Reads as expression-reads
 use Rattle.reading.proofs.reader.fixed.Reads as fixed-reads
 use Rattle.reading.proofs.reader.key_at.Reads as key-at-reads
 use Rattle.reading.proofs.reader.met_by.Reads as met-by-reads
 use Rattle.reading.proofs.reader.notice.Reads as notice-reads
 use Rattle.reading.proofs.reader.notify.Reads as notify-reads
+use Rattle.reading.proofs.reader.one_way.Reads as one-way-reads
 use Rattle.reading.proofs.reader.part.Reads as part-reads
 use Rattle.reading.proofs.reader.ready.Reads as ready-reads
+use Rattle.reading.proofs.reader.receiving.Reads as receiving-reads
 use Rattle.reading.proofs.reader.rest_context.Reads as rest-context-reads
 use Rattle.reading.proofs.reader.same_context.Reads as same-context-reads
 use Rattle.reading.proofs.reader.slot.Reads as slot-reads
-use Rattle.layout.proofs.number.wide.Reads as wide-reads
+use Rattle.reading.proofs.reader.variables.Reads as variables-reads
 use Rattle.reading.proofs.tables.head_mask.Reads as head-mask-reads
 use Rattle.reading.proofs.tables.shape.Reads as shape-reads
 use Rattle.reading.proofs.reader.+branch+choice+executor+list+marked+node+process+repeat+request+resting+scope+solicit+two+waiter+whole.{
@@ -308,28 +314,25 @@ choice-returns-4 t c =
     simp (tests, process-step, branches-step, branches-end, entries-step, entries-end, f0, ← (c .before .loop .inv), f1, f2)
 
 abbrev executor-claims : ℕ → executor-lts.Claims
-executor-claims t = (end-reads.Asked, end-reads.Learnt, process-below t, process.Post)
+executor-claims t = (executor-own-reads.Asked, executor-own-reads.Learnt, process-below t, process.Post)
 
-executor-end-requires : (t : ℕ) → executor-lts.Need-end-requires (executor-claims t) (executor-at t) executor.Post
-executor-end-requires t c κs = search needs
+executor-executor-own-requires : (t : ℕ) → executor-lts.Need-executor-own-requires (executor-claims t) (executor-at t) executor.Post
+executor-executor-own-requires t c κs = search needs
 
-executor-add-process : (t : ℕ) → executor-lts.Need-add-process (executor-claims t) (executor-at t) executor.Post
-executor-add-process t c = search needs
+executor-returns : (t : ℕ) → executor-lts.Need-returns (executor-claims t) (executor-at t) executor.Post
+unfolding on when requestEnd solicitEnd executorEnd waiterEnd
+executor-returns t c =
+    let f0 = c .if1 .taken in
+    simp (tests, f0, ← (c .before .executor-own .ensures))
 
 executor-process-requires : (t : ℕ) → executor-lts.Need-process-requires (executor-claims t) (executor-at t) executor.Post
 executor-process-requires t c κs = search needs
 
-executor-returns : (t : ℕ) → executor-lts.Need-returns (executor-claims t) (executor-at t) executor.Post
-unfolding on when processEnd twoEnd branchEnd repeatEnd branchesEnd choiceEnd requestEnd entriesEnd listEnd solicitEnd markedEnd restingEnd scopeEnd executorEnd waiterEnd nodeEnd
-executor-returns t c =
-    let f0 = c .before .if1 .taken in
-    simp (tests, process-step, branches-step, branches-end, entries-step, entries-end, ← (c .process .ensures), f0, ← (c .before .before .end .ensures))
-
 executor-returns-2 : (t : ℕ) → executor-lts.Need-returns-2 (executor-claims t) (executor-at t) executor.Post
-unfolding on when processEnd twoEnd branchEnd repeatEnd branchesEnd choiceEnd requestEnd entriesEnd listEnd solicitEnd markedEnd restingEnd scopeEnd executorEnd waiterEnd nodeEnd
+unfolding on when requestEnd solicitEnd executorEnd waiterEnd
 executor-returns-2 t c =
-    let f0 = c .if1 .left in
-    simp (tests, process-step, branches-step, branches-end, entries-step, entries-end, f0, ← (c .before .end .ensures))
+    let f0 = c .before .if1 .left in
+    simp (tests, f0, ← (c .process .ensures), ← (c .before .before .executor-own .ensures))
 
 abbrev list-Inv-loop : list-lts.InvT-loop
 list-Inv-loop ws at depth context wanted bound left₀ a₀ least₀ met₀ left a least met =
@@ -498,7 +501,7 @@ marked-returns-8 t c =
     simp (List·getD-eq-default, f0)
 
 abbrev node-claims : ℕ → node-lts.Claims
-node-claims t = (wide-reads.Asked, wide-reads.Learnt, head-mask-reads.Asked, head-mask-reads.Learnt, rest-context-reads.Asked, rest-context-reads.Learnt, expression-reads.Asked, expression-reads.Learnt, same-context-reads.Asked, same-context-reads.Learnt, two-below t, two.Post, branch-below t, branch.Post, repeat-below t, repeat.Post, choice-below t, choice.Post, request-below t, request.Post, notify-reads.Asked, notify-reads.Learnt, solicit-below t, solicit.Post, scope-below t, scope.Post, list-below t, list.Post, executor-below t, executor.Post, waiter-below t, waiter.Post, notice-reads.Asked, notice-reads.Learnt)
+node-claims t = (wide-reads.Asked, wide-reads.Learnt, head-mask-reads.Asked, head-mask-reads.Learnt, rest-context-reads.Asked, rest-context-reads.Learnt, expression-reads.Asked, expression-reads.Learnt, same-context-reads.Asked, same-context-reads.Learnt, two-below t, two.Post, branch-below t, branch.Post, repeat-below t, repeat.Post, choice-below t, choice.Post, one-way-reads.Asked, one-way-reads.Learnt, request-below t, request.Post, notify-reads.Asked, notify-reads.Learnt, solicit-below t, solicit.Post, scope-below t, scope.Post, list-below t, list.Post, executor-below t, executor.Post, waiter-below t, waiter.Post, notice-reads.Asked, notice-reads.Learnt)
 
 node-returns : (t : ℕ) → node-lts.Need-returns (node-claims t) (node-at t) node.Post
 unfolding on when processEnd twoEnd branchEnd repeatEnd branchesEnd choiceEnd requestEnd entriesEnd listEnd solicitEnd markedEnd restingEnd scopeEnd executorEnd waiterEnd nodeEnd
@@ -595,8 +598,8 @@ node-add-choice t c = search needs
 node-choice-requires : (t : ℕ) → node-lts.Need-choice-requires (node-claims t) (node-at t) node.Post
 node-choice-requires t c κs = search needs
 
-node-add-result-2 : (t : ℕ) → node-lts.Need-add-result-2 (node-claims t) (node-at t) node.Post
-node-add-result-2 t c = search needs
+node-one-way-requires : (t : ℕ) → node-lts.Need-one-way-requires (node-claims t) (node-at t) node.Post
+node-one-way-requires t c κs = search needs
 
 node-request-requires : (t : ℕ) → node-lts.Need-request-requires (node-claims t) (node-at t) node.Post
 node-request-requires t c κs = search needs
@@ -616,14 +619,14 @@ node-add-list t c = search needs
 node-list-requires : (t : ℕ) → node-lts.Need-list-requires (node-claims t) (node-at t) node.Post
 node-list-requires t c κs = search needs
 
+node-add-result-2 : (t : ℕ) → node-lts.Need-add-result-2 (node-claims t) (node-at t) node.Post
+node-add-result-2 t c = search needs
+
 node-add-result-3 : (t : ℕ) → node-lts.Need-add-result-3 (node-claims t) (node-at t) node.Post
 node-add-result-3 t c = search needs
 
 node-add-result-4 : (t : ℕ) → node-lts.Need-add-result-4 (node-claims t) (node-at t) node.Post
 node-add-result-4 t c = search needs
-
-node-add-result-5 : (t : ℕ) → node-lts.Need-add-result-5 (node-claims t) (node-at t) node.Post
-node-add-result-5 t c = search needs
 
 node-executor-requires : (t : ℕ) → node-lts.Need-executor-requires (node-claims t) (node-at t) node.Post
 node-executor-requires t c κs = search needs
@@ -682,7 +685,7 @@ node-returns-10 t c =
 node-returns-11 : (t : ℕ) → node-lts.Need-returns-11 (node-claims t) (node-at t) node.Post
 unfolding nodeEnd
 node-returns-11 t c =
-    rw (node-by-kind t (c .before)) (simp (c .match .keys8, ← (c .before .rest-context .ensures .0)))
+    rw (node-by-kind t (c .before .before)) (simp (← (c .one-way .ensures), c .before .match .keys8, ← (c .before .before .rest-context .ensures .0)))
 
 node-returns-12 : (t : ℕ) → node-lts.Need-returns-12 (node-claims t) (node-at t) node.Post
 unfolding nodeEnd
@@ -776,12 +779,6 @@ process-slot-requires t c κs = search needs
 process-shape-requires : (t : ℕ) → process-lts.Need-shape-requires (process-claims t) (process-at t) process.Post process-Inv-loop process-μ-loop
 process-shape-requires t c κs = search needs
 
-process-ready-requires : (t : ℕ) → process-lts.Need-ready-requires (process-claims t) (process-at t) process.Post process-Inv-loop process-μ-loop
-process-ready-requires t c κs = (c .before .before .before .before .before .loop-test .taken, (slot-small _ _ _ (c .before .before .before .before .before .before .loop .inv .3) (c .before .before .wide .ensures .1) (c .shape .ensures ∙ ap shapeOf (c .before .slot .ensures))) .2)
-
-process-add-a : (t : ℕ) → process-lts.Need-add-a (process-claims t) (process-at t) process.Post process-Inv-loop process-μ-loop
-process-add-a t c = search needs
-
 -- what is known where a node is read by its parts
 process-ready :
     (t : ℕ) (k : process-lts.Then2 (process-claims t) (process-at t) process.Post process-Inv-loop process-μ-loop) →
@@ -799,6 +796,12 @@ process-ready t k =
       room = tests .1;
       fit = tests .2;
     }
+
+process-ready-requires : (t : ℕ) → process-lts.Need-ready-requires (process-claims t) (process-at t) process.Post process-Inv-loop process-μ-loop
+process-ready-requires t c κs = (c .before .before .before .before .before .loop-test .taken, (slot-small _ _ _ (c .before .before .before .before .before .before .loop .inv .3) (c .before .before .wide .ensures .1) (c .shape .ensures ∙ ap shapeOf (c .before .slot .ensures))) .2)
+
+process-add-a : (t : ℕ) → process-lts.Need-add-a (process-claims t) (process-at t) process.Post process-Inv-loop process-μ-loop
+process-add-a t c = search needs
 
 process-returns-2 : (t : ℕ) → process-lts.Need-returns-2 (process-claims t) (process-at t) process.Post process-Inv-loop process-μ-loop
 process-returns-2 t c = leaf-last _ _ _ _ _ _ _ _ _ (c .before .before .before .before .before .before .before .before .before .before .loop .inv) _ (process-ready t (c .before .before)) (c .before .if3 .taken) (c .if4 .taken)
@@ -924,28 +927,51 @@ repeat-returns-2 t c =
     simp (tests, process-step, branches-step, branches-end, entries-step, entries-end, ← (c .process .ensures), f0, ← (c .before .before .expression .ensures))
 
 abbrev request-claims : ℕ → request-lts.Claims
-request-claims t = (fixed-reads.Asked, fixed-reads.Learnt, process-below t, process.Post)
+request-claims t = (fixed-reads.Asked, fixed-reads.Learnt, receiving-reads.Asked, receiving-reads.Learnt, variables-reads.Asked, variables-reads.Learnt, process-below t, process.Post)
 
 request-fixed-requires : (t : ℕ) → request-lts.Need-fixed-requires (request-claims t) (request-at t) request.Post
 request-fixed-requires t c κs = search needs
 
-request-add-process : (t : ℕ) → request-lts.Need-add-process (request-claims t) (request-at t) request.Post
-request-add-process t c = search needs
+request-add-receiving : (t : ℕ) → request-lts.Need-add-receiving (request-claims t) (request-at t) request.Post
+request-add-receiving t c = search needs
+
+request-receiving-requires : (t : ℕ) → request-lts.Need-receiving-requires (request-claims t) (request-at t) request.Post
+request-receiving-requires t c κs = search needs
+
+request-returns : (t : ℕ) → request-lts.Need-returns (request-claims t) (request-at t) request.Post
+unfolding on when requestEnd solicitEnd executorEnd waiterEnd
+request-returns t c =
+    let f0 = c .if2 .taken in
+    let f1 = c .before .before .if1 .taken in
+    simp (tests, f0, f1, ← (c .before .receiving .ensures), ← (c .before .before .before .fixed .ensures))
+
+request-variables-requires : (t : ℕ) → request-lts.Need-variables-requires (request-claims t) (request-at t) request.Post
+request-variables-requires t c κs = search needs
+
+request-returns-2 : (t : ℕ) → request-lts.Need-returns-2 (request-claims t) (request-at t) request.Post
+unfolding on when requestEnd solicitEnd executorEnd waiterEnd
+request-returns-2 t c =
+    let f0 = c .if3 .taken in
+    let f1 = c .before .before .if2 .left in
+    let f2 = c .before .before .before .before .if1 .taken in
+    simp (tests, f0, f1, f2, ← (c .before .variables .ensures), ← (c .before .before .before .receiving .ensures), ← (c .before .before .before .before .before .fixed .ensures))
 
 request-process-requires : (t : ℕ) → request-lts.Need-process-requires (request-claims t) (request-at t) request.Post
 request-process-requires t c κs = search needs
 
-request-returns : (t : ℕ) → request-lts.Need-returns (request-claims t) (request-at t) request.Post
-unfolding on when processEnd twoEnd branchEnd repeatEnd branchesEnd choiceEnd requestEnd entriesEnd listEnd solicitEnd markedEnd restingEnd scopeEnd executorEnd waiterEnd nodeEnd
-request-returns t c =
-    let f0 = c .before .if1 .taken in
-    simp (tests, process-step, branches-step, branches-end, entries-step, entries-end, ← (c .process .ensures), f0, ← (c .before .before .fixed .ensures))
+request-returns-3 : (t : ℕ) → request-lts.Need-returns-3 (request-claims t) (request-at t) request.Post
+unfolding on when requestEnd solicitEnd executorEnd waiterEnd
+request-returns-3 t c =
+    let f0 = c .before .if3 .left in
+    let f1 = c .before .before .before .if2 .left in
+    let f2 = c .before .before .before .before .before .if1 .taken in
+    simp (tests, f0, f1, f2, ← (c .process .ensures), ← (c .before .before .variables .ensures), ← (c .before .before .before .before .receiving .ensures), ← (c .before .before .before .before .before .before .fixed .ensures))
 
-request-returns-2 : (t : ℕ) → request-lts.Need-returns-2 (request-claims t) (request-at t) request.Post
-unfolding on when processEnd twoEnd branchEnd repeatEnd branchesEnd choiceEnd requestEnd entriesEnd listEnd solicitEnd markedEnd restingEnd scopeEnd executorEnd waiterEnd nodeEnd
-request-returns-2 t c =
+request-returns-4 : (t : ℕ) → request-lts.Need-returns-4 (request-claims t) (request-at t) request.Post
+unfolding on when requestEnd solicitEnd executorEnd waiterEnd
+request-returns-4 t c =
     let f0 = c .if1 .left in
-    simp (tests, process-step, branches-step, branches-end, entries-step, entries-end, f0, ← (c .before .fixed .ensures))
+    simp (tests, f0, ← (c .before .fixed .ensures))
 
 abbrev resting-claims : ℕ → resting-lts.Claims
 resting-claims t = (same-context-reads.Asked, same-context-reads.Learnt, process-below t, process.Post)
@@ -1048,28 +1074,60 @@ scope-returns-4 t c =
     simp (tests, process-step, branches-step, branches-end, entries-step, entries-end, ← (c .process .ensures), f0, ← (c .before .before .marked .ensures), f1, ← (c .before .before .before .before .wide .ensures .0), f2)
 
 abbrev solicit-claims : ℕ → solicit-lts.Claims
-solicit-claims t = (fixed-reads.Asked, fixed-reads.Learnt, list-below t, list.Post)
+solicit-claims t = (fixed-reads.Asked, fixed-reads.Learnt, variables-reads.Asked, variables-reads.Learnt, word-reads.Asked, word-reads.Learnt, next-variable-reads.Asked, next-variable-reads.Learnt, receiving-reads.Asked, receiving-reads.Learnt, list-below t, list.Post)
 
 solicit-fixed-requires : (t : ℕ) → solicit-lts.Need-fixed-requires (solicit-claims t) (solicit-at t) solicit.Post
 solicit-fixed-requires t c κs = search needs
 
-solicit-add-list : (t : ℕ) → solicit-lts.Need-add-list (solicit-claims t) (solicit-at t) solicit.Post
-solicit-add-list t c = search needs
+solicit-add-variables : (t : ℕ) → solicit-lts.Need-add-variables (solicit-claims t) (solicit-at t) solicit.Post
+solicit-add-variables t c = search needs
+
+solicit-variables-requires : (t : ℕ) → solicit-lts.Need-variables-requires (solicit-claims t) (solicit-at t) solicit.Post
+solicit-variables-requires t c κs = search needs
+
+solicit-returns : (t : ℕ) → solicit-lts.Need-returns (solicit-claims t) (solicit-at t) solicit.Post
+unfolding on when requestEnd solicitEnd executorEnd waiterEnd
+solicit-returns t c =
+    let f0 = c .if2 .taken in
+    let f1 = c .before .before .if1 .taken in
+    simp (tests, f0, f1, ← (c .before .variables .ensures), ← (c .before .before .before .fixed .ensures))
+
+solicit-add-word : (t : ℕ) → solicit-lts.Need-add-word (solicit-claims t) (solicit-at t) solicit.Post
+solicit-add-word t c = search needs
+
+solicit-word-requires : (t : ℕ) → solicit-lts.Need-word-requires (solicit-claims t) (solicit-at t) solicit.Post
+solicit-word-requires t c κs = search needs
+
+solicit-next-variable-requires : (t : ℕ) → solicit-lts.Need-next-variable-requires (solicit-claims t) (solicit-at t) solicit.Post
+solicit-next-variable-requires t c κs = search needs
+
+solicit-receiving-requires : (t : ℕ) → solicit-lts.Need-receiving-requires (solicit-claims t) (solicit-at t) solicit.Post
+solicit-receiving-requires t c κs = search needs
+
+solicit-returns-2 : (t : ℕ) → solicit-lts.Need-returns-2 (solicit-claims t) (solicit-at t) solicit.Post
+unfolding on when requestEnd solicitEnd executorEnd waiterEnd
+solicit-returns-2 t c =
+    let f0 = c .if3 .taken in
+    let f1 = c .before .before .before .before .if2 .left in
+    let f2 = c .before .before .before .before .before .before .if1 .taken in
+    simp (tests, f0, f1, f2, ← (c .before .receiving .ensures), ← (c .before .before .next-variable .ensures .0), ← (c .before .before .before .word .ensures), ← (c .before .before .before .before .before .variables .ensures), ← (c .before .before .before .before .before .before .before .fixed .ensures))
 
 solicit-list-requires : (t : ℕ) → solicit-lts.Need-list-requires (solicit-claims t) (solicit-at t) solicit.Post
 solicit-list-requires t c κs = search needs
 
-solicit-returns : (t : ℕ) → solicit-lts.Need-returns (solicit-claims t) (solicit-at t) solicit.Post
-unfolding on when processEnd twoEnd branchEnd repeatEnd branchesEnd choiceEnd requestEnd entriesEnd listEnd solicitEnd markedEnd restingEnd scopeEnd executorEnd waiterEnd nodeEnd
-solicit-returns t c =
-    let f0 = c .before .if1 .taken in
-    simp (tests, process-step, branches-step, branches-end, entries-step, entries-end, ← (c .list .ensures), f0, ← (c .before .before .fixed .ensures))
+solicit-returns-3 : (t : ℕ) → solicit-lts.Need-returns-3 (solicit-claims t) (solicit-at t) solicit.Post
+unfolding on when requestEnd solicitEnd executorEnd waiterEnd
+solicit-returns-3 t c =
+    let f0 = c .before .if3 .left in
+    let f1 = c .before .before .before .before .before .if2 .left in
+    let f2 = c .before .before .before .before .before .before .before .if1 .taken in
+    simp (tests, f0, f1, f2, ← (c .list .ensures), ← (c .before .before .receiving .ensures), ← (c .before .before .before .next-variable .ensures .0), ← (c .before .before .before .before .word .ensures), ← (c .before .before .before .before .before .before .variables .ensures), ← (c .before .before .before .before .before .before .before .before .fixed .ensures))
 
-solicit-returns-2 : (t : ℕ) → solicit-lts.Need-returns-2 (solicit-claims t) (solicit-at t) solicit.Post
-unfolding on when processEnd twoEnd branchEnd repeatEnd branchesEnd choiceEnd requestEnd entriesEnd listEnd solicitEnd markedEnd restingEnd scopeEnd executorEnd waiterEnd nodeEnd
-solicit-returns-2 t c =
+solicit-returns-4 : (t : ℕ) → solicit-lts.Need-returns-4 (solicit-claims t) (solicit-at t) solicit.Post
+unfolding on when requestEnd solicitEnd executorEnd waiterEnd
+solicit-returns-4 t c =
     let f0 = c .if1 .left in
-    simp (tests, process-step, branches-step, branches-end, entries-step, entries-end, f0, ← (c .before .fixed .ensures))
+    simp (tests, f0, ← (c .before .fixed .ensures))
 
 abbrev two-claims : ℕ → two-lts.Claims
 two-claims t = (process-below t, process.Post)
@@ -1093,28 +1151,39 @@ two-returns-2 t c =
     simp (tests, process-step, branches-step, branches-end, entries-step, entries-end, ← (c .process2 .ensures), f0, ← (c .before .before .process .ensures))
 
 abbrev waiter-claims : ℕ → waiter-lts.Claims
-waiter-claims t = (end-reads.Asked, end-reads.Learnt, list-below t, list.Post)
+waiter-claims t = (end-reads.Asked, end-reads.Learnt, receiving-reads.Asked, receiving-reads.Learnt, list-below t, list.Post)
 
 waiter-end-requires : (t : ℕ) → waiter-lts.Need-end-requires (waiter-claims t) (waiter-at t) waiter.Post
 waiter-end-requires t c κs = search needs
 
-waiter-add-list : (t : ℕ) → waiter-lts.Need-add-list (waiter-claims t) (waiter-at t) waiter.Post
-waiter-add-list t c = search needs
+waiter-add-receiving : (t : ℕ) → waiter-lts.Need-add-receiving (waiter-claims t) (waiter-at t) waiter.Post
+waiter-add-receiving t c = search needs
+
+waiter-receiving-requires : (t : ℕ) → waiter-lts.Need-receiving-requires (waiter-claims t) (waiter-at t) waiter.Post
+waiter-receiving-requires t c κs = search needs
+
+waiter-returns : (t : ℕ) → waiter-lts.Need-returns (waiter-claims t) (waiter-at t) waiter.Post
+unfolding on when requestEnd solicitEnd executorEnd waiterEnd
+waiter-returns t c =
+    let f0 = c .if2 .taken in
+    let f1 = c .before .before .if1 .taken in
+    simp (tests, f0, f1, ← (c .before .receiving .ensures), ← (c .before .before .before .end .ensures))
 
 waiter-list-requires : (t : ℕ) → waiter-lts.Need-list-requires (waiter-claims t) (waiter-at t) waiter.Post
 waiter-list-requires t c κs = search needs
 
-waiter-returns : (t : ℕ) → waiter-lts.Need-returns (waiter-claims t) (waiter-at t) waiter.Post
-unfolding on when processEnd twoEnd branchEnd repeatEnd branchesEnd choiceEnd requestEnd entriesEnd listEnd solicitEnd markedEnd restingEnd scopeEnd executorEnd waiterEnd nodeEnd
-waiter-returns t c =
-    let f0 = c .before .if1 .taken in
-    simp (tests, process-step, branches-step, branches-end, entries-step, entries-end, ← (c .list .ensures), f0, ← (c .before .before .end .ensures))
-
 waiter-returns-2 : (t : ℕ) → waiter-lts.Need-returns-2 (waiter-claims t) (waiter-at t) waiter.Post
-unfolding on when processEnd twoEnd branchEnd repeatEnd branchesEnd choiceEnd requestEnd entriesEnd listEnd solicitEnd markedEnd restingEnd scopeEnd executorEnd waiterEnd nodeEnd
+unfolding on when requestEnd solicitEnd executorEnd waiterEnd
 waiter-returns-2 t c =
+    let f0 = c .before .if2 .left in
+    let f1 = c .before .before .before .if1 .taken in
+    simp (tests, f0, f1, ← (c .list .ensures), ← (c .before .before .receiving .ensures), ← (c .before .before .before .before .end .ensures))
+
+waiter-returns-3 : (t : ℕ) → waiter-lts.Need-returns-3 (waiter-claims t) (waiter-at t) waiter.Post
+unfolding on when requestEnd solicitEnd executorEnd waiterEnd
+waiter-returns-3 t c =
     let f0 = c .if1 .left in
-    simp (tests, process-step, branches-step, branches-end, entries-step, entries-end, f0, ← (c .before .end .ensures))
+    simp (tests, f0, ← (c .before .end .ensures))
 
 abbrev whole-claims : ℕ → whole-lts.Claims
 whole-claims t = (expression-reads.Asked, expression-reads.Learnt, node-below t, node.Post)
@@ -1180,14 +1249,17 @@ pub +branch+choice+executor+list+marked+node+process+repeat+request+resting+scop
     (choice-loop-less t)
     (choice-loop-again t)
     (choice-returns-4 t))
-    (λ t. executor-lts.spec
-    (end-reads.Asked, end-reads.Learnt, process-below t, process.Post)
+    (λ t. executor-lts.spec (
+      executor-own-reads.Asked,
+      executor-own-reads.Learnt,
+      process-below t,
+      process.Post,
+    )
     (executor-at t)
     executor.Post
-    (executor-end-requires t)
-    (executor-add-process t)
-    (executor-process-requires t)
+    (executor-executor-own-requires t)
     (executor-returns t)
+    (executor-process-requires t)
     (executor-returns-2 t))
     (λ t. list-lts.spec (
       wide-reads.Asked,
@@ -1258,6 +1330,8 @@ pub +branch+choice+executor+list+marked+node+process+repeat+request+resting+scop
       repeat.Post,
       choice-below t,
       choice.Post,
+      one-way-reads.Asked,
+      one-way-reads.Learnt,
       request-below t,
       request.Post,
       notify-reads.Asked,
@@ -1306,16 +1380,16 @@ pub +branch+choice+executor+list+marked+node+process+repeat+request+resting+scop
     (node-repeat-requires t)
     (node-add-choice t)
     (node-choice-requires t)
-    (node-add-result-2 t)
+    (node-one-way-requires t)
     (node-request-requires t)
     (node-notify-requires t)
     (node-solicit-requires t)
     (node-scope-requires t)
     (node-add-list t)
     (node-list-requires t)
+    (node-add-result-2 t)
     (node-add-result-3 t)
     (node-add-result-4 t)
-    (node-add-result-5 t)
     (node-executor-requires t)
     (node-waiter-requires t)
     (node-notice-requires t)
@@ -1412,15 +1486,27 @@ pub +branch+choice+executor+list+marked+node+process+repeat+request+resting+scop
     (repeat-returns t)
     (repeat-process-requires t)
     (repeat-returns-2 t))
-    (λ t. request-lts.spec
-    (fixed-reads.Asked, fixed-reads.Learnt, process-below t, process.Post)
+    (λ t. request-lts.spec (
+      fixed-reads.Asked,
+      fixed-reads.Learnt,
+      receiving-reads.Asked,
+      receiving-reads.Learnt,
+      variables-reads.Asked,
+      variables-reads.Learnt,
+      process-below t,
+      process.Post,
+    )
     (request-at t)
     request.Post
     (request-fixed-requires t)
-    (request-add-process t)
-    (request-process-requires t)
+    (request-add-receiving t)
+    (request-receiving-requires t)
     (request-returns t)
-    (request-returns-2 t))
+    (request-variables-requires t)
+    (request-returns-2 t)
+    (request-process-requires t)
+    (request-returns-3 t)
+    (request-returns-4 t))
     (λ t. resting-lts.spec (
       same-context-reads.Asked,
       same-context-reads.Learnt,
@@ -1463,15 +1549,34 @@ pub +branch+choice+executor+list+marked+node+process+repeat+request+resting+scop
     (scope-returns-3 t)
     (scope-process-requires t)
     (scope-returns-4 t))
-    (λ t. solicit-lts.spec
-    (fixed-reads.Asked, fixed-reads.Learnt, list-below t, list.Post)
+    (λ t. solicit-lts.spec (
+      fixed-reads.Asked,
+      fixed-reads.Learnt,
+      variables-reads.Asked,
+      variables-reads.Learnt,
+      word-reads.Asked,
+      word-reads.Learnt,
+      next-variable-reads.Asked,
+      next-variable-reads.Learnt,
+      receiving-reads.Asked,
+      receiving-reads.Learnt,
+      list-below t,
+      list.Post,
+    )
     (solicit-at t)
     solicit.Post
     (solicit-fixed-requires t)
-    (solicit-add-list t)
-    (solicit-list-requires t)
+    (solicit-add-variables t)
+    (solicit-variables-requires t)
     (solicit-returns t)
-    (solicit-returns-2 t))
+    (solicit-add-word t)
+    (solicit-word-requires t)
+    (solicit-next-variable-requires t)
+    (solicit-receiving-requires t)
+    (solicit-returns-2 t)
+    (solicit-list-requires t)
+    (solicit-returns-3 t)
+    (solicit-returns-4 t))
     (λ t. two-lts.spec
     (process-below t, process.Post)
     (two-at t)
@@ -1480,15 +1585,23 @@ pub +branch+choice+executor+list+marked+node+process+repeat+request+resting+scop
     (two-returns t)
     (two-process-requires-2 t)
     (two-returns-2 t))
-    (λ t. waiter-lts.spec
-    (end-reads.Asked, end-reads.Learnt, list-below t, list.Post)
+    (λ t. waiter-lts.spec (
+      end-reads.Asked,
+      end-reads.Learnt,
+      receiving-reads.Asked,
+      receiving-reads.Learnt,
+      list-below t,
+      list.Post,
+    )
     (waiter-at t)
     waiter.Post
     (waiter-end-requires t)
-    (waiter-add-list t)
-    (waiter-list-requires t)
+    (waiter-add-receiving t)
+    (waiter-receiving-requires t)
     (waiter-returns t)
-    (waiter-returns-2 t))
+    (waiter-list-requires t)
+    (waiter-returns-2 t)
+    (waiter-returns-3 t))
     λ t. whole-lts.spec
     (expression-reads.Asked, expression-reads.Learnt, node-below t, node.Post)
     (whole-at t)

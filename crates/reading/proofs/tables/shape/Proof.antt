@@ -2,6 +2,7 @@
 -- Assumes nothing.
 use mathlib.Core.Path.{sym, ap}
 use Rattle.sock.specs.Kind.{rows, rowOf}
+use Rattle.sock.specs.Counts.{wordCount, listCount}
 use Rattle.sock.specs.Reading.{allowed, placed}
 use Rattle.reading.specs.Tables.{spareOf, bitOf, shapeOf}
 use Rattle.reading.proofs.Fitting.{shape-beyond}
@@ -10,7 +11,7 @@ use Rattle.reading.proofs.tables.shape.Statement.{statement}
 use Rattle.reading.proofs.tables.shape.Tie as tie
 
 pub shape-spec : {M : Type 1} → statement M
-unfolding shapeOf bitOf spareOf allowed placed rowOf rows
+unfolding shapeOf bitOf spareOf allowed placed rowOf rows wordCount listCount
 shape-spec =
     tie.close
     (tie.spec

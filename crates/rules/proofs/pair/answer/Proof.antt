@@ -9,17 +9,11 @@ use Rattle.rules.proofs.pair.answer.Tie as tie
 put-requires : tie.Need-put-requires
 put-requires c κs = search needs
 
+variables-end-requires : tie.Need-variables-end-requires
+variables-end-requires c κs = search needs
+
 skip-requires : tie.Need-skip-requires
 skip-requires c κs = search needs
-
-word-requires : tie.Need-word-requires
-word-requires c κs = search needs
-
-second-of-requires : tie.Need-second-of-requires
-second-of-requires c κs = search needs
-
-one-requires : tie.Need-one-requires
-one-requires c κs = search needs
 
 keep-requires : tie.Need-keep-requires
 keep-requires c κs = search needs
@@ -30,17 +24,9 @@ same-length c = search needs
 returns : tie.Need-returns
 unfolding answerW
 returns c =
-    (simp (tests, ← (c .keep .ensures), ← (c .before .one .ensures), ← (c .before .before .second-of .ensures .0), ← (c .before .before .before .word .ensures), ← (c .before .before .before .before .skip .ensures), ← (c .before .before .before .before .before .before .before .put .ensures .0), ← (c .before .before .before .before .before .before .before .put .ensures .1)), simp (tests, ← (c .keep .ensures), ← (c .before .one .ensures), ← (c .before .before .second-of .ensures .0), ← (c .before .before .before .word .ensures), ← (c .before .before .before .before .skip .ensures), ← (c .before .before .before .before .before .before .before .put .ensures .0), ← (c .before .before .before .before .before .before .before .put .ensures .1)))
+    (simp (tests, ← (c .keep .ensures), ← (c .before .skip .ensures), ← (c .before .before .variables-end .ensures), ← (c .before .before .before .before .before .put .ensures .0), ← (c .before .before .before .before .before .put .ensures .1)), simp (tests, ← (c .keep .ensures), ← (c .before .skip .ensures), ← (c .before .before .variables-end .ensures), ← (c .before .before .before .before .before .put .ensures .0), ← (c .before .before .before .before .before .put .ensures .1)))
 
 pub answer-spec : {M : Type 1} → statement M
 answer-spec =
     tie.close
-    (tie.spec
-    put-requires
-    skip-requires
-    word-requires
-    second-of-requires
-    one-requires
-    keep-requires
-    same-length
-    returns)
+    (tie.spec put-requires variables-end-requires skip-requires keep-requires same-length returns)

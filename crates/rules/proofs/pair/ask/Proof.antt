@@ -21,6 +21,9 @@ server-word-requires c κs = search needs
 three-requires : tie.Need-three-requires
 three-requires c κs = search needs
 
+lists-end-requires : tie.Need-lists-end-requires
+lists-end-requires c κs = search needs
+
 skip-requires : tie.Need-skip-requires
 skip-requires c κs = search needs
 
@@ -36,7 +39,7 @@ same-length c = search needs
 returns : tie.Need-returns
 unfolding askW
 returns c =
-    (simp (tests, ← (c .keep .ensures), ← (c .before .nothing .ensures), ← (c .before .before .skip .ensures), ← (c .before .before .before .before .before .three .ensures .0), ← (c .before .before .before .before .before .three .ensures .1), ← (c .before .before .before .before .before .before .server-word .ensures), ← (c .before .before .before .before .before .before .before .waiter .ensures), ← (c .before .before .before .before .before .before .before .before .word2 .ensures), ← (c .before .before .before .before .before .before .before .before .before .word .ensures)), simp (tests, ← (c .keep .ensures), ← (c .before .nothing .ensures), ← (c .before .before .skip .ensures), ← (c .before .before .before .before .before .three .ensures .0), ← (c .before .before .before .before .before .three .ensures .1), ← (c .before .before .before .before .before .before .server-word .ensures), ← (c .before .before .before .before .before .before .before .waiter .ensures), ← (c .before .before .before .before .before .before .before .before .word2 .ensures), ← (c .before .before .before .before .before .before .before .before .before .word .ensures)))
+    (simp (tests, ← (c .keep .ensures), ← (c .before .nothing .ensures), ← (c .before .before .skip .ensures), ← (c .before .before .before .lists-end .ensures), ← (c .before .before .before .before .before .before .three .ensures .0), ← (c .before .before .before .before .before .before .three .ensures .1), ← (c .before .before .before .before .before .before .before .server-word .ensures), ← (c .before .before .before .before .before .before .before .before .waiter .ensures), ← (c .before .before .before .before .before .before .before .before .before .word2 .ensures), ← (c .before .before .before .before .before .before .before .before .before .before .word .ensures)), simp (tests, ← (c .keep .ensures), ← (c .before .nothing .ensures), ← (c .before .before .skip .ensures), ← (c .before .before .before .lists-end .ensures), ← (c .before .before .before .before .before .before .three .ensures .0), ← (c .before .before .before .before .before .before .three .ensures .1), ← (c .before .before .before .before .before .before .before .server-word .ensures), ← (c .before .before .before .before .before .before .before .before .waiter .ensures), ← (c .before .before .before .before .before .before .before .before .before .word2 .ensures), ← (c .before .before .before .before .before .before .before .before .before .before .word .ensures)))
 
 pub ask-spec : {M : Type 1} → statement M
 ask-spec =
@@ -47,6 +50,7 @@ ask-spec =
     waiter-requires
     server-word-requires
     three-requires
+    lists-end-requires
     skip-requires
     nothing-requires
     keep-requires

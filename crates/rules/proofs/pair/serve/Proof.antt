@@ -30,11 +30,8 @@ three-requires c κs = search needs
 further-requires-2 : tie.Need-further-requires-2
 further-requires-2 c κs = search needs
 
-second-of-requires : tie.Need-second-of-requires
-second-of-requires c κs = search needs
-
-one-requires : tie.Need-one-requires
-one-requires c κs = search needs
+variables-end-requires : tie.Need-variables-end-requires
+variables-end-requires c κs = search needs
 
 keep-requires : tie.Need-keep-requires
 keep-requires c κs = search needs
@@ -45,7 +42,7 @@ same-length c = search needs
 returns : tie.Need-returns
 unfolding serveW
 returns c =
-    (simp (tests, ← (c .keep .ensures), ← (c .before .one .ensures), ← (c .before .before .second-of .ensures .0), ← (c .before .before .before .further2 .ensures), ← (c .before .before .before .before .before .before .three .ensures .0), ← (c .before .before .before .before .before .before .three .ensures .1), ← (c .before .before .before .before .before .before .before .client-word .ensures), ← (c .before .before .before .before .before .before .before .before .executor .ensures), ← (c .before .before .before .before .before .before .before .before .before .before .before .before .seq-first .ensures .0), ← (c .before .before .before .before .before .before .before .before .before .before .before .before .seq-first .ensures .1), ← (c .before .before .before .before .before .before .before .before .before .before .before .before .before .before .word2 .ensures), ← (c .before .before .before .before .before .before .before .before .before .before .before .before .before .before .before .further .ensures), ← (c .before .before .before .before .before .before .before .before .before .before .before .before .before .before .before .before .word .ensures)), simp (tests, ← (c .keep .ensures), ← (c .before .one .ensures), ← (c .before .before .second-of .ensures .0), ← (c .before .before .before .further2 .ensures), ← (c .before .before .before .before .before .before .three .ensures .0), ← (c .before .before .before .before .before .before .three .ensures .1), ← (c .before .before .before .before .before .before .before .client-word .ensures), ← (c .before .before .before .before .before .before .before .before .executor .ensures), ← (c .before .before .before .before .before .before .before .before .before .before .before .before .seq-first .ensures .0), ← (c .before .before .before .before .before .before .before .before .before .before .before .before .seq-first .ensures .1), ← (c .before .before .before .before .before .before .before .before .before .before .before .before .before .before .word2 .ensures), ← (c .before .before .before .before .before .before .before .before .before .before .before .before .before .before .before .further .ensures), ← (c .before .before .before .before .before .before .before .before .before .before .before .before .before .before .before .before .word .ensures)))
+    (simp (tests, ← (c .keep .ensures), ← (c .before .variables-end .ensures), ← (c .before .before .further2 .ensures), ← (c .before .before .before .before .before .three .ensures .0), ← (c .before .before .before .before .before .three .ensures .1), ← (c .before .before .before .before .before .before .client-word .ensures), ← (c .before .before .before .before .before .before .before .executor .ensures), ← (c .before .before .before .before .before .before .before .before .before .before .before .seq-first .ensures .0), ← (c .before .before .before .before .before .before .before .before .before .before .before .seq-first .ensures .1), ← (c .before .before .before .before .before .before .before .before .before .before .before .before .before .word2 .ensures), ← (c .before .before .before .before .before .before .before .before .before .before .before .before .before .before .further .ensures), ← (c .before .before .before .before .before .before .before .before .before .before .before .before .before .before .before .word .ensures)), simp (tests, ← (c .keep .ensures), ← (c .before .variables-end .ensures), ← (c .before .before .further2 .ensures), ← (c .before .before .before .before .before .three .ensures .0), ← (c .before .before .before .before .before .three .ensures .1), ← (c .before .before .before .before .before .before .client-word .ensures), ← (c .before .before .before .before .before .before .before .executor .ensures), ← (c .before .before .before .before .before .before .before .before .before .before .before .seq-first .ensures .0), ← (c .before .before .before .before .before .before .before .before .before .before .before .seq-first .ensures .1), ← (c .before .before .before .before .before .before .before .before .before .before .before .before .before .word2 .ensures), ← (c .before .before .before .before .before .before .before .before .before .before .before .before .before .before .further .ensures), ← (c .before .before .before .before .before .before .before .before .before .before .before .before .before .before .before .word .ensures)))
 
 pub serve-spec : {M : Type 1} → statement M
 serve-spec =
@@ -59,8 +56,7 @@ serve-spec =
     client-word-requires
     three-requires
     further-requires-2
-    second-of-requires
-    one-requires
+    variables-end-requires
     keep-requires
     same-length
     returns)

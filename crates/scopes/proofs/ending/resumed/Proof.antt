@@ -1,7 +1,7 @@
 -- `resumed` of `scopes::ending` meets its contract: the code is its mirror in specs/.
 -- Assumes nothing.
 use Rattle.sock.proofs.Tests.{tests}
-use mathlib.Core.Path.{ap, sym}
+use mathlib.Core.Path.{ap, sym, _∙_}
 use Rattle.rules.specs.Editing.{Edited}
 use Rattle.scopes.proofs.Endings.{resumed-made}
 use borrow.Author.Needs.{needs}
@@ -41,8 +41,13 @@ further-requires-3 c κs = search needs
 nothing-requires : tie.Need-nothing-requires
 nothing-requires c κs = search needs
 
+-- the scratch keeps its length from write to write
 same-length : tie.Need-same-length
-same-length c = search needs
+same-length c =
+    (c .before .before .before .before .fresh4 .given)
+    ∙ (c .before .before .before .before .before .before .before .before .before .fresh3 .given)
+    ∙ (c .before .before .before .before .before .before .before .before .before .before .before .before .before .before .fresh2 .given)
+    ∙ (c .before .before .before .before .before .before .before .before .before .before .before .before .before .before .before .before .before .before .fresh .given)
 
 returns : tie.Need-returns
 returns c =

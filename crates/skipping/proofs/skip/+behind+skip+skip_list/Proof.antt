@@ -8,8 +8,9 @@ use mathlib.Core.Bool.{cond}
 use borrow.Author.Needs.{needs}
 use lib.ListN.{length}
 use Rattle.sock.proofs.Tests.{tests}
-use Rattle.skipping.specs.Skip.{entriesSkip, listBy, behindBy, skipLoop, skipEnd, skipList}
-use Rattle.skipping.proofs.Turns.{entries-end, entries-out, entries-turn, no-depth, skip-start, skip-last, skip-over, skip-out, skip-turn, branches-small}
+use Rattle.layout.specs.Own.{listsEnd}
+use Rattle.skipping.specs.Skip.{entriesSkip, listBy, afterBy, behindBy, skipLoop, skipEnd, skipList}
+use Rattle.skipping.proofs.Turns.{entries-end, entries-out, entries-turn, no-depth, skip-start, skip-last, skip-over, skip-out, skip-turn, branches-small, empty-behind}
 use Prim.Native.Nat.{ℕ, _+_, _*_, _-_, _<_, _≤_}
 use borrow.Fn.Kinds.{In}
 use borrow.Fn.PlainCycle.{Measures, is, falls, and}
@@ -22,8 +23,9 @@ use Rattle.skipping.proofs.skip.+behind+skip+skip_list.Lts-skip as skip
 use Rattle.skipping.proofs.skip.skip_list.Reads as skip-list
 use Rattle.skipping.proofs.skip.skip_list.Kinds as skip-list-kinds
 use Rattle.skipping.proofs.skip.+behind+skip+skip_list.Lts-skip_list as skip-list-lts
-use Rattle.reading.proofs.reader.met_by.Reads as met-by-reads
 use Rattle.layout.proofs.number.wide.Reads as wide-reads
+use Rattle.layout.proofs.own.lists_end.Reads as lists-end-reads
+use Rattle.reading.proofs.reader.met_by.Reads as met-by-reads
 use Rattle.skipping.proofs.skip.form.Reads as form-reads
 use Rattle.skipping.proofs.skip.skip_expression.Reads as skip-expression-reads
 use Rattle.skipping.proofs.skip.+behind+skip+skip_list.{statement}
@@ -61,59 +63,66 @@ skip-list-below t =
     and 1 skip-list-kinds.ps (falls 1 skip-list-kinds.ps _<_ μ-skip-list t) skip-list.Pre
 
 abbrev behind-claims : ℕ → behind-lts.Claims
-behind-claims t = (skip-expression-reads.Asked, skip-expression-reads.Learnt, skip-list-below t, skip-list.Post)
+behind-claims t = (lists-end-reads.Asked, lists-end-reads.Learnt, skip-expression-reads.Asked, skip-expression-reads.Learnt, skip-list-below t, skip-list.Post)
 
 behind-returns : (t : ℕ) → behind-lts.Need-returns (behind-claims t) (behind-at t) behind.Post
-unfolding behindBy listBy entriesSkip skipList
+unfolding behindBy afterBy listBy entriesSkip skipList listsEnd
 behind-returns t c =
     let f0 = c .if1 .taken in
     simp (tests, f0)
 
+behind-lists-end-requires : (t : ℕ) → behind-lts.Need-lists-end-requires (behind-claims t) (behind-at t) behind.Post
+behind-lists-end-requires t c κs = search needs
+
+behind-returns-2 : (t : ℕ) → behind-lts.Need-returns-2 (behind-claims t) (behind-at t) behind.Post
+unfolding behindBy afterBy listBy entriesSkip skipList
+behind-returns-2 t c =
+    let f0 = c .if2 .taken in
+    let f1 = c .before .before .if1 .left in
+    simp (tests, f0, f1, ← (c .before .lists-end .ensures))
+
 behind-skip-expression-requires : (t : ℕ) → behind-lts.Need-skip-expression-requires (behind-claims t) (behind-at t) behind.Post
 behind-skip-expression-requires t c κs = search needs
 
-behind-returns-2 : (t : ℕ) → behind-lts.Need-returns-2 (behind-claims t) (behind-at t) behind.Post
-unfolding behindBy listBy entriesSkip skipList
-behind-returns-2 t c =
-    let f0 = c .before .if2 .taken in
-    let f1 = c .before .before .if1 .left in
-    simp (tests, f0, f1, ← (c .skip-expression .ensures))
-
 behind-returns-3 : (t : ℕ) → behind-lts.Need-returns-3 (behind-claims t) (behind-at t) behind.Post
-unfolding behindBy listBy entriesSkip skipList
+unfolding behindBy afterBy listBy entriesSkip skipList
 behind-returns-3 t c =
-    let f0 = c .if3 .taken in
-    let f1 = c .before .if2 .left in
-    let f2 = c .before .before .if1 .left in
-    simp (tests, f0, f1, f2)
+    let f0 = c .before .if3 .taken in
+    let f1 = c .before .before .if2 .left in
+    let f2 = c .before .before .before .before .if1 .left in
+    simp (tests, f0, f1, f2, ← (c .skip-expression .ensures), ← (c .before .before .before .lists-end .ensures))
 
-behind-mul-if4 : (t : ℕ) → behind-lts.Need-mul-if4 (behind-claims t) (behind-at t) behind.Post
-behind-mul-if4 t c = search needs
+behind-returns-4 : (t : ℕ) → behind-lts.Need-returns-4 (behind-claims t) (behind-at t) behind.Post
+unfolding behindBy afterBy listBy entriesSkip skipList
+behind-returns-4 t c =
+    let f0 = c .if4 .taken in
+    let f1 = c .before .if3 .left in
+    let f2 = c .before .before .if2 .left in
+    let f3 = c .before .before .before .before .if1 .left in
+    simp (tests, f0, f1, f2, f3, ← (c .before .before .before .lists-end .ensures))
 
-behind-shared-slice-read-if4 : (t : ℕ) → behind-lts.Need-shared-slice-read-if4 (behind-claims t) (behind-at t) behind.Post
-behind-shared-slice-read-if4 t c = search needs
+behind-mul-if5 : (t : ℕ) → behind-lts.Need-mul-if5 (behind-claims t) (behind-at t) behind.Post
+behind-mul-if5 t c = search needs
+
+behind-shared-slice-read-if5 : (t : ℕ) → behind-lts.Need-shared-slice-read-if5 (behind-claims t) (behind-at t) behind.Post
+behind-shared-slice-read-if5 t c = search needs
 
 behind-add-result : (t : ℕ) → behind-lts.Need-add-result (behind-claims t) (behind-at t) behind.Post
 behind-add-result t c = search needs
 
-behind-returns-4 : (t : ℕ) → behind-lts.Need-returns-4 (behind-claims t) (behind-at t) behind.Post
-unfolding behindBy listBy entriesSkip skipList
-behind-returns-4 t c =
-    let f0 = c .if4 .taken in
-    let f1 = c .before .before .if3 .left in
-    let f2 = c .before .before .before .if2 .left in
-    let f3 = c .before .before .before .before .if1 .left in
-    simp (tests, f0, f1, f2, f3)
+behind-returns-5 : (t : ℕ) → behind-lts.Need-returns-5 (behind-claims t) (behind-at t) behind.Post
+behind-returns-5 t c =
+    empty-behind _ _ _ _ _ (c .before .before .before .before .if2 .left) (c .before .before .before .if3 .left) (c .before .before .before .before .before .lists-end .ensures) (c .before .before .if4 .left) (c .if5 .taken)
 
 behind-skip-list-requires : (t : ℕ) → behind-lts.Need-skip-list-requires (behind-claims t) (behind-at t) behind.Post
 behind-skip-list-requires t c κs = search needs
 
-behind-returns-5 : (t : ℕ) → behind-lts.Need-returns-5 (behind-claims t) (behind-at t) behind.Post
-unfolding behindBy skipList
-behind-returns-5 t c =
-    let f0 = c .before .before .before .before .if2 .left in
-    let f1 = c .before .before .before .before .before .if1 .left in
-    simp (tests, f0, f1, ← (c .skip-list .ensures))
+behind-returns-6 : (t : ℕ) → behind-lts.Need-returns-6 (behind-claims t) (behind-at t) behind.Post
+unfolding behindBy afterBy skipList
+behind-returns-6 t c =
+    let f2 = c .before .before .before .before .if3 .left in
+    let f3 = c .before .before .before .before .before .if2 .left in
+    simp (tests, f2, f3, ← (c .skip-list .ensures), ← (c .before .before .before .before .before .before .lists-end .ensures))
 
 abbrev skip-Inv-loop : skip-lts.InvT-loop
 skip-Inv-loop ws at depth a₀ follows₀ left₀ turns₀ a follows left turns =
@@ -277,6 +286,8 @@ skip-list-returns-4 t c =
 
 pub +behind+skip+skip-list-spec : {M : Type 1} → statement M
 +behind+skip+skip-list-spec = close μ-behind μ-skip μ-skip-list (λ t. behind-lts.spec (
+  lists-end-reads.Asked,
+  lists-end-reads.Learnt,
   skip-expression-reads.Asked,
   skip-expression-reads.Learnt,
   skip-list-below t,
@@ -285,15 +296,17 @@ pub +behind+skip+skip-list-spec : {M : Type 1} → statement M
     (behind-at t)
     behind.Post
     (behind-returns t)
-    (behind-skip-expression-requires t)
+    (behind-lists-end-requires t)
     (behind-returns-2 t)
+    (behind-skip-expression-requires t)
     (behind-returns-3 t)
-    (behind-mul-if4 t)
-    (behind-shared-slice-read-if4 t)
-    (behind-add-result t)
     (behind-returns-4 t)
+    (behind-mul-if5 t)
+    (behind-shared-slice-read-if5 t)
+    (behind-add-result t)
+    (behind-returns-5 t)
     (behind-skip-list-requires t)
-    (behind-returns-5 t))
+    (behind-returns-6 t))
     (λ t. skip-lts.spec (
       behind-below t,
       behind.Post,

@@ -3,6 +3,7 @@
 use borrow.Author.Needs.{needs}
 use mathlib.Core.Path.{sym, ap}
 use Rattle.sock.specs.Kind.{rows, rowOf}
+use Rattle.sock.specs.Counts.{wordCount, listCount}
 use Rattle.skipping.specs.Skip.{formOf}
 use Rattle.skipping.proofs.Forms.{form-beyond}
 use Rattle.reading.proofs.Others.{beyond}
@@ -10,7 +11,7 @@ use Rattle.skipping.proofs.skip.form.Statement.{statement}
 use Rattle.skipping.proofs.skip.form.Tie as tie
 
 pub form-spec : {M : Type 1} → statement M
-unfolding formOf rowOf rows
+unfolding formOf rowOf rows wordCount listCount
 form-spec =
     tie.close
     (tie.spec

@@ -70,7 +70,7 @@ slice-aggregate-two-3 : tie.Need-slice-aggregate-two-3
 slice-aggregate-two-3 c = search needs
 
 slice-aggregate-two-4 : tie.Need-slice-aggregate-two-4
-slice-aggregate-two-4 c = search needs
+slice-aggregate-two-4 c = let f = c .before .before .before .before .before .before .before .before .before .before .before .before .before .before .fresh2 in search (needs, f)
 
 two-requires-2 : tie.Need-two-requires-2
 two-requires-2 c κs = search needs

@@ -6,14 +6,8 @@ use borrow.Author.Needs.{needs}
 use Rattle.stepping.proofs.meeting.receive.Statement.{statement}
 use Rattle.stepping.proofs.meeting.receive.Tie as tie
 
-word-requires : tie.Need-word-requires
-word-requires c κs = search needs
-
-second-of-requires : tie.Need-second-of-requires
-second-of-requires c κs = search needs
-
-variable-requires : tie.Need-variable-requires
-variable-requires c κs = search needs
+heard-requires : tie.Need-heard-requires
+heard-requires c κs = search needs
 
 hear-requires : tie.Need-hear-requires
 hear-requires c κs = search needs
@@ -21,8 +15,11 @@ hear-requires c κs = search needs
 returns : tie.Need-returns
 unfolding receiveW
 returns c =
-    let f0 = c .before .if1 .taken in
-    (simp (tests, ← (c .hear .ensures), f0, ← (c .before .before .variable .ensures), ← (c .before .before .before .second-of .ensures .0), ← (c .before .before .before .before .word .ensures)), simp (tests, ← (c .hear .ensures), f0, ← (c .before .before .variable .ensures), ← (c .before .before .before .second-of .ensures .0), ← (c .before .before .before .before .word .ensures)))
+    let f0 = c .before .before .if1 .taken in
+    (simp (tests, f0, ← (c .hear .ensures), ← (c .before .heard .ensures)), simp (tests, f0, ← (c .hear .ensures), ← (c .before .heard .ensures)))
+
+served-requires : tie.Need-served-requires
+served-requires c κs = search needs
 
 serve-requires : tie.Need-serve-requires
 serve-requires c κs = search needs
@@ -33,9 +30,12 @@ same-length c = search needs
 returns-2 : tie.Need-returns-2
 unfolding receiveW
 returns-2 c =
-    let f0 = c .before .before .before .before .if2 .taken in
-    let f1 = c .before .before .before .before .before .if1 .left in
-    (simp (tests, ← (c .before .before .serve .ensures .0), ← (c .before .before .serve .ensures .1), f0, f1, ← (c .before .before .before .before .before .before .variable .ensures), ← (c .before .before .before .before .before .before .before .second-of .ensures .0), ← (c .before .before .before .before .before .before .before .before .word .ensures)), simp (tests, ← (c .before .before .serve .ensures .0), ← (c .before .before .serve .ensures .1), f0, f1, ← (c .before .before .before .before .before .before .variable .ensures), ← (c .before .before .before .before .before .before .before .second-of .ensures .0), ← (c .before .before .before .before .before .before .before .before .word .ensures)))
+    let f0 = c .before .before .before .before .before .if2 .taken in
+    let f1 = c .before .before .before .before .before .before .if1 .left in
+    (simp (tests, f0, f1, ← (c .before .before .serve .ensures .0), ← (c .before .before .serve .ensures .1), ← (c .before .before .before .before .served .ensures)), simp (tests, f0, f1, ← (c .before .before .serve .ensures .0), ← (c .before .before .serve .ensures .1), ← (c .before .before .before .before .served .ensures)))
+
+answered-requires : tie.Need-answered-requires
+answered-requires c κs = search needs
 
 answer-requires : tie.Need-answer-requires
 answer-requires c κs = search needs
@@ -46,13 +46,13 @@ same-length-2 c = search needs
 returns-3 : tie.Need-returns-3
 unfolding receiveW
 returns-3 c =
-    let f0 = c .before .before .before .before .if3 .taken in
-    let f1 = c .before .before .before .before .before .if2 .left in
-    let f2 = c .before .before .before .before .before .before .if1 .left in
-    (simp (tests, ← (c .before .before .answer .ensures .0), ← (c .before .before .answer .ensures .1), f0, f1, f2, ← (c .before .before .before .before .before .before .before .variable .ensures), ← (c .before .before .before .before .before .before .before .before .second-of .ensures .0), ← (c .before .before .before .before .before .before .before .before .before .word .ensures)), simp (tests, ← (c .before .before .answer .ensures .0), ← (c .before .before .answer .ensures .1), f0, f1, f2, ← (c .before .before .before .before .before .before .before .variable .ensures), ← (c .before .before .before .before .before .before .before .before .second-of .ensures .0), ← (c .before .before .before .before .before .before .before .before .before .word .ensures)))
+    let f0 = c .before .before .before .before .before .if3 .taken in
+    let f1 = c .before .before .before .before .before .before .if2 .left in
+    let f2 = c .before .before .before .before .before .before .before .if1 .left in
+    (simp (tests, f0, f1, f2, ← (c .before .before .answer .ensures .0), ← (c .before .before .answer .ensures .1), ← (c .before .before .before .before .answered .ensures)), simp (tests, f0, f1, f2, ← (c .before .before .answer .ensures .0), ← (c .before .before .answer .ensures .1), ← (c .before .before .before .before .answered .ensures)))
 
-word-requires-2 : tie.Need-word-requires-2
-word-requires-2 c κs = search needs
+word-requires : tie.Need-word-requires
+word-requires c κs = search needs
 
 fail-requires : tie.Need-fail-requires
 fail-requires c κs = search needs
@@ -66,24 +66,24 @@ returns-4 c =
     let f0 = c .before .before .before .before .before .if3 .left in
     let f1 = c .before .before .before .before .before .before .if2 .left in
     let f2 = c .before .before .before .before .before .before .before .if1 .left in
-    (simp (tests, ← (c .before .before .fail .ensures .0), ← (c .before .before .fail .ensures .1), ← (c .before .before .before .before .word2 .ensures), f0, f1, f2, ← (c .before .before .before .before .before .before .before .before .variable .ensures), ← (c .before .before .before .before .before .before .before .before .before .second-of .ensures .0), ← (c .before .before .before .before .before .before .before .before .before .before .word .ensures)), simp (tests, ← (c .before .before .fail .ensures .0), ← (c .before .before .fail .ensures .1), ← (c .before .before .before .before .word2 .ensures), f0, f1, f2, ← (c .before .before .before .before .before .before .before .before .variable .ensures), ← (c .before .before .before .before .before .before .before .before .before .second-of .ensures .0), ← (c .before .before .before .before .before .before .before .before .before .before .word .ensures)))
+    (simp (tests, f0, f1, f2, ← (c .before .before .fail .ensures .0), ← (c .before .before .fail .ensures .1), ← (c .before .before .before .before .word .ensures)), simp (tests, f0, f1, f2, ← (c .before .before .fail .ensures .0), ← (c .before .before .fail .ensures .1), ← (c .before .before .before .before .word .ensures)))
 
 pub receive-spec : {M : Type 1} → statement M
 receive-spec =
     tie.close
     (tie.spec
-    word-requires
-    second-of-requires
-    variable-requires
+    heard-requires
     hear-requires
     returns
+    served-requires
     serve-requires
     same-length
     returns-2
+    answered-requires
     answer-requires
     same-length-2
     returns-3
-    word-requires-2
+    word-requires
     fail-requires
     same-length-3
     returns-4)

@@ -23,8 +23,8 @@ returns-2 c =
     let f1 = c .before .before .if1 .taken in
     simp (tests, f0, ← (c .before .body-nil .ensures), f1)
 
-further-requires : tie.Need-further-requires
-further-requires c κs = search needs
+own-end-requires : tie.Need-own-end-requires
+own-end-requires c κs = search needs
 
 word-requires : tie.Need-word-requires
 word-requires c κs = search needs
@@ -35,7 +35,7 @@ returns-3 c =
     let f0 = c .if4 .taken in
     let f1 = c .before .before .before .if3 .taken in
     let f2 = c .before .before .before .before .if1 .left in
-    simp (tests, f0, ← (c .before .word .ensures), ← (c .before .before .further .ensures), f1, f2)
+    simp (tests, f0, ← (c .before .word .ensures), ← (c .before .before .own-end .ensures), f1, f2)
 
 returns-4 : tie.Need-returns-4
 unfolding movesW
@@ -43,7 +43,7 @@ returns-4 c =
     let f0 = c .if4 .left in
     let f1 = c .before .before .before .if3 .taken in
     let f2 = c .before .before .before .before .if1 .left in
-    simp (tests, f0, ← (c .before .word .ensures), ← (c .before .before .further .ensures), f1, f2)
+    simp (tests, f0, ← (c .before .word .ensures), ← (c .before .before .own-end .ensures), f1, f2)
 
 by-kind-requires : tie.Need-by-kind-requires
 by-kind-requires c κs = search needs
@@ -62,7 +62,7 @@ moves-spec =
     body-nil-requires
     returns
     returns-2
-    further-requires
+    own-end-requires
     word-requires
     returns-3
     returns-4

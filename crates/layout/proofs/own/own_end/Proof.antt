@@ -1,0 +1,62 @@
+-- `own_end` of `layout::own` meets its contract.
+-- Assumes nothing.
+use Rattle.layout.specs.Own.{ownEnd}
+use Rattle.sock.proofs.Tests.{tests}
+use borrow.Author.Needs.{needs}
+use Rattle.layout.proofs.own.own_end.Statement.{statement}
+use Rattle.layout.proofs.own.own_end.Tie as tie
+
+returns : tie.Need-returns
+unfolding ownEnd
+returns c =
+    let f0 = c .if1 .taken in
+    simp (tests, f0)
+
+mul-kind-of : tie.Need-mul-kind-of
+mul-kind-of c = search needs
+
+shared-slice-read-kind-of : tie.Need-shared-slice-read-kind-of
+shared-slice-read-kind-of c = search needs
+
+kind-of-requires : tie.Need-kind-of-requires
+kind-of-requires c κs = search needs
+
+counts-of-requires : tie.Need-counts-of-requires
+counts-of-requires c κs = search needs
+
+add-lists-end : tie.Need-add-lists-end
+add-lists-end c = search needs
+
+cast-lists-end : tie.Need-cast-lists-end
+cast-lists-end c = search needs
+
+add-lists-end-2 : tie.Need-add-lists-end-2
+add-lists-end-2 c = search needs
+
+cast-lists-end-2 : tie.Need-cast-lists-end-2
+cast-lists-end-2 c = search needs
+
+lists-end-requires : tie.Need-lists-end-requires
+lists-end-requires c κs = search needs
+
+returns-2 : tie.Need-returns-2
+unfolding ownEnd
+returns-2 c =
+    let f0 = c .before .before .before .before .before .before .if1 .left in
+    simp (tests, f0, ← (c .lists-end .ensures), ← (c .before .before .before .counts-of .ensures), ← (c .before .before .before .before .kind-of .ensures .0))
+
+pub own-end-spec : {M : Type 1} → statement M
+own-end-spec =
+    tie.close
+    (tie.spec
+    returns
+    mul-kind-of
+    shared-slice-read-kind-of
+    kind-of-requires
+    counts-of-requires
+    add-lists-end
+    cast-lists-end
+    add-lists-end-2
+    cast-lists-end-2
+    lists-end-requires
+    returns-2)
