@@ -9,12 +9,14 @@ pub mod Configuration
 pub mod Decimals
 pub mod Delivery
 pub mod Edges
+pub mod Events
 pub mod Examples
 pub mod Exchange
 pub mod Fields
 pub mod Fits
 pub mod Frames
 pub mod Handlers
+pub mod Journal
 pub mod Ledger
 pub mod Located
 pub mod Logic

@@ -11,7 +11,9 @@ pub mod Handlers
 pub mod Frames
 pub mod Rules
 pub mod Calls
+pub mod Journal
 pub mod Bytes
 pub mod Counts
 pub mod Everywhere
 pub mod Runs
+pub mod Events
