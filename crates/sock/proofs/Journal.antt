@@ -1,20 +1,21 @@
 -- The journal's laws: what two configurations have alike, that a journal with anything behind it restores the earlier one, how long it is,
 -- and what a step that is lent a journal has of the step without one.
 -- Assumes nothing.
-use Prim.Native.Nat.{ℕ, suc, _+_, _*_, _-_, _≤_}
+use Prim.Native.Nat.{ℕ, zero, suc, _+_, _*_, _-_, _≤_}
 use native.Mathlib.Omega.{arith}
 use mathlib.Core.Path.{_≡_, refl, sym, ap, subst, _∙_}
-use mathlib.Core.Bool.{Bool, true, false, cond}
+use mathlib.Core.Bool.{Bool, true, false, _&&_, cond}
 use mathlib.Core.Option.{Option, none, some}
 use mathlib.Core.List.{List, [], _∷_, _++_, append-assoc, reverse, reverse-append, reverse-reverse}
-use lib.Dec.{leb, eqb}
+use lib.Dec.{T, leb, eqb}
 use lib.ListN.{length, take, drop, length-append, length-drop, length-reverse, take-append-drop}
 use lib.Seq.{length-take-le, take-at, drop-at, drop-drop}
 use borrow.Author.Tests.{le-leb, leb-true, eq-eqb, eqb-true}
 use Rattle.sock.specs.Configuration.{Limits, encode, guarded, also, readConfig, Config}
 use Rattle.sock.specs.Calls.{Refusal, journalShort, unreadable, unmatched, short, Result, refused, done, _>>=_, _>>_, _!_, _unless_, Numbers, Stepped, step}
-use Rattle.sock.specs.Journal.{alike, alikeBehind, between, journalBy, journalOf, journalStep, lentStep, Journal, sound, readJournal, sameWords, left, putBack, restored, takeBack}
+use Rattle.sock.specs.Journal.{alike, alikeBehind, between, journalBy, journalOf, journalStep, lentStep, Journal, changedOld, changedNew, sound, readJournal, sameWords, left, putBack, restored, takeBack}
 use Rattle.sock.specs.Runs.{roomFor}
+use Rattle.sock.proofs.Logic.{and-left, and-right, test-true, true-test}
 
 -- ---- the first words alike
 
@@ -222,6 +223,214 @@ module _ (limits : Limits) (room : ℕ) (old : List ℕ) where
   pub taken-restored : (ws journal : List ℕ) → takeBack limits ws journal room ≡ done old → restored journal ws ≡ some old
   unfolding takeBack
   taken-restored ws journal e = taken-by (readConfig limits ws) (restored journal ws) e
+
+-- ---- what is accepted
+
+same-words : (xs ys : List ℕ) → sameWords xs ys ≡ true → xs ≡ ys
+unfolding sameWords
+same-words [] [] e = refl
+same-words [] (y ∷ ys) e = absurd (subst T (sym e) tt)
+same-words (x ∷ xs) [] e = absurd (subst T (sym e) tt)
+same-words (x ∷ xs) (y ∷ ys) e =
+    let t : T (eqb x y && sameWords xs ys) = true-test e in
+    let p : x ≡ y = eqb-true x y (test-true _ (and-left (eqb x y) (sameWords xs ys) t)) in
+    let q : xs ≡ ys = same-words xs ys (test-true _ (and-right (eqb x y) (sameWords xs ys) t)) in
+    cc
+
+-- a journal of what it restores and of the words that it was lent with, with some first and last words alike and anything behind it
+pub record JournalFor (journal ws old : List ℕ) : Type 0 where
+  pub first : ℕ
+  pub last : ℕ
+  pub rest : List ℕ
+  pub both : Alike first last old ws
+  pub words : journal ≡ journalBy first last old ws ++ rest
+
+pub record Matches (j : Journal) (ws : List ℕ) : Type 0 where
+  pub in-old : j .first + j .last ≤ j .oldLength
+  pub in-new : j .first + j .last ≤ j .newLength
+  pub none-missing : changedOld j + changedNew j ≤ length (j .behind)
+  pub new-length : length ws ≡ j .newLength
+  pub new-words : between (j .first) (j .last) ws ≡ take (changedNew j) (drop (changedOld j) (j .behind))
+
+pub matches : (j : Journal) (ws : List ℕ) → T (sound j) → T (left j ws) → Matches j ws
+unfolding sound left
+matches j ws a b =
+    let o : Bool = leb (j .first + j .last) (j .oldLength) in
+    let n : Bool = leb (j .first + j .last) (j .newLength) in
+    let i : Bool = leb (changedOld j + changedNew j) (length (j .behind)) in
+    let e : Bool = eqb (length ws) (j .newLength) in
+    let w : Bool = sameWords (between (j .first) (j .last) ws) (take (changedNew j) (drop (changedOld j) (j .behind))) in
+    record {
+      in-old = leb-true _ _ (test-true o (and-left o n (and-left (o && n) i a)));
+      in-new = leb-true _ _ (test-true n (and-right o n (and-left (o && n) i a)));
+      none-missing = leb-true _ _ (test-true i (and-right (o && n) i a));
+      new-length = eqb-true _ _ (test-true e (and-left e w b));
+      new-words = same-words _ _ (test-true w (and-right e w b));
+    }
+
+module _ (j : Journal) (ws : List ℕ) (m : Matches j ws) where
+  f : ℕ
+  f = j .first
+
+  l : ℕ
+  l = j .last
+
+  was-length : length (take (changedOld j) (j .behind)) ≡ changedOld j
+  was-length = length-take-le (changedOld j) (j .behind) (omega (arith, m .none-missing))
+
+  front-length : length (take f ws) ≡ f
+  unfolding f
+  front-length = length-take-le (j .first) ws (omega (arith, m .in-new, m .new-length))
+
+  back-length : length (drop (length ws - l) ws) ≡ l
+  unfolding l
+  back-length = length-drop (length ws - j .last) ws ∙ omega (arith, m .in-new, m .new-length)
+
+  put-length : length (putBack j ws) ≡ j .oldLength
+  unfolding putBack f l
+  put-length =
+      length-append (take f ws ++ take (changedOld j) (j .behind)) (drop (length ws - l) ws)
+      ∙ omega (arith, length-append (take f ws) (take (changedOld j) (j .behind)), was-length, front-length, back-length, m .in-old)
+
+  put-first : take f (putBack j ws) ≡ take f ws
+  unfolding putBack f
+  put-first =
+      ap (take f) (append-assoc (take f ws) (take (changedOld j) (j .behind)) (drop (length ws - j .last) ws))
+      ∙ take-at (take f ws) (take (changedOld j) (j .behind) ++ drop (length ws - j .last) ws) f front-length
+
+  put-behind : drop f (putBack j ws) ≡ take (changedOld j) (j .behind) ++ drop (length ws - l) ws
+  unfolding putBack f l
+  put-behind =
+      ap (drop f) (append-assoc (take f ws) (take (changedOld j) (j .behind)) (drop (length ws - j .last) ws))
+      ∙ drop-at (take f ws) (take (changedOld j) (j .behind) ++ drop (length ws - j .last) ws) f front-length
+
+  put-between : between f l (putBack j ws) ≡ take (changedOld j) (j .behind)
+  unfolding between f l
+  put-between =
+      ap (take (length (putBack j ws) - (f + l))) put-behind
+      ∙ take-at (take (changedOld j) (j .behind)) (drop (length ws - l) ws) (length (putBack j ws) - (f + l))
+      (was-length ∙ omega (arith, put-length))
+
+  put-last : drop (length (putBack j ws) - l) (putBack j ws) ≡ drop (length ws - l) ws
+  unfolding f l
+  put-last =
+      let e : length (putBack j ws) - l ≡ f + changedOld j = omega (arith, put-length, m .in-old) in
+      ap (λ (n : ℕ). drop n (putBack j ws)) e
+      ∙ sym (drop-drop (changedOld j) f (putBack j ws))
+      ∙ ap (drop (changedOld j)) put-behind
+      ∙ drop-at (take (changedOld j) (j .behind)) (drop (length ws - l) ws) (changedOld j) was-length
+
+  put-alike : Alike f l (putBack j ws) ws
+  unfolding f l
+  put-alike =
+      record {
+        in-old = omega (arith, put-length, m .in-old);
+        in-new = omega (arith, m .new-length, m .in-new);
+        first = put-first;
+        last = put-last;
+      }
+
+  rest-of : List ℕ
+  rest-of = drop (changedNew j) (drop (changedOld j) (j .behind))
+
+  behind-split : j .behind ≡ (between f l (putBack j ws) ++ between f l ws) ++ rest-of
+  unfolding f l rest-of
+  behind-split =
+      sym
+      (ap (λ (us : List ℕ). (us ++ between f l ws) ++ rest-of) put-between
+      ∙ ap (λ (us : List ℕ). (take (changedOld j) (j .behind) ++ us) ++ rest-of) (m .new-words)
+      ∙ append-assoc (take (changedOld j) (j .behind)) (take (changedNew j) (drop (changedOld j) (j .behind))) rest-of
+      ∙ ap (λ (us : List ℕ). take (changedOld j) (j .behind) ++ us) (take-append-drop (changedNew j) (drop (changedOld j) (j .behind)))
+      ∙ take-append-drop (changedOld j) (j .behind))
+
+  put-journal : j .oldLength ∷ j .newLength ∷ j .first ∷ j .last ∷ j .behind ≡ journalBy f l (putBack j ws) ws ++ rest-of
+  unfolding journalBy f l
+  put-journal =
+      ap (λ (us : List ℕ). j .oldLength ∷ j .newLength ∷ j .first ∷ j .last ∷ us) behind-split
+      ∙ ap (λ (n : ℕ). n ∷ j .newLength ∷ j .first ∷ j .last ∷ ((between f l (putBack j ws) ++ between f l ws) ++ rest-of)) (sym put-length)
+      ∙ ap (λ (n : ℕ). length (putBack j ws) ∷ n ∷ j .first ∷ j .last ∷ ((between f l (putBack j ws) ++ between f l ws) ++ rest-of)) (sym (m .new-length))
+
+  put-for : JournalFor (j .oldLength ∷ j .newLength ∷ j .first ∷ j .last ∷ j .behind) ws (putBack j ws)
+  put-for = record { first = f; last = l; rest = rest-of; both = put-alike; words = put-journal }
+
+some-same : {A : Type 0} {a b : A} → some a ≡ some b → a ≡ b
+some-same e = cc
+
+none-some : {A : Type 0} {a : A} → none ≡ some a → ⊥
+none-some e = let z : _≡_ {A = ℕ} 0 1 = cc in omega arith
+
+for-left : (j : Journal) (ws old : List ℕ) → T (sound j) → guarded (left j ws) (some (putBack j ws)) ≡ some old → JournalFor (j .oldLength ∷ j .newLength ∷ j .first ∷ j .last ∷ j .behind) ws old
+unfolding guarded
+for-left j ws old a e = by (left j ws) refl e
+  where
+    by : (b : Bool) → left j ws ≡ b → guarded b (some (putBack j ws)) ≡ some old → JournalFor (j .oldLength ∷ j .newLength ∷ j .first ∷ j .last ∷ j .behind) ws old
+    by true p e = subst (JournalFor (j .oldLength ∷ j .newLength ∷ j .first ∷ j .last ∷ j .behind) ws) (some-same e) (put-for j ws (matches j ws a (true-test p)))
+    by false p e = absurd (none-some e)
+
+for-sound :
+    (j : Journal) (ws old : List ℕ) → also (guarded (sound j) (some j)) (λ j. guarded (left j ws) (some (putBack j ws))) ≡ some old →
+    JournalFor (j .oldLength ∷ j .newLength ∷ j .first ∷ j .last ∷ j .behind) ws old
+unfolding guarded also
+for-sound j ws old e = by (sound j) refl e
+  where
+    by :
+        (b : Bool) → sound j ≡ b → also (guarded b (some j)) (λ j. guarded (left j ws) (some (putBack j ws))) ≡ some old →
+        JournalFor (j .oldLength ∷ j .newLength ∷ j .first ∷ j .last ∷ j .behind) ws old
+    by true p e = for-left j ws old (true-test p) e
+    by false p e = absurd (none-some e)
+
+-- What restores anything is a journal of that and of the words it was lent with; with `restored-by` that is all that restores
+pub restored-only : (journal ws old : List ℕ) → restored journal ws ≡ some old → JournalFor journal ws old
+unfolding restored readJournal also
+restored-only [] ws old e = absurd (none-some e)
+restored-only (a ∷ []) ws old e = absurd (none-some e)
+restored-only (a ∷ b ∷ []) ws old e = absurd (none-some e)
+restored-only (a ∷ b ∷ f ∷ []) ws old e = absurd (none-some e)
+restored-only (a ∷ b ∷ f ∷ l ∷ us) ws old e =
+    for-sound (record { oldLength = a; newLength = b; first = f; last = l; behind = us }) ws old e
+
+-- and what is accepted is readable
+module _ (limits : Limits) (room : ℕ) (old : List ℕ) where
+  read-last :
+      (us : List ℕ) (o : Option Config) (b : Bool) → readConfig limits us ≡ o → ((unmatched ! o) >>= λ d. _>>_ (short unless b) (done us)) ≡ done old →
+      (c : Config) × (readConfig limits old ≡ some c)
+  unfolding _>>=_ _>>_ _!_ _unless_
+  read-last us none b r e = absurd (refused-done e)
+  read-last us (some d) true r e = let q : us ≡ old = cc in (d, subst (λ us. readConfig limits us ≡ some d) q r)
+  read-last us (some d) false r e = absurd (refused-done e)
+
+  read-by :
+      (o : Option Config) (p : Option (List ℕ)) →
+      ((unreadable ! o) >>= λ c.
+      (unmatched ! p) >>= λ us. (unmatched ! readConfig limits us) >>= λ d. _>>_ (short unless leb (length us) room) (done us))
+      ≡ done old →
+      (c : Config) × (readConfig limits old ≡ some c)
+  unfolding _>>=_ _!_
+  read-by none p e = absurd (refused-done e)
+  read-by (some c) none e = absurd (refused-done e)
+  read-by (some c) (some us) e = read-last us (readConfig limits us) (leb (length us) room) refl e
+
+  pub taken-readable : (ws journal : List ℕ) → takeBack limits ws journal room ≡ done old → (c : Config) × (readConfig limits old ≡ some c)
+  unfolding takeBack
+  taken-readable ws journal e = read-by (readConfig limits ws) (restored journal ws) e
+
+-- ---- the counts are the greatest
+
+-- as many first words as are the same; so none more are alike in what is left
+pub alike-most : (n : ℕ) (xs ys : List ℕ) → n ≤ length xs → n ≤ length ys → take n xs ≡ take n ys → n ≤ alike xs ys
+unfolding alike
+alike-most zero xs ys a b e = omega arith
+alike-most (suc n) [] ys a b e = absurd (omega arith)
+alike-most (suc n) (x ∷ xs) [] a b e = absurd (omega arith)
+alike-most (suc n) (x ∷ xs) (y ∷ ys) a b e =
+    let p : x ≡ y = cc in
+    let q : take n xs ≡ take n ys = cc in
+    rw (eq-eqb x y p) (omega (arith, alike-most n xs ys (omega arith) (omega arith) q))
+
+-- the first words are counted before the last ones: of a word more of the same it is the last that is between
+pub first-before-last : journalOf (5 ∷ 5 ∷ []) (5 ∷ 5 ∷ 5 ∷ []) ≡ 2 ∷ 3 ∷ 2 ∷ 0 ∷ 5 ∷ []
+unfolding journalOf journalBy between alike alikeBehind
+first-before-last = refl
 
 -- ---- how long it is
 
