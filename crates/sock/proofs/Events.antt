@@ -11,11 +11,12 @@ use lib.Dec.{T, eqb, leb}
 use lib.ListN.{length, take, drop, length-set}
 use lib.Seq.{take-append-seam}
 use Rattle.sock.specs.Configuration.{Limits, Config, encode, readConfig, enginesDepth}
+use Rattle.sock.specs.Running.{Run}
 use Rattle.sock.specs.Frames.{plug}
 use Rattle.sock.specs.Calls.{unreadable, nobodyThere, noMove, noPartner, noFit, installing, serialsSpent, deep, long, short, number, Result, refused, done, Numbers, Spot, Effect, lone, between, Stepped, withEngine, carriedOut, enabledAt, movable, partner, effect, step, answerOf, outputOf, over}
 use Rattle.sock.specs.Rules.{moveOf}
 use Rattle.sock.specs.Journal.{alike, journalOf, journalEnough, journalStep, journalAfter, journalAnswer, journalOutput, journalWritten, restored, takeBack, takenOf, restoredOver, takeBackAnswer, takeBackOutput}
-use Rattle.sock.specs.Runs.{Call, accepted, nextWords, run}
+use Rattle.sock.specs.Runs.{Call, accepted, nextWords, run, counts, total, lastSerial}
 use Rattle.sock.specs.Events.{Event, stepping, takingBack, takes, wordsBefore, Standing, ownJournal, State, begun, allButLast, next, after, struckOut, Undoes, Proper, AllProper, EveryStandingRequestHasOneReply, TakenBackStraightAfter, AllAccepted, Undoing, undoesNone, undoesLast, stood, SeveralInReverse}
 use Rattle.sock.proofs.Logic.{All, allNone, allSome, true-test}
 use Rattle.sock.proofs.Located.{all-equal}
@@ -37,7 +38,7 @@ taken-words : (old out : List ℕ) {r : Result (List ℕ)} → r ≡ done old �
 unfolding takenOf restoredOver
 taken-words old out e = rw e (take-append-seam old (drop (length old) out))
 
-stepped-number : (r : Result Stepped) → answerOf r .number ≡ 0 → (s : Stepped) × (r ≡ done s)
+pub stepped-number : (r : Result Stepped) → answerOf r .number ≡ 0 → (s : Stepped) × (r ≡ done s)
 unfolding answerOf
 stepped-number (refused r) e = absurd (subst T (sym (ap (λ n. eqb n 0) e) ∙ number-positive r) tt)
 stepped-number (done s) e = (s, refl)
@@ -264,6 +265,16 @@ module _ (limits : Limits) where
   undone ys base ws undoesNone h = ap (λ us. record { words = us; standing = ys }) h
   undone ys base ws (undoesLast x xs rest out es enough u) h =
       ap (λ s. after limits s es) (next-undone x xs ys ws rest out (h .0) (h .1) enough) ∙ undone ys base (x .read) u (h .2)
+
+-- a refused call counts nothing, so a list has the same words and counts without it
+pub record Same (limits : Limits) (ws : List ℕ) (ks js : List Call) : Type 0 where
+  pub words : run limits ws ks ≡ run limits ws js
+  pub counted : (test : Run → Bool) → total test limits ws ks ≡ total test limits ws js
+  pub latest : (serial : ℕ) → lastSerial serial limits ws ks ≡ lastSerial serial limits ws js
+
+pub without-refused : (limits : Limits) (ws : List ℕ) (k : Call) (ks : List Call) → accepted limits ws k ≡ false → Same limits ws (k ∷ ks) ks
+unfolding run total lastSerial counts nextWords
+without-refused limits ws k ks e = record { words = rw e; counted = λ test. rw e (omega arith); latest = λ serial. rw e }
 
 pub severalInReverse : SeveralInReverse
 severalInReverse limits start ks js a es u =

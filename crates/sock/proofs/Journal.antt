@@ -198,7 +198,7 @@ module _ (limits : Limits) (old new rest : List ℕ) {c d : Config} (read : read
   unfolding takeBack _>>=_ _>>_ _!_ _unless_
   taken-back room h = rw (reads-new, restored-journal old new rest, read, le-leb (length old) room h)
 
-refused-done : {A : Type 0} {r : Refusal} {a : A} → refused r ≡ done a → ⊥
+pub refused-done : {A : Type 0} {r : Refusal} {a : A} → refused r ≡ done a → ⊥
 refused-done e = let z : _≡_ {A = ℕ} 0 1 = cc in omega arith
 
 -- whatever is accepted is what was restored
@@ -226,7 +226,7 @@ module _ (limits : Limits) (room : ℕ) (old : List ℕ) where
 
 -- ---- what is accepted
 
-same-words : (xs ys : List ℕ) → sameWords xs ys ≡ true → xs ≡ ys
+pub same-words : (xs ys : List ℕ) → sameWords xs ys ≡ true → xs ≡ ys
 unfolding sameWords
 same-words [] [] e = refl
 same-words [] (y ∷ ys) e = absurd (subst T (sym e) tt)
@@ -353,7 +353,7 @@ module _ (j : Journal) (ws : List ℕ) (m : Matches j ws) where
   put-for : JournalFor (j .oldLength ∷ j .newLength ∷ j .first ∷ j .last ∷ j .behind) ws (putBack j ws)
   put-for = record { first = f; last = l; rest = rest-of; both = put-alike; words = put-journal }
 
-some-same : {A : Type 0} {a b : A} → some a ≡ some b → a ≡ b
+pub some-same : {A : Type 0} {a b : A} → some a ≡ some b → a ≡ b
 some-same e = cc
 
 none-some : {A : Type 0} {a : A} → none ≡ some a → ⊥
