@@ -1,4 +1,5 @@
 pub mod Holding
+pub mod Journaling
 pub mod Placing
 pub mod Spreading
 pub mod Stepping

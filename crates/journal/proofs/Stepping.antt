@@ -1,6 +1,6 @@
 -- The step with a journal: with its result in scratch and compared; written; and in a short scratch first.
 -- Assumes nothing.
-use Prim.Native.Nat.{ℕ, _+_, _≤_, _<_}
+use Prim.Native.Nat.{ℕ, _+_, _-_, _≤_, _<_}
 use native.Mathlib.Omega.{arith}
 use mathlib.Core.Path.{_≡_, refl, sym, ap, subst, _∙_}
 use mathlib.Core.Bool.{Bool, true, false, cond}
@@ -25,9 +25,9 @@ use Rattle.writers.specs.Writing.{pasted}
 use Rattle.journal.specs.declared.compare.Alike.{Alike}
 use Rattle.journal.specs.declared.steps.Compared.{Compared}
 use Rattle.journal.specs.Comparing.{bothOf}
-use Rattle.journal.specs.Laying.{layW}
+use Rattle.journal.specs.Laying.{layW, layEnd}
 use Rattle.journal.specs.Stepping.{neededOf, comparedOf, roomIn}
-use Rattle.journal.proofs.Laying.{over-length, pasted-first, journal-words, laid-journal}
+use Rattle.journal.proofs.Laying.{over-length, pasted-first, journal-words, laid-journal, ends-new}
 
 -- ---- a step that is done: how long its words are, and what they have alike
 
@@ -57,6 +57,10 @@ module _ (ws : List ℕ) (k : Asked) (room : ℕ) (s : Stepped) (e : step standa
   journal-laid journal h =
       let a = journal-alike ws (encode (s .config)) in
       laid-journal ws (encode (s .config)) (alike ws (encode (s .config))) (alikeBehind (alike ws (encode (s .config))) ws (encode (s .config))) (a .in-old) (a .in-new) (omega (arith, few-old)) (omega (arith, few-new)) journal h
+
+as-needed : (old new first last : ℕ) → 4 + (old - (first + last)) + (new - (first + last)) ≡ neededOf old new first last
+unfolding neededOf
+as-needed old new first last = refl
 
 -- ---- compared
 
@@ -314,6 +318,22 @@ module _ (ws : List ℕ) (k : Asked) (r0 out journal : List ℕ) (c : Compared)
         ∙ ap (λ (n : ℕ). layW ws (encode (z .next .config)) (alike ws (encode (z .next .config))) n journal) (z .last)
         ∙ journal-laid ws k (length r0) (z .next) (z .is-done) journal (z .room)
         ∙ z .writes-journal
+
+    -- and as many words as the journal has
+    pub noted-end : layEnd ws (take (c .answer .length) r1) (c .first) (c .last) ≡ length (journalOf ws (encode (z .next .config)))
+    noted-end =
+        let a = journal-alike ws (encode (z .next .config)) in
+        let fo = few-old ws k (length r0) (z .next) (z .is-done) in
+        let fn = few-new ws k (length r0) (z .next) (z .is-done) in
+        ap (λ (u : List ℕ). layEnd ws u (c .first) (c .last)) scratch-words
+        ∙ ap (λ (n : ℕ). layEnd ws (encode (z .next .config)) n (c .last)) (z .first)
+        ∙ ap (layEnd ws (encode (z .next .config)) (alike ws (encode (z .next .config)))) (z .last)
+        ∙ ends-new ws (encode (z .next .config)) _ _ (a .in-old) (a .in-new) (omega (arith, fo)) (omega (arith, fn))
+        ∙ as-needed (length ws) (length (encode (z .next .config))) _ _
+        ∙ needed-is ws k (length r0) (z .next) (z .is-done)
+
+    pub noted-words : layW ws (take (c .answer .length) r1) (c .first) (c .last) journal ≡ over (journalOf ws (encode (z .next .config))) journal
+    noted-words = noted ∙ sym (z .writes-journal)
 
 -- ---- in scratch of two sizes
 
