@@ -18,7 +18,8 @@
 //! - In handover, a length word that is cut itself counts as missing words; "cut" stands alone
 //!   in its line, in place of "end" and the length.
 //!
-//! `window` is document 02's change h, and stands by itself.
+//! `window` is document 02's change h, and stands by itself. `journal` is its change f, over the
+//! step of `calls`.
 
 pub mod alone;
 pub mod billing;
@@ -34,6 +35,7 @@ pub mod fields;
 pub mod generate;
 pub mod handlers;
 pub mod handover;
+pub mod journal;
 pub mod limits;
 pub mod measure;
 pub mod pair;
