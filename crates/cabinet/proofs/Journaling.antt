@@ -118,11 +118,11 @@ module _ (k : Numbers) (room n : ℕ) where
   none-read none e = refl
   none-read (some us) e = unread-journal us e
 
-none-some : {A : Type 0} {a : A} → none ≡ some a → ⊥
+pub none-some : {A : Type 0} {a : A} → none ≡ some a → ⊥
 none-some e = let z : _≡_ {A = ℕ} 0 1 = cc in omega arith
 
 -- what can be read is held whole
-readable-held : (bytes : List ℕ) {c : Config} → readConfig standard (wordsOrNone (wordsOf bytes)) ≡ some c → held 8192 bytes ≡ wordsOrNone (wordsOf bytes)
+pub readable-held : (bytes : List ℕ) {c : Config} → readConfig standard (wordsOrNone (wordsOf bytes)) ≡ some c → held 8192 bytes ≡ wordsOrNone (wordsOf bytes)
 readable-held bytes {c} r = by (ltb 16384 (length bytes)) refl
   where
     by : (b : Bool) → ltb 16384 (length bytes) ≡ b → held 8192 bytes ≡ wordsOrNone (wordsOf bytes)
@@ -156,7 +156,7 @@ module _ (bytes ws : List ℕ) (e : ws ≡ held 8192 bytes) (k : Numbers) where
 
 -- ---- the rooms
 
-leb-room : (most bytes j : ℕ) → j ≤ most → leb j (roomOf most bytes) ≡ leb j (bytes / 2)
+pub leb-room : (most bytes j : ℕ) → j ≤ most → leb j (roomOf most bytes) ≡ leb j (bytes / 2)
 leb-room most bytes j h = by (ltb most (bytes / 2)) refl
   where
     by : (b : Bool) → ltb most (bytes / 2) ≡ b → leb j (roomOf most bytes) ≡ leb j (bytes / 2)

@@ -3,3 +3,4 @@ pub mod Journaling
 pub mod Placing
 pub mod Spreading
 pub mod Stepping
+pub mod TakingBack

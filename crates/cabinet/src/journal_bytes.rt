@@ -3,6 +3,9 @@ use crate::stepping_bytes::pack;
 use crate::stepping_bytes::room_of;
 use crate::stepping_bytes::spread;
 use crate::words::hold;
+use crate::words::hold_part;
+use journal::back::Taken;
+use journal::back::take_back;
 use journal::lay::lay;
 use journal::steps::compare;
 use stepping::answer::Answer;
@@ -12,10 +15,11 @@ ghost use Prim.Native.Nat.{_≤_, _*_};
 ghost use lib.ListN.{length};
 ghost use Rattle.sock.specs.Configuration.{standard};
 ghost use Rattle.sock.specs.Calls.{answerOf};
-ghost use Rattle.sock.specs.Journal.{journalStep};
-ghost use Rattle.sock.specs.Bytes.{bytesAfter, journalBytesAfter, wordsOf, wordsOrNone, byteJournalStep, byteJournalAnswer, byteJournalOutput, byteJournalWritten};
+ghost use Rattle.sock.specs.Journal.{journalStep, takenOf, takeBack};
+ghost use Rattle.sock.specs.Bytes.{bytesAfter, journalBytesAfter, wordsOf, wordsOrNone, byteJournalStep, byteJournalAnswer, byteJournalOutput, byteJournalWritten, restoredBytes, byteTaken, byteRestored};
 ghost use Rattle.stepping.specs.Answers.{answerAs, numbers};
 ghost use Rattle.stepping.specs.Bundles.{numbersAs};
+ghost use Rattle.journal.specs.Back.{takenAs};
 ghost use Rattle.cabinet.specs.Held.{packedAs, roomOf};
 
 // The step on words, its result and its journal written to scratch first.
@@ -121,4 +125,35 @@ pub extern "C" fn sock_step_journal(
         return large_journal(k, config, out, journal);
     }
     pack(a)
+}
+
+// Taking back on words, what is restored written to scratch first.
+fn taken_back(ws: &[u16], words: &[u16], result: &mut [u16], out: &mut [u8]) -> Taken
+    requires { ⌜ length (now result) * 2 ≤ length (now out) ⌝ }
+    ensures answered { λ r. ⌜ r ≡ takenAs (takenOf (takeBack standard (now (ws .entry)) (now (words .entry)) (length (now (result .entry))))) ⌝ }
+    ensures wrote { λ r. ⌜ now (out .exit) ≡ restoredBytes (takeBack standard (now (ws .entry)) (now (words .entry)) (length (now (result .entry)))) (now (out .entry)) ⌝ }
+{
+    let t = take_back(ws, words, result);
+    if t.number != 0 {
+        return t;
+    }
+    spread(result, t.length as usize, out);
+    t
+}
+
+// Taking back: from the top, the number in 8 bits, 40 zero, the length in 16. A refusal changes no byte. Words past those that a journal of two
+// configurations may have are not part of any, so they need not be held.
+#[no_mangle]
+pub extern "C" fn sock_take_back(config: &[u8], journal: &[u8], out: &mut [u8]) -> u64
+    ensures answered { λ r. ⌜ r ≡ byteTaken (now (config .entry)) (now (journal .entry)) (now (out .entry)) ⌝ }
+    ensures wrote { λ r. ⌜ now (out .exit) ≡ byteRestored (now (config .entry)) (now (journal .entry)) (now (out .entry)) ⌝ }
+{
+    let mut scratch = [0u16; 8192];
+    let n = hold(config, &mut scratch);
+    let mut words = [0u16; 16388];
+    let m = hold_part(journal, &mut words);
+    let mut result = [0u16; 8192];
+    let room = room_of(out.len(), 8192);
+    let t = taken_back(&scratch[..n], &words[..m], &mut result[..room], out);
+    (t.number as u64) * 72057594037927936 + (t.length as u64)
 }
