@@ -39,7 +39,8 @@ fn walk<M: Memory>(journals: &mut Journals<M>, origin: Origin, seed: u64, steps:
         run.take(&answer(&whole), &to_words(&whole.output[..output.len() / 2 * 2]).unwrap());
         stale = journal;
         if run.random.percent(30) {
-            let depth = 1 + usize::from(run.random.percent(50)) + 2 * usize::from(run.random.percent(20));
+            let depth =
+                1 + usize::from(run.random.percent(50)) + 2 * usize::from(run.random.percent(20));
             for _ in 0..depth.min(standing.len()) {
                 let (before, journal) = standing.pop().unwrap();
                 let lent = [&journal[..], &[FILL; 7]].concat();
@@ -54,11 +55,23 @@ fn walk<M: Memory>(journals: &mut Journals<M>, origin: Origin, seed: u64, steps:
 
 fn answer(left: &library::journal::Left) -> Answer {
     let a = left.answer;
-    Answer { number: left.number(), kind: (a >> 48) as u8, serial: (a >> 16) as u16, fault: (a >> 40) as u8, length: a as u16 }
+    Answer {
+        number: left.number(),
+        kind: (a >> 48) as u8,
+        serial: (a >> 16) as u16,
+        fault: (a >> 40) as u8,
+        length: a as u16,
+    }
 }
 
 /// Journals of every length near the needed one, and outputs too short with journals too short.
-fn lengths<M: Memory>(journals: &mut Journals<M>, config: &[u8], numbers: &reference::Numbers, output: &[u8], needed: usize) {
+fn lengths<M: Memory>(
+    journals: &mut Journals<M>,
+    config: &[u8],
+    numbers: &reference::Numbers,
+    output: &[u8],
+    needed: usize,
+) {
     for length in (2 * needed).saturating_sub(5)..=2 * needed + 3 {
         let left = journals.step(config, *numbers, output, &vec![FILL; length]);
         assert_eq!(left.number(), if length / 2 < needed { 16 } else { 0 });
@@ -67,7 +80,13 @@ fn lengths<M: Memory>(journals: &mut Journals<M>, config: &[u8], numbers: &refer
 }
 
 /// Cut and damaged journals, one of another step, and outputs too short.
-fn damage<M: Memory>(journals: &mut Journals<M>, config: &[u8], journal: &[u8], stale: &[u8], step: usize) {
+fn damage<M: Memory>(
+    journals: &mut Journals<M>,
+    config: &[u8],
+    journal: &[u8],
+    stale: &[u8],
+    step: usize,
+) {
     let output = vec![FILL; ALL];
     journals.back(config, stale, &output);
     let stride = if step % 8 == 0 { 1 } else { 1 + journal.len() / 9 };
@@ -93,7 +112,12 @@ fn damage<M: Memory>(journals: &mut Journals<M>, config: &[u8], journal: &[u8], 
 #[test]
 fn runs_with_takings_back_are_alike() {
     let mut journals = Journals::new(Plain::default(), Plain::default());
-    for (origin, seeds, steps) in [(Origin::Fresh, 300, 60), (Origin::Growing, 4, 120), (Origin::Readable, 300, 20), (Origin::Renumbered, 100, 20)] {
+    for (origin, seeds, steps) in [
+        (Origin::Fresh, 150, 60),
+        (Origin::Growing, 4, 120),
+        (Origin::Readable, 150, 20),
+        (Origin::Renumbered, 50, 20),
+    ] {
         for seed in 0..seeds {
             walk(&mut journals, origin, seed, steps);
         }
@@ -129,7 +153,9 @@ fn a_stale_journal_may_match() {
     let lines: Vec<Vec<u16>> = text
         .lines()
         .filter(|line| !line.starts_with('#'))
-        .map(|line| line.split_whitespace().map(|word| u16::from_str_radix(word, 16).unwrap()).collect())
+        .map(|line| {
+            line.split_whitespace().map(|word| u16::from_str_radix(word, 16).unwrap()).collect()
+        })
         .collect();
     let [words, journal, restored] = &lines[..] else { panic!("three lines") };
     let mut journals = Journals::new(Plain::default(), Plain::default());
