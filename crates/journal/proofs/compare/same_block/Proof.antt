@@ -48,7 +48,7 @@ loop-again : tie.Need-loop-again Inv-loop μ-loop
 loop-again c =
     let l = c .before .before .before .before .loop in
     let x = c .before .before .before .before .before .args in
-    let t : l .k < 16 = c .before .before .before .loop-test .taken in
+    let t = c .before .before .before .loop-test .taken in
     let f : x .i + l .k < length (x .a .now) = omega arith in
     let g : x .j + l .k < length (x .b .now) = omega arith in
     (omega arith, ⊎-elim (λ w. w .1 ∙ turn-differs (x .a .now) (x .b .now) (x .i) (x .j) (l .k) f g (w .0 .taken)) (λ w. w .1 ∙ turn-same (x .a .now) (x .b .now) (x .i) (x .j) (l .k) f g (l .inv .1) (search needs)) (c .if1 .came))
