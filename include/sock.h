@@ -18,7 +18,7 @@
  * length may be 0; the pointer is then not followed, and may be null. With any other length it must point to so many bytes. Lent memory
  * may stand at any address. A configuration is only read. The output of a step must not overlap it, not by one byte: the proofs take the
  * two to be apart. sock_step cannot see an overlap and its answer then means nothing; sock_take_step refuses it (SOCK_OVERLAP). The same
- * holds of a bill's totals, which must not overlap its rates or replies. A window is changed in place by sock_window_next and only read by
+ * holds of a journal: none of configuration, output and journal may overlap another. And of a bill's totals, which must not overlap its rates or replies. A window is changed in place by sock_window_next and only read by
  * sock_window_count.
  *
  * Threads and signals. Every call may be made from any thread and from a signal handler, also while another call is under way. Two
@@ -38,9 +38,9 @@ extern "C" {
 
 /* This header's version. The first number rises when a call, an answer or the format changes, the second when something is added. */
 #define SOCK_VERSION_MAJOR 4
-#define SOCK_VERSION_MINOR 0
+#define SOCK_VERSION_MINOR 1
 #define SOCK_VERSION_PATCH 0
-#define SOCK_VERSION "4.0.0"
+#define SOCK_VERSION "4.1.0"
 
 /* The most words and bytes that a configuration has. */
 #define SOCK_WORDS 8192
@@ -76,10 +76,12 @@ enum sock_number {
     SOCK_NOT_FRESH = 11,      /* start check: readable, but not a start */
     SOCK_UNKNOWN_SERIAL = 12, /* ends: the serial is 0 or above issued */
     SOCK_NOT_DECIMAL = 13,    /* assign, if or while: an operand of a decimal operator has a digit above 9; after 5 and before 6 */
+    SOCK_UNMATCHED = 15,      /* taking back: the journal is cut or does not match, or what it restores is not readable */
+    SOCK_JOURNAL_SHORT = 16,  /* step with a journal: the journal lent is shorter than this step's; after 10 */
     SOCK_WINDOW_WIDTH = 18,   /* window: a width that is not 1 to 1,024, an operation above 63, or a window that no run gives */
     SOCK_RATE_TOO_HIGH = 19,  /* bill: a rate is above 1,000,000, or the rates are not 256 bytes */
     SOCK_LIST_UNFIT = 20,     /* bill: list cut or too long, operation above 63 or engine above 7; or totals of fewer than 64 bytes */
-    SOCK_OVERLAP = 255        /* sock_take_step alone: output and configuration overlap, so no call was made */
+    SOCK_OVERLAP = 255        /* sock_take_step, sock_note_step, sock_go_back: what was lent overlaps, so no call was made */
 };
 
 /* The nineteen kinds of process, the first 5 bits of a head. */
@@ -123,6 +125,8 @@ static inline const char *sock_word(unsigned number)
     case SOCK_NOT_FRESH: return "not fresh";
     case SOCK_UNKNOWN_SERIAL: return "unknown serial";
     case SOCK_NOT_DECIMAL: return "not decimal";
+    case SOCK_UNMATCHED: return "journal doesn't match";
+    case SOCK_JOURNAL_SHORT: return "journal short";
     case SOCK_WINDOW_WIDTH: return "window width";
     case SOCK_RATE_TOO_HIGH: return "rate too high";
     case SOCK_LIST_UNFIT: return "list cut or too long, operation above 63 or engine above 7";
@@ -218,6 +222,66 @@ static inline struct sock_step_answer sock_take_step(struct sock_move move, cons
     taken.kind = sock_kind(answer);
     taken.fault = sock_fault(answer);
     taken.serial = sock_serial(answer);
+    taken.length = sock_length(answer);
+    return taken;
+}
+
+/* ---- Step with a journal: the step, and what it takes to go back. ----
+ *
+ * As sock_step, and it fills `journal`: old length, new length, count of first words alike, count of last words alike after those, the old
+ * words between, the new ones. A journal of SOCK_JOURNAL_ENOUGH words is enough for every step. SOCK_JOURNAL_SHORT, after all others, if the
+ * journal lent has fewer words (half its bytes, rounded down) than this step's. A refusal changes no byte of output and journal; bytes behind
+ * the journal's words keep what they were. The answer's parts are sock_step's.
+ */
+#define SOCK_JOURNAL_ENOUGH 16386
+#define SOCK_JOURNAL_BYTES (2 * SOCK_JOURNAL_ENOUGH)
+uint64_t sock_step_journal(uint16_t engine, uint16_t position, uint16_t second, uint16_t second_position, uint16_t branch,
+                           const uint8_t *config, size_t config_length, uint8_t *out, size_t out_length, uint8_t *journal,
+                           size_t journal_length);
+
+/* The step with a journal; SOCK_OVERLAP, before all others, where two of configuration, output and journal overlap. */
+static inline struct sock_step_answer sock_note_step(struct sock_move move, const uint8_t *config, size_t config_length,
+                                                     uint8_t *out, size_t out_length, uint8_t *journal, size_t journal_length)
+{
+    struct sock_step_answer taken = {SOCK_OVERLAP, SOCK_NIL, 0, 0, 0};
+    uint64_t answer;
+    if (sock_overlap(config, config_length, out, out_length) || sock_overlap(config, config_length, journal, journal_length) ||
+        sock_overlap(out, out_length, journal, journal_length))
+        return taken;
+    answer = sock_step_journal(move.engine, move.position, move.second, move.second_position, move.branch, config, config_length, out,
+                               out_length, journal, journal_length);
+    taken.number = sock_number(answer);
+    taken.kind = sock_kind(answer);
+    taken.fault = sock_fault(answer);
+    taken.serial = sock_serial(answer);
+    taken.length = sock_length(answer);
+    return taken;
+}
+
+/* ---- Taking back: from what a step left, by its journal, to what was before. ----
+ *
+ * Accepted: the earlier configuration stands in the first words of `out`, as many as the answer's length says. Several steps go back in
+ * reverse, each by its own journal; take no other, for words alike are not compared, and a journal of another step may match. What is lent
+ * beyond a journal's end is not part of it. SOCK_UNREADABLE, SOCK_UNMATCHED, SOCK_SHORT_PAPER: no byte of `out` has changed.
+ */
+uint64_t sock_take_back(const uint8_t *config, size_t config_length, const uint8_t *journal, size_t journal_length, uint8_t *out,
+                        size_t out_length);
+
+struct sock_back_answer {
+    enum sock_number number;
+    uint16_t length; /* words of the earlier configuration */
+};
+
+/* Taking back; SOCK_OVERLAP, before all others, where the output overlaps configuration or journal. */
+static inline struct sock_back_answer sock_go_back(const uint8_t *config, size_t config_length, const uint8_t *journal,
+                                                   size_t journal_length, uint8_t *out, size_t out_length)
+{
+    struct sock_back_answer taken = {SOCK_OVERLAP, 0};
+    uint64_t answer;
+    if (sock_overlap(config, config_length, out, out_length) || sock_overlap(journal, journal_length, out, out_length))
+        return taken;
+    answer = sock_take_back(config, config_length, journal, journal_length, out, out_length);
+    taken.number = sock_number(answer);
     taken.length = sock_length(answer);
     return taken;
 }

@@ -80,6 +80,7 @@ static void inline_and_raw(size_t length)
     check(sock_test_readable(config, length - 1).number == SOCK_UNREADABLE, "odd length");
     check(strcmp(sock_word(sock_check_readable(config, length - 1)), "unreadable") == 0, "the word for a raw answer");
     check(strcmp(sock_word(12), "unknown serial") == 0 && strcmp(sock_word(13), "not decimal") == 0 && strcmp(sock_word(14), "") == 0, "words at the end of their table");
+    check(strcmp(sock_word(15), "journal doesn't match") == 0 && strcmp(sock_word(16), "journal short") == 0, "words about journals");
     check(strcmp(sock_word(SOCK_OVERLAP), "overlap") == 0, "the word for overlap");
 }
 
@@ -98,6 +99,23 @@ static void overlap(size_t length)
     taken = sock_take_step(ask, config, length, config + length, sizeof config - length);
     check(taken.number == SOCK_ACCEPTED && taken.length == 146, "an output right behind the configuration");
     check(memcmp(before, config, length) == 0, "the configuration stays");
+}
+
+static void journals(size_t length)
+{
+    static uint8_t journal[SOCK_JOURNAL_BYTES], back[SOCK_BYTES];
+    struct sock_step_answer taken = sock_note_step(ask, config, length, out, sizeof out, journal, sizeof journal);
+    uint64_t raw = sock_step_journal(0, 3, 1, 3, 0, config, length, out, sizeof out, journal, sizeof journal);
+    check(raw == 0x000a000000010092 && taken.number == SOCK_ACCEPTED && taken.length == 146, "a step with a journal");
+    check(sock_get(journal, 0) == length / 2 && sock_get(journal, 1) == 146, "its journal begins with the two lengths");
+    struct sock_back_answer went = sock_go_back(out, sock_bytes(146), journal, sizeof journal, back, sizeof back);
+    raw = sock_take_back(out, sock_bytes(146), journal, sizeof journal, back, sizeof back);
+    check(went.number == SOCK_ACCEPTED && went.length == length / 2 && raw == length / 2, "the step taken back");
+    check(memcmp(back, config, length) == 0, "taking back gives the earlier configuration");
+    check(sock_go_back(out, sock_bytes(146), journal, 6, back, sizeof back).number == SOCK_UNMATCHED, "a journal that is cut");
+    check(sock_note_step(ask, config, length, out, sizeof out, journal, 7).number == SOCK_JOURNAL_SHORT, "a journal that is short");
+    check(sock_note_step(ask, config, length, out, sizeof out, out, 8).number == SOCK_OVERLAP, "a journal in the output");
+    check(sock_go_back(out, sock_bytes(146), journal, sizeof journal, journal, 2).number == SOCK_OVERLAP, "an output in the journal");
 }
 
 static void null_pointers(size_t length)
@@ -183,6 +201,7 @@ int main(void)
     words_and_values(words);
     inline_and_raw(sock_bytes(words));
     overlap(sock_bytes(words));
+    journals(sock_bytes(words));
     null_pointers(sock_bytes(words));
     bills();
     pending();

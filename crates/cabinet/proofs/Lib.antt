@@ -1,4 +1,6 @@
 pub mod Holding
+pub mod Journaling
 pub mod Placing
 pub mod Spreading
 pub mod Stepping
+pub mod TakingBack

@@ -3,13 +3,17 @@ use Prim.Native.Nat.{ℕ, _+_, _*_, _/_}
 use mathlib.Core.Bool.{cond}
 use mathlib.Core.List.{List, []}
 use lib.Dec.{ltb}
-use lib.ListN.{length, getD}
-use Rattle.sock.specs.Bytes.{wordsOf, wordsOrNone}
+use lib.ListN.{length, getD, take}
+use Rattle.sock.specs.Bytes.{wordsOf, wordsOrNone, wordsIn}
 use Rattle.stepping.specs.declared.answer.Answer.{Answer}
 
 -- in room for so many words
 unfoldable pub held : ℕ → List ℕ → List ℕ
 held room bytes = cond (ltb (room * 2) (length bytes)) [] (wordsOrNone (wordsOf bytes))
+
+-- the first words of a journal's bytes, an odd last byte left out, as many as there is room for
+unfoldable pub heldPart : ℕ → List ℕ → List ℕ
+heldPart room bytes = take room (wordsIn bytes)
 
 abbrev pub pairAt : List ℕ → ℕ → ℕ
 pairAt bytes i = getD bytes (i * 2) 0 * 256 + getD bytes (i * 2 + 1) 0

@@ -25,7 +25,7 @@ fn low(w: u16) -> u8
 }
 
 // The bytes of the first `n` words, over the output.
-fn spread(ws: &[u16], n: usize, out: &mut [u8]) -> usize
+pub(crate) fn spread(ws: &[u16], n: usize, out: &mut [u8]) -> usize
     requires { ⌜ (n ≤ length (now ws)) × (n * 2 ≤ length (now out)) ⌝ }
     ensures { λ r. ⌜ (r ≡ n) × (now (out .exit) ≡ over (bytesOf (take n (now (ws .entry)))) (now (out .entry))) ⌝ }
 {
@@ -39,7 +39,7 @@ fn spread(ws: &[u16], n: usize, out: &mut [u8]) -> usize
     i
 }
 
-fn pack(a: Answer) -> u64
+pub(crate) fn pack(a: Answer) -> u64
     ensures { λ r. ⌜ r ≡ packedAs a ⌝ }
 {
     (a.number as u64) * 72057594037927936
@@ -50,7 +50,7 @@ fn pack(a: Answer) -> u64
 }
 
 // How many words the result may have, `most` or what the output has room for.
-fn room_of(bytes: usize, most: usize) -> usize
+pub(crate) fn room_of(bytes: usize, most: usize) -> usize
     ensures { λ r. ⌜ (r ≡ roomOf most bytes) × (r ≤ most) × (r * 2 ≤ bytes) ⌝ }
 {
     let half = bytes / 2;

@@ -1,10 +1,11 @@
 // From bytes to words.
+use crate::stepping_bytes::room_of;
 ghost use mathlib.Core.Path.{_≡_};
 ghost use Prim.Native.Nat.{_≤_, _+_, _*_};
 ghost use lib.ListN.{length};
 ghost use Rattle.sock.specs.Bytes.{wordsOf, wordsOrNone};
 ghost use Rattle.sock.specs.Calls.{over};
-ghost use Rattle.cabinet.specs.Held.{held};
+ghost use Rattle.cabinet.specs.Held.{held, heldPart};
 
 fn word(high: u8, low: u8) -> u16
     ensures { λ r. ⌜ r ≡ high * 256 + low ⌝ }
@@ -37,4 +38,12 @@ pub fn hold(bytes: &[u8], ws: &mut [u16]) -> usize
         return 0;
     }
     fill(bytes, n, ws)
+}
+
+// As many words of the bytes as `ws` has room for, an odd last byte left out: how many, and the words over the first of `ws`.
+pub fn hold_part(bytes: &[u8], ws: &mut [u16]) -> usize
+    ensures { λ r. ⌜ (r ≡ length (heldPart (length (now (ws .entry))) (now (bytes .entry)))) × (now (ws .exit) ≡ over (heldPart (length (now (ws .entry))) (now (bytes .entry))) (now (ws .entry))) × (r ≤ length (now (ws .entry))) ⌝ }
+{
+    let n = room_of(bytes.len(), ws.len());
+    fill(&bytes[..n * 2], n, ws)
 }

@@ -63,7 +63,7 @@ length-words (h ∷ l ∷ bytes) = by (wordsOf bytes) (length-words bytes)
     by none i = refl
     by (some us) i = omega (arith, i)
 
-no-config : (limits : Limits) (ws : List ℕ) → limits .longest < length ws → readConfig limits ws ≡ none
+pub no-config : (limits : Limits) (ws : List ℕ) → limits .longest < length ws → readConfig limits ws ≡ none
 no-config limits ws b = by (readConfig limits ws) refl
   where
     by : (o : Option Config) → readConfig limits ws ≡ o → o ≡ none

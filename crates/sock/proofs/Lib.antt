@@ -11,6 +11,7 @@ pub mod Decimals
 pub mod Delivery
 pub mod EarlierReading
 pub mod Edges
+pub mod Events
 pub mod Examples
 pub mod Exchange
 pub mod Fields
@@ -18,6 +19,7 @@ pub mod Fits
 pub mod Frames
 pub mod Handlers
 pub mod Heads
+pub mod Journal
 pub mod Kept
 pub mod KeptSteps
 pub mod Ledger

@@ -15,7 +15,7 @@ use Rattle.sock.specs.Running.{Run, nil, seq, par, scope, executor, wait
 use Rattle.sock.specs.Configuration.{Limits, Config, encode}
 use Rattle.sock.specs.Frames.{isDone}
 use Rattle.sock.specs.Rules.{also}
-use Rattle.sock.specs.Calls.{done, Numbers, Spot, enabledAt, Stepped, step, answerOf, stepAnswer, End, waiting, working, endOf, ofEnd, isEnd, tally, tallyAll, waits, works}
+use Rattle.sock.specs.Calls.{done, Spot, enabledAt, Stepped, step, End, waiting, working, endOf, ofEnd, isEnd, tally, tallyAll, waits, works}
 use Rattle.sock.specs.Everywhere.{everywhere}
 use Rattle.sock.specs.Runs.{ofSpot, carries, awaits, bodyless, ready, same, names, endAt, delivery}
 use Rattle.sock.proofs.Fields.{three}
@@ -170,12 +170,6 @@ ready-only : (s : ℕ) → OnlyEnds (ready s)
 unfolding ready carries
 ready-only s r e = rw e
 
-accepted-answers :
-    (limits : Limits) (ws : List ℕ) (k : Numbers) (out : List ℕ) (st : Stepped) {s : ℕ} → step limits ws k (length out) ≡ done st → st .serial ≡ s →
-    (stepAnswer limits ws k out .number ≡ 0) × (stepAnswer limits ws k out .serial ≡ s)
-unfolding stepAnswer answerOf
-accepted-answers limits ws k out st e q = (rw e, rw e q)
-
 -- ---- in a configuration that has a ledger
 
 module _ {limits : Limits} {c : Config} (readable : Readable limits c) where
@@ -230,13 +224,12 @@ module _ {limits : Limits} {c : Config} (readable : Readable limits c) where
 
       pub ready-deliverable :
           Agreed c →
-          (e p e' p' : ℕ) (out : List ℕ) →
+          (e p e' p' : ℕ) (room : ℕ) →
           names c (ready s) e p →
           names c (awaits s) e' p' →
-          length (encode c) ≤ length out →
-          (stepAnswer limits (encode c) (delivery e p e' p') out .number ≡ 0)
-          × (stepAnswer limits (encode c) (delivery e p e' p') out .serial ≡ s)
-      ready-deliverable agreed e p e' p' out n n' room =
+          length (encode c) ≤ room →
+          (st : Stepped) × (step limits (encode c) (delivery e p e' p') room ≡ done st) × (st .serial ≡ s)
+      ready-deliverable agreed e p e' p' room n n' fits =
           let (a, at, t) = spot-named (ready s) (enabledAt c e p) n in
           let (b, at', t') = spot-named (awaits s) (enabledAt c e' p') n' in
           let x : Ready s (a .process) = ready-seen s (a .process) t in
@@ -244,8 +237,7 @@ module _ {limits : Limits} {c : Config} (readable : Readable limits c) where
           let w : stands c e' (waiting s (asked y) (server y)) = stands-there e' p' at' (waiting s (asked y) (server y)) (awaiting-tally y) in
           let (eo, es, ec) = ends-paired l s (asked y) (operation x) (server y) (client x) e' e w (working-there e p at x) in
           let apart : e' ≡ server y → ⊥ = subst Apart (by-waiting l s (asked y) (server y) e' w) (l .apart s) in
-          let z = delivery-accepted limits c readable s e p e' p' a b at at' (λ q. apart (sym q ∙ sym es)) (meets x y (counts e p at) (counts e' p' at') eo es ec) (length out) room in
-          accepted-answers limits (encode c) (delivery e p e' p') out (z .0) (z .1) (z .2)
+          delivery-accepted limits c readable s e p e' p' a b at at' (λ q. apart (sym q ∙ sym es)) (meets x y (counts e p at) (counts e' p' at') eo es ec) room fits
         where
           counts : (e p : ℕ) {a : Spot} → enabledAt c e p ≡ some a → Agrees (agreed .index) (a .process)
           counts e p at = all-some (enabled-kept any-closed Counted counted-on agreed e p) at .process

@@ -15,8 +15,8 @@ use Rattle.sock.specs.Term.{Entries}
 use Rattle.sock.specs.Running.{Run, executor, waiter}
 use Rattle.sock.specs.Configuration.{Limits, Config, encode, readConfig, fresh}
 use Rattle.sock.specs.Rules.{also}
-use Rattle.sock.specs.Calls.{unreadable, notFresh, number, Result, refused, done, _>>=_, _>>_, _!_, _unless_, Spot, enabledAt, Stepped, stepAnswer, passed, start, checkStart, End, isEnd, tallyAll, waits, works, known, counted, ends}
-use Rattle.sock.specs.Runs.{Call, accepted, nextWords, run, named, ofSpot, isSolicit, carries, counts, total, solicits, deliveries, lastSerial, awaits, delivery, Matched, EveryRequestHasOneReply}
+use Rattle.sock.specs.Calls.{unreadable, notFresh, number, Result, refused, done, _>>=_, _>>_, _!_, _unless_, Spot, enabledAt, Stepped, step, passed, start, checkStart, End, isEnd, tallyAll, waits, works, known, counted, ends}
+use Rattle.sock.specs.Runs.{Call, callAnswer, accepted, nextWords, run, named, ofSpot, isSolicit, carries, counts, total, solicits, deliveries, lastSerial, awaits, delivery, Matched, EveryRequestHasOneReply}
 use Rattle.sock.specs.Everywhere.{everywhere}
 use Rattle.sock.proofs.Logic.{all-some}
 use Rattle.sock.proofs.Fits.{Readable}
@@ -25,7 +25,7 @@ use Rattle.sock.proofs.Configuration.{config-found}
 use Rattle.sock.proofs.Steps.{Sure, sureDone, sure-then, sure-given, sure-unless, sure-done, step-readable}
 use Rattle.sock.proofs.Turns.{Turn, turn-issued, turn-latest, Stepping, step-turns}
 use Rattle.sock.proofs.Ledger.{Ledger, ledger-turns, ledger-same, openOf}
-use Rattle.sock.proofs.Accepted.{number-positive, Refused, Done, Called, calledRefused, calledDone, called}
+use Rattle.sock.proofs.Accepted.{number-positive, Refused, Done, Called, calledRefused, calledDone, called, lent-answers}
 use Rattle.sock.proofs.Accounts.{waits-all, works-all, fresh-ledger}
 use Rattle.sock.proofs.Kept.{executorKept, waiterKept}
 use Rattle.sock.proofs.KeptSteps.{enabled-kept}
@@ -44,7 +44,7 @@ module _ (limits : Limits) where
     issued : config .issued ≡ c .issued + counts isSolicit limits ws k
     latest :
         (serial : ℕ) → serial ≡ c .issued →
-        cond (accepted limits ws k && ofSpot isSolicit (named limits ws k)) (stepAnswer limits ws (k .numbers) (k .output) .serial) serial ≡ config .issued
+        cond (accepted limits ws k && ofSpot isSolicit (named limits ws k)) (callAnswer limits ws k .serial) serial ≡ config .issued
 
   module _ (ws : List ℕ) (k : Call) {c : Config} (r : readConfig limits ws ≡ some c) {d : ℕ → ℕ} (l : Ledger c d) (w : Agreed c) where
     counts-refused : accepted limits ws k ≡ false → (test : Run → Bool) → counts test limits ws k ≡ 0
@@ -161,13 +161,13 @@ module _ (limits : Limits) where
         placed = end-placed good;
         paired = named-paired good l;
         awaited = ready-awaited good l;
-        deliverable = λ s e p e' p' out n n' room.
+        deliverable = λ s e p e' p' out journal n n' room enough.
+            let (st, d, q) =
             subst
-            (λ ws.
-            length ws ≤ length out →
-            (stepAnswer limits ws (delivery e p e' p') out .number ≡ 0)
-            × (stepAnswer limits ws (delivery e p e' p') out .serial ≡ s))
-            words (ready-deliverable good l s (x .agreed) e p e' p' out n n') room;
+            (λ ws. length ws ≤ length out → (st : Stepped) × (step limits ws (delivery e p e' p') (length out) ≡ done st) × (st .serial ≡ s))
+            words (ready-deliverable good l s (x .agreed) e p e' p' (length out) n n') room in
+            let (a, b) = lent-answers limits (run limits ws calls) (delivery e p e' p') out st d journal enough in
+            (a, b ∙ q);
       }
     where
       c : Config

@@ -8,6 +8,7 @@ use lib.ListN.{length, getD, take, drop, replicate}
 use Rattle.sock.specs.Configuration.{Limits, standard, encode, readConfig}
 use Rattle.sock.specs.Rules.{also}
 use Rattle.sock.specs.Calls.{Refusal, unreadable, Result, refused, done, _>>=_, _!_, number, Numbers, Stepped, step, Answer, answerOf, over, checkStart, checkReadable, Ends, ends, Part, processPart}
+use Rattle.sock.specs.Journal.{journalOf, journalStep, takeBack, Taken, takenOf}
 
 unfoldable pub wordsOf : List ℕ → Option (List ℕ)
 wordsOf [] = some []
@@ -64,6 +65,53 @@ packedPart p = p .first * 2 ^ 32 + p .count
 
 unfoldable pub byteProcess : List ℕ → ℕ → ℕ
 byteProcess bytes e = packedPart (processPart standard (wordsOrNone (wordsOf bytes)) e)
+
+-- ---- the step with a journal, and taking back, on bytes: the journal's space, or its words, are half its bytes, rounded down, an odd last
+-- byte keeping its content
+
+unfoldable pub byteJournalStep : List ℕ → Numbers → ℕ → ℕ → Result Stepped
+byteJournalStep bytes k room journalRoom = do
+  ws ← unreadable ! wordsOf bytes
+  journalStep standard ws k room journalRoom
+
+unfoldable pub byteJournalAnswer : List ℕ → Numbers → List ℕ → List ℕ → ℕ
+byteJournalAnswer bytes k out journal = packed (answerOf (byteJournalStep bytes k (length out / 2) (length journal / 2)))
+
+unfoldable pub byteJournalOutput : List ℕ → Numbers → List ℕ → List ℕ → List ℕ
+byteJournalOutput bytes k out journal = bytesAfter (byteJournalStep bytes k (length out / 2) (length journal / 2)) out
+
+unfoldable pub journalBytesAfter : List ℕ → Result Stepped → List ℕ → List ℕ
+journalBytesAfter ws (refused r) journal = journal
+journalBytesAfter ws (done s) journal = over (bytesOf (journalOf ws (encode (s .config)))) journal
+
+unfoldable pub byteJournalWritten : List ℕ → Numbers → List ℕ → List ℕ → List ℕ
+byteJournalWritten bytes k out journal =
+    journalBytesAfter (wordsOrNone (wordsOf bytes)) (byteJournalStep bytes k (length out / 2) (length journal / 2)) journal
+
+-- the words of bytes, an odd last byte left out
+unfoldable pub wordsIn : List ℕ → List ℕ
+wordsIn [] = []
+wordsIn (high ∷ []) = []
+wordsIn (high ∷ low ∷ bytes) = (high * 256 + low) ∷ wordsIn bytes
+
+unfoldable pub byteTakeBack : List ℕ → List ℕ → ℕ → Result (List ℕ)
+byteTakeBack bytes journal room = do
+  ws ← unreadable ! wordsOf bytes
+  takeBack standard ws (wordsIn journal) room
+
+-- number 8, zero 40, length 16
+unfoldable pub packedTaken : Taken → ℕ
+packedTaken t = t .number * 2 ^ 56 + t .length
+
+unfoldable pub byteTaken : List ℕ → List ℕ → List ℕ → ℕ
+byteTaken bytes journal out = packedTaken (takenOf (byteTakeBack bytes journal (length out / 2)))
+
+unfoldable pub restoredBytes : Result (List ℕ) → List ℕ → List ℕ
+restoredBytes (refused r) out = out
+restoredBytes (done old) out = over (bytesOf old) out
+
+unfoldable pub byteRestored : List ℕ → List ℕ → List ℕ → List ℕ
+byteRestored bytes journal out = restoredBytes (byteTakeBack bytes journal (length out / 2)) out
 
 -- ---- the program handover
 

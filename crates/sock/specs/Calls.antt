@@ -27,6 +27,8 @@ pub data Refusal : Type 0 where
   short : Refusal  -- 10 "short paper": output shorter than result
   notFresh : Refusal  -- 11 "not fresh": readable, not fresh
   unknownSerial : Refusal  -- 12 "unknown serial": serial 0 or above issued
+  unmatched : Refusal  -- 15 "journal doesn't match": taking back, after 1 and before 10
+  journalShort : Refusal  -- 16 "journal short": the lent journal shorter than this step's; tried after 10
 
 abbrev pub number : Refusal → ℕ
 number unreadable = 1
@@ -42,6 +44,8 @@ number short = 10
 number notFresh = 11
 number unknownSerial = 12
 number notDecimal = 13
+number unmatched = 15
+number journalShort = 16
 
 pub data Result (A : Type 0) : Type 0 where
   refused : Refusal → Result A

@@ -13,8 +13,10 @@ pub mod Frames
 pub mod Rules
 pub mod Calls
 pub mod Earlier
+pub mod Journal
 pub mod Bytes
 pub mod Pending
 pub mod Counts
 pub mod Everywhere
 pub mod Runs
+pub mod Events

@@ -1,5 +1,6 @@
 -- Runs: what demand 3 speaks of. A run is a start and a list of calls of the step, refused ones included. Every request has one reply:
--- one claim about the whole list (document 01, "Calls", on demand 3).
+-- one claim about the whole list (document 01, "Calls", on demand 3). A call may be lent a journal (document 02, f), and is accepted then only
+-- if that is long enough.
 use Prim.Native.Nat.{ℕ, zero, suc, _+_, _≤_, _<_}
 use mathlib.Core.Path.{_≡_}
 use mathlib.Core.Bool.{Bool, true, false, _&&_, cond}
@@ -14,24 +15,41 @@ use Rattle.sock.specs.Running.{Run, nil, seq, par, scope, executor, wait
 use Rattle.sock.specs.Configuration.{Limits, Config, readConfig}
 use Rattle.sock.specs.Frames.{isDone}
 use Rattle.sock.specs.Rules.{also}
-use Rattle.sock.specs.Calls.{Numbers, Spot, enabledAt, stepAnswer, stepOutput, checkStart, ends, End, waiting, working, endOf, isEnd, waits, works}
+use Rattle.sock.specs.Calls.{Numbers, Spot, enabledAt, Result, Stepped, Answer, answerOf, outputOf, checkStart, ends, End, waiting, working, endOf, isEnd, waits, works}
+use Rattle.sock.specs.Journal.{journalOf, lentStep}
 use Rattle.sock.specs.Everywhere.{everywhere}
 
--- a call of the step: its five numbers, and an output of any length and content
+-- a call of the step: its five numbers, an output of any length and content, and a journal of any length and content, or none
 pub record Call : Type 0 where
   pub numbers : Numbers
   pub output : List ℕ
+  pub journal : Option (List ℕ)
+
+abbrev pub call : Numbers → List ℕ → Option (List ℕ) → Call
+call k out journal = record { numbers = k; output = out; journal = journal }
+
+-- what it does, what it answers, and its output afterwards; with no journal these are `step`, `stepAnswer` and `stepOutput`
+unfoldable pub outcome : Limits → List ℕ → Call → Result Stepped
+outcome limits ws k = lentStep limits ws (k .numbers) (length (k .output)) (k .journal)
+
+unfoldable pub callAnswer : Limits → List ℕ → Call → Answer
+callAnswer limits ws k = answerOf (outcome limits ws k)
+
+unfoldable pub callOutput : Limits → List ℕ → Call → List ℕ
+callOutput limits ws k = outputOf (outcome limits ws k) (k .output)
 
 -- Accepted means answered with number 0
 unfoldable pub accepted : Limits → List ℕ → Call → Bool
-accepted limits ws k = eqb (stepAnswer limits ws (k .numbers) (k .output) .number) 0
+accepted limits ws k = eqb (callAnswer limits ws k .number) 0
 
 -- the words that the next call reads: those that an accepted one gave, up to the length answered
 unfoldable pub nextWords : Limits → List ℕ → Call → List ℕ
-nextWords limits ws k =
-    cond (accepted limits ws k)
-    (take (stepAnswer limits ws (k .numbers) (k .output) .length) (stepOutput limits ws (k .numbers) (k .output)))
-    ws
+nextWords limits ws k = cond (accepted limits ws k) (take (callAnswer limits ws k .length) (callOutput limits ws k)) ws
+
+-- a journal, where one is lent, has room for n words
+unfoldable pub roomFor : ℕ → Option (List ℕ) → Type 0
+roomFor n none = Unit
+roomFor n (some journal) = n ≤ length journal
 
 -- what is read after the whole list
 unfoldable pub run : Limits → List ℕ → List Call → List ℕ
@@ -72,8 +90,8 @@ deliveries s = total (carries s)
 unfoldable pub lastSerial : ℕ → Limits → List ℕ → List Call → ℕ
 lastSerial serial limits ws [] = serial
 lastSerial serial limits ws (k ∷ ks) =
-    lastSerial (cond (accepted limits ws k && ofSpot isSolicit (named limits ws k)) (stepAnswer limits ws (k .numbers) (k .output) .serial) serial)
-    limits (nextWords limits ws k) ks
+    lastSerial (cond (accepted limits ws k && ofSpot isSolicit (named limits ws k)) (callAnswer limits ws k .serial) serial) limits
+    (nextWords limits ws k) ks
 
 -- a waiting end of s
 unfoldable pub awaits : ℕ → Run → Bool
@@ -155,14 +173,18 @@ pub record Matched (limits : Limits) (start : List ℕ) (calls : List Call) (c :
       (s : ℕ) →
       0 < everywhere (ready s) c →
       (e : ℕ) × (p : ℕ) × (e' : ℕ) × (p' : ℕ) × names c (ready s) e p × names c (awaits s) e' p'
-  -- and for all such the step that delivers s is accepted with every output no shorter than the configuration
+  -- and for all such the step that delivers s is accepted with every output no shorter than the configuration and journal enough: room for
+  -- the words of this step's journal, if one is lent
   pub deliverable :
-      (s e p e' p' : ℕ) (out : List ℕ) →
+      (s e p e' p' : ℕ) (out : List ℕ) (journal : Option (List ℕ)) →
       names c (ready s) e p →
       names c (awaits s) e' p' →
       length (run limits start calls) ≤ length out →
-      (stepAnswer limits (run limits start calls) (delivery e p e' p') out .number ≡ 0)
-      × (stepAnswer limits (run limits start calls) (delivery e p e' p') out .serial ≡ s)
+      roomFor
+      (length (journalOf (run limits start calls) (nextWords limits (run limits start calls) (call (delivery e p e' p') out none))))
+      journal →
+      (callAnswer limits (run limits start calls) (call (delivery e p e' p') out journal) .number ≡ 0)
+      × (callAnswer limits (run limits start calls) (call (delivery e p e' p') out journal) .serial ≡ s)
 
 -- Demand 3: for every start that the start check answers with 0, and every list of calls
 abbrev pub EveryRequestHasOneReply : Type 0

@@ -9,7 +9,8 @@
 //! stack that a call needs, on the configurations of `deep`. All is deterministic; a difference
 //! prints the class, seed and step of the input, the call and the bytes.
 //!
-//! `window` does the same for the window of faults, which reads no configuration.
+//! `window` does the same for the window of faults, which reads no configuration, and `journal`
+//! for the step with a journal and for taking back.
 
 pub mod billing;
 pub mod bytes;
@@ -19,6 +20,7 @@ pub mod deep;
 pub mod exported;
 pub mod guard;
 pub mod input;
+pub mod journal;
 pub mod memory;
 pub mod memory_fault;
 pub mod outputs;

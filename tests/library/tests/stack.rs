@@ -5,6 +5,7 @@
 use library::counts::ACTORS;
 use library::deep::shapes;
 use library::exported;
+use library::journal;
 use library::memory::Lent;
 use library::painted::Painted;
 use reference::bytes::from_words;
@@ -104,8 +105,34 @@ impl Most {
         );
         assert_eq!(answer, other, "{shape}, {numbers:?}");
         assert!(output.bytes() == expected, "{shape}, {numbers:?}: another output");
+        self.journal(shape, config, numbers);
         if answer >> 56 == 0 {
             self.kinds.insert(answer >> 48);
+        }
+    }
+
+    /// The same step with a journal and, where it is accepted, taken back.
+    fn journal(&mut self, shape: &str, config: &[u8], numbers: Numbers) {
+        let (mut out, mut noted, mut back) =
+            (vec![7u8; 16_384], vec![7u8; 32_772], vec![7u8; 16_384]);
+        let lend = |bytes: &mut Vec<u8>| Lent { start: bytes.as_mut_ptr(), length: bytes.len() };
+        let lent = Lent { start: config.as_ptr().cast_mut(), length: config.len() };
+        let (output, journal) = (lend(&mut out), lend(&mut noted));
+        let answer = self.call("sock_step_journal", shape, || {
+            journal::exported_step(numbers, lent, output, journal)
+        });
+        let (mut expected, mut written) = (vec![7u8; 16_384], vec![7u8; 32_772]);
+        let other =
+            reference::journal::sock_step_journal(numbers, config, &mut expected, &mut written);
+        assert_eq!(answer, other, "{shape}, {numbers:?}");
+        assert!(output.bytes() == expected && journal.bytes() == written, "{shape}, {numbers:?}");
+        if answer >> 56 == 0 {
+            let next = Lent { start: output.start, length: 2 * usize::from(answer as u16) };
+            let output = lend(&mut back);
+            let taken = self
+                .call("sock_take_back", shape, || journal::exported_back(next, journal, output));
+            assert_eq!(taken, config.len() as u64 / 2, "{shape}, {numbers:?} taken back");
+            assert!(output.bytes()[..config.len()] == *config, "{shape}, {numbers:?} taken back");
         }
     }
 }
@@ -160,7 +187,7 @@ fn no_call_needs_more_stack_than_three_quarters_of_the_promise() {
     most.print();
     let actors = ACTORS.iter().map(|kind| u64::from(*kind));
     assert!(most.kinds.iter().copied().eq(actors), "accepted kinds {:?}", most.kinds);
-    assert_eq!(most.used.len(), 9, "a call was not made");
+    assert_eq!(most.used.len(), 11, "a call was not made");
     for (call, (used, shape)) in &most.used {
         assert!(4 * used <= 3 * promised(), "{call} used {used} bytes of stack ({shape})");
     }

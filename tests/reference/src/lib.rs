@@ -20,7 +20,8 @@
 //!
 //! `window` is document 02's change h, and stands by itself; `pending` is change b: what a side has
 //! that can't be killed is searched apart from killing it. `earlier` is the format before change c,
-//! with no lists of variables, and how it is rewritten.
+//! with no lists of variables, and how it is rewritten. `journal` is change f, over the
+//! step of `calls`.
 
 pub mod alone;
 pub mod billing;
@@ -37,6 +38,7 @@ pub mod fields;
 pub mod generate;
 pub mod handlers;
 pub mod handover;
+pub mod journal;
 pub mod limits;
 pub mod measure;
 pub mod pair;

@@ -15,6 +15,9 @@ pub enum Refusal {
     NotFresh,
     UnknownSerial,
     NotDecimal,
+    /// Taking back: the journal doesn't match.
+    Unmatched,
+    JournalShort,
 }
 
 impl Refusal {
@@ -33,6 +36,8 @@ impl Refusal {
             Refusal::NotFresh => 11,
             Refusal::UnknownSerial => 12,
             Refusal::NotDecimal => 13,
+            Refusal::Unmatched => 15,
+            Refusal::JournalShort => 16,
         }
     }
 }

@@ -159,10 +159,22 @@ fn main() {
             let mut output = vec![0; call.room];
             let answer = step(&STANDARD, &run.words, call.numbers, &mut output);
             let room = call.room.min(run.words.len().max(usize::from(answer.length)) + 3);
-            cases.add(&run.words, call.numbers, room, random.below(4) as u16, random.below(5) as u16);
+            cases.add(
+                &run.words,
+                call.numbers,
+                room,
+                random.below(4) as u16,
+                random.below(5) as u16,
+            );
             if turn % 4 == 0 {
                 let damaged = damage::random_damage(&mut random, &run.words);
-                cases.add(&damaged, call.numbers, room, random.below(4) as u16, random.below(3) as u16);
+                cases.add(
+                    &damaged,
+                    call.numbers,
+                    room,
+                    random.below(4) as u16,
+                    random.below(3) as u16,
+                );
             }
             run.take(&answer, &output);
         }

@@ -1,0 +1,4 @@
+pub mod Comparing
+pub mod Laying
+pub mod Restoring
+pub mod Stepping

@@ -1,0 +1,4 @@
+pub mod Comparing
+pub mod Laying
+pub mod Stepping
+pub mod Back
