@@ -176,6 +176,12 @@ static inline size_t sock_put_value(uint8_t *config, size_t word, uint32_t value
  * Accepted: the next configuration stands in the first words of `out`, as many as the answer's length says; the bytes behind keep what
  * they were. Refused: no byte of `out` has changed, and all fields of the answer but the number are 0. An output has room for half its
  * bytes in words, rounded down. Refusals 1 to 5, 13, 6 to 10, the first that applies.
+ *
+ * The engines of a step are `engine` and, where the process that moves sends (SOCK_NOTIFY, SOCK_SOLICIT, SOCK_EXECUTOR, SOCK_NOTICE), `second`.
+ * An accepted step changes no word of the values or the process of any other engine. Two steps with no engine in common, not both
+ * SOCK_SOLICIT, may change places: if both orders are accepted, they end in the same words, and each step answers the same kind, serial and
+ * fault in both. If only one order is accepted, it is for the length of what stands between the two: the other order's first step is
+ * refused with SOCK_LONG or SOCK_SHORT_PAPER, or its second with SOCK_SHORT_PAPER where that output is shorter than the result.
  */
 uint64_t sock_step(uint16_t engine, uint16_t position, uint16_t second, uint16_t second_position, uint16_t branch,
                    const uint8_t *config, size_t config_length, uint8_t *out, size_t out_length);

@@ -124,11 +124,11 @@ delivers {s} {e} {e'} issued vs vs' fs (faultMeets {o} {f} {x} {dead} {l}) =
 
 -- ---- an accepted step
 
-given : {A B : Type 0} (r : Refusal) {o : Option A} {a : A} (k : A → Result B) → o ≡ some a → ((r ! o) >>= k) ≡ k a
+pub given : {A B : Type 0} (r : Refusal) {o : Option A} {a : A} (k : A → Result B) → o ≡ some a → ((r ! o) >>= k) ≡ k a
 unfolding _>>=_ _!_
 given r k e = rw e
 
-unless-true : {A : Type 0} (r : Refusal) (b : Bool) (k : Result A) → T b → (_>>_ (r unless b) k) ≡ k
+pub unless-true : {A : Type 0} (r : Refusal) (b : Bool) (k : Result A) → T b → (_>>_ (r unless b) k) ≡ k
 unfolding _>>_ _unless_
 unless-true r true k t = refl
 unless-true r false k t = absurd t

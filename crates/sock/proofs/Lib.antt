@@ -1,7 +1,9 @@
 pub mod Accepted
 pub mod Accounts
 pub mod Agreement
+pub mod Apart
 pub mod Around
+pub mod Beside
 pub mod Bounds
 pub mod ByKind
 pub mod ByteWords
@@ -30,6 +32,7 @@ pub mod Messages
 pub mod Moves
 pub mod Nodes
 pub mod Opening
+pub mod Orders
 pub mod Pending
 pub mod Placed
 pub mod Positions
@@ -41,6 +44,7 @@ pub mod Rewriting
 pub mod Rooms
 pub mod Rules
 pub mod Running
+pub mod Senders
 pub mod Shrinking
 pub mod Signs
 pub mod Singles
@@ -48,6 +52,7 @@ pub mod Slips
 pub mod Solicits
 pub mod Steps
 pub mod Table
+pub mod Taken
 pub mod Tallies
 pub mod Tests
 pub mod Trades

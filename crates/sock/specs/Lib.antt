@@ -20,3 +20,4 @@ pub mod Counts
 pub mod Everywhere
 pub mod Runs
 pub mod Events
+pub mod Beside

@@ -1,6 +1,7 @@
 //! Generators for tests: random starts, readable configurations, steps, damage and edges. All
 //! are deterministic in the seed of their `Random`.
 
+pub mod beside;
 pub mod code;
 pub mod damage;
 pub mod edges;
