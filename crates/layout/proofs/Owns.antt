@@ -1,15 +1,15 @@
 -- The own words of a process that fits end where the fixed table says: behind its head, its fixed words and its lists of variables.
 -- Assumes nothing.
-use Prim.Native.Nat.{ℕ, zero, suc, _+_, _-_, _*_, _≤_, _<_}
+use Prim.Native.Nat.{ℕ, zero, suc, _+_, _-_, _*_, _/_, _%_, _≤_, _<_}
 use native.Mathlib.Omega.{arith}
 use mathlib.Core.Path.{_≡_, refl, sym, ap, _∙_}
-use mathlib.Core.Bool.{_&&_, cond}
+use mathlib.Core.Bool.{Bool, true, false, _&&_, cond}
 use mathlib.Core.List.{List, [], _∷_, _++_, append-assoc, append-nil}
-use borrow.Author.Tests.{lt-leb}
+use borrow.Author.Tests.{lt-leb, ltb-true, ltb-false}
 use lib.Dec.{T, leb, ltb}
-use lib.ListN.{length, getD, drop, length-append}
+use lib.ListN.{length, getD, drop, length-append, List·getD-eq-default}
 use Rattle.sock.specs.Kind
-use Rattle.sock.specs.Kind.{Own, word, variables, rows, rowOf}
+use Rattle.sock.specs.Kind.{Own, word, variables, rows, rowOf, noRow}
 use Rattle.sock.specs.Words.{kindOf, headOf, nameFields}
 use Rattle.sock.specs.Variables.{firstOf, variableWords}
 use Rattle.sock.specs.Term.{Expr, node, Block, Nodes}
@@ -23,7 +23,7 @@ use Rattle.sock.proofs.Measures.{words-executor}
 use Rattle.sock.proofs.Positions.{At, at-head, at-past}
 use Rattle.sock.proofs.Reading.{split, tests}
 use Rattle.sock.proofs.Running.{asNode-fits}
-use Rattle.layout.specs.Own.{variablesEnd, listsEnd, ownEnd}
+use Rattle.layout.specs.Own.{variablesEnd, listsEnd, ownForm, ownEnd}
 
 -- how the own words of a kind are laid out: fixed words, then lists of variables
 data Shape : List Own → Type 0 where
@@ -43,6 +43,42 @@ shapes =
     then oneWord then bare then bare then bare then bare  -- scope, inst to cH
     then wordsList then wordsList then twoWords  -- executor, waiter, notice
     then end
+
+-- the two counts in one number
+packed : From (λ k. (ownForm k / 4 ≡ countsOf k .fixed) × (ownForm k % 4 ≡ countsOf k .variables)) 19 0
+unfolding ownForm countsOf counted rowOf rows wordCount listCount
+packed =
+    (refl, refl) then (refl, refl) then (refl, refl) then (refl, refl) then (refl, refl) then (refl, refl) then (refl, refl) then (refl, refl)
+    then (refl, refl) then (refl, refl) then (refl, refl) then (refl, refl) then (refl, refl) then (refl, refl) then (refl, refl) then (refl, refl)
+    then (refl, refl) then (refl, refl) then (refl, refl)
+    then end
+
+no-row : (k : ℕ) → 19 ≤ k → rowOf k ≡ noRow
+unfolding rowOf rows
+no-row k far = List·getD-eq-default rows noRow far
+
+pub form-beyond : (k : ℕ) → 19 ≤ k → ownForm k ≡ 0
+unfolding ownForm countsOf counted wordCount listCount
+form-beyond k far = rw (no-row k far) refl
+
+beyond-packed : (k : ℕ) → 19 ≤ k → (ownForm k / 4 ≡ countsOf k .fixed) × (ownForm k % 4 ≡ countsOf k .variables)
+unfolding ownForm countsOf counted wordCount listCount
+beyond-packed k far = rw (no-row k far) (refl, refl)
+
+pub form-parts : (k : ℕ) → (ownForm k / 4 ≡ countsOf k .fixed) × (ownForm k % 4 ≡ countsOf k .variables)
+form-parts k = by (ltb k 19) refl
+  where
+    by : (b : Bool) → ltb k 19 ≡ b → (ownForm k / 4 ≡ countsOf k .fixed) × (ownForm k % 4 ≡ countsOf k .variables)
+    by true e = fact-at packed k (omega arith) (ltb-true k 19 e)
+    by false e = beyond-packed k (ltb-false k 19 e)
+
+pub end-by :
+    (ws : List ℕ) (i k form : ℕ) → i < length ws → k ≡ kindOf (getD ws i 0) → form ≡ ownForm k →
+    listsEnd ws (i + 1 + form / 4) (form % 4) ≡ ownEnd ws i
+unfolding ownEnd
+end-by ws i k form inside e q =
+    let p = form-parts (kindOf (getD ws i 0)) in
+    rw (q, e, p .0, p .1, lt-leb (length ws) i inside) refl
 
 further-count : {n : ℕ} {v : List ℕ} → FitsFurther n v → length v ≡ n
 further-count noFurther = refl

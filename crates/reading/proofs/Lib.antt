@@ -16,7 +16,6 @@ pub mod Later
 pub mod Lent
 pub mod Lists
 pub mod Masks
-pub mod Others
 pub mod Owned
 pub mod Parts
 pub mod Processes

@@ -1,7 +1,7 @@
 -- `handling::measure::code_levels`, `expressed`, `list_levels` and `parts`. The measure is the depth left, times 3. Both loops' invariant: what is
 -- left, from here and with the depth so far, measures as the whole does from its start; their measure: the parts left.
 -- Assumes nothing.
-use Rattle.reading.proofs.Others.{beyond}
+use Rattle.layout.proofs.Others.{beyond}
 use lib.ListN.{List·getD-eq-default}
 use mathlib.Core.Path.{_≡_, refl}
 use borrow.Author.Needs.{needs}

@@ -6,7 +6,7 @@ use Prim.Native.Nat.{ℕ, _+_, _*_, _<_}
 use mathlib.Core.Path.{_≡_, refl, sym, _∙_}
 use borrow.Author.Needs.{needs}
 use lib.ListN.{length, List·getD-eq-default}
-use Rattle.reading.proofs.Others.{beyond}
+use Rattle.layout.proofs.Others.{beyond}
 use Rattle.sock.proofs.Tests.{tests}
 use Rattle.handling.proofs.Replacements.{replace-step, parts-step, parts-end, par-both, par-first, parts-turn}
 use Rattle.handling.specs.Replacing.{replaceW, nodeW, seqW, afterFirst, parW, parAfter, closePar, conditionW, keptW, partsW, nilW}

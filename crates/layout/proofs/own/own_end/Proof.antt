@@ -1,7 +1,10 @@
--- `own_end` of `layout::own` meets its contract.
+-- `own_end` of `layout::own` meets its contract: the two counts that the form packs are the fixed table's.
 -- Assumes nothing.
-use Rattle.layout.specs.Own.{ownEnd}
+use native.Mathlib.Omega.{arith}
+use mathlib.Core.Path.{_∙_}
 use Rattle.sock.proofs.Tests.{tests}
+use Rattle.layout.specs.Own.{ownEnd}
+use Rattle.layout.proofs.Owns.{end-by}
 use borrow.Author.Needs.{needs}
 use Rattle.layout.proofs.own.own_end.Statement.{statement}
 use Rattle.layout.proofs.own.own_end.Tie as tie
@@ -9,7 +12,7 @@ use Rattle.layout.proofs.own.own_end.Tie as tie
 returns : tie.Need-returns
 unfolding ownEnd
 returns c =
-    let f0 = c .if1 .taken in
+    let f0 = (c .if1 .taken) in
     simp (tests, f0)
 
 mul-kind-of : tie.Need-mul-kind-of
@@ -21,29 +24,20 @@ shared-slice-read-kind-of c = search needs
 kind-of-requires : tie.Need-kind-of-requires
 kind-of-requires c κs = search needs
 
-counts-of-requires : tie.Need-counts-of-requires
-counts-of-requires c κs = search needs
+own-form-requires : tie.Need-own-form-requires
+own-form-requires c κs = search needs
 
 add-lists-end : tie.Need-add-lists-end
 add-lists-end c = search needs
 
-cast-lists-end : tie.Need-cast-lists-end
-cast-lists-end c = search needs
-
 add-lists-end-2 : tie.Need-add-lists-end-2
 add-lists-end-2 c = search needs
-
-cast-lists-end-2 : tie.Need-cast-lists-end-2
-cast-lists-end-2 c = search needs
 
 lists-end-requires : tie.Need-lists-end-requires
 lists-end-requires c κs = search needs
 
 returns-2 : tie.Need-returns-2
-unfolding ownEnd
-returns-2 c =
-    let f0 = c .before .before .before .before .before .before .if1 .left in
-    simp (tests, f0, ← (c .lists-end .ensures), ← (c .before .before .before .counts-of .ensures), ← (c .before .before .before .before .kind-of .ensures .0))
+returns-2 c = (c .lists-end .ensures) ∙ end-by (c .before .before .before .before .before .before .args .ws .now) (c .before .before .before .before .before .before .args .at) _ _ (omega (arith, (c .before .before .before .before .if1 .left))) (c .before .before .kind-of .ensures .0) (c .before .own-form .ensures .0)
 
 pub own-end-spec : {M : Type 1} → statement M
 own-end-spec =
@@ -53,10 +47,8 @@ own-end-spec =
     mul-kind-of
     shared-slice-read-kind-of
     kind-of-requires
-    counts-of-requires
+    own-form-requires
     add-lists-end
-    cast-lists-end
     add-lists-end-2
-    cast-lists-end-2
     lists-end-requires
     returns-2)

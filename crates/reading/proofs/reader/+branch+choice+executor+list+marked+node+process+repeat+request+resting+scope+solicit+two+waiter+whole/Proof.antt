@@ -10,7 +10,7 @@ use borrow.Author.Needs.{needs}
 use lib.ListN.{length, List·getD-eq-default}
 use Rattle.reading.proofs.Fitting.{slot-small}
 use Rattle.reading.proofs.Later.{Going, begins, Ready, small, three-tests, too-deep, no-words, whole-fails, read-last, read-next, leaf-last, leaf-next, part-next, past-node, past-whole}
-use Rattle.reading.proofs.Others.{beyond}
+use Rattle.layout.proofs.Others.{beyond}
 use Rattle.sock.proofs.Tests.{tests}
 use Rattle.reading.proofs.Walks.{process-step, branches-step, branches-end, entries-step, entries-end, process-node, process-refused, key-inside, entries-turn}
 use Rattle.reading.specs.Tables.{shapeOf}

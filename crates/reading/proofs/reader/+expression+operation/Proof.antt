@@ -2,7 +2,7 @@
 -- reads its operands one level down.
 -- Assumes nothing.
 use lib.ListN.{List·getD-eq-default}
-use Rattle.reading.proofs.Others.{beyond}
+use Rattle.layout.proofs.Others.{beyond}
 use borrow.Author.Needs.{needs}
 use Rattle.reading.specs.Walk.{exprEnd, exprAt, operationEnd, on, when}
 use Rattle.reading.proofs.Walks.{expr-step}

@@ -3,7 +3,7 @@
 use mathlib.Core.Path.{sym, ap}
 use lib.ListN.{List·getD-eq-default}
 use Rattle.reading.specs.Tables.{bitOf}
-use Rattle.reading.proofs.Others.{beyond}
+use Rattle.layout.proofs.Others.{beyond}
 use Rattle.reading.proofs.tables.bit.Statement.{statement}
 use Rattle.reading.proofs.tables.bit.Tie as tie
 

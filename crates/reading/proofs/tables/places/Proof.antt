@@ -5,7 +5,7 @@ use Rattle.sock.specs.Kind.{rows, rowOf}
 use Rattle.sock.specs.Reading.{allowed, placed}
 use Rattle.reading.specs.Tables.{spareOf, bitOf, placesOf}
 use Rattle.reading.proofs.Masks.{places-beyond}
-use Rattle.reading.proofs.Others.{beyond}
+use Rattle.layout.proofs.Others.{beyond}
 use Rattle.reading.proofs.tables.places.Statement.{statement}
 use Rattle.reading.proofs.tables.places.Tie as tie
 

@@ -6,7 +6,7 @@ use Rattle.sock.specs.Counts.{wordCount, listCount}
 use Rattle.sock.specs.Reading.{allowed, placed}
 use Rattle.reading.specs.Tables.{spareOf, bitOf, shapeOf}
 use Rattle.reading.proofs.Fitting.{shape-beyond}
-use Rattle.reading.proofs.Others.{beyond}
+use Rattle.layout.proofs.Others.{beyond}
 use Rattle.reading.proofs.tables.shape.Statement.{statement}
 use Rattle.reading.proofs.tables.shape.Tie as tie
 

@@ -6,7 +6,7 @@ use Rattle.sock.specs.Kind.{rows, rowOf}
 use Rattle.sock.specs.Counts.{wordCount, listCount}
 use Rattle.skipping.specs.Skip.{formOf}
 use Rattle.skipping.proofs.Forms.{form-beyond}
-use Rattle.reading.proofs.Others.{beyond}
+use Rattle.layout.proofs.Others.{beyond}
 use Rattle.skipping.proofs.skip.form.Statement.{statement}
 use Rattle.skipping.proofs.skip.form.Tie as tie
 
