@@ -58,6 +58,12 @@ int main(void)
     answer = sock_take_step(reply, config, length, config, sizeof config);
     printf("the same, over the configuration: %s\n", sock_word(answer.number));
 
+    /* The same in the swing bridge cabinet, which reads 2,048 words: what it writes is what the large one would write. */
+    static uint8_t out_small[SOCK_BYTES_SMALL];
+    answer = sock_take_step_small(reply, config, length, out_small, sizeof out_small);
+    printf("the same, in the small cabinet: %s, %d words\n", sock_word(answer.number), answer.length);
+    printf("readable there: %s\n", sock_word(sock_test_readable_small(out_small, sock_bytes(answer.length)).number));
+
     /* What engines 2 and 7 owe: two replies of 1 litre at 1 cent per 1,000 litres, each a cent, and one of 1,000 litres at 250. */
     static uint8_t rates[SOCK_RATE_BYTES], replies[3 * SOCK_REPLY_BYTES];
     static const uint32_t list[9] = {5, 2, 1, 5, 2, 1, 6, 7, 1000};

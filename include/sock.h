@@ -1,7 +1,7 @@
 /* SOCK engines in a lock cabinet: the calls on bytes, for C and C++.
  *
  * A configuration is a row of 16-bit words, each two bytes, the high byte first; docs/FORMAT.md says what the words mean. It has at most
- * 8,192 words (16,384 bytes). Every call answers for all bytes and numbers: nothing has to be checked before. A configuration of odd length
+ * 8,192 words (16,384 bytes), and 2,048 in the swing bridge cabinet, whose calls end in _small. Every call answers for all bytes and numbers: nothing has to be checked before. A configuration of odd length
  * is unreadable.
  *
  * A message carries one to four values. Up to version 3 it carried one, and no counts of variables stood in a configuration; such inputs of
@@ -24,7 +24,8 @@
  * Threads and signals. Every call may be made from any thread and from a signal handler, also while another call is under way. Two
  * calls may read one configuration at the same time; nobody may write to it, or touch an output, until the call has returned.
  *
- * Stack. A call needs at most SOCK_STACK bytes, on the stack of its thread or of the signal handler (sigaltstack).
+ * Stack. A call needs at most SOCK_STACK bytes, one that ends in _small at most SOCK_STACK_SMALL, on the stack of its thread or of the signal
+ * handler (sigaltstack).
  */
 #ifndef SOCK_H
 #define SOCK_H
@@ -38,13 +39,17 @@ extern "C" {
 
 /* This header's version. The first number rises when a call, an answer or the format changes, the second when something is added. */
 #define SOCK_VERSION_MAJOR 4
-#define SOCK_VERSION_MINOR 1
+#define SOCK_VERSION_MINOR 2
 #define SOCK_VERSION_PATCH 0
-#define SOCK_VERSION "4.1.0"
+#define SOCK_VERSION "4.2.0"
 
 /* The most words and bytes that a configuration has. */
 #define SOCK_WORDS 8192
 #define SOCK_BYTES (2 * SOCK_WORDS)
+
+/* The same in the swing bridge cabinet. Its depth is 32, the large one's 64. */
+#define SOCK_WORDS_SMALL 2048
+#define SOCK_BYTES_SMALL (2 * SOCK_WORDS_SMALL)
 
 /* The most engines that a configuration has, and the variables and the words of their values that each of them has. */
 #define SOCK_ENGINES 8
@@ -57,8 +62,10 @@ extern "C" {
 #define SOCK_WINDOW_WORDS (SOCK_OPERATIONS + 1 + SOCK_WINDOW_WIDEST)
 #define SOCK_WINDOW_BYTES (2 * SOCK_WINDOW_WORDS)
 
-/* Bytes of stack that are enough for any call. The most that a call was seen to use is below three quarters of it, which is tested. */
+/* Bytes of stack that are enough for any call, and for any of the swing bridge cabinet's. The most that a call was seen to use is below three
+ * quarters of it, which is tested. */
 #define SOCK_STACK 262144
+#define SOCK_STACK_SMALL 114688
 
 /* What a call answers: a result (0), or why there is none. */
 enum sock_number {
@@ -70,8 +77,8 @@ enum sock_number {
     SOCK_NO_FIT = 5,          /* the two do not fit each other (also by how many values), or the branch does not */
     SOCK_INSTALLING = 6,      /* the fault meets a side that cannot be killed yet */
     SOCK_SERIALS_SPENT = 7,   /* a solicit when 65,535 serials are issued */
-    SOCK_DEEP = 8,            /* the result would be deeper than 64 */
-    SOCK_LONG = 9,            /* the result would be longer than 8,192 words */
+    SOCK_DEEP = 8,            /* the result would be deeper than 64, in the swing bridge cabinet than 32 */
+    SOCK_LONG = 9,            /* the result would be longer than 8,192 words, in the swing bridge cabinet than 2,048 */
     SOCK_SHORT_PAPER = 10,    /* the output is shorter than the result */
     SOCK_NOT_FRESH = 11,      /* start check: readable, but not a start */
     SOCK_UNKNOWN_SERIAL = 12, /* ends: the serial is 0 or above issued */
@@ -81,7 +88,7 @@ enum sock_number {
     SOCK_WINDOW_WIDTH = 18,   /* window: a width that is not 1 to 1,024, an operation above 63, or a window that no run gives */
     SOCK_RATE_TOO_HIGH = 19,  /* bill: a rate is above 1,000,000, or the rates are not 256 bytes */
     SOCK_LIST_UNFIT = 20,     /* bill: list cut or too long, operation above 63 or engine above 7; or totals of fewer than 64 bytes */
-    SOCK_OVERLAP = 255        /* sock_take_step, sock_note_step, sock_go_back: what was lent overlaps, so no call was made */
+    SOCK_OVERLAP = 255        /* sock_take_step, sock_note_step, sock_go_back and their _small ones: what was lent overlaps, so no call was made */
 };
 
 /* The nineteen kinds of process, the first 5 bits of a head. */
@@ -215,21 +222,28 @@ static inline int sock_overlap(const uint8_t *one, size_t one_length, const uint
     return a < b ? b - a < one_length : a - b < other_length;
 }
 
+/* A step's packed answer taken apart. */
+static inline struct sock_step_answer sock_step_parts(uint64_t answer)
+{
+    struct sock_step_answer taken = {sock_number(answer), sock_kind(answer), sock_fault(answer), sock_serial(answer), sock_length(answer)};
+    return taken;
+}
+
+/* The answer where what was lent overlaps. */
+static inline struct sock_step_answer sock_step_overlaps(void)
+{
+    struct sock_step_answer taken = {SOCK_OVERLAP, SOCK_NIL, 0, 0, 0};
+    return taken;
+}
+
 /* The step; SOCK_OVERLAP, before all others, where output and configuration overlap. */
 static inline struct sock_step_answer sock_take_step(struct sock_move move, const uint8_t *config, size_t config_length,
                                                      uint8_t *out, size_t out_length)
 {
-    struct sock_step_answer taken = {SOCK_OVERLAP, SOCK_NIL, 0, 0, 0};
-    uint64_t answer;
     if (sock_overlap(config, config_length, out, out_length))
-        return taken;
-    answer = sock_step(move.engine, move.position, move.second, move.second_position, move.branch, config, config_length, out, out_length);
-    taken.number = sock_number(answer);
-    taken.kind = sock_kind(answer);
-    taken.fault = sock_fault(answer);
-    taken.serial = sock_serial(answer);
-    taken.length = sock_length(answer);
-    return taken;
+        return sock_step_overlaps();
+    return sock_step_parts(sock_step(move.engine, move.position, move.second, move.second_position, move.branch, config, config_length,
+                                     out, out_length));
 }
 
 /* ---- Step with a journal: the step, and what it takes to go back. ----
@@ -249,19 +263,11 @@ uint64_t sock_step_journal(uint16_t engine, uint16_t position, uint16_t second, 
 static inline struct sock_step_answer sock_note_step(struct sock_move move, const uint8_t *config, size_t config_length,
                                                      uint8_t *out, size_t out_length, uint8_t *journal, size_t journal_length)
 {
-    struct sock_step_answer taken = {SOCK_OVERLAP, SOCK_NIL, 0, 0, 0};
-    uint64_t answer;
     if (sock_overlap(config, config_length, out, out_length) || sock_overlap(config, config_length, journal, journal_length) ||
         sock_overlap(out, out_length, journal, journal_length))
-        return taken;
-    answer = sock_step_journal(move.engine, move.position, move.second, move.second_position, move.branch, config, config_length, out,
-                               out_length, journal, journal_length);
-    taken.number = sock_number(answer);
-    taken.kind = sock_kind(answer);
-    taken.fault = sock_fault(answer);
-    taken.serial = sock_serial(answer);
-    taken.length = sock_length(answer);
-    return taken;
+        return sock_step_overlaps();
+    return sock_step_parts(sock_step_journal(move.engine, move.position, move.second, move.second_position, move.branch, config,
+                                             config_length, out, out_length, journal, journal_length));
 }
 
 /* ---- Taking back: from what a step left, by its journal, to what was before. ----
@@ -311,6 +317,56 @@ static inline struct sock_check_answer sock_test_start(const uint8_t *config, si
 static inline struct sock_check_answer sock_test_readable(const uint8_t *config, size_t config_length)
 {
     struct sock_check_answer tested = {(enum sock_number)sock_check_readable(config, config_length)};
+    return tested;
+}
+
+/* ---- The swing bridge cabinet: the step and the two checks at smaller figures. ----
+ *
+ * It has 2,048 words and depth 32, needs less stack (SOCK_STACK_SMALL), and shares configurations with the large one: what either writes the
+ * other may read. A configuration beyond either figure is SOCK_UNREADABLE, a result beyond them SOCK_DEEP or SOCK_LONG, depth first. Else all
+ * is as in the calls without _small: it accepts exactly where the large one, lent the same, accepts with input and result inside these
+ * figures, and gives the same answer and words. What it has taken sock_take_back takes back. A finished request can be delivered here while
+ * this cabinet reads the configuration. SOCK_JOURNAL_ENOUGH_SMALL words of journal are enough for every step.
+ */
+#define SOCK_JOURNAL_ENOUGH_SMALL 4098
+#define SOCK_JOURNAL_BYTES_SMALL (2 * SOCK_JOURNAL_ENOUGH_SMALL)
+uint64_t sock_step_small(uint16_t engine, uint16_t position, uint16_t second, uint16_t second_position, uint16_t branch,
+                         const uint8_t *config, size_t config_length, uint8_t *out, size_t out_length);
+uint64_t sock_step_journal_small(uint16_t engine, uint16_t position, uint16_t second, uint16_t second_position, uint16_t branch,
+                                 const uint8_t *config, size_t config_length, uint8_t *out, size_t out_length, uint8_t *journal,
+                                 size_t journal_length);
+uint8_t sock_check_start_small(const uint8_t *config, size_t config_length);
+uint8_t sock_check_readable_small(const uint8_t *config, size_t config_length);
+
+/* As sock_take_step, sock_note_step, sock_test_start and sock_test_readable. */
+static inline struct sock_step_answer sock_take_step_small(struct sock_move move, const uint8_t *config, size_t config_length,
+                                                           uint8_t *out, size_t out_length)
+{
+    if (sock_overlap(config, config_length, out, out_length))
+        return sock_step_overlaps();
+    return sock_step_parts(sock_step_small(move.engine, move.position, move.second, move.second_position, move.branch, config,
+                                           config_length, out, out_length));
+}
+
+static inline struct sock_step_answer sock_note_step_small(struct sock_move move, const uint8_t *config, size_t config_length,
+                                                           uint8_t *out, size_t out_length, uint8_t *journal, size_t journal_length)
+{
+    if (sock_overlap(config, config_length, out, out_length) || sock_overlap(config, config_length, journal, journal_length) ||
+        sock_overlap(out, out_length, journal, journal_length))
+        return sock_step_overlaps();
+    return sock_step_parts(sock_step_journal_small(move.engine, move.position, move.second, move.second_position, move.branch, config,
+                                                   config_length, out, out_length, journal, journal_length));
+}
+
+static inline struct sock_check_answer sock_test_start_small(const uint8_t *config, size_t config_length)
+{
+    struct sock_check_answer tested = {(enum sock_number)sock_check_start_small(config, config_length)};
+    return tested;
+}
+
+static inline struct sock_check_answer sock_test_readable_small(const uint8_t *config, size_t config_length)
+{
+    struct sock_check_answer tested = {(enum sock_number)sock_check_readable_small(config, config_length)};
     return tested;
 }
 

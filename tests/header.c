@@ -42,6 +42,15 @@ static size_t start(void)
     return at;
 }
 
+/* So many comps in pars, from this word on; answers where the next one goes. */
+static size_t balanced(uint8_t *words, size_t at, size_t comps)
+{
+    if (comps == 1)
+        return sock_put(words, at, 0x7000);
+    at = balanced(words, sock_put(words, at, 0x1800), comps / 2);
+    return balanced(words, at, comps - comps / 2);
+}
+
 static void words_and_values(size_t words)
 {
     uint8_t bytes[6] = {0xff, 0xff, 0xff, 0xff, 0xff, 0xff};
@@ -116,6 +125,37 @@ static void journals(size_t length)
     check(sock_note_step(ask, config, length, out, sizeof out, journal, 7).number == SOCK_JOURNAL_SHORT, "a journal that is short");
     check(sock_note_step(ask, config, length, out, sizeof out, out, 8).number == SOCK_OVERLAP, "a journal in the output");
     check(sock_go_back(out, sock_bytes(146), journal, sizeof journal, journal, 2).number == SOCK_OVERLAP, "an output in the journal");
+}
+
+/* The swing bridge cabinet's calls: alike inside its figures, and configurations of as many words as it reads, and of two more. */
+static void small_cabinet(size_t length)
+{
+    static uint8_t journal[SOCK_JOURNAL_BYTES_SMALL], full[SOCK_BYTES];
+    struct sock_step_answer taken = sock_take_step_small(ask, config, length, out, SOCK_BYTES_SMALL);
+    size_t at;
+    check(SOCK_BYTES_SMALL == 4096 && SOCK_JOURNAL_BYTES_SMALL == 8196, "bytes of the small cabinet");
+    check(sock_step_small(0, 3, 1, 3, 0, config, length, out, SOCK_BYTES_SMALL) == 0x000a000000010092, "the raw step");
+    check(taken.number == SOCK_ACCEPTED && taken.kind == SOCK_SOLICIT && taken.serial == 1 && taken.length == 146, "the small step");
+    taken = sock_note_step_small(ask, config, length, out, sizeof out, journal, sizeof journal);
+    check(taken.number == SOCK_ACCEPTED && sock_get(journal, 0) == length / 2, "the small step with a journal");
+    check(sock_step_journal_small(0, 3, 1, 3, 0, config, length, out, sizeof out, journal, 6) == (uint64_t)SOCK_JOURNAL_SHORT << 56, "a journal that is short");
+    check(sock_go_back(out, sock_bytes(146), journal, sizeof journal, full, sizeof full).number == SOCK_ACCEPTED, "taken back by the large cabinet");
+    check(memcmp(full, config, length) == 0, "to the earlier configuration");
+    check(sock_take_step_small(ask, config, length, config, 2).number == SOCK_OVERLAP, "an output in the configuration");
+    check(sock_note_step_small(ask, config, length, out, sizeof out, out, 8).number == SOCK_OVERLAP, "a journal in the output");
+    check(sock_test_start_small(config, length).number == SOCK_ACCEPTED && sock_check_start_small(config, length) == 0, "a start");
+    check(sock_check_start_small(out, sock_bytes(146)) == SOCK_NOT_FRESH && sock_check_readable_small(NULL, 0) == SOCK_UNREADABLE, "no starts");
+    /* One engine, a scope around pars of comps: 69 words and an odd count. */
+    for (size_t words = SOCK_WORDS_SMALL; words <= SOCK_WORDS_SMALL + 2; words += 2) {
+        size_t pairs = (words - 70) / 2;
+        memset(full, 0, sizeof full);
+        sock_put(full, 0, 1);
+        at = sock_put(full, 66, 0x5800) + 2;
+        at = balanced(full, at, pairs + 1);
+        check(at == 2 * pairs + 70, "words of pars");
+        check(sock_test_readable(full, sock_bytes(at)).number == SOCK_ACCEPTED, "readable in the large cabinet");
+        check(sock_test_readable_small(full, sock_bytes(at)).number == (at <= SOCK_WORDS_SMALL ? SOCK_ACCEPTED : SOCK_UNREADABLE), "in the small one");
+    }
 }
 
 static void null_pointers(size_t length)
@@ -202,6 +242,7 @@ int main(void)
     inline_and_raw(sock_bytes(words));
     overlap(sock_bytes(words));
     journals(sock_bytes(words));
+    small_cabinet(sock_bytes(words));
     null_pointers(sock_bytes(words));
     bills();
     pending();

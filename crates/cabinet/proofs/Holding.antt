@@ -16,7 +16,7 @@ use Rattle.sock.specs.Pending.{Pending as Search, sideAt, searched, pendingAt, 
 use Rattle.searching.specs.declared.call.Pending.{Pending}
 use Rattle.searching.specs.Answers.{pendingAs}
 use Rattle.sock.specs.Calls.{unreadable, nobodyThere, enabledAt, notFresh, unknownSerial, done, _!_, _>>=_, _>>_, _unless_, passed, Ends, checkReadable, start, checkStart, counted, known, ends, partIn, processPart, over}
-use Rattle.sock.specs.Configuration.{Config, standard, readConfig, fresh}
+use Rattle.sock.specs.Configuration.{Config, Limits, standard, readConfig, fresh}
 use Rattle.sock.proofs.ByteWords.{words-next, words-length, words-of-odd, length-words, no-words, long-unread}
 use Rattle.reading.specs.declared.ends.EndCounts.{EndCounts}
 use Rattle.reading.specs.Answers.{endCounts}
@@ -111,39 +111,44 @@ first-held room m bytes ws out r s p q =
 -- ---- what is not held is not readable
 
 -- the words held are read as the definitions' are
-pub read-held : (bytes : List ℕ) → readConfig standard (held 8192 bytes) ≡ readConfig standard (wordsOrNone (wordsOf bytes))
-read-held bytes = by (ltb 16384 (length bytes)) refl
-  where
-    by : (b : Bool) → ltb 16384 (length bytes) ≡ b → readConfig standard (held 8192 bytes) ≡ readConfig standard (wordsOrNone (wordsOf bytes))
-    by true e =
-        ap (readConfig standard) (held-as 8192 bytes true e)
-        ∙ no-words standard
-        ∙ sym (long-unread standard bytes (wordsOf bytes) (length-words bytes) (ltb-true 16384 (length bytes) e))
-    by false e = ap (readConfig standard) (held-as 8192 bytes false e)
+module _ (limits : Limits) (most : ℕ) (all : limits .longest ≤ most) where
+  pub read-held : (bytes : List ℕ) → readConfig limits (held most bytes) ≡ readConfig limits (wordsOrNone (wordsOf bytes))
+  read-held bytes = by (ltb (most * 2) (length bytes)) refl
+    where
+      by : (b : Bool) → ltb (most * 2) (length bytes) ≡ b → readConfig limits (held most bytes) ≡ readConfig limits (wordsOrNone (wordsOf bytes))
+      by true e =
+          ap (readConfig limits) (held-as most bytes true e)
+          ∙ no-words limits
+          ∙ sym (long-unread limits bytes (wordsOf bytes) (length-words bytes) (omega (arith, all, ltb-true (most * 2) (length bytes) e)))
+      by false e = ap (readConfig limits) (held-as most bytes false e)
+
+  module _ (bytes ws : List ℕ) (e : ws ≡ held most bytes) where
+    pub read-as : readConfig limits ws ≡ readConfig limits (wordsOrNone (wordsOf bytes))
+    read-as = ap (readConfig limits) e ∙ read-held bytes
+
+    pub readable-as : checkReadable limits ws ≡ byteCheckReadable limits bytes
+    unfolding checkReadable byteCheckReadable
+    readable-as = ap (λ (o : Option Config). passed (unreadable ! o)) read-as
+
+    pub start-as : checkStart limits ws ≡ byteCheckStart limits bytes
+    unfolding checkStart start byteCheckStart
+    start-as = ap (λ (o : Option Config). passed (unreadable ! o >>= λ c. _>>_ (notFresh unless fresh c) (done c))) read-as
 
 module _ (bytes ws : List ℕ) (e : ws ≡ held 8192 bytes) where
-  pub read-as : readConfig standard ws ≡ readConfig standard (wordsOrNone (wordsOf bytes))
-  read-as = ap (readConfig standard) e ∙ read-held bytes
-
-  pub readable-as : checkReadable standard ws ≡ byteCheckReadable bytes
-  unfolding checkReadable byteCheckReadable
-  readable-as = ap (λ (o : Option Config). passed (unreadable ! o)) read-as
-
-  pub start-as : checkStart standard ws ≡ byteCheckStart bytes
-  unfolding checkStart start byteCheckStart
-  start-as = ap (λ (o : Option Config). passed (unreadable ! o >>= λ c. _>>_ (notFresh unless fresh c) (done c))) read-as
+  abbrev read-large : readConfig standard ws ≡ readConfig standard (wordsOrNone (wordsOf bytes))
+  read-large = read-as standard 8192 (omega arith) bytes ws e
 
   pub ends-as : (s : ℕ) → packedEnds (ends standard ws s) ≡ byteEnds bytes s
   unfolding ends known byteEnds
-  ends-as s = ap (λ (o : Option Config). packedEnds (counted s (unreadable ! o >>= λ c. _>>_ (unknownSerial unless (ltb 0 s && leb s (c .issued))) (done c)))) read-as
+  ends-as s = ap (λ (o : Option Config). packedEnds (counted s (unreadable ! o >>= λ c. _>>_ (unknownSerial unless (ltb 0 s && leb s (c .issued))) (done c)))) read-large
 
   pub pending-as : (e p : ℕ) → packedPending (pendingAt standard ws e p) ≡ bytePending bytes e p
   unfolding pendingAt sideAt bytePending
-  pending-as e p = ap (λ (o : Option Config). packedPending (searched (unreadable ! o >>= λ c. nobodyThere ! enabledAt c e p >>= λ a. done a))) read-as
+  pending-as e p = ap (λ (o : Option Config). packedPending (searched (unreadable ! o >>= λ c. nobodyThere ! enabledAt c e p >>= λ a. done a))) read-large
 
   pub process-as : (e : ℕ) → packedPart (processPart standard ws e) ≡ byteProcess bytes e
   unfolding processPart byteProcess
-  process-as e = ap (λ (o : Option Config). packedPart (partIn e o)) read-as
+  process-as e = ap (λ (o : Option Config). packedPart (partIn e o)) read-large
 
 pub pending-packed :
     (r : Pending) (p : Search) (f : ℕ) → r ≡ pendingAs p → f ≡ bit (r .found) → r .number * 72057594037927936 + f * 281474976710656 + r .count ≡ packedPending p

@@ -223,10 +223,10 @@ module _ (config ws : List ℕ) (e : ws ≡ held 8192 config) (journal words out
   on-bytes = by (readConfig standard (wordsOrNone (wordsOf config))) refl
     where
       by : (o : Option Config) → readConfig standard (wordsOrNone (wordsOf config)) ≡ o → takeBack standard ws words m ≡ ((unreadable ! wordsOf config) >>= λ us. takeBack standard us (wordsIn journal) (length out / 2))
-      by none r = back-unread ws words m (read-as config ws e ∙ r) ∙ sym (unread-bytes (wordsOf config) r)
+      by none r = back-unread ws words m (read-as standard 8192 (omega arith) config ws e ∙ r) ∙ sym (unread-bytes (wordsOf config) r)
       by (some c) r =
           let us : List ℕ = wordsOrNone (wordsOf config) in
-          let same : ws ≡ us = e ∙ readable-held config r in
+          let same : ws ≡ us = e ∙ readable-held standard 8192 (omega arith) config r in
           let (q, good) = config-found standard us c r in
           let few : length us ≤ 8192 = rw q at (good .short) in
           ap (λ (v : List ℕ). takeBack standard v words m) same

@@ -16,7 +16,7 @@ ghost use Prim.Native.Nat.{_<_};
 // Readable check: 0, or 1 if the configuration is not readable.
 #[no_mangle]
 pub extern "C" fn sock_check_readable(config: &[u8]) -> u8
-    ensures { λ r. ⌜ r ≡ byteCheckReadable (now (config .entry)) ⌝ }
+    ensures { λ r. ⌜ r ≡ byteCheckReadable standard (now (config .entry)) ⌝ }
 {
     let mut scratch = [0u16; 8192];
     let n = hold(config, &mut scratch);
@@ -26,7 +26,7 @@ pub extern "C" fn sock_check_readable(config: &[u8]) -> u8
 // Start check: 1 if the configuration is not readable, 11 if it is not fresh, else 0.
 #[no_mangle]
 pub extern "C" fn sock_check_start(config: &[u8]) -> u8
-    ensures { λ r. ⌜ r ≡ byteCheckStart (now (config .entry)) ⌝ }
+    ensures { λ r. ⌜ r ≡ byteCheckStart standard (now (config .entry)) ⌝ }
 {
     let mut scratch = [0u16; 8192];
     let n = hold(config, &mut scratch);

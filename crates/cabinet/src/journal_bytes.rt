@@ -1,4 +1,6 @@
 // The step with a journal, and taking back, on bytes. A journal's space, or its words, are half its bytes, rounded down.
+use crate::stepping_bytes::SHORT_BYTES;
+use crate::stepping_bytes::TWICE;
 use crate::stepping_bytes::pack;
 use crate::stepping_bytes::room_of;
 use crate::stepping_bytes::spread;
@@ -8,8 +10,14 @@ use journal::back::Taken;
 use journal::back::take_back;
 use journal::lay::lay;
 use journal::steps::compare;
+use layout::limit::LONGEST;
+use layout::limit::Limits;
+use layout::limit::STANDARD;
 use stepping::answer::Answer;
 use stepping::bundles::Numbers;
+use stepping::steps::FEW;
+use stepping::steps::MANY;
+use stepping::steps::SHORT;
 ghost use mathlib.Core.Path.{_≡_};
 ghost use Prim.Native.Nat.{_≤_, _*_};
 ghost use lib.ListN.{length};
@@ -17,26 +25,35 @@ ghost use Rattle.sock.specs.Configuration.{standard};
 ghost use Rattle.sock.specs.Calls.{answerOf};
 ghost use Rattle.sock.specs.Journal.{journalStep, takenOf, takeBack};
 ghost use Rattle.sock.specs.Bytes.{bytesAfter, journalBytesAfter, wordsOf, wordsOrNone, byteJournalStep, byteJournalAnswer, byteJournalOutput, byteJournalWritten, restoredBytes, byteTaken, byteRestored};
+ghost use Rattle.layout.specs.Limits.{figures};
 ghost use Rattle.stepping.specs.Answers.{answerAs, numbers};
 ghost use Rattle.stepping.specs.Bundles.{numbersAs};
+ghost use Rattle.stepping.specs.Lent.{Modest, Blank};
 ghost use Rattle.journal.specs.Back.{takenAs};
 ghost use Rattle.cabinet.specs.Held.{packedAs, roomOf};
 
-// The step on words, its result and its journal written to scratch first.
-fn journaled(
+// Words for the journal of any step: its four counts and two configurations; and of a step of a short one.
+const JOURNAL: usize = 16388;
+
+const SHORT_JOURNAL: usize = 1540;
+
+// The step on words at the limits given, its result and its journal written to scratch first. The notes are the step's, all 0.
+pub(crate) fn journaled(
     ws: &[u16],
     k: Numbers,
+    limits: Limits,
+    notes: &mut [u16],
     result: &mut [u16],
     words: &mut [u16],
     out: &mut [u8],
     journal: &mut [u8],
 ) -> Answer
-    requires { ⌜ (length (now result) * 2 ≤ length (now out)) × (length (now words) * 2 ≤ length (now journal)) ⌝ }
-    ensures answered { λ r. ⌜ r ≡ answerAs (answerOf (journalStep standard (now (ws .entry)) (numbersAs k) (length (now (result .entry))) (length (now (words .entry))))) ⌝ }
-    ensures wrote { λ r. ⌜ now (out .exit) ≡ bytesAfter (journalStep standard (now (ws .entry)) (numbersAs k) (length (now (result .entry))) (length (now (words .entry)))) (now (out .entry)) ⌝ }
-    ensures noted { λ r. ⌜ now (journal .exit) ≡ journalBytesAfter (now (ws .entry)) (journalStep standard (now (ws .entry)) (numbersAs k) (length (now (result .entry))) (length (now (words .entry)))) (now (journal .entry)) ⌝ }
+    requires { ⌜ Modest limits × Blank (now notes) × (length (now result) * 2 ≤ length (now out)) × (length (now words) * 2 ≤ length (now journal)) ⌝ }
+    ensures answered { λ r. ⌜ r ≡ answerAs (answerOf (journalStep (figures limits) (now (ws .entry)) (numbersAs k) (length (now (result .entry))) (length (now (words .entry))))) ⌝ }
+    ensures wrote { λ r. ⌜ now (out .exit) ≡ bytesAfter (journalStep (figures limits) (now (ws .entry)) (numbersAs k) (length (now (result .entry))) (length (now (words .entry)))) (now (out .entry)) ⌝ }
+    ensures noted { λ r. ⌜ now (journal .exit) ≡ journalBytesAfter (now (ws .entry)) (journalStep (figures limits) (now (ws .entry)) (numbersAs k) (length (now (result .entry))) (length (now (words .entry)))) (now (journal .entry)) ⌝ }
 {
-    let c = compare(ws, k, words.len(), result);
+    let c = compare(ws, k, limits, notes, words.len(), result);
     let given = c.answer;
     if given.number != 0 {
         return given;
@@ -50,19 +67,22 @@ fn journaled(
 
 // With scratch for every configuration, every result and every journal.
 fn large_journal(k: Numbers, config: &[u8], out: &mut [u8], journal: &mut [u8]) -> u64
-    ensures answered { λ r. ⌜ r ≡ byteJournalAnswer (now (config .entry)) (numbersAs k) (now (out .entry)) (now (journal .entry)) ⌝ }
-    ensures wrote { λ r. ⌜ now (out .exit) ≡ byteJournalOutput (now (config .entry)) (numbersAs k) (now (out .entry)) (now (journal .entry)) ⌝ }
-    ensures noted { λ r. ⌜ now (journal .exit) ≡ byteJournalWritten (now (config .entry)) (numbersAs k) (now (out .entry)) (now (journal .entry)) ⌝ }
+    ensures answered { λ r. ⌜ r ≡ byteJournalAnswer standard (now (config .entry)) (numbersAs k) (now (out .entry)) (now (journal .entry)) ⌝ }
+    ensures wrote { λ r. ⌜ now (out .exit) ≡ byteJournalOutput standard (now (config .entry)) (numbersAs k) (now (out .entry)) (now (journal .entry)) ⌝ }
+    ensures noted { λ r. ⌜ now (journal .exit) ≡ byteJournalWritten standard (now (config .entry)) (numbersAs k) (now (out .entry)) (now (journal .entry)) ⌝ }
 {
-    let mut scratch = [0u16; 8192];
+    let mut scratch = [0u16; LONGEST];
     let n = hold(config, &mut scratch);
-    let mut result = [0u16; 8192];
-    let room = room_of(out.len(), 8192);
-    let mut words = [0u16; 16388];
-    let most = room_of(journal.len(), 16388);
+    let mut notes = [0u16; MANY];
+    let mut result = [0u16; LONGEST];
+    let room = room_of(out.len(), LONGEST);
+    let mut words = [0u16; JOURNAL];
+    let most = room_of(journal.len(), JOURNAL);
     pack(journaled(
         &scratch[..n],
         k,
+        STANDARD,
+        &mut notes,
         &mut result[..room],
         &mut words[..most],
         out,
@@ -71,21 +91,24 @@ fn large_journal(k: Numbers, config: &[u8], out: &mut [u8], journal: &mut [u8]) 
 }
 
 // For a short configuration, with room for a result twice as long.
-fn small_journal(k: Numbers, config: &[u8], out: &mut [u8], journal: &mut [u8]) -> Answer
+fn short_journal(k: Numbers, config: &[u8], out: &mut [u8], journal: &mut [u8]) -> Answer
     requires { ⌜ length (now config) ≤ 1024 ⌝ }
-    ensures answered { λ r. ⌜ r ≡ answerAs (answerOf (byteJournalStep (now (config .entry)) (numbersAs k) (roomOf 1024 (length (now (out .entry)))) (roomOf 1540 (length (now (journal .entry)))))) ⌝ }
-    ensures wrote { λ r. ⌜ now (out .exit) ≡ bytesAfter (byteJournalStep (now (config .entry)) (numbersAs k) (roomOf 1024 (length (now (out .entry)))) (roomOf 1540 (length (now (journal .entry))))) (now (out .entry)) ⌝ }
-    ensures noted { λ r. ⌜ now (journal .exit) ≡ journalBytesAfter (wordsOrNone (wordsOf (now (config .entry)))) (byteJournalStep (now (config .entry)) (numbersAs k) (roomOf 1024 (length (now (out .entry)))) (roomOf 1540 (length (now (journal .entry))))) (now (journal .entry)) ⌝ }
+    ensures answered { λ r. ⌜ r ≡ answerAs (answerOf (byteJournalStep standard (now (config .entry)) (numbersAs k) (roomOf 1024 (length (now (out .entry)))) (roomOf 1540 (length (now (journal .entry)))))) ⌝ }
+    ensures wrote { λ r. ⌜ now (out .exit) ≡ bytesAfter (byteJournalStep standard (now (config .entry)) (numbersAs k) (roomOf 1024 (length (now (out .entry)))) (roomOf 1540 (length (now (journal .entry))))) (now (out .entry)) ⌝ }
+    ensures noted { λ r. ⌜ now (journal .exit) ≡ journalBytesAfter (wordsOrNone (wordsOf (now (config .entry)))) (byteJournalStep standard (now (config .entry)) (numbersAs k) (roomOf 1024 (length (now (out .entry)))) (roomOf 1540 (length (now (journal .entry))))) (now (journal .entry)) ⌝ }
 {
-    let mut scratch = [0u16; 512];
+    let mut scratch = [0u16; SHORT];
     let n = hold(config, &mut scratch);
-    let mut result = [0u16; 1024];
-    let room = room_of(out.len(), 1024);
-    let mut words = [0u16; 1540];
-    let most = room_of(journal.len(), 1540);
+    let mut notes = [0u16; FEW];
+    let mut result = [0u16; TWICE];
+    let room = room_of(out.len(), TWICE);
+    let mut words = [0u16; SHORT_JOURNAL];
+    let most = room_of(journal.len(), SHORT_JOURNAL);
     journaled(
         &scratch[..n],
         k,
+        STANDARD,
+        &mut notes,
         &mut result[..room],
         &mut words[..most],
         out,
@@ -106,9 +129,9 @@ pub extern "C" fn sock_step_journal(
     out: &mut [u8],
     journal: &mut [u8],
 ) -> u64
-    ensures answered { λ r. ⌜ r ≡ byteJournalAnswer (now (config .entry)) (numbers engine position second place branch) (now (out .entry)) (now (journal .entry)) ⌝ }
-    ensures wrote { λ r. ⌜ now (out .exit) ≡ byteJournalOutput (now (config .entry)) (numbers engine position second place branch) (now (out .entry)) (now (journal .entry)) ⌝ }
-    ensures noted { λ r. ⌜ now (journal .exit) ≡ byteJournalWritten (now (config .entry)) (numbers engine position second place branch) (now (out .entry)) (now (journal .entry)) ⌝ }
+    ensures answered { λ r. ⌜ r ≡ byteJournalAnswer standard (now (config .entry)) (numbers engine position second place branch) (now (out .entry)) (now (journal .entry)) ⌝ }
+    ensures wrote { λ r. ⌜ now (out .exit) ≡ byteJournalOutput standard (now (config .entry)) (numbers engine position second place branch) (now (out .entry)) (now (journal .entry)) ⌝ }
+    ensures noted { λ r. ⌜ now (journal .exit) ≡ byteJournalWritten standard (now (config .entry)) (numbers engine position second place branch) (now (out .entry)) (now (journal .entry)) ⌝ }
 {
     let k = Numbers {
         engine,
@@ -117,10 +140,10 @@ pub extern "C" fn sock_step_journal(
         second_position: place,
         branch,
     };
-    if 1024 < config.len() {
+    if SHORT_BYTES < config.len() {
         return large_journal(k, config, out, journal);
     }
-    let a = small_journal(k, config, out, journal);
+    let a = short_journal(k, config, out, journal);
     if a.number == 10 {
         return large_journal(k, config, out, journal);
     }
@@ -148,12 +171,12 @@ pub extern "C" fn sock_take_back(config: &[u8], journal: &[u8], out: &mut [u8]) 
     ensures answered { λ r. ⌜ r ≡ byteTaken (now (config .entry)) (now (journal .entry)) (now (out .entry)) ⌝ }
     ensures wrote { λ r. ⌜ now (out .exit) ≡ byteRestored (now (config .entry)) (now (journal .entry)) (now (out .entry)) ⌝ }
 {
-    let mut scratch = [0u16; 8192];
+    let mut scratch = [0u16; LONGEST];
     let n = hold(config, &mut scratch);
-    let mut words = [0u16; 16388];
+    let mut words = [0u16; JOURNAL];
     let m = hold_part(journal, &mut words);
-    let mut result = [0u16; 8192];
-    let room = room_of(out.len(), 8192);
+    let mut result = [0u16; LONGEST];
+    let room = room_of(out.len(), LONGEST);
     let t = taken_back(&scratch[..n], &words[..m], &mut result[..room], out);
     (t.number as u64) * 72057594037927936 + (t.length as u64)
 }

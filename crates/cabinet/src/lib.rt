@@ -2,6 +2,7 @@
 pub mod billing_bytes;
 pub mod calls;
 pub mod journal_bytes;
+pub mod small_bytes;
 pub mod stepping_bytes;
 pub mod window_bytes;
 pub mod words;

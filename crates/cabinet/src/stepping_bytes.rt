@@ -1,7 +1,14 @@
 // The step on bytes.
 use crate::words::hold;
+use layout::limit::LONGEST;
+use layout::limit::Limits;
+use layout::limit::STANDARD;
 use stepping::answer::Answer;
-use stepping::steps::step;
+use stepping::bundles::Numbers;
+use stepping::steps::FEW;
+use stepping::steps::MANY;
+use stepping::steps::SHORT;
+use stepping::steps::step_at;
 ghost use mathlib.Core.Path.{_≡_};
 ghost use Prim.Native.Nat.{_≤_, _*_, _/_, _%_};
 ghost use lib.ListN.{length, take};
@@ -9,8 +16,16 @@ ghost use Rattle.sock.specs.Configuration.{standard};
 ghost use Rattle.sock.specs.Calls.{answerOf, over, stepOutput};
 ghost use Rattle.sock.specs.Calls as calls;
 ghost use Rattle.sock.specs.Bytes.{bytesOf, bytesAfter, byteStep, byteAnswer, byteOutput};
+ghost use Rattle.layout.specs.Limits.{figures};
 ghost use Rattle.stepping.specs.Answers.{answerAs, numbers};
+ghost use Rattle.stepping.specs.Bundles.{numbersAs};
+ghost use Rattle.stepping.specs.Lent.{Modest, Blank};
 ghost use Rattle.cabinet.specs.Held.{packedAs, roomOf};
+
+// How many words a result may have in the short scratch, and the bytes of a short configuration.
+pub(crate) const TWICE: usize = 1024;
+
+pub(crate) const SHORT_BYTES: usize = 1024;
 
 fn high(w: u16) -> u8
     ensures { λ r. ⌜ r ≡ w / 256 ⌝ }
@@ -57,21 +72,20 @@ pub(crate) fn room_of(bytes: usize, most: usize) -> usize
     if most < half { most } else { half }
 }
 
-// The step on words, its result written to `result` first.
-fn written(
+// The step on words at the limits given, its result written to `result` first. The notes are the step's, all 0.
+pub(crate) fn written(
     ws: &[u16],
-    engine: u16,
-    position: u16,
-    second: u16,
-    place: u16,
-    branch: u16,
+    k: Numbers,
+    limits: Limits,
+    notes: &mut [u16],
     result: &mut [u16],
     out: &mut [u8],
 ) -> Answer
-    requires { ⌜ length (now result) * 2 ≤ length (now out) ⌝ }
-    ensures { λ r. ⌜ (r ≡ answerAs (answerOf (calls.step standard (now (ws .entry)) (numbers engine position second place branch) (length (now (result .entry)))))) × (now (out .exit) ≡ bytesAfter (calls.step standard (now (ws .entry)) (numbers engine position second place branch) (length (now (result .entry)))) (now (out .entry))) × (now (result .exit) ≡ stepOutput standard (now (ws .entry)) (numbers engine position second place branch) (now (result .entry))) ⌝ }
+    requires { ⌜ Modest limits × Blank (now notes) × (length (now result) * 2 ≤ length (now out)) ⌝ }
+    ensures answered { λ r. ⌜ r ≡ answerAs (answerOf (calls.step (figures limits) (now (ws .entry)) (numbersAs k) (length (now (result .entry))))) ⌝ }
+    ensures wrote { λ r. ⌜ now (out .exit) ≡ bytesAfter (calls.step (figures limits) (now (ws .entry)) (numbersAs k) (length (now (result .entry)))) (now (out .entry)) ⌝ }
 {
-    let a = step(ws, engine, position, second, place, branch, result);
+    let a = step_at(ws, k, limits, notes, result);
     if a.number == 0 {
         spread(result, a.length as usize, out);
     }
@@ -79,57 +93,39 @@ fn written(
 }
 
 // The step with scratch for every configuration and every result.
-fn large(
-    engine: u16,
-    position: u16,
-    second: u16,
-    place: u16,
-    branch: u16,
-    config: &[u8],
-    out: &mut [u8],
-) -> u64
-    ensures { λ r. ⌜ (r ≡ byteAnswer (now (config .entry)) (numbers engine position second place branch) (now (out .entry))) × (now (out .exit) ≡ byteOutput (now (config .entry)) (numbers engine position second place branch) (now (out .entry))) ⌝ }
+fn large(k: Numbers, config: &[u8], out: &mut [u8]) -> u64
+    ensures { λ r. ⌜ (r ≡ byteAnswer standard (now (config .entry)) (numbersAs k) (now (out .entry))) × (now (out .exit) ≡ byteOutput standard (now (config .entry)) (numbersAs k) (now (out .entry))) ⌝ }
 {
-    let mut scratch = [0u16; 8192];
+    let mut scratch = [0u16; LONGEST];
     let n = hold(config, &mut scratch);
-    let mut result = [0u16; 8192];
-    let room = room_of(out.len(), 8192);
+    let mut notes = [0u16; MANY];
+    let mut result = [0u16; LONGEST];
+    let room = room_of(out.len(), LONGEST);
     pack(written(
         &scratch[..n],
-        engine,
-        position,
-        second,
-        place,
-        branch,
+        k,
+        STANDARD,
+        &mut notes,
         &mut result[..room],
         out,
     ))
 }
 
 // The step of a short configuration, with room for a result twice as long.
-fn small(
-    engine: u16,
-    position: u16,
-    second: u16,
-    place: u16,
-    branch: u16,
-    config: &[u8],
-    out: &mut [u8],
-) -> Answer
+fn short(k: Numbers, config: &[u8], out: &mut [u8]) -> Answer
     requires { ⌜ length (now config) ≤ 1024 ⌝ }
-    ensures { λ r. ⌜ (r ≡ answerAs (answerOf (byteStep (now (config .entry)) (numbers engine position second place branch) (roomOf 1024 (length (now (out .entry))))))) × (now (out .exit) ≡ bytesAfter (byteStep (now (config .entry)) (numbers engine position second place branch) (roomOf 1024 (length (now (out .entry))))) (now (out .entry))) ⌝ }
+    ensures { λ r. ⌜ (r ≡ answerAs (answerOf (byteStep standard (now (config .entry)) (numbersAs k) (roomOf 1024 (length (now (out .entry))))))) × (now (out .exit) ≡ bytesAfter (byteStep standard (now (config .entry)) (numbersAs k) (roomOf 1024 (length (now (out .entry))))) (now (out .entry))) ⌝ }
 {
-    let mut scratch = [0u16; 512];
+    let mut scratch = [0u16; SHORT];
     let n = hold(config, &mut scratch);
-    let mut result = [0u16; 1024];
-    let room = room_of(out.len(), 1024);
+    let mut notes = [0u16; FEW];
+    let mut result = [0u16; TWICE];
+    let room = room_of(out.len(), TWICE);
     written(
         &scratch[..n],
-        engine,
-        position,
-        second,
-        place,
-        branch,
+        k,
+        STANDARD,
+        &mut notes,
         &mut result[..room],
         out,
     )
@@ -147,14 +143,21 @@ pub extern "C" fn sock_step(
     config: &[u8],
     out: &mut [u8],
 ) -> u64
-    ensures { λ r. ⌜ (r ≡ byteAnswer (now (config .entry)) (numbers engine position second place branch) (now (out .entry))) × (now (out .exit) ≡ byteOutput (now (config .entry)) (numbers engine position second place branch) (now (out .entry))) ⌝ }
+    ensures { λ r. ⌜ (r ≡ byteAnswer standard (now (config .entry)) (numbers engine position second place branch) (now (out .entry))) × (now (out .exit) ≡ byteOutput standard (now (config .entry)) (numbers engine position second place branch) (now (out .entry))) ⌝ }
 {
-    if 1024 < config.len() {
-        return large(engine, position, second, place, branch, config, out);
+    let k = Numbers {
+        engine,
+        position,
+        second,
+        second_position: place,
+        branch,
+    };
+    if SHORT_BYTES < config.len() {
+        return large(k, config, out);
     }
-    let a = small(engine, position, second, place, branch, config, out);
+    let a = short(k, config, out);
     if a.number == 10 {
-        return large(engine, position, second, place, branch, config, out);
+        return large(k, config, out);
     }
     pack(a)
 }

@@ -1,9 +1,16 @@
 // The step that fills a journal. Its result is worked out in scratch, where it can be compared before anything lent is written.
 use crate::compare::both;
 use crate::lay::lay;
+use layout::limit::LONGEST;
+use layout::limit::Limits;
+use layout::limit::STANDARD;
 use stepping::answer::Answer;
 use stepping::answer::refuse;
 use stepping::bundles::Numbers;
+use stepping::steps::FEW;
+use stepping::steps::MANY;
+use stepping::steps::SHORT;
+use stepping::steps::step_at;
 use writers::write::copy;
 ghost use mathlib.Core.Path.{_≡_};
 ghost use Prim.Native.Nat.{_+_, _≤_};
@@ -13,8 +20,13 @@ ghost use Rattle.sock.specs.Calls.{answerOf, outputOf, stepOutput};
 ghost use Rattle.sock.specs.Calls as calls;
 ghost use Rattle.sock.specs.Journal.{journalStep, journalAfter, journalAnswer, journalOutput, journalWritten};
 ghost use Rattle.stepping.specs.Answers.{answerAs, numbers};
+ghost use Rattle.layout.specs.Limits.{figures};
 ghost use Rattle.stepping.specs.Bundles.{numbersAs};
+ghost use Rattle.stepping.specs.Lent.{Modest, Blank};
 ghost use Rattle.journal.specs.Stepping.{comparedOf, neededOf, roomIn};
+
+// How long a result may be in the short scratch.
+const TWICE: usize = 1024;
 
 // As many words as the journal of any step has at most (`Events.journal-enough`).
 pub const JOURNAL_ENOUGH: usize = 16386;
@@ -35,18 +47,19 @@ fn needed(old: usize, new: usize, first: usize, last: usize) -> usize
 }
 
 // The step with its result in scratch; 16 if the journal that it would write has more than `room` words.
-pub fn compare(ws: &[u16], k: Numbers, room: usize, result: &mut [u16]) -> Compared
-    ensures { λ r. ⌜ (r ≡ comparedOf room (now (ws .entry)) (calls.step standard (now (ws .entry)) (numbersAs k) (length (now (result .entry))))) × (now (result .exit) ≡ stepOutput standard (now (ws .entry)) (numbersAs k) (now (result .entry))) ⌝ }
+// The notes are the step's, all 0.
+pub fn compare(
+    ws: &[u16],
+    k: Numbers,
+    limits: Limits,
+    notes: &mut [u16],
+    room: usize,
+    result: &mut [u16],
+) -> Compared
+    requires { ⌜ Modest limits × Blank (now notes) ⌝ }
+    ensures { λ r. ⌜ (r ≡ comparedOf room (now (ws .entry)) (calls.step (figures limits) (now (ws .entry)) (numbersAs k) (length (now (result .entry))))) × (now (result .exit) ≡ stepOutput (figures limits) (now (ws .entry)) (numbersAs k) (now (result .entry))) ⌝ }
 {
-    let a = stepping::steps::step(
-        ws,
-        k.engine,
-        k.position,
-        k.second,
-        k.second_position,
-        k.branch,
-        result,
-    );
+    let a = step_at(ws, k, limits, notes, result);
     if a.number != 0 {
         return Compared {
             answer: a,
@@ -71,19 +84,21 @@ pub fn compare(ws: &[u16], k: Numbers, room: usize, result: &mut [u16]) -> Compa
 }
 
 // The step worked out in `result`, and then written to the output and the journal.
-fn written(
+pub fn written(
     ws: &[u16],
     k: Numbers,
+    limits: Limits,
+    notes: &mut [u16],
     result: &mut [u16],
     out: &mut [u16],
     journal: &mut [u16],
 ) -> Answer
-    requires { ⌜ length (now result) ≤ length (now out) ⌝ }
-    ensures answered { λ r. ⌜ r ≡ answerAs (answerOf (journalStep standard (now (ws .entry)) (numbersAs k) (length (now (result .entry))) (length (now (journal .entry))))) ⌝ }
-    ensures wrote { λ r. ⌜ now (out .exit) ≡ outputOf (journalStep standard (now (ws .entry)) (numbersAs k) (length (now (result .entry))) (length (now (journal .entry)))) (now (out .entry)) ⌝ }
-    ensures noted { λ r. ⌜ now (journal .exit) ≡ journalAfter (now (ws .entry)) (journalStep standard (now (ws .entry)) (numbersAs k) (length (now (result .entry))) (length (now (journal .entry)))) (now (journal .entry)) ⌝ }
+    requires { ⌜ Modest limits × Blank (now notes) × (length (now result) ≤ length (now out)) ⌝ }
+    ensures answered { λ r. ⌜ r ≡ answerAs (answerOf (journalStep (figures limits) (now (ws .entry)) (numbersAs k) (length (now (result .entry))) (length (now (journal .entry))))) ⌝ }
+    ensures wrote { λ r. ⌜ now (out .exit) ≡ outputOf (journalStep (figures limits) (now (ws .entry)) (numbersAs k) (length (now (result .entry))) (length (now (journal .entry)))) (now (out .entry)) ⌝ }
+    ensures noted { λ r. ⌜ now (journal .exit) ≡ journalAfter (now (ws .entry)) (journalStep (figures limits) (now (ws .entry)) (numbersAs k) (length (now (result .entry))) (length (now (journal .entry)))) (now (journal .entry)) ⌝ }
 {
-    let c = compare(ws, k, journal.len(), result);
+    let c = compare(ws, k, limits, notes, journal.len(), result);
     let given = c.answer;
     if given.number != 0 {
         return given;
@@ -95,7 +110,7 @@ fn written(
 }
 
 // How many words of scratch the result may take.
-fn room_in(most: usize, room: usize) -> usize
+pub fn room_in(most: usize, room: usize) -> usize
     ensures { λ r. ⌜ (r ≡ roomIn most room) × (r ≤ most) × (r ≤ room) ⌝ }
 {
     if most < room { most } else { room }
@@ -107,20 +122,38 @@ fn large(ws: &[u16], k: Numbers, out: &mut [u16], journal: &mut [u16]) -> Answer
     ensures wrote { λ r. ⌜ now (out .exit) ≡ journalOutput standard (now (ws .entry)) (numbersAs k) (now (out .entry)) (now (journal .entry)) ⌝ }
     ensures noted { λ r. ⌜ now (journal .exit) ≡ journalWritten standard (now (ws .entry)) (numbersAs k) (now (out .entry)) (now (journal .entry)) ⌝ }
 {
-    let mut result = [0u16; 8192];
-    let room = room_in(8192, out.len());
-    written(ws, k, &mut result[..room], out, journal)
+    let mut notes = [0u16; MANY];
+    let mut result = [0u16; LONGEST];
+    let room = room_in(LONGEST, out.len());
+    written(
+        ws,
+        k,
+        STANDARD,
+        &mut notes,
+        &mut result[..room],
+        out,
+        journal,
+    )
 }
 
-// With scratch for a result of 1,024 words.
+// With scratch for the notes of a short configuration, and for a result twice as long.
 fn small(ws: &[u16], k: Numbers, out: &mut [u16], journal: &mut [u16]) -> Answer
     ensures answered { λ r. ⌜ r ≡ answerAs (answerOf (journalStep standard (now (ws .entry)) (numbersAs k) (roomIn 1024 (length (now (out .entry)))) (length (now (journal .entry))))) ⌝ }
     ensures wrote { λ r. ⌜ now (out .exit) ≡ outputOf (journalStep standard (now (ws .entry)) (numbersAs k) (roomIn 1024 (length (now (out .entry)))) (length (now (journal .entry)))) (now (out .entry)) ⌝ }
     ensures noted { λ r. ⌜ now (journal .exit) ≡ journalAfter (now (ws .entry)) (journalStep standard (now (ws .entry)) (numbersAs k) (roomIn 1024 (length (now (out .entry)))) (length (now (journal .entry)))) (now (journal .entry)) ⌝ }
 {
-    let mut result = [0u16; 1024];
-    let room = room_in(1024, out.len());
-    written(ws, k, &mut result[..room], out, journal)
+    let mut notes = [0u16; FEW];
+    let mut result = [0u16; TWICE];
+    let room = room_in(TWICE, out.len());
+    written(
+        ws,
+        k,
+        STANDARD,
+        &mut notes,
+        &mut result[..room],
+        out,
+        journal,
+    )
 }
 
 // The step with a journal: the next configuration's words in the output, and in the journal what it takes to go back. A refusal changes no
@@ -147,7 +180,7 @@ pub fn step(
         second_position: place,
         branch,
     };
-    if 512 < ws.len() {
+    if SHORT < ws.len() {
         return large(ws, k, out, journal);
     }
     let a = small(ws, k, out, journal);

@@ -28,6 +28,16 @@ pub fn standard() -> Limits
     }
 }
 
+// The limits of the swing bridge cabinet (document 02, i).
+pub const SMALL_DEEPEST: usize = 32;
+
+pub const SMALL_LONGEST: usize = 2048;
+
+pub const SMALL: Limits = Limits {
+    deepest: SMALL_DEEPEST,
+    longest: SMALL_LONGEST,
+};
+
 // How many levels a walk goes down: no configuration that was read has more.
 pub const FUEL: usize = 64;
 

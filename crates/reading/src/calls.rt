@@ -15,12 +15,19 @@ ghost use Rattle.sock.specs.Calls.{checkReadable, checkStart, processOf};
 ghost use Rattle.layout.specs.Limits.{figures};
 ghost use Rattle.reading.specs.Tally.{noneNil};
 
-// Readable check: 0, or 1 if the configuration is not readable.
+// Readable check at the limits given: 0, or 1 if the configuration is not readable.
+pub fn readable_at(ws: &[u16], limits: Limits) -> u8
+    ensures { λ r. ⌜ r ≡ checkReadable (figures limits) (now (ws .entry)) ⌝ }
+{
+    let s = survey(ws, limits, ROOT);
+    if s.engines == 0 { 1 } else { 0 }
+}
+
+// Readable check.
 pub fn check_readable(ws: &[u16]) -> u8
     ensures { λ r. ⌜ r ≡ checkReadable standard (now (ws .entry)) ⌝ }
 {
-    let s = survey(ws, STANDARD, ROOT);
-    if s.engines == 0 { 1 } else { 0 }
+    readable_at(ws, STANDARD)
 }
 
 // Whether no engine's process is nil.
@@ -55,14 +62,21 @@ fn is_fresh(ws: &[u16], limits: Limits) -> bool
     none_nil(ws, starts, n)
 }
 
-// Start check: 1 if the configuration is not readable, 11 if it is not fresh, else 0.
+// Start check at the limits given: 1 if the configuration is not readable, 11 if it is not fresh, else 0.
+pub fn start_at(ws: &[u16], limits: Limits) -> u8
+    ensures { λ r. ⌜ r ≡ checkStart (figures limits) (now (ws .entry)) ⌝ }
+{
+    if is_fresh(ws, limits) {
+        return 0;
+    }
+    if readable_at(ws, limits) == 0 { 11 } else { 1 }
+}
+
+// Start check.
 pub fn check_start(ws: &[u16]) -> u8
     ensures { λ r. ⌜ r ≡ checkStart standard (now (ws .entry)) ⌝ }
 {
-    if is_fresh(ws, STANDARD) {
-        return 0;
-    }
-    if check_readable(ws) == 0 { 11 } else { 1 }
+    start_at(ws, STANDARD)
 }
 
 // Process of an engine, as the part of the words lent; empty if unreadable or no such engine.

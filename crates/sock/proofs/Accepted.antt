@@ -48,6 +48,7 @@ module _ (limits : Limits) (ws : List ℕ) (k : Call) where
     pub kept : nextWords limits ws k ≡ ws
 
   pub record Done (s : Stepped) : Type 0 where
+    pub outcome-done : result ≡ done s
     pub step-done : step limits ws (k .numbers) (length (k .output)) ≡ done s
     pub is-accepted : accepted limits ws k ≡ true
     pub serial : answer .serial ≡ s .serial
@@ -72,6 +73,7 @@ module _ (limits : Limits) (ws : List ℕ) (k : Call) where
       let n : answerOf result .length ≡ length (encode (s .config)) = ap (λ x. answerOf x .length) e in
       let o : outputOf result (k .output) ≡ over (encode (s .config)) (k .output) = ap (λ x. outputOf x (k .output)) e in
       record {
+        outcome-done = e;
         step-done = lent-done limits ws (k .numbers) (length (k .output)) (k .journal) e;
         is-accepted = a;
         serial = ap (λ x. answerOf x .serial) e;

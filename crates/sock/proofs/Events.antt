@@ -3,6 +3,7 @@
 -- Assumes nothing.
 use Prim.Native.Nat.{ℕ, _+_, _≤_}
 use native.Mathlib.Omega.{arith}
+use native.Mathlib.Nat.{le-refl}
 use mathlib.Core.Path.{_≡_, refl, sym, ap, subst, _∙_}
 use mathlib.Core.Bool.{Bool, true, false, cond}
 use mathlib.Core.Option.{none, some}
@@ -18,6 +19,7 @@ use Rattle.sock.specs.Rules.{moveOf}
 use Rattle.sock.specs.Journal.{alike, journalOf, journalEnough, journalStep, journalAfter, journalAnswer, journalOutput, journalWritten, restored, takeBack, takenOf, restoredOver, takeBackAnswer, takeBackOutput}
 use Rattle.sock.specs.Runs.{Call, accepted, nextWords, run, counts, total, lastSerial}
 use Rattle.sock.specs.Events.{Event, stepping, takingBack, takes, wordsBefore, Standing, ownJournal, State, begun, allButLast, next, after, struckOut, Undoes, Proper, AllProper, EveryStandingRequestHasOneReply, TakenBackStraightAfter, AllAccepted, Undoing, undoesNone, undoesLast, stood, SeveralInReverse}
+use Rattle.sock.specs.Cabinets.{_inside_, ProperAt}
 use Rattle.sock.proofs.Logic.{All, allNone, allSome, true-test}
 use Rattle.sock.proofs.Located.{all-equal}
 use Rattle.sock.proofs.Configuration.{config-found}
@@ -25,6 +27,7 @@ use Rattle.sock.proofs.Steps.{Sure, sureDone, sure-then, sure-given, su
 use Rattle.sock.proofs.Turns.{Stepping, step-turns}
 use Rattle.sock.proofs.Journal.{restored-journal, taken-back, taken-restored, journal-done, journal-length, alike-cons}
 use Rattle.sock.proofs.Accepted.{number-positive, accepted-done}
+use Rattle.sock.proofs.InsideSteps.{accepted-larger, next-larger}
 use Rattle.sock.proofs.Requests.{everyRequest}
 
 -- ---- an answer with number 0
@@ -128,63 +131,81 @@ journal-enough limits ws k room s e =
 
 -- ---- what stands is a chain
 
+took :
+    (limits : Limits) (ws journal out : List ℕ) → takes limits ws journal out ≡ true →
+    (old : List ℕ) × (restored journal ws ≡ some old) × (wordsBefore limits ws journal out ≡ old)
+unfolding takes wordsBefore takeBackAnswer takeBackOutput
+took limits ws journal out e =
+    let (old, d) = taken-number (takeBack limits ws journal (length out)) e in
+    (old, taken-restored limits (length out) old ws journal d, taken-words old out d)
+
+struck-cons : (x : Standing) (xs : List Standing) → map (λ y. y .by) (reverse (x ∷ xs)) ≡ map (λ y. y .by) (reverse xs) ++ x .by ∷ []
+struck-cons x xs = ap (map (λ y. y .by)) (reverse-cons x xs) ∙ map-append (λ y. y .by) (reverse xs) (x ∷ [])
+
 module _ (limits : Limits) where
-  unfoldable Chain : List ℕ → List ℕ → List Standing → Type 0
+  unfoldable pub Chain : List ℕ → List ℕ → List Standing → Type 0
   Chain base ws [] = ws ≡ base
   Chain base ws (x ∷ xs) = (ws ≡ nextWords limits (x .read) (x .by)) × T (accepted limits (x .read) (x .by)) × Chain base (x .read) xs
 
-  took : (ws journal out : List ℕ) → takes limits ws journal out ≡ true → (old : List ℕ) × (restored journal ws ≡ some old) × (wordsBefore limits ws journal out ≡ old)
-  unfolding takes wordsBefore takeBackAnswer takeBackOutput
-  took ws journal out e =
-      let (old, d) = taken-number (takeBack limits ws journal (length out)) e in
-      (old, taken-restored limits (length out) old ws journal d, taken-words old out d)
-
+  -- a taking back goes back along it, whatever figures it is made at
   went-back :
-      (x : Standing) (ws journal out rest : List ℕ) → ws ≡ nextWords limits (x .read) (x .by) → journal ≡ ownJournal limits x ++ rest →
-      takes limits ws journal out ≡ true → wordsBefore limits ws journal out ≡ x .read
+      (figures : Limits) (x : Standing) (ws journal out rest : List ℕ) → ws ≡ nextWords limits (x .read) (x .by) → journal ≡ ownJournal limits x ++ rest →
+      takes figures ws journal out ≡ true → wordsBefore figures ws journal out ≡ x .read
   unfolding ownJournal
-  went-back x ws journal out rest e j t =
-      let (old, r, w) = took ws journal out t in
+  went-back figures x ws journal out rest e j t =
+      let (old, r, w) = took figures ws journal out t in
       let own : restored journal ws ≡ some (x .read) =
       ap (λ us. restored us ws) j ∙ ap (λ us. restored (journalOf (x .read) (nextWords limits (x .read) (x .by)) ++ rest) us) e ∙ restored-journal (x .read) (nextWords limits (x .read) (x .by)) rest in
       let q : old ≡ x .read = cc in
       w ∙ q
 
-  chain-steps : (base : List ℕ) (s : State) (k : Call) → Chain base (s .words) (s .standing) → Chain base (next limits s (stepping k) .words) (next limits s (stepping k) .standing)
-  unfolding next Chain
-  chain-steps base s k h = by (accepted limits (s .words) k) refl
-    where
-      by :
-          (b : Bool) → accepted limits (s .words) k ≡ b →
-          let n : State = cond b (record { words = nextWords limits (s .words) k; standing = record { read = s .words; by = k } ∷ s .standing }) s in
-          Chain base (n .words) (n .standing)
-      by true e = (refl, true-test e, h)
-      by false e = h
+  -- events at figures of their own: what is accepted there is accepted at the larger ones
+  module _ (figures : Limits) (smaller : figures inside limits) where
+    chain-steps : (base : List ℕ) (s : State) (k : Call) → Chain base (s .words) (s .standing) → Chain base (next figures s (stepping k) .words) (next figures s (stepping k) .standing)
+    unfolding next Chain
+    chain-steps base s k h = by (accepted figures (s .words) k) refl
+      where
+        by :
+            (b : Bool) → accepted figures (s .words) k ≡ b →
+            let n : State = cond b (record { words = nextWords figures (s .words) k; standing = record { read = s .words; by = k } ∷ s .standing }) s in
+            Chain base (n .words) (n .standing)
+        by true e =
+            (next-larger figures limits smaller (s .words) k (true-test e), accepted-larger figures limits smaller (s .words) k (true-test e), h)
+        by false e = h
 
-  chain-takes :
-      (base : List ℕ) (ws : List ℕ) (xs : List Standing) (journal out : List ℕ) → Chain base ws xs → Undoes limits xs journal →
-      takes limits ws journal out ≡ true → Chain base (wordsBefore limits ws journal out) (allButLast xs)
-  unfolding Chain Undoes allButLast
-  chain-takes base ws [] journal out h u t = absurd u
-  chain-takes base ws (x ∷ xs) journal out h u t =
-      subst (λ us. Chain base us xs) (sym (went-back x ws journal out (u .0) (h .0) (u .1) t)) (h .2)
+    chain-takes :
+        (base : List ℕ) (ws : List ℕ) (xs : List Standing) (journal out : List ℕ) → Chain base ws xs → Undoes limits xs journal →
+        takes figures ws journal out ≡ true → Chain base (wordsBefore figures ws journal out) (allButLast xs)
+    unfolding Chain Undoes allButLast
+    chain-takes base ws [] journal out h u t = absurd u
+    chain-takes base ws (x ∷ xs) journal out h u t =
+        subst (λ us. Chain base us xs) (sym (went-back figures x ws journal out (u .0) (h .0) (u .1) t)) (h .2)
 
-  chain-next : (base : List ℕ) (s : State) (e : Event) → Chain base (s .words) (s .standing) → Proper limits s e → Chain base (next limits s e .words) (next limits s e .standing)
-  unfolding next Proper
-  chain-next base s (stepping k) h p = chain-steps base s k h
-  chain-next base s (takingBack journal out) h p = by (takes limits (s .words) journal out) refl
-    where
-      by :
-          (b : Bool) → takes limits (s .words) journal out ≡ b →
-          let n : State = cond b (record { words = wordsBefore limits (s .words) journal out; standing = allButLast (s .standing) }) s in
-          Chain base (n .words) (n .standing)
-      by true e = chain-takes base (s .words) (s .standing) journal out h (p (true-test e)) e
-      by false e = h
+    pub chain-next :
+        (base : List ℕ) (s : State) (e : Event) → Chain base (s .words) (s .standing) → ProperAt limits s figures e →
+        Chain base (next figures s e .words) (next figures s e .standing)
+    unfolding next ProperAt
+    chain-next base s (stepping k) h p = chain-steps base s k h
+    chain-next base s (takingBack journal out) h p = by (takes figures (s .words) journal out) refl
+      where
+        by :
+            (b : Bool) → takes figures (s .words) journal out ≡ b →
+            let n : State = cond b (record { words = wordsBefore figures (s .words) journal out; standing = allButLast (s .standing) }) s in
+            Chain base (n .words) (n .standing)
+        by true e = chain-takes base (s .words) (s .standing) journal out h (p (true-test e)) e
+        by false e = h
+
+  proper-here : (s : State) (e : Event) → Proper limits s e → ProperAt limits s limits e
+  unfolding Proper ProperAt
+  proper-here s (stepping k) p = p
+  proper-here s (takingBack journal out) p = p
 
   chain-after : (es : List Event) (base : List ℕ) (s : State) → Chain base (s .words) (s .standing) → AllProper limits s es → Chain base (after limits s es .words) (after limits s es .standing)
   unfolding after AllProper
   chain-after [] base s h p = h
-  chain-after (e ∷ es) base s h p = chain-after es base (next limits s e) (chain-next base s e h (p .0)) (p .1)
+  chain-after (e ∷ es) base s h p =
+      chain-after es base (next limits s e)
+      (chain-next limits (le-refl (limits .deepest), le-refl (limits .longest)) base s e h (proper-here s e (p .0))) (p .1)
 
   run-append : (ks js : List Call) (ws : List ℕ) → run limits ws (ks ++ js) ≡ run limits (run limits ws ks) js
   unfolding run
@@ -204,19 +225,37 @@ module _ (limits : Limits) where
   unfolding Chain
   chain-run [] base ws h = run-none base ∙ sym h
   chain-run (x ∷ xs) base ws h =
-      let split : map (λ y. y .by) (reverse (x ∷ xs)) ≡ map (λ y. y .by) (reverse xs) ++ x .by ∷ [] =
-      ap (map (λ y. y .by)) (reverse-cons x xs) ∙ map-append (λ y. y .by) (reverse xs) (x ∷ []) in
-      ap (run limits base) split
+      ap (run limits base) (struck-cons x xs)
       ∙ run-append (map (λ y. y .by) (reverse xs)) (x .by ∷ []) base
       ∙ ap (λ us. run limits us (x .by ∷ [])) (chain-run xs base (x .read) (h .2))
       ∙ run-one (x .by) (x .read)
       ∙ sym (h .0)
 
-  struck-run : (base : List ℕ) (s : State) → Chain base (s .words) (s .standing) → run limits base (struckOut s) ≡ s .words
+  accepted-append :
+      (ks js : List Call) (ws : List ℕ) → AllAccepted limits ws ks → AllAccepted limits (run limits ws ks) js → AllAccepted limits ws (ks ++ js)
+  unfolding AllAccepted run
+  accepted-append [] js ws a b = b
+  accepted-append (k ∷ ks) js ws a b = (a .0, accepted-append ks js (nextWords limits ws k) (a .1) b)
+
+  -- and each of them is accepted
+  chain-accepted : (xs : List Standing) (base ws : List ℕ) → Chain base ws xs → AllAccepted limits base (map (λ x. x .by) (reverse xs))
+  unfolding Chain AllAccepted
+  chain-accepted [] base ws h = tt
+  chain-accepted (x ∷ xs) base ws h =
+      let ks : List Call = map (λ y. y .by) (reverse xs) in
+      rw struck-cons
+      (accepted-append ks (x .by ∷ []) base (chain-accepted xs base (x .read) (h .2))
+      (subst (λ us. T (accepted limits us (x .by))) (sym (chain-run xs base (x .read) (h .2))) (h .1), tt))
+
+  pub struck-accepted : (base : List ℕ) (s : State) → Chain base (s .words) (s .standing) → AllAccepted limits base (struckOut s)
+  unfolding struckOut
+  struck-accepted base s h = chain-accepted (s .standing) base (s .words) h
+
+  pub struck-run : (base : List ℕ) (s : State) → Chain base (s .words) (s .standing) → run limits base (struckOut s) ≡ s .words
   unfolding struckOut
   struck-run base s h = chain-run (s .standing) base (s .words) h
 
-  chain-begun : (start : List ℕ) → Chain start start []
+  pub chain-begun : (start : List ℕ) → Chain start start []
   unfolding Chain
   chain-begun start = refl
 
@@ -257,7 +296,7 @@ module _ (limits : Limits) where
   unfolding next allButLast
   next-undone x xs ys ws rest out e t h =
       let a : takes limits ws (ownJournal limits x ++ rest) out ≡ true = rw e (own-accepted x rest out t h) in
-      rw (a, went-back x ws (ownJournal limits x ++ rest) out rest e refl a)
+      rw (a, went-back limits x ws (ownJournal limits x ++ rest) out rest e refl a)
 
   undone : {xs : List Standing} {es : List Event} (ys : List Standing) (base ws : List ℕ) → Undoing limits xs es → Chain base ws xs →
       after limits (record { words = ws; standing = xs ++ ys }) es ≡ record { words = base; standing = ys }

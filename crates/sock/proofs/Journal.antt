@@ -356,7 +356,7 @@ module _ (j : Journal) (ws : List ℕ) (m : Matches j ws) where
 pub some-same : {A : Type 0} {a b : A} → some a ≡ some b → a ≡ b
 some-same e = cc
 
-none-some : {A : Type 0} {a : A} → none ≡ some a → ⊥
+pub none-some : {A : Type 0} {a : A} → none ≡ some a → ⊥
 none-some e = let z : _≡_ {A = ℕ} 0 1 = cc in omega arith
 
 for-left : (j : Journal) (ws old : List ℕ) → T (sound j) → guarded (left j ws) (some (putBack j ws)) ≡ some old → JournalFor (j .oldLength ∷ j .newLength ∷ j .first ∷ j .last ∷ j .behind) ws old
@@ -478,6 +478,12 @@ module _ (limits : Limits) (ws : List ℕ) (k : Numbers) (room : ℕ) {s : Stepp
   unfolding lentStep
   lent-done none e = e
   lent-done (some journal) e = journal-done (length journal) e .0
+
+  pub lent-room :
+      (journal : Option (List ℕ)) → lentStep limits ws k room journal ≡ done s → roomFor (length (journalOf ws (encode (s .config)))) journal
+  unfolding lentStep roomFor
+  lent-room none e = tt
+  lent-room (some journal) e = journal-done (length journal) e .1
 
   -- and these are enough
   pub done-lent :

@@ -7,6 +7,7 @@ pub mod Beside
 pub mod Bounds
 pub mod ByKind
 pub mod ByteWords
+pub mod Cabinets
 pub mod Computed
 pub mod Configuration
 pub mod Decimals
@@ -21,6 +22,8 @@ pub mod Fits
 pub mod Frames
 pub mod Handlers
 pub mod Heads
+pub mod Inside
+pub mod InsideSteps
 pub mod Journal
 pub mod Kept
 pub mod KeptSteps
@@ -38,6 +41,7 @@ pub mod Placed
 pub mod Positions
 pub mod Reading
 pub mod Received
+pub mod Related
 pub mod Replies
 pub mod Requests
 pub mod Rewriting

@@ -18,6 +18,7 @@ use Rattle.sock.specs.Rules.{also}
 use Rattle.sock.specs.Calls.{unreadable, notFresh, number, Result, refused, done, _>>=_, _>>_, _!_, _unless_, Spot, enabledAt, Stepped, step, passed, start, checkStart, End, isEnd, tallyAll, waits, works, known, counted, ends}
 use Rattle.sock.specs.Runs.{Call, callAnswer, accepted, nextWords, run, named, ofSpot, isSolicit, carries, counts, total, solicits, deliveries, lastSerial, awaits, delivery, Matched, EveryRequestHasOneReply}
 use Rattle.sock.specs.Everywhere.{everywhere}
+use Rattle.sock.specs.Cabinets.{DeliverableAt}
 use Rattle.sock.proofs.Logic.{all-some}
 use Rattle.sock.proofs.Fits.{Readable}
 use Rattle.sock.proofs.Located.{all-equal}
@@ -32,6 +33,18 @@ use Rattle.sock.proofs.KeptSteps.{enabled-kept}
 use Rattle.sock.proofs.Agreement.{any-closed, Counted, counted-on, Agrees, Agreed, step-agrees, fresh-agreed}
 use Rattle.sock.proofs.Placed.{everywhere-all}
 use Rattle.sock.proofs.Replies.{end-placed, named-paired, ready-awaited, ready-deliverable}
+
+-- ---- delivery, at any limits that read a configuration with a ledger
+
+delivered-at : (limits : Limits) (ws : List ℕ) {c : Config} {d : ℕ → ℕ} → Ledger c d → Agreed c → DeliverableAt limits ws c
+delivered-at limits ws {c} l w reads s e p e' p' out journal n n' room enough =
+    let (words, good) = config-found limits ws c reads in
+    let (st, d, q) =
+    subst
+    (λ ws. length ws ≤ length out → (st : Stepped) × (step limits ws (delivery e p e' p') (length out) ≡ done st) × (st .serial ≡ s))
+    words (ready-deliverable good l s w e p e' p' (length out) n n') room in
+    let (a, b) = lent-answers limits ws (delivery e p e' p') out st d journal enough in
+    (a, b ∙ q)
 
 module _ (limits : Limits) where
   -- ---- one call
@@ -129,7 +142,7 @@ module _ (limits : Limits) where
   start-sure ws =
       sure-then (sure-given unreadable (all-equal (readConfig limits ws))) λ c e. sure-unless notFresh (fresh c) λ t. sureDone (e, t)
 
-  started : (ws : List ℕ) → checkStart limits ws ≡ 0 → (c : Config) × (readConfig limits ws ≡ some c) × T (fresh c)
+  pub started : (ws : List ℕ) → checkStart limits ws ≡ 0 → (c : Config) × (readConfig limits ws ≡ some c) × T (fresh c)
   unfolding checkStart passed
   started ws h = by (start limits ws) refl
     where
@@ -161,13 +174,7 @@ module _ (limits : Limits) where
         placed = end-placed good;
         paired = named-paired good l;
         awaited = ready-awaited good l;
-        deliverable = λ s e p e' p' out journal n n' room enough.
-            let (st, d, q) =
-            subst
-            (λ ws. length ws ≤ length out → (st : Stepped) × (step limits ws (delivery e p e' p') (length out) ≡ done st) × (st .serial ≡ s))
-            words (ready-deliverable good l s (x .agreed) e p e' p' (length out) n n') room in
-            let (a, b) = lent-answers limits (run limits ws calls) (delivery e p e' p') out st d journal enough in
-            (a, b ∙ q);
+        deliverable = delivered-at limits (run limits ws calls) l (x .agreed) (x .reads);
       }
     where
       c : Config
@@ -193,13 +200,20 @@ module _ (limits : Limits) where
           ends limits (run limits ws calls) s ≡ record { number = 0; waiters = tallyAll (waits s) (c .engines); workers = tallyAll (works s) (c .engines) }
       answered s a b = ends-known (run limits ws calls) s (x .reads) a (omega (arith, count))
 
--- Demand 3
-pub everyRequest : EveryRequestHasOneReply
-everyRequest limits start h calls =
+-- Demand 3, and delivery at any limits that read the configuration
+pub everyRequestAt :
+    (limits : Limits) (start : List ℕ) →
+    checkStart limits start ≡ 0 →
+    (calls : List Call) →
+    (c : Config) × Matched limits start calls c × ((s : Limits) → DeliverableAt s (run limits start calls) c)
+everyRequestAt limits start h calls =
     let (c, r, f) = started limits start h in
     let (z, l) = fresh-ledger c f in
     let x = after limits calls start r l (fresh-agreed c f) in
-    (x .config, matched limits start z calls x)
+    (x .config, matched limits start z calls x, λ s. delivered-at s (run limits start calls) (x .ledger) (x .agreed))
+
+pub everyRequest : EveryRequestHasOneReply
+everyRequest limits start h calls = let (c, m, d) = everyRequestAt limits start h calls in (c, m)
 
 -- ---- counts
 

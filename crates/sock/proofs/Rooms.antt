@@ -14,6 +14,8 @@ use borrow.Author.Tests.{leb-true, leb-false, eqb-false}
 use Rattle.sock.specs.Configuration.{Limits, encode, readConfig}
 use Rattle.sock.specs.Calls.{Refusal, unreadable, long, short, number, Result, refused, done, _>>=_, _>>_, _!_, _unless_, Numbers, Stepped, step, answerOf, over, outputOf}
 use Rattle.sock.specs.Bytes.{bytesOf, wordsOrNone, bytesAfter}
+use Rattle.sock.proofs.Taken.{limited}
+use Rattle.sock.proofs.Related.{bind-related, then-related, step-related}
 use Rattle.sock.proofs.Accepted.{number-positive}
 
 -- ---- two rooms
@@ -29,14 +31,10 @@ pub data Agree (longest room half : ℕ) : Result Stepped → Result Stepped →
 module _ (limits : Limits) (room half : ℕ) (below : room ≤ half) where
   pub bind-agrees :
       {A : Type 0} (r : Result A) (k l : A → Result Stepped) → ((a : A) → Agree (limits .longest) room half (k a) (l a)) → Agree (limits .longest) room half (r >>= k) (r >>= l)
-  unfolding _>>=_
-  bind-agrees (refused r) k l f = both-refuse r
-  bind-agrees (done a) k l f = f a
+  bind-agrees = bind-related (Agree (limits .longest) room half) both-refuse
 
   then-agrees : (r : Result (Unit {0})) (k l : Result Stepped) → Agree (limits .longest) room half k l → Agree (limits .longest) room half (_>>_ r k) (_>>_ r l)
-  unfolding _>>_
-  then-agrees (refused r) k l f = both-refuse r
-  then-agrees (done a) k l f = f
+  then-agrees = then-related (Agree (limits .longest) room half) both-refuse
 
   short-agrees :
       (s : Stepped) → length (encode (s .config)) ≤ limits .longest → (b c : Bool) → leb (length (encode (s .config))) room ≡ b →
@@ -67,9 +65,9 @@ module _ (limits : Limits) (room half : ℕ) (below : room ≤ half) where
   long-agrees s false p = long-refuses s
 
   pub step-agrees : (ws : List ℕ) (k : Numbers) → Agree (limits .longest) room half (step limits ws k room) (step limits ws k half)
-  unfolding step
+  unfolding limited
   step-agrees ws k =
-      bind-agrees _ _ _ λ c. bind-agrees _ _ _ λ a. bind-agrees _ _ _ λ m. bind-agrees _ _ _ λ b. bind-agrees _ _ _ λ o. bind-agrees _ _ _ λ x. bind-agrees _ _ _ λ s.
+      step-related (Agree (limits .longest) room half) both-refuse limits limits ws k room half refl λ s.
       then-agrees _ _ _ (then-agrees _ _ _ (long-agrees s _ refl))
 
 -- ---- what is left of an output

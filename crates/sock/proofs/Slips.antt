@@ -5,14 +5,14 @@ use Prim.Native.Nat.{ℕ, _+_, _*_}
 use mathlib.Core.Path.{_≡_, refl}
 use mathlib.Core.Bool.{true, false}
 use mathlib.Core.List.{List, [], _∷_, _++_}
-use lib.ListN.{replicate, set}
+use lib.ListN.{length, replicate, set}
 use Rattle.sock.specs.Kind
 use Rattle.sock.specs.Words.{headOf, scopeKey}
-use Rattle.sock.specs.Term.{Node, node, list, Entries, noEntries, entry, noParts, nilNode}
+use Rattle.sock.specs.Term.{Node, node, absent, list, constant, Entries, noEntries, entry, noParts, _&_, nilNode}
 use Rattle.sock.specs.Running.{unmarked, faulted, Run, nil, seq, par, scope, executor, waiter, notice, act}
-use Rattle.sock.specs.Configuration.{Config, encode, standard}
+use Rattle.sock.specs.Configuration.{Config, encode, enginesDepth, standard}
 use Rattle.sock.specs.Rules.{instOf, throwOf}
-use Rattle.sock.specs.Calls.{Numbers, stepOutput, ends}
+use Rattle.sock.specs.Calls.{Numbers, stepAnswer, stepOutput, ends}
 use Rattle.sock.proofs.Computed.{computed}
 use Rattle.sock.proofs.Examples.{Case, then, outcome, Shown, Every, leaf, P, P', B, cH, both, one, zeros, engine, single, double, at, to, live, zombie, waits}
 
@@ -126,3 +126,18 @@ left = (refl, (refl, (refl, tt)))
 pub deadCounts : ends standard (encode (double (zombie (waits true)) (live (notice 4 7 0 1)))) 1 ≡ record { number = 0; waiters = 1; workers = 1 }
 unfolding computed leaf P one zeros engine double live zombie waits
 deadCounts = refl
+
+-- ---- a result too deep and too long at once is 8, and 9 where it is only too long
+
+-- a while goes round: deeper by a seq and longer by what it repeats
+unfoldable pub loops : Config
+loops = single noEntries (act (node (headOf Kind.while 0) [] (constant 1 ∷ []) absent (P' & noParts)))
+
+-- so many levels more than it has, and not a word more
+unfoldable pub answers : ℕ → ℕ
+answers more =
+    stepAnswer (record { deepest = enginesDepth (loops .engines) + more; longest = length (encode loops) }) (encode loops) (at 0 3) (replicate 90 0) .number
+
+pub depthFirst : (answers 0 ≡ 8) × (answers 1 ≡ 9)
+unfolding computed leaf P' zeros engine single at loops answers
+depthFirst = (refl, refl)

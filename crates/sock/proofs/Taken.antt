@@ -18,7 +18,7 @@ use Rattle.sock.proofs.Logic.{All, allNone, allSome, all-also, all-guar
 use Rattle.sock.proofs.Located.{all-equal}
 use Rattle.sock.proofs.Configuration.{passed}
 use Rattle.sock.proofs.Steps.{Sure, sureDone, sure-then, sure-given, sure-unless}
-use Rattle.sock.proofs.Delivery.{given}
+use Rattle.sock.proofs.Delivery.{given, unless-true}
 
 abbrev pub moveAt : Spot → Move
 moveAt a = moveOf (a .values) (a .frames) (a .process)
@@ -135,6 +135,14 @@ limited limits room s = do
   long unless leb (length (encode (s .config))) (limits .longest)
   short unless leb (length (encode (s .config))) room
   done s
+
+pub limited-done : {limits : Limits} {room : ℕ} {s : Stepped} → Within limits room s → limited limits room s ≡ done s
+unfolding limited
+limited-done {limits} {room} {s} w =
+    unless-true _ (leb (s .config .issued) 65535) _ (w .serials)
+    ∙ unless-true _ (leb (enginesDepth (s .config .engines)) (limits .deepest)) _ (w .shallow)
+    ∙ unless-true _ (leb (length (encode (s .config))) (limits .longest)) _ (w .short)
+    ∙ unless-true _ (leb (length (encode (s .config))) room) _ (w .fits)
 
 module _ (limits : Limits) (ws : List ℕ) (k : Numbers) (room : ℕ) {c : Config} (reads : readConfig limits ws ≡ some c) where
   from-parts :

@@ -1,4 +1,4 @@
--- The calls on bytes, high first, for the cabinet's C program, and the text of the program handover (document 01, "Calls", "Program handover").
+-- The calls on bytes, high first, for the cabinet's C program, at the figures of either cabinet where both have the call (document 02, i), and the text of the program handover (document 01, "Calls", "Program handover").
 use Prim.Native.Nat.{ℕ, zero, suc, _+_, _*_, _/_, _%_, _^_}
 use mathlib.Core.Bool.{Bool, true, false, _||_, cond}
 use mathlib.Core.Option.{Option, none, some}
@@ -21,24 +21,24 @@ bytesOf (w ∷ ws) = w / 256 ∷ w % 256 ∷ bytesOf ws
 
 -- ---- the step on bytes: an odd length is 1; output space is half its bytes, rounded down, an odd last byte keeping its content
 
-unfoldable pub byteStep : List ℕ → Numbers → ℕ → Result Stepped
-byteStep bytes k room = do
+unfoldable pub byteStep : Limits → List ℕ → Numbers → ℕ → Result Stepped
+byteStep limits bytes k room = do
   ws ← unreadable ! wordsOf bytes
-  step standard ws k room
+  step limits ws k room
 
 -- 64 bits: number 8, kind 8, fault 8, zero 8, serial 16, length 16
 unfoldable pub packed : Answer → ℕ
 packed a = a .number * 2 ^ 56 + a .kind * 2 ^ 48 + a .fault * 2 ^ 40 + a .serial * 2 ^ 16 + a .length
 
-unfoldable pub byteAnswer : List ℕ → Numbers → List ℕ → ℕ
-byteAnswer bytes k out = packed (answerOf (byteStep bytes k (length out / 2)))
+unfoldable pub byteAnswer : Limits → List ℕ → Numbers → List ℕ → ℕ
+byteAnswer limits bytes k out = packed (answerOf (byteStep limits bytes k (length out / 2)))
 
 unfoldable pub bytesAfter : Result Stepped → List ℕ → List ℕ
 bytesAfter (refused r) out = out
 bytesAfter (done s) out = over (bytesOf (encode (s .config))) out
 
-unfoldable pub byteOutput : List ℕ → Numbers → List ℕ → List ℕ
-byteOutput bytes k out = bytesAfter (byteStep bytes k (length out / 2)) out
+unfoldable pub byteOutput : Limits → List ℕ → Numbers → List ℕ → List ℕ
+byteOutput limits bytes k out = bytesAfter (byteStep limits bytes k (length out / 2)) out
 
 -- ---- the other calls on bytes: an odd length is unreadable, as the empty configuration is
 
@@ -46,11 +46,11 @@ unfoldable pub wordsOrNone : Option (List ℕ) → List ℕ
 wordsOrNone none = []
 wordsOrNone (some ws) = ws
 
-unfoldable pub byteCheckStart : List ℕ → ℕ
-byteCheckStart bytes = checkStart standard (wordsOrNone (wordsOf bytes))
+unfoldable pub byteCheckStart : Limits → List ℕ → ℕ
+byteCheckStart limits bytes = checkStart limits (wordsOrNone (wordsOf bytes))
 
-unfoldable pub byteCheckReadable : List ℕ → ℕ
-byteCheckReadable bytes = checkReadable standard (wordsOrNone (wordsOf bytes))
+unfoldable pub byteCheckReadable : Limits → List ℕ → ℕ
+byteCheckReadable limits bytes = checkReadable limits (wordsOrNone (wordsOf bytes))
 
 -- number 8, zero 24, waiters 16, workers 16
 unfoldable pub packedEnds : Ends → ℕ
@@ -69,24 +69,24 @@ byteProcess bytes e = packedPart (processPart standard (wordsOrNone (wordsOf byt
 -- ---- the step with a journal, and taking back, on bytes: the journal's space, or its words, are half its bytes, rounded down, an odd last
 -- byte keeping its content
 
-unfoldable pub byteJournalStep : List ℕ → Numbers → ℕ → ℕ → Result Stepped
-byteJournalStep bytes k room journalRoom = do
+unfoldable pub byteJournalStep : Limits → List ℕ → Numbers → ℕ → ℕ → Result Stepped
+byteJournalStep limits bytes k room journalRoom = do
   ws ← unreadable ! wordsOf bytes
-  journalStep standard ws k room journalRoom
+  journalStep limits ws k room journalRoom
 
-unfoldable pub byteJournalAnswer : List ℕ → Numbers → List ℕ → List ℕ → ℕ
-byteJournalAnswer bytes k out journal = packed (answerOf (byteJournalStep bytes k (length out / 2) (length journal / 2)))
+unfoldable pub byteJournalAnswer : Limits → List ℕ → Numbers → List ℕ → List ℕ → ℕ
+byteJournalAnswer limits bytes k out journal = packed (answerOf (byteJournalStep limits bytes k (length out / 2) (length journal / 2)))
 
-unfoldable pub byteJournalOutput : List ℕ → Numbers → List ℕ → List ℕ → List ℕ
-byteJournalOutput bytes k out journal = bytesAfter (byteJournalStep bytes k (length out / 2) (length journal / 2)) out
+unfoldable pub byteJournalOutput : Limits → List ℕ → Numbers → List ℕ → List ℕ → List ℕ
+byteJournalOutput limits bytes k out journal = bytesAfter (byteJournalStep limits bytes k (length out / 2) (length journal / 2)) out
 
 unfoldable pub journalBytesAfter : List ℕ → Result Stepped → List ℕ → List ℕ
 journalBytesAfter ws (refused r) journal = journal
 journalBytesAfter ws (done s) journal = over (bytesOf (journalOf ws (encode (s .config)))) journal
 
-unfoldable pub byteJournalWritten : List ℕ → Numbers → List ℕ → List ℕ → List ℕ
-byteJournalWritten bytes k out journal =
-    journalBytesAfter (wordsOrNone (wordsOf bytes)) (byteJournalStep bytes k (length out / 2) (length journal / 2)) journal
+unfoldable pub byteJournalWritten : Limits → List ℕ → Numbers → List ℕ → List ℕ → List ℕ
+byteJournalWritten limits bytes k out journal =
+    journalBytesAfter (wordsOrNone (wordsOf bytes)) (byteJournalStep limits bytes k (length out / 2) (length journal / 2)) journal
 
 -- the words of bytes, an odd last byte left out
 unfoldable pub wordsIn : List ℕ → List ℕ

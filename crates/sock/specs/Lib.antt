@@ -21,3 +21,4 @@ pub mod Everywhere
 pub mod Runs
 pub mod Events
 pub mod Beside
+pub mod Cabinets

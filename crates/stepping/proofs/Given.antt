@@ -15,7 +15,7 @@ use Rattle.rules.specs.declared.edit.Edit.{Edit}
 use Rattle.rules.proofs.Edits.{Edits}
 use Rattle.rules.proofs.Stores.{stored}
 use Rattle.layout.specs.declared.limit.Limits.{Limits}
-use Rattle.stepping.proofs.Modest.{Modest}
+use Rattle.stepping.specs.Lent.{Modest}
 use Rattle.stepping.specs.Answering.{changed, answered, refusing, sizedW, lengthOf, writeOneW, oneW, writeTwoW, twoW}
 use Rattle.stepping.proofs.Goal.{given, fitted, fitted-deep, fitted-by}
 use Rattle.stepping.proofs.Results.{next-sized, next-few, next-fits, next-written}

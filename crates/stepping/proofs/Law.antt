@@ -33,7 +33,7 @@ use Rattle.rules.specs.Rewriting.{at}
 use Rattle.rules.proofs.Rewrites.{head-on}
 use Rattle.layout.specs.declared.limit.Limits.{Limits}
 use Rattle.layout.specs.Limits.{figures}
-use Rattle.stepping.proofs.Modest.{Modest}
+use Rattle.stepping.specs.Lent.{Modest}
 use Rattle.stepping.specs.Answers.{answerAs}
 use Rattle.stepping.specs.Answering.{Answered, answered, refusing}
 use Rattle.stepping.specs.declared.bundles.Engines.{Engines}

@@ -64,7 +64,7 @@ use Rattle.layout.specs.declared.limit.Limits.{Limits}
 use Rattle.layout.specs.Limits.{figures}
 use Rattle.rules.proofs.Depths.{Shallow}
 use Rattle.stepping.specs.declared.bundles.Side.{Side}
-use Rattle.stepping.proofs.Modest.{Modest}
+use Rattle.stepping.specs.Lent.{Modest}
 use Rattle.stepping.specs.Exchanging.{lent}
 use Rattle.stepping.specs.Alone.{settledW, rewrittenW, valuedW, scopedW, ruleW}
 use Rattle.stepping.proofs.Results.{one-stands, one-behind, one-values}

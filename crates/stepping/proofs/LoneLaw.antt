@@ -30,7 +30,7 @@ use Rattle.scopes.proofs.Scratch.{Roomy, Spacious}
 use Rattle.layout.specs.declared.limit.Limits.{Limits}
 use Rattle.layout.specs.Limits.{figures}
 use Rattle.stepping.specs.declared.bundles.Side.{Side}
-use Rattle.stepping.proofs.Modest.{Modest}
+use Rattle.stepping.specs.Lent.{Modest}
 use Rattle.stepping.specs.Answering.{Answered, answered, refusing, oneW}
 use Rattle.stepping.specs.Alone.{ruleW, loneW, large, small, shortW, aloneW, surely}
 use Rattle.stepping.proofs.Goal.{given, given-refused}

@@ -37,7 +37,7 @@ use Rattle.rules.proofs.Stores.{stored, stored-none}
 use Rattle.rules.proofs.Outcomes.{Ruled, tooDeep, ruled, becomes-ruled}
 use Rattle.layout.specs.declared.limit.Limits.{Limits}
 use Rattle.layout.specs.Limits.{figures}
-use Rattle.stepping.proofs.Modest.{Modest}
+use Rattle.stepping.specs.Lent.{Modest}
 use Rattle.stepping.specs.declared.answer.Told.{Told}
 use Rattle.stepping.specs.declared.bundles.Encounter.{Encounter}
 use Rattle.stepping.specs.declared.bundles.Side.{Side}

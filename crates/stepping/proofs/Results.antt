@@ -20,7 +20,7 @@ use Rattle.rules.specs.declared.edit.Edit.{Edit}
 use Rattle.rules.proofs.Edits.{Ordered, Edits, part-first, fresh-room}
 use Rattle.rules.proofs.Stores.{stored, stored-length}
 use Rattle.layout.specs.declared.limit.Limits.{Limits}
-use Rattle.stepping.proofs.Modest.{Modest}
+use Rattle.stepping.specs.Lent.{Modest}
 use Rattle.stepping.specs.Writing.{engineW}
 use Rattle.stepping.specs.Answering.{sizedW, writeOneW, lengthOf}
 use Rattle.stepping.proofs.Overs.{Wrote, wrote-copy}

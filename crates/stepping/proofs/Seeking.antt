@@ -30,7 +30,7 @@ use Rattle.finding.proofs.Spots.{Spotted}
 use Rattle.finding.proofs.Search.{missed, found}
 use Rattle.layout.specs.declared.limit.Limits.{Limits}
 use Rattle.layout.specs.Limits.{figures}
-use Rattle.stepping.proofs.Modest.{Modest}
+use Rattle.stepping.specs.Lent.{Modest}
 use Rattle.stepping.proofs.Results.{one-stands, one-behind, one-length}
 use Rattle.stepping.proofs.Given.{depth-at}
 

@@ -20,7 +20,7 @@ use Rattle.rules.specs.declared.store.Store.{Store}
 use Rattle.rules.proofs.Edits.{Edits, part-first, fresh-room}
 use Rattle.rules.proofs.Stores.{stored, stored-length}
 use Rattle.layout.specs.declared.limit.Limits.{Limits}
-use Rattle.stepping.proofs.Modest.{Modest}
+use Rattle.stepping.specs.Lent.{Modest}
 use Rattle.stepping.specs.Writing.{Written, engineW}
 use Rattle.stepping.specs.Answering.{changed, sizedW, writeTwoW}
 use Rattle.stepping.proofs.Overs.{over-length, over-then, Wrote, wrote-copy}

@@ -3,7 +3,6 @@ use Prim.Native.Nat.{ℕ}
 use mathlib.Core.Bool.{Bool, false, cond}
 use mathlib.Core.List.{List}
 use lib.Dec.{leb, ltb, eqb}
-use lib.ListN.{replicate}
 use Rattle.sock.specs.Kind
 use Rattle.sock.specs.Words.{kindOf}
 use Rattle.skipping.specs.Pass.{passList}
@@ -68,13 +67,6 @@ movingW limits ws notes g k a out =
 unfoldable pub foundW : Limits → List ℕ → List ℕ → Engines → Numbers → List ℕ → Found → Answered
 foundW limits ws notes g k out (Past p) = answered (refusing 2) out
 foundW limits ws notes g k out (Hit a) = movingW limits ws notes g k a out
-
--- the notes, all 0, for all configurations and for short ones
-abbrev pub manyNotes : List ℕ
-manyNotes = replicate 16384 0
-
-abbrev pub fewNotes : List ℕ
-fewNotes = replicate 1024 0
 
 unfoldable pub stepW : Limits → List ℕ → List ℕ → Numbers → List ℕ → Answered
 stepW limits ws blank k out =

@@ -30,14 +30,16 @@ ghost use Rattle.sock.specs.Calls.{stepAnswer, stepOutput};
 ghost use Rattle.noting.specs.Noting.{surveyNotes};
 ghost use Rattle.layout.specs.Limits.{figures};
 ghost use Rattle.stepping.specs.Answers.{answerAs, numbers};
-ghost use Rattle.stepping.specs.Stepping.{bodyNil, byKind, movesW, receivingW, noneElse, movingW, manyNotes, stepW};
+ghost use Rattle.stepping.specs.Stepping.{bodyNil, byKind, movesW, receivingW, noneElse, movingW, stepW};
+ghost use Rattle.stepping.specs.Bundles.{numbersAs};
+ghost use Rattle.stepping.specs.Lent.{Modest, Blank};
 
 // Notes for every configuration, two words for each of its words; notes for a short one, and how short that is.
-const MANY: usize = 16384;
+pub const MANY: usize = 16384;
 
-const FEW: usize = 1024;
+pub const FEW: usize = 1024;
 
-const SHORT: usize = 512;
+pub const SHORT: usize = 512;
 
 // Whether the body of the scope at a position is nil.
 fn body_nil(ws: &[u16], notes: &[u16], at: usize) -> bool
@@ -206,13 +208,24 @@ fn stepped(ws: &[u16], notes: &mut [u16], k: Numbers, limits: Limits, out: &mut 
     }
 }
 
+// The step at any limits up to the standard ones. The notes lent are all 0; as many as there are serve, so that a cabinet lends as many as its
+// configurations have use for.
+pub fn step_at(ws: &[u16], k: Numbers, limits: Limits, notes: &mut [u16], out: &mut [u16]) -> Answer
+    requires { ⌜ Modest limits × Blank (now notes) ⌝ }
+    ensures answered { λ r. ⌜ r ≡ answerAs (stepAnswer (figures limits) (now (ws .entry)) (numbersAs k) (now (out .entry))) ⌝ }
+    ensures written { λ r. ⌜ now (out .exit) ≡ stepOutput (figures limits) (now (ws .entry)) (numbersAs k) (now (out .entry)) ⌝ }
+{
+    stepped(ws, notes, k, limits, out)
+}
+
 // With room for the notes of any configuration.
 fn with_notes(ws: &[u16], k: Numbers, limits: Limits, out: &mut [u16]) -> Answer
-    ensures answered { λ r. ⌜ r ≡ stepW limits (now (ws .entry)) manyNotes k (now (out .entry)) .answer ⌝ }
-    ensures written { λ r. ⌜ now (out .exit) ≡ stepW limits (now (ws .entry)) manyNotes k (now (out .entry)) .out ⌝ }
+    requires { ⌜ Modest limits ⌝ }
+    ensures answered { λ r. ⌜ r ≡ answerAs (stepAnswer (figures limits) (now (ws .entry)) (numbersAs k) (now (out .entry))) ⌝ }
+    ensures written { λ r. ⌜ now (out .exit) ≡ stepOutput (figures limits) (now (ws .entry)) (numbersAs k) (now (out .entry)) ⌝ }
 {
     let mut notes = [0u16; MANY];
-    stepped(ws, &mut notes, k, limits, out)
+    step_at(ws, k, limits, &mut notes, out)
 }
 
 // The call step: from a configuration's words and the five numbers to the answer and, where it is accepted, the next configuration's
@@ -241,5 +254,5 @@ pub fn step(
         return with_notes(ws, k, limits, out);
     }
     let mut notes = [0u16; FEW];
-    stepped(ws, &mut notes, k, limits, out)
+    step_at(ws, k, limits, &mut notes, out)
 }

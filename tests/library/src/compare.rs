@@ -1,7 +1,8 @@
 //! One call on both sides: the library's answer and output are the second implementation's, bit
 //! for bit, and the configuration and all around what was lent stays as it was.
 
-use crate::counts::Counts;
+use crate::cabinet::Cabinet;
+use crate::counts::{Counts, Wanted};
 use crate::exported;
 use crate::input::{Call, Input};
 use crate::memory::{Lent, Memory};
@@ -15,9 +16,10 @@ pub const ENGINES: [u16; 12] = [0, 1, 2, 3, 4, 5, 6, 7, 8, 9, 256, 65_535];
 /// Positions that are searched for pending processes; a root's body is at 3 where its list is empty.
 pub const POSITIONS: [u16; 7] = [0, 1, 3, 4, 5, 7, 65_535];
 
-/// Makes calls on memory of one kind and counts what they meet.
+/// Makes calls of a cabinet on memory of one kind and counts what they meet.
 pub struct Comparison<M> {
     pub counts: Counts,
+    pub cabinet: Cabinet,
     memory: M,
     /// Calls so far, from which patterns differ.
     round: u64,
@@ -31,13 +33,32 @@ pub struct Stepped {
 }
 
 impl<M: Memory> Comparison<M> {
-    pub fn new(memory: M) -> Comparison<M> {
-        Comparison { counts: Counts::default(), memory, round: 0 }
+    pub fn new(cabinet: Cabinet, memory: M) -> Comparison<M> {
+        Comparison { counts: Counts::default(), cabinet, memory, round: 0 }
     }
 
-    /// The five calls that only read, for every serial, engine and position worth asking for.
+    /// Prints what was met under the test's name and fails if anything wanted is not among it. The
+    /// small cabinet is asked for no ends, processes and pending ones, and makes a tenth of the calls.
+    pub fn report(&self, test: &str, wanted: Wanted) {
+        let wanted = match self.cabinet {
+            Cabinet::Large => wanted,
+            Cabinet::Small => Wanted {
+                calls: wanted.calls / 10,
+                ends: &[],
+                pending: &[],
+                processes: &[],
+                ..wanted
+            },
+        };
+        self.counts.report(&self.cabinet.named(test), wanted);
+    }
+
+    /// The calls that only read, for every serial, engine and position worth asking for.
     pub fn read_all(&mut self, input: &Input) {
         self.checks(input);
+        if self.cabinet == Cabinet::Small {
+            return;
+        }
         for serial in serials(input.config) {
             self.ends(input, serial);
         }
@@ -49,9 +70,12 @@ impl<M: Memory> Comparison<M> {
         }
     }
 
-    /// The five calls that only read, for one serial, one engine and one position in turn.
+    /// The calls that only read, for one serial, one engine and one position in turn.
     pub fn read_one(&mut self, input: &Input) {
         self.checks(input);
+        if self.cabinet == Cabinet::Small {
+            return;
+        }
         let turn = self.round as usize / 4;
         let serials = serials(input.config);
         self.ends(input, serials[turn % serials.len()]);
@@ -61,13 +85,14 @@ impl<M: Memory> Comparison<M> {
     }
 
     fn checks(&mut self, input: &Input) {
-        let start = u64::from(reference::sock_check_start(input.config));
-        let ours = |config| u64::from(exported::check_start(config));
-        self.read(input, Call::CheckStart, ours, start);
+        let (cabinet, limits) = (self.cabinet, self.cabinet.limits());
+        let start = u64::from(reference::sock_check_start_within(&limits, input.config));
+        let ours = |config| u64::from(cabinet.check_start(config));
+        self.read(input, Call::CheckStart { cabinet }, ours, start);
         self.counts.number("start check", input.source.class, start as u8);
-        let readable = u64::from(reference::sock_check_readable(input.config));
-        let ours = |config| u64::from(exported::check_readable(config));
-        self.read(input, Call::CheckReadable, ours, readable);
+        let readable = u64::from(reference::sock_check_readable_within(&limits, input.config));
+        let ours = |config| u64::from(cabinet.check_readable(config));
+        self.read(input, Call::CheckReadable { cabinet }, ours, readable);
         self.counts.number("readable check", input.source.class, readable as u8);
     }
 
@@ -107,14 +132,16 @@ impl<M: Memory> Comparison<M> {
     /// A step with an output of this length, filled with a pattern before.
     pub fn step(&mut self, input: &Input, numbers: Numbers, output: Output) -> Stepped {
         self.round += 1;
-        let call = Call::Step { numbers, output: output.length };
+        let (cabinet, limits) = (self.cabinet, self.cabinet.limits());
+        let call = Call::Step { cabinet, numbers, output: output.length };
         let filled = pattern(self.round, output.length);
         let config = self.memory.configuration(input.config);
         let lent = self.memory.output(&filled);
         memory_fault::entering(input.source, call);
-        let packed = exported::step(numbers, config, lent);
+        let packed = cabinet.step(numbers, config, lent);
         let mut expected = filled.clone();
-        same_answer(input, call, packed, expected_step(numbers, input.config, &mut expected));
+        let other = reference::sock_step_within(&limits, numbers, input.config, &mut expected);
+        same_answer(input, call, packed, other);
         same_output(input, call, lent.bytes(), &expected);
         self.untouched(input, call, config);
         let answer = unpacked(packed);
@@ -154,13 +181,8 @@ fn serials(config: &[u8]) -> [u16; 6] {
     [0, 1, issued, issued.saturating_add(1), u16::MAX, 257]
 }
 
-fn expected_step(numbers: Numbers, config: &[u8], output: &mut [u8]) -> u64 {
-    let Numbers { engine, position, second_engine, second_position, branch } = numbers;
-    reference::sock_step(engine, position, second_engine, second_position, branch, config, output)
-}
-
 /// Number 8, kind 8, fault 8, zero 8, serial 16, length 16.
-fn unpacked(packed: u64) -> Answer {
+pub fn unpacked(packed: u64) -> Answer {
     Answer {
         number: (packed >> 56) as u8,
         kind: (packed >> 48) as u8,

@@ -1,6 +1,7 @@
 //! What a call is made on: a configuration's bytes and where they come from, so that a difference
 //! can be repeated.
 
+use crate::cabinet::Cabinet;
 use reference::Numbers;
 use std::fmt;
 
@@ -21,14 +22,14 @@ pub struct Input<'a> {
 /// A call, without its configuration; a bill has none, and is given by lengths.
 #[derive(Clone, Copy, Debug)]
 pub enum Call {
-    CheckStart,
-    CheckReadable,
+    CheckStart { cabinet: Cabinet },
+    CheckReadable { cabinet: Cabinet },
     Ends { serial: u16 },
     WindowNext { width: u16, number: u8, fault: u8, operation: u16, length: usize },
     WindowCount { operation: u16, length: usize },
     Process { engine: u16 },
     Pending { engine: u16, position: u16 },
-    Step { numbers: Numbers, output: usize },
+    Step { cabinet: Cabinet, numbers: Numbers, output: usize },
     Bill { rates: usize, replies: usize, totals: usize },
 }
 

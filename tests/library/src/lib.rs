@@ -1,5 +1,6 @@
-//! Compares the six calls on configurations that the static library exports for C with the second implementation:
-//! the answer's 64 bits, every byte of the output, and that nothing else changes.
+//! Compares the calls on configurations that the static library exports for C with the second implementation:
+//! the answer's 64 bits, every byte of the output, and that nothing else changes. A test over calls that both
+//! cabinets have is made for each of them (`cabinet`).
 //!
 //! `billing` does the same for the bill, which reads no configuration.
 //!
@@ -14,6 +15,7 @@
 
 pub mod billing;
 pub mod bytes;
+pub mod cabinet;
 pub mod compare;
 pub mod counts;
 pub mod deep;

@@ -1,6 +1,7 @@
 //! The calls of a run: from a start, each step on what the last accepted one wrote, refused steps
 //! among them, and on each configuration the calls that only read.
 
+use crate::cabinet::Cabinet;
 use crate::compare::{Comparison, ENGINES};
 use crate::input::{Input, Source};
 use crate::memory::Memory;
@@ -10,7 +11,7 @@ use reference::calls::transition;
 use reference::configuration::Configuration;
 use reference::coverage::Coverage;
 use reference::generate::run::{Origin, Run};
-use reference::{Numbers, STANDARD};
+use reference::{Limits, Numbers};
 
 /// One step in so many is made with every length of output.
 const ALL_OUTPUTS: usize = 8;
@@ -24,14 +25,15 @@ pub fn class(origin: Origin) -> &'static str {
     }
 }
 
-/// Makes the calls of one run and notes the rows of the rules that it meets.
+/// Makes the calls of one run in the comparison's cabinet and notes the rows of the rules that it
+/// meets. A start beyond the cabinet's limits is refused, and ends it.
 pub fn walk<M: Memory>(
     comparison: &mut Comparison<M>,
     coverage: &mut Coverage,
     (origin, seed): (Origin, u64),
     steps: usize,
 ) {
-    let mut run = Run::new(seed, origin);
+    let mut run = Run::within(&comparison.cabinet.limits(), seed, origin);
     for step in 0..steps {
         let source = Source { class: class(origin), seed, step };
         let config = from_words(&run.words);
@@ -40,10 +42,16 @@ pub fn walk<M: Memory>(
             0 => comparison.read_all(&input),
             _ => comparison.read_one(&input),
         }
-        let before = run.configuration().expect("what a step wrote is readable");
         if step == 0 {
             heads(comparison, &input);
         }
+        let Some(before) = run.configuration() else {
+            assert!(
+                step == 0 && comparison.cabinet == Cabinet::Small,
+                "what a step wrote is readable"
+            );
+            return;
+        };
         let Some(call) = run.call() else { return };
         let length = 2 * call.room + usize::from(run.random.percent(50));
         let output = Output { length, name: "of a run" };
@@ -57,7 +65,7 @@ pub fn walk<M: Memory>(
 /// Every engine as first, at its root, and as second, at the body of a root scope.
 fn heads<M: Memory>(comparison: &mut Comparison<M>, input: &Input) {
     for engine in ENGINES {
-        let output = Output { length: 2 * STANDARD.words, name: "longest" };
+        let output = Output { length: comparison.cabinet.longest(), name: "longest" };
         comparison.step(input, Numbers::new(engine, 0, 0, 0, 0), output);
         comparison.step(input, Numbers::new(0, 3, engine, 3, 0), output);
     }
@@ -71,7 +79,7 @@ fn other_outputs<M: Memory>(
     before: &Configuration,
     numbers: Numbers,
 ) {
-    let words = result_length(before, numbers).unwrap_or(run.words.len());
+    let words = result_length(&run.limits, before, numbers).unwrap_or(run.words.len());
     let outputs = match input.source.step % ALL_OUTPUTS {
         0 => around(words),
         _ => vec![one_around(&mut run.random, words)],
@@ -81,8 +89,8 @@ fn other_outputs<M: Memory>(
     }
 }
 
-/// Words of a step's result, if there is one and it is no longer than any configuration.
-pub fn result_length(before: &Configuration, numbers: Numbers) -> Option<usize> {
+/// Words of a step's result, if there is one, as many as a configuration may have at most.
+pub fn result_length(limits: &Limits, before: &Configuration, numbers: Numbers) -> Option<usize> {
     let result = transition(before, numbers).ok()?;
-    Some(result.configuration.size().min(STANDARD.words))
+    Some(result.configuration.size().min(limits.words))
 }

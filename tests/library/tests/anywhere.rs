@@ -1,8 +1,8 @@
 //! Calls from several threads on one configuration at the same time, and from a signal handler in the
-//! midst of another call: each answers and writes as if it were alone.
+//! midst of another call, in either cabinet: each answers and writes as if it were alone.
 
-use library::deep::shapes;
-use library::exported;
+use library::cabinet::{Cabinet, CABINETS};
+use library::deep::{shapes, Extent};
 use library::memory::Lent;
 use reference::bytes::from_words;
 use reference::generate::steps::fitting;
@@ -21,6 +21,7 @@ const ROOM: usize = 16_384;
 
 /// A step on a long configuration, and what the second implementation makes of it.
 struct Case {
+    cabinet: Cabinet,
     config: Vec<u8>,
     numbers: Numbers,
     answer: u64,
@@ -33,37 +34,37 @@ impl Case {
         let config = Lent { start: self.config.as_ptr().cast_mut(), length: self.config.len() };
         output.fill(7);
         let lent = Lent { start: output.as_mut_ptr(), length: ROOM };
-        exported::step(self.numbers, config, lent) == self.answer
+        self.cabinet.step(self.numbers, config, lent) == self.answer
             && *output == self.output[..]
-            && exported::check_readable(config) == 0
+            && self.cabinet.check_readable(config) == 0
     }
 }
 
-fn cases() -> Vec<Case> {
+fn cases_of(cabinet: Cabinet) -> Vec<Case> {
     let case = |shape: (String, _)| {
         let config = from_words(&write::configuration(&shape.1));
         let numbers = fitting(&shape.1).first()?.0;
         let mut output = vec![7; ROOM];
-        let Numbers { engine, position, second_engine: second, second_position, branch } = numbers;
-        let answer = reference::sock_step(
-            engine,
-            position,
-            second,
-            second_position,
-            branch,
-            &config,
-            &mut output,
-        );
-        Some(Case { config, numbers, answer, output })
+        let answer = reference::sock_step_within(&cabinet.limits(), numbers, &config, &mut output);
+        Some(Case { cabinet, config, numbers, answer, output })
     };
     let accepted = |case: &Case| case.answer >> 56 == 0;
-    shapes().into_iter().step_by(7).filter_map(case).filter(accepted).collect()
+    let shapes = shapes(Extent::of(cabinet));
+    let cases: Vec<Case> =
+        shapes.into_iter().step_by(7).filter_map(case).filter(accepted).collect();
+    assert!(cases.len() > 10, "{} cases of {cabinet:?}", cases.len());
+    cases
+}
+
+/// Those of the cabinets in turn.
+fn cases() -> Vec<Case> {
+    let [large, small] = CABINETS.map(cases_of);
+    large.into_iter().zip(small).flat_map(|(one, other)| [one, other]).collect()
 }
 
 #[test]
 fn threads_read_one_configuration_at_once() {
     let cases = &cases();
-    assert!(cases.len() > 10, "{} cases", cases.len());
     std::thread::scope(|scope| {
         for thread in 0..4 {
             scope.spawn(move || {

@@ -2,6 +2,7 @@
 //! flipped, cut and added. Some stay readable; on all of them the calls agree.
 
 use library::bytes::{damaged, WAYS};
+use library::cabinet::{Cabinet, CABINETS};
 use library::compare::Comparison;
 use library::counts::{Wanted, ACTORS};
 use library::input::{Input, Source};
@@ -14,17 +15,17 @@ use reference::generate::damage::{random_damage, CONDITIONS};
 use reference::generate::random::Random;
 use reference::generate::run::{Run, ORIGINS};
 use reference::generate::steps;
-use reference::{write, Numbers, STANDARD};
+use reference::{write, Limits, Numbers};
 
 /// A readable configuration some steps into a run, and a step that fits it.
-fn undamaged(seed: u64) -> (Configuration, Numbers) {
+fn undamaged(limits: &Limits, seed: u64) -> (Configuration, Numbers) {
     let origin = ORIGINS[seed as usize % ORIGINS.len()];
     let mut run = Run::new(seed, origin);
     let mut configuration = run.configuration().expect("a start is readable");
     for _ in 0..run.random.below(12) {
         let numbers = steps::likely(&mut run.random, &configuration);
         configuration = match transition(&configuration, numbers) {
-            Ok(next) if within(&next.configuration) => next.configuration,
+            Ok(next) if within(limits, &next.configuration) => next.configuration,
             _ => configuration,
         };
     }
@@ -32,11 +33,11 @@ fn undamaged(seed: u64) -> (Configuration, Numbers) {
     (configuration, numbers)
 }
 
-fn within(configuration: &Configuration) -> bool {
-    configuration.size() <= 1000 && configuration.depth() <= STANDARD.depth
+fn within(limits: &Limits, configuration: &Configuration) -> bool {
+    configuration.size() <= 1000 && configuration.depth() <= limits.depth
 }
 
-/// All five calls on damaged bytes.
+/// The calls on damaged bytes.
 fn all_calls(
     comparison: &mut Comparison<Plain>,
     random: &mut Random,
@@ -55,9 +56,13 @@ fn all_calls(
 
 #[test]
 fn damaged_words_are_answered_alike() {
-    let mut comparison = Comparison::new(Plain::default());
+    CABINETS.into_iter().for_each(damaged_words);
+}
+
+fn damaged_words(cabinet: Cabinet) {
+    let mut comparison = Comparison::new(cabinet, Plain::default());
     for seed in 0..3000 {
-        let (configuration, numbers) = undamaged(seed);
+        let (configuration, numbers) = undamaged(&cabinet.limits(), seed);
         let words = write::configuration(&configuration);
         let mut random = Random::new(seed);
         for step in 0..4 {
@@ -67,14 +72,23 @@ fn damaged_words_are_answered_alike() {
             all_calls(&mut comparison, &mut random, &input, numbers);
         }
     }
-    comparison.counts.report("damaged words", wanted(50_000, &["damaged words"]));
+    comparison.report("damaged words", wanted(50_000, &["damaged words"]));
 }
 
 #[test]
 fn damaged_bytes_are_answered_alike() {
-    let mut comparison = Comparison::new(Plain::default());
+    damaged_bytes(Cabinet::Large);
+}
+
+#[test]
+fn damaged_bytes_are_answered_alike_in_the_small_cabinet() {
+    damaged_bytes(Cabinet::Small);
+}
+
+fn damaged_bytes(cabinet: Cabinet) {
+    let mut comparison = Comparison::new(cabinet, Plain::default());
     for seed in 0..6000 {
-        let (configuration, numbers) = undamaged(seed);
+        let (configuration, numbers) = undamaged(&cabinet.limits(), seed);
         let bytes = from_words(&write::configuration(&configuration));
         let mut random = Random::new(seed);
         for (step, class) in WAYS.iter().enumerate() {
@@ -84,14 +98,18 @@ fn damaged_bytes_are_answered_alike() {
             all_calls(&mut comparison, &mut random, &input, numbers);
         }
     }
-    comparison.counts.report("damaged bytes", wanted(50_000, WAYS));
+    comparison.report("damaged bytes", wanted(50_000, WAYS));
 }
 
 #[test]
 fn each_broken_condition_is_answered_alike() {
-    let mut comparison = Comparison::new(Plain::default());
+    CABINETS.into_iter().for_each(broken_conditions);
+}
+
+fn broken_conditions(cabinet: Cabinet) {
+    let mut comparison = Comparison::new(cabinet, Plain::default());
     for seed in 0..150 {
-        let (configuration, numbers) = undamaged(seed);
+        let (configuration, numbers) = undamaged(&cabinet.limits(), seed);
         let mut random = Random::new(seed);
         for (step, (class, damage)) in CONDITIONS.iter().enumerate() {
             let Some(words) = damage(&mut random, &configuration) else { continue };
@@ -104,7 +122,7 @@ fn each_broken_condition_is_answered_alike() {
     let classes: Vec<&str> = CONDITIONS.iter().map(|(name, _)| *name).collect();
     let unreadable =
         Wanted { step: &[1], start: &[1], ends: &[1], pending: &[1], kinds: &[], ..wanted(0, &[]) };
-    comparison.counts.report(
+    comparison.report(
         "broken conditions",
         Wanted {
             calls: 10_000,

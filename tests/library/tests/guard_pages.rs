@@ -3,6 +3,7 @@
 //! was being called is printed before.
 
 use library::bytes::{arbitrary, damaged, WAYS};
+use library::cabinet::Cabinet;
 use library::compare::Comparison;
 use library::counts::{Wanted, ACTORS};
 use library::guard::{Edge, Guarded};
@@ -15,28 +16,38 @@ use reference::coverage::Coverage;
 use reference::generate::edges::{long, result_deep, result_long, WAYS as NESTINGS};
 use reference::generate::random::Random;
 use reference::generate::run::{Origin, Run};
-use reference::{write, Numbers};
+use reference::{write, Limits, Numbers};
 
 const CLASSES: &[&str] = &["empty", "arbitrary bytes", "long", "deep"];
 
 #[test]
 fn nothing_behind_what_is_lent_is_touched() {
-    guarded(Edge::End, "ends at a guard page");
+    guarded(Cabinet::Large, Edge::End, "ends at a guard page");
 }
 
 #[test]
 fn nothing_before_what_is_lent_is_touched() {
-    guarded(Edge::Begin, "begins behind a guard page");
+    guarded(Cabinet::Large, Edge::Begin, "begins behind a guard page");
 }
 
-fn guarded(edge: Edge, name: &'static str) {
+#[test]
+fn nothing_behind_what_the_small_cabinet_is_lent_is_touched() {
+    guarded(Cabinet::Small, Edge::End, "ends at a guard page");
+}
+
+#[test]
+fn nothing_before_what_the_small_cabinet_is_lent_is_touched() {
+    guarded(Cabinet::Small, Edge::Begin, "begins behind a guard page");
+}
+
+fn guarded(cabinet: Cabinet, edge: Edge, name: &'static str) {
     memory_fault::report(name);
-    let mut comparison = Comparison::new(Guarded::new(edge));
+    let mut comparison = Comparison::new(cabinet, Guarded::new(edge));
     runs(&mut comparison);
     damage(&mut comparison);
     small(&mut comparison);
     edges(&mut comparison);
-    comparison.counts.report(
+    comparison.report(
         name,
         Wanted {
             calls: 20_000,
@@ -90,15 +101,16 @@ fn small(comparison: &mut Comparison<Guarded>) {
 }
 
 fn edges(comparison: &mut Comparison<Guarded>) {
+    let Limits { depth, words } = comparison.cabinet.limits();
     let mut random = Random::new(0);
     let mut all = Vec::new();
-    for words in 8190..=8194 {
+    for words in words - 2..=words + 2 {
         all.push((CLASSES[2], long(words).expect("long enough"), 4));
         all.push((CLASSES[2], result_long(words).expect("long enough"), 4));
     }
     for way in NESTINGS {
-        all.push((CLASSES[3], result_deep(*way, 64), 3));
-        all.push((CLASSES[3], result_deep(*way, 65), 3));
+        all.push((CLASSES[3], result_deep(*way, depth), 3));
+        all.push((CLASSES[3], result_deep(*way, depth + 1), 3));
     }
     for (step, (class, configuration, position)) in all.into_iter().enumerate() {
         let config = from_words(&write::configuration(&configuration));
@@ -107,7 +119,7 @@ fn edges(comparison: &mut Comparison<Guarded>) {
     }
 }
 
-/// All five calls; the step with some length, with no byte, and with enough.
+/// The calls that read; the step with some length, with no byte, and with enough.
 fn all_calls(
     comparison: &mut Comparison<Guarded>,
     random: &mut Random,

@@ -1,22 +1,24 @@
-//! The step with a journal and taking back: long runs with takings back several deep, journals cut,
-//! damaged and of other steps, every journal length near the needed one, guard pages around all that
-//! is lent, and a stale journal that matches.
+//! The step with a journal, of either cabinet, and taking back: long runs with takings back several
+//! deep, journals cut, damaged and of other steps, every journal length near the needed one, guard
+//! pages around all that is lent, and a stale journal that matches.
 
+use library::cabinet::{Cabinet, CABINETS};
+use library::compare::unpacked;
 use library::guard::{Edge, Guarded};
 use library::journal::Journals;
 use library::memory::{Memory, Plain};
 use library::memory_fault;
 use reference::bytes::{from_words, to_words};
-use reference::calls::Answer;
 use reference::generate::run::{Origin, Run};
-use reference::journal::{journal_of, JOURNAL_ENOUGH};
+use reference::journal::journal_of;
 
 const FILL: u8 = 0x5a;
 const ALL: usize = 2 * 8192 + 1;
 
 /// Steps of a run, each with a journal that is enough, and takings back of some of them.
 fn walk<M: Memory>(journals: &mut Journals<M>, origin: Origin, seed: u64, steps: usize) {
-    let mut run = Run::new(seed, origin);
+    let mut run = Run::within(&journals.cabinet.limits(), seed, origin);
+    let enough = vec![FILL; journals.cabinet.journal()];
     // what stands: the words before each step, and its journal
     let mut standing: Vec<(Vec<u16>, Vec<u8>)> = Vec::new();
     let mut stale: Vec<u8> = Vec::new();
@@ -24,9 +26,12 @@ fn walk<M: Memory>(journals: &mut Journals<M>, origin: Origin, seed: u64, steps:
         let config = from_words(&run.words);
         let Some(call) = run.call() else { return };
         let output = vec![FILL; 2 * call.room + (step & 1)];
-        let whole = journals.step(&config, call.numbers, &output, &vec![FILL; 2 * JOURNAL_ENOUGH]);
+        let whole = journals.step(&config, call.numbers, &output, &enough);
         if whole.number() != 0 {
-            run.take(&answer(&whole), &to_words(&whole.output[..output.len() / 2 * 2]).unwrap());
+            run.take(
+                &unpacked(whole.answer),
+                &to_words(&whole.output[..output.len() / 2 * 2]).unwrap(),
+            );
             journals.step(&config, call.numbers, &output, &[]);
             continue;
         }
@@ -36,7 +41,10 @@ fn walk<M: Memory>(journals: &mut Journals<M>, origin: Origin, seed: u64, steps:
         let journal = whole.journal[..2 * needed].to_vec();
         damage(journals, &whole.output[..2 * whole.length()], &journal, &stale, step);
         standing.push((run.words.clone(), journal.clone()));
-        run.take(&answer(&whole), &to_words(&whole.output[..output.len() / 2 * 2]).unwrap());
+        run.take(
+            &unpacked(whole.answer),
+            &to_words(&whole.output[..output.len() / 2 * 2]).unwrap(),
+        );
         stale = journal;
         if run.random.percent(30) {
             let depth =
@@ -50,17 +58,6 @@ fn walk<M: Memory>(journals: &mut Journals<M>, origin: Origin, seed: u64, steps:
                 run.words = before;
             }
         }
-    }
-}
-
-fn answer(left: &library::journal::Left) -> Answer {
-    let a = left.answer;
-    Answer {
-        number: left.number(),
-        kind: (a >> 48) as u8,
-        serial: (a >> 16) as u16,
-        fault: (a >> 40) as u8,
-        length: a as u16,
     }
 }
 
@@ -111,7 +108,16 @@ fn damage<M: Memory>(
 
 #[test]
 fn runs_with_takings_back_are_alike() {
-    let mut journals = Journals::new(Plain::default(), Plain::default());
+    runs_with_takings_back(Cabinet::Large);
+}
+
+#[test]
+fn runs_of_the_small_cabinet_with_takings_back_are_alike() {
+    runs_with_takings_back(Cabinet::Small);
+}
+
+fn runs_with_takings_back(cabinet: Cabinet) {
+    let mut journals = Journals::new(cabinet, Plain::default(), Plain::default());
     for (origin, seeds, steps) in [
         (Origin::Fresh, 150, 60),
         (Origin::Growing, 4, 120),
@@ -130,18 +136,21 @@ fn runs_with_takings_back_are_alike() {
 #[test]
 fn nothing_behind_what_is_lent_is_touched() {
     memory_fault::report("journals that end at a guard page");
-    let mut journals = Journals::new(Guarded::new(Edge::End), Guarded::new(Edge::End));
-    for seed in 0..12 {
-        walk(&mut journals, Origin::Fresh, seed, 30);
-    }
+    guarded(Edge::End);
 }
 
 #[test]
 fn nothing_before_what_is_lent_is_touched() {
     memory_fault::report("journals that begin behind a guard page");
-    let mut journals = Journals::new(Guarded::new(Edge::Begin), Guarded::new(Edge::Begin));
-    for seed in 0..12 {
-        walk(&mut journals, Origin::Fresh, seed, 30);
+    guarded(Edge::Begin);
+}
+
+fn guarded(edge: Edge) {
+    for cabinet in CABINETS {
+        let mut journals = Journals::new(cabinet, Guarded::new(edge), Guarded::new(edge));
+        for seed in 0..12 {
+            walk(&mut journals, Origin::Fresh, seed, 30);
+        }
     }
 }
 
@@ -158,7 +167,7 @@ fn a_stale_journal_may_match() {
         })
         .collect();
     let [words, journal, restored] = &lines[..] else { panic!("three lines") };
-    let mut journals = Journals::new(Plain::default(), Plain::default());
+    let mut journals = Journals::new(Cabinet::Large, Plain::default(), Plain::default());
     let left = journals.back(&from_words(words), &from_words(journal), &vec![FILL; ALL]);
     assert_eq!((left.number(), left.length()), (0, restored.len()));
     assert_eq!(&to_words(&left.output[..2 * restored.len()]).unwrap(), restored);

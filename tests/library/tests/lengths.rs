@@ -2,17 +2,18 @@
 //! configuration, also ones that are small again when counted in 16 bits.
 
 use library::bytes::{almost, arbitrary};
+use library::cabinet::{Cabinet, CABINETS};
 use library::compare::Comparison;
 use library::counts::Wanted;
 use library::input::{Input, Source};
 use library::memory::Plain;
-use library::outputs::{around, huge, one_around, LONGEST};
+use library::outputs::{around, huge, one_around};
 use reference::bytes::{from_words, to_words};
 use reference::generate::edges::long;
 use reference::generate::random::Random;
 use reference::generate::run::{Run, ORIGINS};
 use reference::generate::steps;
-use reference::{readable, write, Numbers, STANDARD};
+use reference::{readable, write, Limits, Numbers};
 
 /// Longer than the smallest readable configuration, of 67 words.
 const SMALL: usize = 260;
@@ -34,22 +35,22 @@ fn bytes(random: &mut Random, class: &str, seed: u64, length: usize) -> Vec<u8> 
 }
 
 /// A step that is likely to be accepted, if the bytes are readable.
-fn likely_step(random: &mut Random, config: &[u8]) -> Numbers {
+fn likely_step(limits: &Limits, random: &mut Random, config: &[u8]) -> Numbers {
     let words = to_words(config);
-    match words.and_then(|words| readable::read(&STANDARD, &words)) {
+    match words.and_then(|words| readable::read(limits, &words)) {
         Some(configuration) => steps::choose(random, &configuration),
         None => Numbers::new(0, random.below(12) as u16, 0, 0, 0),
     }
 }
 
-/// All five calls on bytes of every class.
+/// The calls on bytes of every class.
 fn all_calls(comparison: &mut Comparison<Plain>, seed: u64, length: usize) {
     for (step, class) in CLASSES.iter().enumerate() {
         let mut random = Random::new(seed);
         let config = bytes(&mut random, class, seed, length);
         let input = Input { source: Source { class, seed, step }, config: &config };
         comparison.read_one(&input);
-        let numbers = likely_step(&mut random, &config);
+        let numbers = likely_step(&comparison.cabinet.limits(), &mut random, &config);
         let output = one_around(&mut random, length / 2);
         comparison.step(&input, numbers, output);
     }
@@ -57,13 +58,17 @@ fn all_calls(comparison: &mut Comparison<Plain>, seed: u64, length: usize) {
 
 #[test]
 fn all_small_lengths_are_answered_alike() {
-    let mut comparison = Comparison::new(Plain::default());
+    CABINETS.into_iter().for_each(small_lengths);
+}
+
+fn small_lengths(cabinet: Cabinet) {
+    let mut comparison = Comparison::new(cabinet, Plain::default());
     for length in 0..=SMALL {
         for round in 0..16 {
             all_calls(&mut comparison, (64 * length + round) as u64, length);
         }
     }
-    comparison.counts.report(
+    comparison.report(
         "small lengths",
         Wanted {
             calls: 50_000,
@@ -89,16 +94,29 @@ fn stretched(config: &[u8], length: usize) -> Vec<u8> {
 
 #[test]
 fn odd_and_long_lengths_are_unreadable() {
-    let mut comparison = Comparison::new(Plain::default());
+    CABINETS.into_iter().for_each(odd_and_long);
+}
+
+fn odd_and_long(cabinet: Cabinet) {
+    let mut comparison = Comparison::new(cabinet, Plain::default());
+    let longest = cabinet.longest();
     for seed in 0..60 {
         let run = Run::new(seed, ORIGINS[seed as usize % ORIGINS.len()]);
         let config = from_words(&run.words);
         let own = config.len();
         // The last two have the configuration's length, and its words' count, in 16 bits.
-        let lengths =
-            [own - 1, own + 1, 16_383, 16_385, 16_386, 20_000, 65_536 + own, 131_072 + own];
+        let lengths = [
+            own - 1,
+            own + 1,
+            longest - 1,
+            longest + 1,
+            longest + 2,
+            20_000,
+            65_536 + own,
+            131_072 + own,
+        ];
         for (step, length) in lengths.into_iter().enumerate() {
-            let class = if length & 1 == 1 { "odd length" } else { "above 16,384 bytes" };
+            let class = if length & 1 == 1 { "odd length" } else { "above the longest" };
             let config = stretched(&config, length);
             let input = Input { source: Source { class, seed, step }, config: &config };
             comparison.read_all(&input);
@@ -107,7 +125,7 @@ fn odd_and_long_lengths_are_unreadable() {
             }
         }
     }
-    comparison.counts.report(
+    comparison.report(
         "odd and long",
         Wanted {
             calls: 10_000,
@@ -116,7 +134,7 @@ fn odd_and_long_lengths_are_unreadable() {
             readable: &[1],
             ends: &[1],
             pending: &[1],
-            classes: &["odd length", "above 16,384 bytes"],
+            classes: &["odd length", "above the longest"],
             processes: &["empty"],
             ..Wanted::default()
         },
@@ -126,8 +144,13 @@ fn odd_and_long_lengths_are_unreadable() {
 
 #[test]
 fn the_longest_configurations_are_answered_alike() {
-    let mut comparison = Comparison::new(Plain::default());
-    for words in LONGEST / 2 - 3..=LONGEST / 2 + 3 {
+    CABINETS.into_iter().for_each(longest);
+}
+
+fn longest(cabinet: Cabinet) {
+    let mut comparison = Comparison::new(cabinet, Plain::default());
+    let most = cabinet.limits().words;
+    for words in most - 3..=most + 3 {
         let configuration = long(words).expect("long enough");
         let config = from_words(&write::configuration(&configuration));
         let source = Source { class: "longest", seed: words as u64, step: 0 };
@@ -139,7 +162,7 @@ fn the_longest_configurations_are_answered_alike() {
             }
         }
     }
-    comparison.counts.report(
+    comparison.report(
         "longest",
         Wanted {
             calls: 500,

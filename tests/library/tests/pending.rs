@@ -2,6 +2,7 @@
 //! the middle, last or nowhere, searched by the call and thrown past by the step. 6 is answered exactly
 //! where the search finds something.
 
+use library::cabinet::{Cabinet, CABINETS};
 use library::compare::Comparison;
 use library::counts::Wanted;
 use library::guard::{Edge, Guarded};
@@ -13,7 +14,7 @@ use reference::bytes::from_words;
 use reference::configuration::Configuration;
 use reference::measure::size;
 use reference::process::{Key, List, Mark, Part};
-use reference::{write, Numbers, STANDARD};
+use reference::{write, Numbers};
 
 /// A balanced par of the processes; there has to be one.
 fn balanced(processes: &[Part]) -> Part {
@@ -101,14 +102,14 @@ fn compare<M: Memory>(
     assert!(count > 0, "{}", input.source);
     let whole = comparison.pending(&input, 0, 0);
     assert!(found <= whole.0 && count <= whole.1);
-    let output = Output { length: 2 * STANDARD.words, name: "longest" };
+    let output = Output { length: comparison.cabinet.longest(), name: "longest" };
     let stepped = comparison.step(&input, Numbers::new(0, throws, 0, 0, 0), output);
     assert_eq!(stepped.answer.number, if found { 6 } else { 0 }, "{}", input.source);
     found
 }
 
-fn sides<M: Memory>(name: &'static str, memory: M, lengths: &[usize]) {
-    let mut comparison = Comparison::new(memory);
+fn sides<M: Memory>(cabinet: Cabinet, name: &'static str, memory: M, lengths: &[usize]) {
+    let mut comparison = Comparison::new(cabinet, memory);
     for words in lengths {
         for (step, (_, leaf)) in LEAVES.iter().enumerate() {
             for (seed, (_, process, pending)) in PENDING.iter().enumerate() {
@@ -122,32 +123,43 @@ fn sides<M: Memory>(name: &'static str, memory: M, lengths: &[usize]) {
         }
     }
     let wanted = Wanted { calls: 400, step: &[0, 6], pending: &[0], ..Wanted::default() };
-    comparison.counts.report(name, wanted);
+    comparison.report(name, wanted);
 }
 
 #[test]
 fn sides_are_searched_up_to_the_first_pending_process() {
-    sides("sides", Plain::default(), &[20, 600, 2_000, 7_900]);
+    sides(Cabinet::Large, "sides", Plain::default(), &[20, 600, 2_000, 7_900]);
+    sides(Cabinet::Small, "sides", Plain::default(), &[20, 600, 1_800]);
 }
 
 #[test]
 fn nothing_else_is_touched() {
-    sides("sides at guard pages", Guarded::new(Edge::End), &[20, 7_900]);
+    sides(Cabinet::Large, "sides at guard pages", Guarded::new(Edge::End), &[20, 7_900]);
+    sides(Cabinet::Small, "sides at guard pages", Guarded::new(Edge::End), &[20, 1_800]);
 }
 
 /// Sides at every level between a throw and the root, each of hundreds of processes: those outside
 /// the scope that stops the fault do not count.
 #[test]
 fn many_sides_are_passed() {
-    let mut comparison = Comparison::new(Plain::default());
-    let plain = balanced(&vec![idle(); 60]);
-    let pending =
-        balanced(&[vec![idle(); 30], vec![build::inst(List::new())], vec![idle(); 30]].concat());
-    for stops in [0, 5, 20, 40] {
-        for wrong in [None, Some(0), Some(4), Some(5), Some(6), Some(20), Some(39)] {
+    CABINETS.into_iter().for_each(many_sides);
+}
+
+fn many_sides(cabinet: Cabinet) {
+    let mut comparison = Comparison::new(cabinet, Plain::default());
+    let (levels, half) = match cabinet {
+        Cabinet::Large => (40, 30),
+        Cabinet::Small => (20, 12),
+    };
+    let some = vec![idle(); half];
+    let plain = balanced(&[&some[..], &some].concat());
+    let pending = balanced(&[&some[..], &[build::inst(List::new())], &some].concat());
+    for stops in [0, 5, levels / 2, levels] {
+        for wrong in [None, Some(0), Some(4), Some(5), Some(6), Some(levels / 2), Some(levels - 1)]
+        {
             let mut inside = build::throw(2);
             let mut heads = 0;
-            for level in 0..40 {
+            for level in 0..levels {
                 let beside = if wrong == Some(level) { &pending } else { &plain };
                 inside = build::par(inside, beside.clone());
                 heads += 1;
@@ -162,7 +174,7 @@ fn many_sides_are_passed() {
             let config = from_words(&write::configuration(&configuration));
             let source = Source { class: "levels", seed: stops as u64, step: wrong.unwrap_or(99) };
             let input = Input { source, config: &config };
-            let output = Output { length: 2 * STANDARD.words, name: "longest" };
+            let output = Output { length: cabinet.longest(), name: "longest" };
             let numbers = Numbers::new(0, 3 + heads, 0, 0, 0);
             let met = wrong.is_some_and(|level| stops == 0 || level < stops);
             let answer = comparison.step(&input, numbers, output).answer;

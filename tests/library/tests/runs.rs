@@ -1,6 +1,7 @@
-//! Runs: lists of steps from fresh starts and from other readable configurations. Together they
-//! meet every number, every kind of accepted step and every row of the rules.
+//! Runs: lists of steps from fresh starts and from other readable configurations, in either cabinet.
+//! Together they meet every number, every kind of accepted step and every row of the rules.
 
+use library::cabinet::Cabinet;
 use library::compare::Comparison;
 use library::counts::{Wanted, ACTORS};
 use library::memory::Plain;
@@ -14,7 +15,16 @@ const OTHER_CALLS: &[&str] = &["refused 1", "refused 11", "refused 12"];
 
 #[test]
 fn runs_answer_and_write_alike() {
-    let mut comparison = Comparison::new(Plain::default());
+    runs(Cabinet::Large);
+}
+
+#[test]
+fn runs_in_the_small_cabinet_answer_and_write_alike() {
+    runs(Cabinet::Small);
+}
+
+fn runs(cabinet: Cabinet) {
+    let mut comparison = Comparison::new(cabinet, Plain::default());
     let mut coverage = Coverage::default();
     let plan = [
         (Origin::Fresh, 1500, 60),
@@ -27,7 +37,7 @@ fn runs_answer_and_write_alike() {
             walk(&mut comparison, &mut coverage, (origin, seed), steps);
         }
     }
-    comparison.counts.report(
+    comparison.report(
         "runs",
         Wanted {
             calls: 200_000,

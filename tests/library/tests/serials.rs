@@ -1,6 +1,7 @@
 //! A run from a fresh start that spends all serials: every solicit is answered and the next one
 //! follows, until one is refused.
 
+use library::cabinet::Cabinet;
 use library::compare::Comparison;
 use library::counts::Wanted;
 use library::input::{Input, Source};
@@ -40,7 +41,16 @@ fn first_step(config: &[u8]) -> Numbers {
 
 #[test]
 fn a_run_spends_all_serials() {
-    let mut comparison = Comparison::new(Plain::default());
+    spends_all(Cabinet::Large);
+}
+
+#[test]
+fn a_run_in_the_small_cabinet_spends_all_serials() {
+    spends_all(Cabinet::Small);
+}
+
+fn spends_all(cabinet: Cabinet) {
+    let mut comparison = Comparison::new(cabinet, Plain::default());
     let mut config = from_words(&write::configuration(&start()));
     let mut issued = 0;
     for step in 0.. {
@@ -62,7 +72,7 @@ fn a_run_spends_all_serials() {
     assert_eq!(issued, u16::MAX);
     let kinds = &[5, 10, 12, 16];
     let wanted = Wanted { calls: 150_000, step: &[0, 7], kinds, ..Wanted::default() };
-    comparison.counts.report("serials spent", wanted);
+    comparison.report("serials spent", wanted);
 }
 
 /// The run's last configuration, and its refusal with every output.

@@ -1,17 +1,18 @@
 //! The stack that each call needs: on configurations that are deep and long at once, every call is
-//! made on a painted stack (the bill and the window, which read none, on the most they take), and the most that one used stays below three quarters of what
-//! `include/sock.h` promises to be enough. The answers are the second implementation's.
+//! made on a painted stack (the bill and the window, which read none, on the most they take), and the
+//! most that one used stays below three quarters of what `include/sock.h` promises to be enough; the
+//! small cabinet's calls have a promise of their own. The answers are the second implementation's.
 
+use library::cabinet::Cabinet;
 use library::counts::ACTORS;
-use library::deep::shapes;
+use library::deep::{shapes, Extent, Shape};
 use library::exported;
-use library::journal;
 use library::memory::Lent;
 use library::painted::Painted;
 use reference::bytes::from_words;
 use reference::configuration::Configuration;
 use reference::generate::steps::{fitting, stands};
-use reference::{readable, write, Numbers, STANDARD};
+use reference::{readable, write, Numbers};
 use std::collections::{BTreeMap, BTreeSet};
 use std::io::Write;
 
@@ -35,22 +36,39 @@ extern "C" {
     fn sock_window_count(operation: u16, window: *const u8, length: usize) -> u64;
 }
 
-/// What the header promises: the number in its line `#define SOCK_STACK`.
-fn promised() -> usize {
+/// What the header promises: the number in its line `#define` of this name.
+fn promised(name: &str) -> usize {
     let header = include_str!("../../../include/sock.h");
-    let line = header.lines().find_map(|line| line.strip_prefix("#define SOCK_STACK "));
-    line.expect("the header has SOCK_STACK").trim().parse().expect("a plain number")
+    let start = format!("#define {name} ");
+    let line = header.lines().find_map(|line| line.strip_prefix(&start));
+    line.expect("the header has it").trim().parse().expect("a plain number")
 }
 
 /// The most that a call used, and on which shape.
-#[derive(Default)]
 struct Most {
+    cabinet: Cabinet,
     used: BTreeMap<&'static str, (usize, String)>,
     painted: Painted,
     kinds: BTreeSet<u64>,
 }
 
+/// The call's name in a cabinet.
+fn named(cabinet: Cabinet, large: &'static str, small: &'static str) -> &'static str {
+    match cabinet {
+        Cabinet::Large => large,
+        Cabinet::Small => small,
+    }
+}
+
+fn lend(bytes: &mut [u8]) -> Lent {
+    Lent { start: bytes.as_mut_ptr(), length: bytes.len() }
+}
+
 impl Most {
+    fn new(cabinet: Cabinet) -> Most {
+        Most { cabinet, used: BTreeMap::new(), painted: Painted::new(), kinds: BTreeSet::new() }
+    }
+
     /// Makes the call on the painted stack and gives its answer.
     fn call(&mut self, call: &'static str, shape: &str, made: impl Fn() -> u64) -> u64 {
         let mut answer = 0;
@@ -63,12 +81,19 @@ impl Most {
     }
 
     fn read(&mut self, shape: &str, config: &[u8]) {
+        let (cabinet, limits) = (self.cabinet, self.cabinet.limits());
         let lent = Lent { start: config.as_ptr().cast_mut(), length: config.len() };
-        let readable =
-            self.call("sock_check_readable", shape, || exported::check_readable(lent).into());
-        assert_eq!(readable, 0, "{shape}");
-        let start = self.call("sock_check_start", shape, || exported::check_start(lent).into());
-        assert_eq!(start, reference::sock_check_start(config).into(), "{shape}");
+        let call = named(cabinet, "sock_check_readable", "sock_check_readable_small");
+        let readable = self.call(call, shape, || cabinet.check_readable(lent).into());
+        let other = reference::sock_check_readable_within(&limits, config);
+        assert_eq!(readable, other.into(), "{shape}");
+        let call = named(cabinet, "sock_check_start", "sock_check_start_small");
+        let start = self.call(call, shape, || cabinet.check_start(lent).into());
+        let other = reference::sock_check_start_within(&limits, config);
+        assert_eq!(start, other.into(), "{shape}");
+        if cabinet == Cabinet::Small {
+            return;
+        }
         let ends = self.call("sock_ends", shape, || exported::ends(lent, 1));
         assert_eq!(ends, reference::sock_ends(config, 1), "{shape}");
         for engine in 0..3 {
@@ -88,21 +113,14 @@ impl Most {
     }
 
     fn step(&mut self, shape: &str, config: &[u8], numbers: Numbers) {
+        let (cabinet, limits) = (self.cabinet, self.cabinet.limits());
         let mut out = vec![7u8; 16_384];
         let mut expected = out.clone();
-        let output = Lent { start: out.as_mut_ptr(), length: out.len() };
+        let output = lend(&mut out);
         let lent = Lent { start: config.as_ptr().cast_mut(), length: config.len() };
-        let answer = self.call("sock_step", shape, || exported::step(numbers, lent, output));
-        let Numbers { engine, position, second_engine: second, second_position, branch } = numbers;
-        let other = reference::sock_step(
-            engine,
-            position,
-            second,
-            second_position,
-            branch,
-            config,
-            &mut expected,
-        );
+        let call = named(cabinet, "sock_step", "sock_step_small");
+        let answer = self.call(call, shape, || cabinet.step(numbers, lent, output));
+        let other = reference::sock_step_within(&limits, numbers, config, &mut expected);
         assert_eq!(answer, other, "{shape}, {numbers:?}");
         assert!(output.bytes() == expected, "{shape}, {numbers:?}: another output");
         self.journal(shape, config, numbers);
@@ -113,26 +131,58 @@ impl Most {
 
     /// The same step with a journal and, where it is accepted, taken back.
     fn journal(&mut self, shape: &str, config: &[u8], numbers: Numbers) {
-        let (mut out, mut noted, mut back) =
-            (vec![7u8; 16_384], vec![7u8; 32_772], vec![7u8; 16_384]);
-        let lend = |bytes: &mut Vec<u8>| Lent { start: bytes.as_mut_ptr(), length: bytes.len() };
+        let (cabinet, limits) = (self.cabinet, self.cabinet.limits());
+        let (mut out, mut noted) = (vec![7u8; 16_384], vec![7u8; 32_772]);
         let lent = Lent { start: config.as_ptr().cast_mut(), length: config.len() };
         let (output, journal) = (lend(&mut out), lend(&mut noted));
-        let answer = self.call("sock_step_journal", shape, || {
-            journal::exported_step(numbers, lent, output, journal)
-        });
+        let call = named(cabinet, "sock_step_journal", "sock_step_journal_small");
+        let answer =
+            self.call(call, shape, || cabinet.step_journal(numbers, lent, output, journal));
         let (mut expected, mut written) = (vec![7u8; 16_384], vec![7u8; 32_772]);
-        let other =
-            reference::journal::sock_step_journal(numbers, config, &mut expected, &mut written);
+        let other = reference::journal::sock_step_journal_within(
+            &limits,
+            numbers,
+            config,
+            &mut expected,
+            &mut written,
+        );
         assert_eq!(answer, other, "{shape}, {numbers:?}");
         assert!(output.bytes() == expected && journal.bytes() == written, "{shape}, {numbers:?}");
-        if answer >> 56 == 0 {
+        if answer >> 56 == 0 && cabinet == Cabinet::Large {
             let next = Lent { start: output.start, length: 2 * usize::from(answer as u16) };
-            let output = lend(&mut back);
-            let taken = self
-                .call("sock_take_back", shape, || journal::exported_back(next, journal, output));
-            assert_eq!(taken, config.len() as u64 / 2, "{shape}, {numbers:?} taken back");
-            assert!(output.bytes()[..config.len()] == *config, "{shape}, {numbers:?} taken back");
+            self.back(shape, config, next, journal);
+        }
+    }
+
+    /// Takes back to the configuration.
+    fn back(&mut self, shape: &str, config: &[u8], next: Lent, journal: Lent) {
+        let mut back = vec![7u8; 16_384];
+        let output = lend(&mut back);
+        let taken =
+            self.call("sock_take_back", shape, || exported::take_back(next, journal, output));
+        assert_eq!(taken, config.len() as u64 / 2, "{shape} taken back");
+        assert!(output.bytes()[..config.len()] == *config, "{shape} taken back");
+    }
+
+    /// Every call on every shape.
+    fn all(&mut self, shapes: Vec<Shape>) {
+        for (shape, configuration) in shapes {
+            let config = from_words(&write::configuration(&configuration));
+            self.read(&shape, &config);
+            for numbers in steps(&configuration) {
+                self.step(&shape, &config, numbers);
+            }
+        }
+    }
+
+    /// Every kind acted, and each of so many calls stayed below three quarters of the promise.
+    fn judge(&self, calls: usize, promised: usize) {
+        self.print();
+        let actors = ACTORS.iter().map(|kind| u64::from(*kind));
+        assert!(self.kinds.iter().copied().eq(actors), "accepted kinds {:?}", self.kinds);
+        assert_eq!(self.used.len(), calls, "a call was not made");
+        for (call, (used, shape)) in &self.used {
+            assert!(4 * used <= 3 * promised, "{call} used {used} bytes of stack ({shape})");
         }
     }
 }
@@ -170,25 +220,38 @@ fn steps(configuration: &Configuration) -> Vec<Numbers> {
     all
 }
 
+/// The cabinet's own shapes: readable there, deep and long.
+fn own(cabinet: Cabinet) -> Vec<Shape> {
+    let limits = cabinet.limits();
+    let shapes = shapes(Extent::of(cabinet));
+    for (shape, configuration) in &shapes {
+        let words = write::configuration(configuration);
+        assert!(readable::read(&limits, &words).is_some(), "{shape} is not readable");
+        let (long, deep) = (3 * limits.words / 4, limits.depth - 4);
+        assert!(words.len() > long && configuration.depth() > deep, "{shape} is not deep and long");
+    }
+    shapes
+}
+
 #[test]
 fn no_call_needs_more_stack_than_three_quarters_of_the_promise() {
-    let mut most = Most::default();
-    for (shape, configuration) in shapes() {
-        let words = write::configuration(&configuration);
-        assert!(readable::read(&STANDARD, &words).is_some(), "{shape} is not readable");
-        assert!(words.len() > 7_000 && configuration.depth() > 60, "{shape} is not deep and long");
-        let config = from_words(&words);
-        most.read(&shape, &config);
-        for numbers in steps(&configuration) {
-            most.step(&shape, &config, numbers);
-        }
-    }
+    let mut most = Most::new(Cabinet::Large);
+    most.all(own(Cabinet::Large));
     others(&mut most);
-    most.print();
-    let actors = ACTORS.iter().map(|kind| u64::from(*kind));
-    assert!(most.kinds.iter().copied().eq(actors), "accepted kinds {:?}", most.kinds);
-    assert_eq!(most.used.len(), 11, "a call was not made");
-    for (call, (used, shape)) in &most.used {
-        assert!(4 * used <= 3 * promised(), "{call} used {used} bytes of stack ({shape})");
+    most.judge(11, promised("SOCK_STACK"));
+}
+
+/// Also on configurations that it refuses: too long, and too deep only.
+#[test]
+fn no_call_of_the_small_cabinet_needs_more_than_three_quarters_of_its_promise() {
+    let mut most = Most::new(Cabinet::Small);
+    most.all(own(Cabinet::Small));
+    let deep = Extent { levels: 60, beside: 300 };
+    for (shape, configuration) in shapes(deep).into_iter().chain(shapes(Extent::of(Cabinet::Large)))
+    {
+        let config = from_words(&write::configuration(&configuration));
+        most.read(&shape, &config);
+        most.step(&shape, &config, steps(&configuration)[0]);
     }
+    most.judge(4, promised("SOCK_STACK_SMALL"));
 }

@@ -2,6 +2,7 @@
 //! to be and in a reply, the same at issued 65,535, and lists that are not readable. Each step is made
 //! with every length of output; a delivery needs no more than the configuration is long.
 
+use library::cabinet::{Cabinet, CABINETS};
 use library::compare::Comparison;
 use library::counts::Wanted;
 use library::input::{Input, Source};
@@ -16,7 +17,7 @@ use reference::generate::edges::filler;
 use reference::generate::random::Random;
 use reference::process::{Key, List, Mark, Part};
 use reference::variables::{Variables, MOST};
-use reference::{write, Numbers, STANDARD};
+use reference::{write, Numbers};
 
 /// A step: what it shows, the configuration, its numbers, the number that it answers.
 type Example = (&'static str, Configuration, Numbers, u8);
@@ -155,7 +156,8 @@ fn compare(comparison: &mut Comparison<Plain>, step: usize, example: Example) {
         let own = Output { length: config.len(), name: "as long as the configuration" };
         assert_eq!(comparison.step(&input, numbers, own).answer, stepped.answer, "{class}");
     }
-    let words = result_length(&before, numbers).unwrap_or(config.len() / 2);
+    let words =
+        result_length(&comparison.cabinet.limits(), &before, numbers).unwrap_or(config.len() / 2);
     for output in around(words) {
         comparison.step(&input, numbers, output);
     }
@@ -163,12 +165,16 @@ fn compare(comparison: &mut Comparison<Plain>, step: usize, example: Example) {
 
 #[test]
 fn messages_of_one_to_four_values_are_answered_alike() {
-    let mut comparison = Comparison::new(Plain::default());
+    CABINETS.into_iter().for_each(messages_of_one_to_four);
+}
+
+fn messages_of_one_to_four(cabinet: Cabinet) {
+    let mut comparison = Comparison::new(cabinet, Plain::default());
     let all = examples().into_iter().chain(widths());
     for (step, example) in all.enumerate() {
         compare(&mut comparison, step, example);
     }
-    comparison.counts.report(
+    comparison.report(
         "messages",
         Wanted {
             calls: 5_000,
@@ -193,19 +199,24 @@ fn messages_of_one_to_four_values_are_answered_alike() {
     );
 }
 
-/// A full configuration of 8,192 words whose solicit has lists of four, and its reply.
+/// A configuration as long as the cabinet's longest whose solicit has lists of four, and its reply.
 #[test]
 fn a_full_configuration_takes_solicit_and_reply() {
-    let mut comparison = Comparison::new(Plain::default());
+    CABINETS.into_iter().for_each(full_configuration);
+}
+
+fn full_configuration(cabinet: Cabinet) {
+    let most = cabinet.limits().words;
+    let mut comparison = Comparison::new(cabinet, Plain::default());
     let asks = build::solicit(7, sent(MOST), 3, receiving(MOST), handlers());
     let serves = build::request(7, receiving(MOST), sent(MOST), build::nil());
     let waits = build::waiter(7, receiving(MOST), true, 0, 3, handlers());
     let works = build::executor(7, sent(MOST), 1, 3, build::nil());
     for (step, (first, second)) in [(asks, serves), (works, waits)].into_iter().enumerate() {
         let bare = pair(3, &first, &second).size();
-        let rest = filler(STANDARD.words - bare - 1).expect("some words");
+        let rest = filler(most - bare - 1).expect("some words");
         let before = pair(3, &first, &build::par(second, rest));
-        assert_eq!(before.size(), STANDARD.words);
+        assert_eq!(before.size(), most);
         let numbers = Numbers { second_position: 4, ..first_at_5(MEET) };
         compare(&mut comparison, step, ("full", before, numbers, 0));
     }
@@ -215,7 +226,11 @@ fn a_full_configuration_takes_solicit_and_reply() {
 /// accepted otherwise.
 #[test]
 fn unreadable_lists_are_answered_alike() {
-    let mut comparison = Comparison::new(Plain::default());
+    CABINETS.into_iter().for_each(unreadable_lists);
+}
+
+fn unreadable_lists(cabinet: Cabinet) {
+    let mut comparison = Comparison::new(cabinet, Plain::default());
     let conditions = CONDITIONS
         .iter()
         .filter(|(name, _)| ["variable", "x twice"].iter().any(|part| name.contains(part)));
@@ -235,5 +250,5 @@ fn unreadable_lists_are_answered_alike() {
     let classes: Vec<&str> = conditions.iter().map(|(name, _)| *name).collect();
     let wanted =
         Wanted { calls: 5_000, step: &[1], readable: &[1], classes: &classes, ..Wanted::default() };
-    comparison.counts.report("unreadable lists", wanted);
+    comparison.report("unreadable lists", wanted);
 }

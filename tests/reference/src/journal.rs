@@ -11,7 +11,11 @@ use crate::readable;
 use crate::refusal::Refusal;
 
 /// As many words as the journal of any step has at most: the number of engines is always alike.
-pub const JOURNAL_ENOUGH: usize = 2 * STANDARD.words + 2;
+pub const fn journal_enough(limits: &Limits) -> usize {
+    2 * limits.words + 2
+}
+
+pub const JOURNAL_ENOUGH: usize = journal_enough(&STANDARD);
 
 fn alike<'a>(one: impl Iterator<Item = &'a u16>, other: impl Iterator<Item = &'a u16>) -> usize {
     one.zip(other).take_while(|(a, b)| a == b).count()
@@ -101,7 +105,8 @@ fn spread(words: &[u16], bytes: &mut [u8]) {
 }
 
 /// Packed as `sock_step`.
-pub fn sock_step_journal(
+pub fn sock_step_journal_within(
+    limits: &Limits,
     numbers: Numbers,
     config: &[u8],
     output: &mut [u8],
@@ -112,7 +117,7 @@ pub fn sock_step_journal(
     };
     let mut result = whole(output);
     let mut written = whole(journal);
-    let answer = step_journal(&STANDARD, &words, numbers, &mut result, &mut written);
+    let answer = step_journal(limits, &words, numbers, &mut result, &mut written);
     spread(&result, output);
     spread(&written, journal);
     u64::from(answer.number) << 56
@@ -120,6 +125,15 @@ pub fn sock_step_journal(
         | u64::from(answer.fault) << 40
         | u64::from(answer.serial) << 16
         | u64::from(answer.length)
+}
+
+pub fn sock_step_journal(
+    numbers: Numbers,
+    config: &[u8],
+    output: &mut [u8],
+    journal: &mut [u8],
+) -> u64 {
+    sock_step_journal_within(&STANDARD, numbers, config, output, journal)
 }
 
 /// From the most significant bit: number 8, zero 40, length 16.

@@ -9,7 +9,8 @@
 //! Decisions where document 01 leaves room:
 //! - Parts of trees are shared (`Rc`), so that a result of millions of words can be measured
 //!   and refused without being built.
-//! - The limits are a parameter of the calls on words; the calls on bytes and the program
+//! - The limits are a parameter of the calls on words, and of those on bytes that the swing bridge
+//!   cabinet has too (document 02, i: `..._within`); the other calls on bytes and the program
 //!   handover take document 01's figures. Handover's bound on L and its output room are both
 //!   the limit of words.
 //! - The process of an engine is the range 0..0 when there is none, and packed 0.
@@ -52,10 +53,11 @@ pub mod window;
 pub mod write;
 
 pub use bytes::{
-    sock_check_readable, sock_check_start, sock_ends, sock_pending, sock_process, sock_step,
+    sock_check_readable, sock_check_readable_within, sock_check_start, sock_check_start_within,
+    sock_ends, sock_pending, sock_process, sock_step, sock_step_within,
 };
 pub use calls::{
     check_readable, check_start, ends, pending_at, process_of, process_range, step, Answer, Ends,
     Numbers, Pending,
 };
-pub use limits::{Limits, STANDARD};
+pub use limits::{Limits, SMALL, STANDARD};

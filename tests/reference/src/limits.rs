@@ -8,5 +8,8 @@ pub struct Limits {
     pub words: usize,
 }
 
-/// The figures of document 01.
+/// The figures of document 01, the large cabinet's.
 pub const STANDARD: Limits = Limits { depth: 64, words: 8192 };
+
+/// The swing bridge cabinet's (document 02, i).
+pub const SMALL: Limits = Limits { depth: 32, words: 2048 };

@@ -1,13 +1,19 @@
-//! Demand 3 over generated lists of steps: waiting and working ends match, at every point.
+//! Demand 3 over generated lists of steps, in one cabinet and in two that take turns: waiting and
+//! working ends match, at every point, and each cabinet that reads the configuration can deliver what
+//! is finished.
 
 mod common;
 
 use common::*;
 use reference::configuration::Configuration;
+use reference::generate::random::Random;
 use reference::generate::run::{Origin, Run};
 use reference::generate::steps::{stands, Stand};
+use reference::journal::{journal_enough, step_journal};
 use reference::process::Process;
-use reference::{check_start, ends, step, Answer, Ends, Numbers, STANDARD};
+use reference::{
+    check_readable, check_start, ends, step, Answer, Ends, Limits, Numbers, SMALL, STANDARD,
+};
 
 /// What a list of steps has done so far.
 #[derive(Default)]
@@ -81,8 +87,9 @@ fn matched(words: &[u16], account: &Account) {
     }
 }
 
-/// The two ends of an open serial fit each other and, once nothing is left to run, can be
-/// delivered with an output no longer than the configuration.
+/// The two ends of an open serial fit each other and, once nothing is left to run, can be delivered
+/// by each cabinet that reads them, with an output no longer than the configuration, and with a
+/// journal where that is enough.
 fn paired(words: &[u16], all: &[Stand], serial: u16) {
     let waits = |s: &&Stand| matches!(&*s.process, Process::Waiter(w) if w.serial == serial);
     let waiting = all.iter().find(waits).expect("a waiting end");
@@ -103,17 +110,25 @@ fn paired(words: &[u16], all: &[Stand], serial: u16) {
             waiting.position as u16,
             0,
         );
-        let mut output = vec![FILL; words.len()];
-        let answer = step(&STANDARD, words, numbers, &mut output);
-        assert_eq!((answer.number, answer.serial), (0, serial));
+        for limits in [STANDARD, SMALL] {
+            if check_readable(&limits, words) != 0 {
+                continue;
+            }
+            let mut output = vec![FILL; words.len()];
+            let answer = step(&limits, words, numbers, &mut output);
+            assert_eq!((answer.number, answer.serial), (0, serial));
+            let (mut again, mut journal) = (output.clone(), vec![FILL; journal_enough(&limits)]);
+            assert_eq!(step_journal(&limits, words, numbers, &mut again, &mut journal), answer);
+            assert_eq!(again, output);
+        }
     }
 }
 
-#[test]
-fn ends_match_after_every_step() {
+/// Runs whose steps are each taken at limits that are chosen by turn.
+fn runs(seeds: u64, mut turn: impl FnMut() -> Limits) -> [u32; 2] {
     let mut solicits = 0u32;
     let mut deliveries = 0u32;
-    for seed in 0..1200 {
+    for seed in 0..seeds {
         let origin = if seed % 50 == 0 { Origin::Growing } else { Origin::Fresh };
         let mut run = Run::new(0xD3_0000 + seed, origin);
         assert_eq!(check_start(&STANDARD, &run.words), 0);
@@ -122,7 +137,7 @@ fn ends_match_after_every_step() {
             let before = run.configuration().expect("readable");
             let Some(call) = run.call() else { break };
             let mut output = vec![FILL; call.room];
-            let answer = step(&STANDARD, &run.words, call.numbers, &mut output);
+            let answer = step(&turn(), &run.words, call.numbers, &mut output);
             account.enter(&before, call.numbers, &answer);
             run.take(&answer, &output);
             matched(&run.words, &account);
@@ -131,5 +146,18 @@ fn ends_match_after_every_step() {
         deliveries += account.deliveries.iter().map(|count| u32::from(*count)).sum::<u32>();
     }
     println!("{solicits} solicits, {deliveries} deliveries");
+    [solicits, deliveries]
+}
+
+#[test]
+fn ends_match_after_every_step() {
+    let [solicits, deliveries] = runs(1200, || STANDARD);
     assert!(solicits > 500 && deliveries > 300, "{solicits} {deliveries}");
+}
+
+#[test]
+fn ends_match_where_two_cabinets_take_turns() {
+    let mut random = Random::new(0);
+    let [solicits, deliveries] = runs(600, || [STANDARD, SMALL][random.below(2)]);
+    assert!(solicits > 250 && deliveries > 150, "{solicits} {deliveries}");
 }

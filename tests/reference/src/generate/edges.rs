@@ -96,6 +96,12 @@ pub fn deep(way: Way, depth: usize) -> Configuration {
     build::configuration(0, vec![build::scope(1, nest(way, depth - 1))])
 }
 
+/// A fresh configuration of exactly this depth (at least 3), with a comp at position 4 of engine 0.
+pub fn acting_deep(way: Way, depth: usize) -> Configuration {
+    let both = build::par(build::comp(1), nest(way, depth - 2));
+    build::configuration(0, vec![build::scope(1, both)])
+}
+
 /// Flat code of exactly this many words; None for 0.
 pub fn filler(words: usize) -> Option<Part> {
     match words {

@@ -2,6 +2,7 @@
 //! are deterministic in the seed of their `Random`.
 
 pub mod beside;
+pub mod cabinets;
 pub mod code;
 pub mod damage;
 pub mod edges;

@@ -5,7 +5,7 @@ use crate::calls::{transition, Answer, Numbers};
 use crate::configuration::Configuration;
 use crate::generate::random::Random;
 use crate::generate::{growth, running, start, steps};
-use crate::limits::STANDARD;
+use crate::limits::{Limits, STANDARD};
 use crate::{readable, write};
 
 /// What a run starts from.
@@ -28,6 +28,8 @@ pub struct Run {
     pub random: Random,
     /// The start's words, then those of the last accepted step.
     pub words: Vec<u16>,
+    /// Of the cabinet that takes the steps.
+    pub limits: Limits,
 }
 
 /// One call of step.
@@ -39,6 +41,11 @@ pub struct Call {
 
 impl Run {
     pub fn new(seed: u64, origin: Origin) -> Run {
+        Run::within(&STANDARD, seed, origin)
+    }
+
+    /// A run in a cabinet with these limits; its start, made for any, may be beyond them.
+    pub fn within(limits: &Limits, seed: u64, origin: Origin) -> Run {
         let mut random = Random::new(seed);
         let configuration = match origin {
             Origin::Fresh => start::fresh(&mut random),
@@ -50,15 +57,15 @@ impl Run {
                 running::renumbered(&mut random, &walked)
             }
         };
-        Run { random, words: write::configuration(&configuration) }
+        Run { random, words: write::configuration(&configuration), limits: *limits }
     }
 
     pub fn configuration(&self) -> Option<Configuration> {
-        readable::read(&STANDARD, &self.words)
+        readable::read(&self.limits, &self.words)
     }
 
-    /// The next call; None some calls after nothing fits any more (or if the words are not
-    /// readable, which no run should come to).
+    /// The next call; None some calls after nothing fits any more, or if the words are not readable,
+    /// which only a start beyond the limits is.
     pub fn call(&mut self) -> Option<Call> {
         let before = self.configuration()?;
         if steps::fitting(&before).is_empty() && self.random.percent(30) {
@@ -69,7 +76,8 @@ impl Run {
             Ok(result) => result.configuration.size(),
             Err(_) => self.words.len(),
         };
-        let room = steps::room(&mut self.random, STANDARD.words, length.min(STANDARD.words));
+        let most = self.limits.words;
+        let room = steps::room(&mut self.random, most, length.min(most));
         Some(Call { numbers, room })
     }
 

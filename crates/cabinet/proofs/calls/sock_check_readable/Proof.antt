@@ -1,7 +1,9 @@
 -- `sock_check_readable` of `cabinet::calls` meets its contract.
 -- Assumes nothing.
+use native.Mathlib.Omega.{arith}
 use mathlib.Core.Path.{sym, _∙_}
 use lib.Seq.{length-take-le}
+use Rattle.sock.specs.Configuration.{standard}
 use Rattle.cabinet.proofs.Holding.{first-held, readable-as}
 use borrow.Author.Needs.{needs}
 use Rattle.cabinet.proofs.calls.sock_check_readable.Statement.{statement}
@@ -23,7 +25,7 @@ check-readable-requires : tie.Need-check-readable-requires
 check-readable-requires c κs = search needs
 
 returns : tie.Need-returns
-returns c = (c .check-readable .ensures) ∙ readable-as _ _ (first-held _ 8192 _ _ _ _ (search needs) (c .before .before .before .hold .ensures .0) (c .before .before .before .hold .ensures .1))
+returns c = (c .check-readable .ensures) ∙ readable-as standard 8192 (omega arith) _ _ (first-held _ 8192 _ _ _ _ (search needs) (c .before .before .before .hold .ensures .0) (c .before .before .before .hold .ensures .1))
 
 pub sock-check-readable-spec : {M : Type 1} → statement M
 sock-check-readable-spec =

@@ -1,7 +1,9 @@
 -- `sock_check_start` of `cabinet::calls` meets its contract.
 -- Assumes nothing.
+use native.Mathlib.Omega.{arith}
 use mathlib.Core.Path.{sym, _∙_}
 use lib.Seq.{length-take-le}
+use Rattle.sock.specs.Configuration.{standard}
 use Rattle.cabinet.proofs.Holding.{first-held, start-as}
 use borrow.Author.Needs.{needs}
 use Rattle.cabinet.proofs.calls.sock_check_start.Statement.{statement}
@@ -23,7 +25,7 @@ check-start-requires : tie.Need-check-start-requires
 check-start-requires c κs = search needs
 
 returns : tie.Need-returns
-returns c = (c .check-start .ensures) ∙ start-as _ _ (first-held _ 8192 _ _ _ _ (search needs) (c .before .before .before .hold .ensures .0) (c .before .before .before .hold .ensures .1))
+returns c = (c .check-start .ensures) ∙ start-as standard 8192 (omega arith) _ _ (first-held _ 8192 _ _ _ _ (search needs) (c .before .before .before .hold .ensures .0) (c .before .before .before .hold .ensures .1))
 
 pub sock-check-start-spec : {M : Type 1} → statement M
 sock-check-start-spec =

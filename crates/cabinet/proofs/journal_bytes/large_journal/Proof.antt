@@ -1,10 +1,12 @@
 -- `large_journal` of `cabinet::journal_bytes` meets its contract.
 -- Assumes nothing.
 use native.Mathlib.Omega.{arith}
-use mathlib.Core.Path.{sym, ap, _∙_}
+use mathlib.Core.Path.{refl, sym, ap, _∙_}
 use lib.Seq.{length-take-le}
 use Rattle.cabinet.specs.Held.{packedAs}
 use Rattle.cabinet.proofs.Holding.{first-held}
+use Rattle.sock.specs.Configuration.{standard}
+use Rattle.stepping.proofs.Modest.{modest-standard, blank-notes}
 use Rattle.cabinet.proofs.Stepping.{part-fits}
 use Rattle.cabinet.proofs.Journaling.{large-journal-answer, large-journal-output, large-journal-written}
 use borrow.Author.Needs.{needs}
@@ -27,22 +29,29 @@ array-share-prefix-scratch : tie.Need-array-share-prefix-scratch
 array-share-prefix-scratch c = search needs
 
 slice-aggregate-journaled : tie.Need-slice-aggregate-journaled
-slice-aggregate-journaled c = sym (length-take-le _ _ (search needs))
+slice-aggregate-journaled c =
+    sym (length-take-le _ _ (search needs))
+
+slice-aggregate-journaled-2 : tie.Need-slice-aggregate-journaled-2
+slice-aggregate-journaled-2 c = search needs
 
 array-borrow-prefix-result : tie.Need-array-borrow-prefix-result
 array-borrow-prefix-result c = search needs
 
-slice-aggregate-journaled-2 : tie.Need-slice-aggregate-journaled-2
-slice-aggregate-journaled-2 c = sym (length-take-le _ _ (omega (arith, (c .before .before .before .room-of .ensures .1))))
+slice-aggregate-journaled-3 : tie.Need-slice-aggregate-journaled-3
+slice-aggregate-journaled-3 c =
+    sym (length-take-le _ _ (omega (arith, (c .before .before .before .before .room-of .ensures .1))))
 
 array-borrow-prefix-words : tie.Need-array-borrow-prefix-words
 array-borrow-prefix-words c = search needs
 
-slice-aggregate-journaled-3 : tie.Need-slice-aggregate-journaled-3
-slice-aggregate-journaled-3 c = sym (length-take-le _ _ (omega (arith, (c .before .before .before .room-of2 .ensures .1))))
+slice-aggregate-journaled-4 : tie.Need-slice-aggregate-journaled-4
+slice-aggregate-journaled-4 c =
+    sym (length-take-le _ _ (omega (arith, (c .before .before .before .before .room-of2 .ensures .1))))
 
 journaled-requires : tie.Need-journaled-requires
-journaled-requires c κs = (part-fits _ _ (omega (arith, (c .before .before .before .before .before .before .room-of .ensures .1))) ((c .before .before .before .before .before .before .room-of .ensures .2)), part-fits _ _ (omega (arith, (c .before .before .before .before .before .room-of2 .ensures .1))) ((c .before .before .before .before .before .room-of2 .ensures .2)))
+journaled-requires c κs =
+    (modest-standard refl, blank-notes 16384, part-fits _ _ (omega (arith, (c .before .before .before .before .before .before .before .room-of .ensures .1))) (c .before .before .before .before .before .before .before .room-of .ensures .2), part-fits _ _ (omega (arith, (c .before .before .before .before .before .before .room-of2 .ensures .1))) (c .before .before .before .before .before .before .room-of2 .ensures .2))
 
 pack-requires : tie.Need-pack-requires
 pack-requires c κs = search needs
@@ -55,11 +64,11 @@ same-length-2 c = search needs
 
 returns : tie.Need-returns
 returns c =
-    let h = (c .before .before .before .before .before .before .before .before .before .before .before .before .before .before .before .before .hold .ensures) in
-    let r = (c .before .before .before .before .before .before .before .before .before .before .before .before .before .before .room-of .ensures) in
-    let t = (c .before .before .before .before .before .before .before .before .before .before .before .before .before .room-of2 .ensures) in
+    let h = (c .before .before .before .before .before .before .before .before .before .before .before .before .before .before .before .before .before .before .hold .ensures) in
+    let r = (c .before .before .before .before .before .before .before .before .before .before .before .before .before .before .before .before .room-of .ensures) in
+    let t = (c .before .before .before .before .before .before .before .before .before .before .before .before .before .before .before .room-of2 .ensures) in
     let held = first-held _ 8192 _ _ _ _ (search needs) (h .0) (h .1) in
-    ((c .pack .ensures) ∙ (ap packedAs ((c .before .before .before .before .before .before .before .journaled .ensures .0)) ∙ large-journal-answer _ _ held _ _ _ _ _ (length-take-le _ _ (omega (arith, r .1)) ∙ r .0) (length-take-le _ _ (omega (arith, t .1)) ∙ t .0)), ((c .before .before .before .before .before .before .before .journaled .ensures .1 .0) ∙ large-journal-output _ _ held _ ((c .before .before .before .before .before .before .before .before .before .before .before .before .before .before .before .before .before .before .before .before .before .args .out .now)) _ _ _ (length-take-le _ _ (omega (arith, r .1)) ∙ r .0) (length-take-le _ _ (omega (arith, t .1)) ∙ t .0), (c .before .before .before .before .before .before .before .journaled .ensures .1 .1) ∙ large-journal-written _ _ held _ _ ((c .before .before .before .before .before .before .before .before .before .before .before .before .before .before .before .before .before .before .before .before .before .args .journal .now)) _ _ (length-take-le _ _ (omega (arith, r .1)) ∙ r .0) (length-take-le _ _ (omega (arith, t .1)) ∙ t .0)))
+    ((c .pack .ensures) ∙ (ap packedAs (c .before .before .before .before .before .before .before .before .journaled .ensures .0) ∙ large-journal-answer standard (omega arith) 8192 16388 (omega arith) (omega arith) _ _ held _ _ _ _ _ (length-take-le _ _ (omega (arith, r .1)) ∙ r .0) (length-take-le _ _ (omega (arith, t .1)) ∙ t .0)), ((c .before .before .before .before .before .before .before .before .journaled .ensures .1 .0) ∙ large-journal-output standard (omega arith) 8192 16388 (omega arith) (omega arith) _ _ held _ (c .before .before .before .before .before .before .before .before .before .before .before .before .before .before .before .before .before .before .before .before .before .before .before .args .out .now) _ _ _ (length-take-le _ _ (omega (arith, r .1)) ∙ r .0) (length-take-le _ _ (omega (arith, t .1)) ∙ t .0), (c .before .before .before .before .before .before .before .before .journaled .ensures .1 .1) ∙ large-journal-written standard (omega arith) 8192 16388 (omega arith) (omega arith) _ _ held _ _ (c .before .before .before .before .before .before .before .before .before .before .before .before .before .before .before .before .before .before .before .before .before .before .before .args .journal .now) _ _ (length-take-le _ _ (omega (arith, r .1)) ∙ r .0) (length-take-le _ _ (omega (arith, t .1)) ∙ t .0)))
 
 pub large-journal-spec : {M : Type 1} → statement M
 large-journal-spec =
@@ -71,10 +80,11 @@ large-journal-spec =
     room-of-requires-2
     array-share-prefix-scratch
     slice-aggregate-journaled
-    array-borrow-prefix-result
     slice-aggregate-journaled-2
-    array-borrow-prefix-words
+    array-borrow-prefix-result
     slice-aggregate-journaled-3
+    array-borrow-prefix-words
+    slice-aggregate-journaled-4
     journaled-requires
     pack-requires
     same-length

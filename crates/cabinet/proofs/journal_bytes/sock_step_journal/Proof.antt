@@ -18,8 +18,8 @@ same-length-2 c = search needs
 returns : tie.Need-returns
 returns c = search needs
 
-small-journal-requires : tie.Need-small-journal-requires
-small-journal-requires c κs = search needs
+short-journal-requires : tie.Need-short-journal-requires
+short-journal-requires c κs = search needs
 
 large-journal-requires-2 : tie.Need-large-journal-requires-2
 large-journal-requires-2 c κs = search needs
@@ -32,8 +32,8 @@ same-length-4 c = search needs
 
 returns-2 : tie.Need-returns-2
 returns-2 c =
-    let s = (c .before .before .before .before .before .before .before .before .before .before .before .before .before .small-journal .ensures) in
-    let k = tried-keeps _ ((c .before .before .before .before .before .before .before .before .before .before .before .before .before .before .before .before .if1 .left)) _ ((c .before .before .before .before .before .before .before .before .before .before .before .before .before .before .before .before .before .before .before .before .args .out .now)) ((c .before .before .before .before .before .before .before .before .before .before .before .before .before .before .before .before .before .before .before .before .args .journal .now)) _ (s .0) ((c .before .before .before .before .before .before .before .if2 .taken)) in
+    let s = (c .before .before .before .before .before .before .before .before .before .before .before .before .before .short-journal .ensures) in
+    let k = tried-keeps _ (c .before .before .before .before .before .before .before .before .before .before .before .before .before .before .before .before .if1 .left) _ (c .before .before .before .before .before .before .before .before .before .before .before .before .before .before .before .before .before .before .before .before .args .out .now) (c .before .before .before .before .before .before .before .before .before .before .before .before .before .before .before .before .before .before .before .before .args .journal .now) _ (s .0) (c .before .before .before .before .before .before .before .if2 .taken) in
     let o = s .1 .0 ∙ k .0 in
     let j = s .1 .1 ∙ k .1 in
     ((c .before .before .before .before .large-journal2 .ensures .0) ∙ again-answer _ _ o j, ((c .before .before .before .before .large-journal2 .ensures .1 .0) ∙ again-output _ _ o j, (c .before .before .before .before .large-journal2 .ensures .1 .1) ∙ again-journal _ _ o j))
@@ -49,9 +49,9 @@ same-length-6 c = search needs
 
 returns-3 : tie.Need-returns-3
 returns-3 c =
-    let s = (c .before .before .before .before .before .before .before .small-journal .ensures) in
+    let s = (c .before .before .before .before .before .before .before .short-journal .ensures) in
     let n = (c .before .if2 .left) in
-    ((c .pack .ensures) ∙ tried-answer _ ((c .before .before .before .before .before .before .before .before .before .before .if1 .left)) _ ((c .before .before .before .before .before .before .before .before .before .before .before .before .before .before .args .out .now)) ((c .before .before .before .before .before .before .before .before .before .before .before .before .before .before .args .journal .now)) _ (s .0) n, (s .1 .0 ∙ tried-output _ ((c .before .before .before .before .before .before .before .before .before .before .if1 .left)) _ ((c .before .before .before .before .before .before .before .before .before .before .before .before .before .before .args .out .now)) ((c .before .before .before .before .before .before .before .before .before .before .before .before .before .before .args .journal .now)) _ (s .0) n, s .1 .1 ∙ tried-journal _ ((c .before .before .before .before .before .before .before .before .before .before .if1 .left)) _ ((c .before .before .before .before .before .before .before .before .before .before .before .before .before .before .args .out .now)) ((c .before .before .before .before .before .before .before .before .before .before .before .before .before .before .args .journal .now)) _ (s .0) n))
+    ((c .pack .ensures) ∙ tried-answer _ (c .before .before .before .before .before .before .before .before .before .before .if1 .left) _ (c .before .before .before .before .before .before .before .before .before .before .before .before .before .before .args .out .now) (c .before .before .before .before .before .before .before .before .before .before .before .before .before .before .args .journal .now) _ (s .0) n, (s .1 .0 ∙ tried-output _ (c .before .before .before .before .before .before .before .before .before .before .if1 .left) _ (c .before .before .before .before .before .before .before .before .before .before .before .before .before .before .args .out .now) (c .before .before .before .before .before .before .before .before .before .before .before .before .before .before .args .journal .now) _ (s .0) n, s .1 .1 ∙ tried-journal _ (c .before .before .before .before .before .before .before .before .before .before .if1 .left) _ (c .before .before .before .before .before .before .before .before .before .before .before .before .before .before .args .out .now) (c .before .before .before .before .before .before .before .before .before .before .before .before .before .before .args .journal .now) _ (s .0) n))
 
 pub sock-step-journal-spec : {M : Type 1} → statement M
 sock-step-journal-spec =
@@ -61,7 +61,7 @@ sock-step-journal-spec =
     same-length
     same-length-2
     returns
-    small-journal-requires
+    short-journal-requires
     large-journal-requires-2
     same-length-3
     same-length-4

@@ -1,10 +1,12 @@
 -- `large` of `cabinet::stepping_bytes` meets its contract.
 -- Assumes nothing.
 use native.Mathlib.Omega.{arith}
-use mathlib.Core.Path.{sym, ap, _∙_}
+use mathlib.Core.Path.{refl, sym, ap, _∙_}
 use lib.Seq.{length-take-le}
 use Rattle.cabinet.specs.Held.{packedAs}
 use Rattle.cabinet.proofs.Holding.{first-held}
+use Rattle.sock.specs.Configuration.{standard}
+use Rattle.stepping.proofs.Modest.{modest-standard, blank-notes}
 use Rattle.cabinet.proofs.Stepping.{part-fits, large-answer, large-output}
 use borrow.Author.Needs.{needs}
 use Rattle.cabinet.proofs.stepping_bytes.large.Statement.{statement}
@@ -23,18 +25,23 @@ array-share-prefix-scratch : tie.Need-array-share-prefix-scratch
 array-share-prefix-scratch c = search needs
 
 slice-aggregate-written : tie.Need-slice-aggregate-written
-slice-aggregate-written c = sym (length-take-le _ _ (search needs))
+slice-aggregate-written c =
+    sym (length-take-le _ _ (search needs))
+
+slice-aggregate-written-2 : tie.Need-slice-aggregate-written-2
+slice-aggregate-written-2 c = search needs
 
 array-borrow-prefix-result : tie.Need-array-borrow-prefix-result
 array-borrow-prefix-result c = search needs
 
-slice-aggregate-written-2 : tie.Need-slice-aggregate-written-2
-slice-aggregate-written-2 c = sym (length-take-le _ _ (omega (arith, c .before .before .room-of .ensures .1)))
+slice-aggregate-written-3 : tie.Need-slice-aggregate-written-3
+slice-aggregate-written-3 c =
+    sym (length-take-le _ _ (omega (arith, (c .before .before .before .room-of .ensures .1))))
 
 written-requires : tie.Need-written-requires
 written-requires c κs =
-    let r = c .before .before .before .room-of .ensures in
-    part-fits _ _ (omega (arith, r .1)) (r .2)
+    let r = (c .before .before .before .before .room-of .ensures) in
+    (modest-standard refl, blank-notes 16384, part-fits _ _ (omega (arith, r .1)) (r .2))
 
 pack-requires : tie.Need-pack-requires
 pack-requires c κs = search needs
@@ -44,10 +51,10 @@ same-length c = search needs
 
 returns : tie.Need-returns
 returns c =
-    let r = c .before .before .before .before .before .before .before .before .room-of .ensures in
-    let h = c .before .before .before .before .before .before .before .before .before .before .hold .ensures in
+    let r = (c .before .before .before .before .before .before .before .before .before .before .room-of .ensures) in
+    let h = (c .before .before .before .before .before .before .before .before .before .before .before .before .hold .ensures) in
     let held = first-held _ 8192 _ _ _ _ (search needs) (h .0) (h .1) in
-    (c .pack .ensures ∙ (ap packedAs (c .before .before .before .before .written .ensures .0) ∙ large-answer _ _ held _ _ _ (length-take-le _ _ (omega (arith, r .1)) ∙ r .0)), c .before .before .before .before .written .ensures .1 ∙ large-output _ _ held _ _ _ (length-take-le _ _ (omega (arith, r .1)) ∙ r .0))
+    ((c .pack .ensures) ∙ (ap packedAs (c .before .before .before .before .before .written .ensures .0) ∙ large-answer standard 8192 (omega arith) _ _ held _ _ _ (length-take-le _ _ (omega (arith, r .1)) ∙ r .0)), (c .before .before .before .before .before .written .ensures .1) ∙ large-output standard 8192 (omega arith) _ _ held _ _ _ (length-take-le _ _ (omega (arith, r .1)) ∙ r .0))
 
 pub large-spec : {M : Type 1} → statement M
 large-spec =
@@ -58,8 +65,9 @@ large-spec =
     room-of-requires
     array-share-prefix-scratch
     slice-aggregate-written
-    array-borrow-prefix-result
     slice-aggregate-written-2
+    array-borrow-prefix-result
+    slice-aggregate-written-3
     written-requires
     pack-requires
     same-length

@@ -1,0 +1,74 @@
+-- `sock_step_small` of `cabinet::small_bytes` meets its contract.
+-- Assumes nothing.
+use native.Mathlib.Omega.{arith}
+use mathlib.Core.Path.{refl, sym, ap, _∙_}
+use lib.Seq.{length-take-le}
+use Rattle.cabinet.specs.Held.{packedAs}
+use Rattle.cabinet.proofs.Holding.{first-held}
+use Rattle.sock.specs.Cabinets.{small}
+use Rattle.stepping.proofs.Modest.{modest-small, blank-notes}
+use Rattle.cabinet.proofs.Stepping.{part-fits, large-answer, large-output}
+use borrow.Author.Needs.{needs}
+use Rattle.cabinet.proofs.small_bytes.sock_step_small.Statement.{statement}
+use Rattle.cabinet.proofs.small_bytes.sock_step_small.Tie as tie
+
+slice-aggregate-hold : tie.Need-slice-aggregate-hold
+slice-aggregate-hold c = search needs
+
+hold-requires : tie.Need-hold-requires
+hold-requires c κs = search needs
+
+room-of-requires : tie.Need-room-of-requires
+room-of-requires c κs = search needs
+
+array-share-prefix-scratch : tie.Need-array-share-prefix-scratch
+array-share-prefix-scratch c = search needs
+
+slice-aggregate-written : tie.Need-slice-aggregate-written
+slice-aggregate-written c =
+    sym (length-take-le _ _ (search needs))
+
+slice-aggregate-written-2 : tie.Need-slice-aggregate-written-2
+slice-aggregate-written-2 c = search needs
+
+array-borrow-prefix-result : tie.Need-array-borrow-prefix-result
+array-borrow-prefix-result c = search needs
+
+slice-aggregate-written-3 : tie.Need-slice-aggregate-written-3
+slice-aggregate-written-3 c =
+    sym (length-take-le _ _ (omega (arith, (c .before .before .before .room-of .ensures .1))))
+
+written-requires : tie.Need-written-requires
+written-requires c κs =
+    let r = (c .before .before .before .before .room-of .ensures) in
+    (modest-small refl, blank-notes 4096, part-fits _ _ (omega (arith, r .1)) (r .2))
+
+pack-requires : tie.Need-pack-requires
+pack-requires c κs = search needs
+
+same-length : tie.Need-same-length
+same-length c = search needs
+
+returns : tie.Need-returns
+returns c =
+    let r = (c .before .before .before .before .before .before .before .before .before .before .room-of .ensures) in
+    let h = (c .before .before .before .before .before .before .before .before .before .before .before .before .hold .ensures) in
+    let held = first-held _ 2048 _ _ _ _ (search needs) (h .0) (h .1) in
+    ((c .pack .ensures) ∙ (ap packedAs (c .before .before .before .before .before .written .ensures .0) ∙ large-answer small 2048 (omega arith) _ _ held _ _ _ (length-take-le _ _ (omega (arith, r .1)) ∙ r .0)), (c .before .before .before .before .before .written .ensures .1) ∙ large-output small 2048 (omega arith) _ _ held _ _ _ (length-take-le _ _ (omega (arith, r .1)) ∙ r .0))
+
+pub sock-step-small-spec : {M : Type 1} → statement M
+sock-step-small-spec =
+    tie.close
+    (tie.spec
+    slice-aggregate-hold
+    hold-requires
+    room-of-requires
+    array-share-prefix-scratch
+    slice-aggregate-written
+    slice-aggregate-written-2
+    array-borrow-prefix-result
+    slice-aggregate-written-3
+    written-requires
+    pack-requires
+    same-length
+    returns)
