@@ -64,6 +64,14 @@ int main(void)
     printf("the same, in the small cabinet: %s, %d words\n", sock_word(answer.number), answer.length);
     printf("readable there: %s\n", sock_word(sock_test_readable_small(out_small, sock_bytes(answer.length)).number));
 
+    /* An index of open requests, here written by hand, since W is no start: serial 1 is open, and the reply takes it out. */
+    static uint8_t index[SOCK_INDEX_BYTES], journal[SOCK_JOURNAL_BYTES];
+    printf("begun with it: %s\n", sock_word(sock_start_index(config, length, index, sizeof index).number));
+    sock_put(index, sock_put(index, 0, 1), 1);
+    printf("open: %d, the oldest %d", sock_count_open(index, sizeof index).serials, sock_find_oldest(index, sizeof index).serial);
+    sock_follow_step(reply, config, length, out, sizeof out, journal, sizeof journal, index, sizeof index);
+    printf(", then %d\n", sock_count_open(index, sizeof index).serials);
+
     /* What engines 2 and 7 owe: two replies of 1 litre at 1 cent per 1,000 litres, each a cent, and one of 1,000 litres at 250. */
     static uint8_t rates[SOCK_RATE_BYTES], replies[3 * SOCK_REPLY_BYTES];
     static const uint32_t list[9] = {5, 2, 1, 5, 2, 1, 6, 7, 1000};

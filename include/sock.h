@@ -18,8 +18,9 @@
  * length may be 0; the pointer is then not followed, and may be null. With any other length it must point to so many bytes. Lent memory
  * may stand at any address. A configuration is only read. The output of a step must not overlap it, not by one byte: the proofs take the
  * two to be apart. sock_step cannot see an overlap and its answer then means nothing; sock_take_step refuses it (SOCK_OVERLAP). The same
- * holds of a journal: none of configuration, output and journal may overlap another. And of a bill's totals, which must not overlap its rates or replies. A window is changed in place by sock_window_next and only read by
- * sock_window_count.
+ * holds of a journal and of an index: none of configuration, output, journal and index may overlap another. And of a bill's totals, which must
+ * not overlap its rates or replies. A window is changed in place by sock_window_next and only read by sock_window_count; an index is changed
+ * in place by the calls that follow steps with it, and only read by its two questions.
  *
  * Threads and signals. Every call may be made from any thread and from a signal handler, also while another call is under way. Two
  * calls may read one configuration at the same time; nobody may write to it, or touch an output, until the call has returned.
@@ -39,9 +40,9 @@ extern "C" {
 
 /* This header's version. The first number rises when a call, an answer or the format changes, the second when something is added. */
 #define SOCK_VERSION_MAJOR 4
-#define SOCK_VERSION_MINOR 2
+#define SOCK_VERSION_MINOR 3
 #define SOCK_VERSION_PATCH 0
-#define SOCK_VERSION "4.2.0"
+#define SOCK_VERSION "4.3.0"
 
 /* The most words and bytes that a configuration has. */
 #define SOCK_WORDS 8192
@@ -55,6 +56,11 @@ extern "C" {
 #define SOCK_ENGINES 8
 #define SOCK_VARIABLES 32
 #define SOCK_VALUE_WORDS (2 * SOCK_VARIABLES)
+
+/* The words and bytes of an index of open requests, and the most serials of one that is in order. */
+#define SOCK_INDEX_WORDS 2049
+#define SOCK_INDEX_BYTES (2 * SOCK_INDEX_WORDS)
+#define SOCK_INDEX_MOST 2047
 
 /* The operations, the widest window, and the words and bytes of a window. */
 #define SOCK_OPERATIONS 64
@@ -85,10 +91,11 @@ enum sock_number {
     SOCK_NOT_DECIMAL = 13,    /* assign, if or while: an operand of a decimal operator has a digit above 9; after 5 and before 6 */
     SOCK_UNMATCHED = 15,      /* taking back: the journal is cut or does not match, or what it restores is not readable */
     SOCK_JOURNAL_SHORT = 16,  /* step with a journal: the journal lent is shorter than this step's; after 10 */
+    SOCK_INDEX_SHORT = 17,    /* index: fewer than 2,049 words, or, once begun, not in order; before all others */
     SOCK_WINDOW_WIDTH = 18,   /* window: a width that is not 1 to 1,024, an operation above 63, or a window that no run gives */
     SOCK_RATE_TOO_HIGH = 19,  /* bill: a rate is above 1,000,000, or the rates are not 256 bytes */
     SOCK_LIST_UNFIT = 20,     /* bill: list cut or too long, operation above 63 or engine above 7; or totals of fewer than 64 bytes */
-    SOCK_OVERLAP = 255        /* sock_take_step, sock_note_step, sock_go_back and their _small ones: what was lent overlaps, so no call was made */
+    SOCK_OVERLAP = 255        /* inline calls that write: what was lent overlaps, so no call was made */
 };
 
 /* The nineteen kinds of process, the first 5 bits of a head. */
@@ -134,6 +141,7 @@ static inline const char *sock_word(unsigned number)
     case SOCK_NOT_DECIMAL: return "not decimal";
     case SOCK_UNMATCHED: return "journal doesn't match";
     case SOCK_JOURNAL_SHORT: return "journal short";
+    case SOCK_INDEX_SHORT: return "index short";
     case SOCK_WINDOW_WIDTH: return "window width";
     case SOCK_RATE_TOO_HIGH: return "rate too high";
     case SOCK_LIST_UNFIT: return "list cut or too long, operation above 63 or engine above 7";
@@ -298,6 +306,89 @@ static inline struct sock_back_answer sock_go_back(const uint8_t *config, size_t
     return taken;
 }
 
+/* ---- Index of open requests: how many serials are open, and the oldest one, without reading the engines. ----
+ *
+ * An index is SOCK_INDEX_BYTES bytes: the count, the open serials strictly rising, none 0, then zeros; words of two bytes, the high byte first.
+ * Bytes past these stay. sock_begin_index begins it, empty, with the start of a run, whatever stood there. Lend it to every step and every
+ * taking back from then on and let nobody else write it: it lists the serials that have a waiter, as a reading of the whole configuration
+ * would.
+ *
+ * sock_step_indexed is sock_step_journal: an accepted solicit puts its serial in, a delivery takes it out, where it is not so already.
+ * sock_take_back_indexed is sock_take_back: an accepted one lists anew the serials of the waiters in what it restored.
+ *
+ * SOCK_INDEX_SHORT, before all others: fewer than 2,049 words (half the bytes, rounded down) are lent or, but for sock_begin_index, they are not
+ * of that form with at most SOCK_INDEX_MOST serials. 2,047 are in order, and an accepted solicit may make them 2,048, which the next call
+ * refuses; a run so followed never comes to that. Then the refusals of the call without an index; those of sock_begin_index
+ * are sock_check_start's. A refusal changes no byte of anything.
+ */
+uint8_t sock_begin_index(const uint8_t *config, size_t config_length, uint8_t *index, size_t index_length);
+uint64_t sock_step_indexed(uint16_t engine, uint16_t position, uint16_t second, uint16_t second_position, uint16_t branch,
+                           const uint8_t *config, size_t config_length, uint8_t *out, size_t out_length, uint8_t *journal,
+                           size_t journal_length, uint8_t *index, size_t index_length);
+uint64_t sock_take_back_indexed(const uint8_t *config, size_t config_length, const uint8_t *journal, size_t journal_length, uint8_t *out,
+                                size_t out_length, uint8_t *index, size_t index_length);
+
+/* The two questions: how many serials are open, and the oldest of them, 0 if none is. SOCK_INDEX_SHORT. */
+uint64_t sock_open_count(const uint8_t *index, size_t index_length);
+uint64_t sock_oldest(const uint8_t *index, size_t index_length);
+
+/* A part of both answers; their number is sock_number's. */
+static inline uint16_t sock_told(uint64_t asked) { return (uint16_t)(asked & 0xffff); }
+
+/* The step that the index follows; SOCK_OVERLAP, before all others, where two of configuration, output, journal and index overlap. */
+static inline struct sock_step_answer sock_follow_step(struct sock_move move, const uint8_t *config, size_t config_length, uint8_t *out,
+                                                       size_t out_length, uint8_t *journal, size_t journal_length, uint8_t *index,
+                                                       size_t index_length)
+{
+    if (sock_overlap(config, config_length, out, out_length) || sock_overlap(config, config_length, journal, journal_length) ||
+        sock_overlap(out, out_length, journal, journal_length) || sock_overlap(config, config_length, index, index_length) ||
+        sock_overlap(out, out_length, index, index_length) || sock_overlap(journal, journal_length, index, index_length))
+        return sock_step_overlaps();
+    return sock_step_parts(sock_step_indexed(move.engine, move.position, move.second, move.second_position, move.branch, config,
+                                             config_length, out, out_length, journal, journal_length, index, index_length));
+}
+
+/* Taking back; SOCK_OVERLAP, before all others, where output or index overlaps what else is lent. */
+static inline struct sock_back_answer sock_follow_back(const uint8_t *config, size_t config_length, const uint8_t *journal,
+                                                       size_t journal_length, uint8_t *out, size_t out_length, uint8_t *index,
+                                                       size_t index_length)
+{
+    struct sock_back_answer taken = {SOCK_OVERLAP, 0};
+    uint64_t answer;
+    if (sock_overlap(config, config_length, out, out_length) || sock_overlap(journal, journal_length, out, out_length) ||
+        sock_overlap(config, config_length, index, index_length) || sock_overlap(journal, journal_length, index, index_length) ||
+        sock_overlap(out, out_length, index, index_length))
+        return taken;
+    answer = sock_take_back_indexed(config, config_length, journal, journal_length, out, out_length, index, index_length);
+    taken.number = sock_number(answer);
+    taken.length = sock_length(answer);
+    return taken;
+}
+
+struct sock_open_answer {
+    enum sock_number number;
+    uint16_t serials; /* how many are open; 0 in a refusal */
+};
+
+struct sock_oldest_answer {
+    enum sock_number number;
+    uint16_t serial; /* 0 if none is open, and in a refusal */
+};
+
+static inline struct sock_open_answer sock_count_open(const uint8_t *index, size_t index_length)
+{
+    uint64_t asked = sock_open_count(index, index_length);
+    struct sock_open_answer open = {sock_number(asked), sock_told(asked)};
+    return open;
+}
+
+static inline struct sock_oldest_answer sock_find_oldest(const uint8_t *index, size_t index_length)
+{
+    uint64_t asked = sock_oldest(index, index_length);
+    struct sock_oldest_answer oldest = {sock_number(asked), sock_told(asked)};
+    return oldest;
+}
+
 /* ---- Start check: may a run begin here? 0, SOCK_UNREADABLE or SOCK_NOT_FRESH. From a start every request keeps exactly one reply. ---- */
 uint8_t sock_check_start(const uint8_t *config, size_t config_length);
 
@@ -318,6 +409,15 @@ static inline struct sock_check_answer sock_test_readable(const uint8_t *config,
 {
     struct sock_check_answer tested = {(enum sock_number)sock_check_readable(config, config_length)};
     return tested;
+}
+
+/* An index begun with a start; SOCK_OVERLAP, before all others, where it overlaps the configuration. */
+static inline struct sock_check_answer sock_start_index(const uint8_t *config, size_t config_length, uint8_t *index, size_t index_length)
+{
+    struct sock_check_answer begun = {SOCK_OVERLAP};
+    if (!sock_overlap(config, config_length, index, index_length))
+        begun.number = (enum sock_number)sock_begin_index(config, config_length, index, index_length);
+    return begun;
 }
 
 /* ---- The swing bridge cabinet: the step and the two checks at smaller figures. ----

@@ -127,6 +127,35 @@ static void journals(size_t length)
     check(sock_go_back(out, sock_bytes(146), journal, sizeof journal, journal, 2).number == SOCK_OVERLAP, "an output in the journal");
 }
 
+/* An index over a solicit, taken back. */
+static void indexes(size_t length)
+{
+    static uint8_t index[SOCK_INDEX_BYTES], journal[SOCK_JOURNAL_BYTES], back[SOCK_BYTES];
+    struct sock_step_answer taken;
+    struct sock_back_answer went;
+    memset(index, 7, sizeof index);
+    check(SOCK_INDEX_BYTES == 4098, "bytes of an index");
+    check(sock_count_open(index, sizeof index).number == SOCK_INDEX_SHORT, "an index that was not begun");
+    check(sock_start_index(config, length, index, sizeof index - 1).number == SOCK_INDEX_SHORT, "an index that is short");
+    check(sock_start_index(config, length - 1, index, sizeof index).number == SOCK_UNREADABLE, "an index begun with an odd length");
+    check(sock_start_index(config, length, config, 2).number == SOCK_OVERLAP, "an index in the configuration");
+    check(sock_begin_index(config, length, index, sizeof index) == 0 && sock_get(index, 0) == 0 && sock_get(index, 2048) == 0, "an index begun");
+    check(sock_count_open(index, sizeof index).serials == 0 && sock_find_oldest(index, sizeof index).serial == 0, "none is open");
+    taken = sock_follow_step(ask, config, length, out, sizeof out, journal, sizeof journal, index, sizeof index);
+    check(taken.number == SOCK_ACCEPTED && taken.serial == 1 && taken.length == 146, "a step that an index follows");
+    check(sock_count_open(index, sizeof index).serials == 1 && sock_find_oldest(index, sizeof index).serial == 1, "its serial is open");
+    check(sock_open_count(index, sizeof index) == 1 && sock_told(sock_oldest(index, sizeof index)) == 1, "the raw questions");
+    check(sock_follow_step(ask, config, length, out, sizeof out, journal, sizeof journal, index, 4096).number == SOCK_INDEX_SHORT, "a word short");
+    check(sock_follow_step(ask, config, length, out, sizeof out, journal, sizeof journal, out, 8).number == SOCK_OVERLAP, "an index in the output");
+    went = sock_follow_back(out, sock_bytes(146), journal, sizeof journal, back, sizeof back, index, sizeof index);
+    check(went.number == SOCK_ACCEPTED && went.length == length / 2 && memcmp(back, config, length) == 0, "taken back");
+    check(sock_open_count(index, sizeof index) == 0, "none is open any more");
+    check(sock_follow_back(out, sock_bytes(146), journal, sizeof journal, back, sizeof back, journal, 2).number == SOCK_OVERLAP, "an index in the journal");
+    check(sock_step_indexed(0, 3, 1, 3, 0, NULL, 0, NULL, 0, NULL, 0, NULL, 0) == (uint64_t)SOCK_INDEX_SHORT << 56, "nothing lent");
+    check(sock_take_back_indexed(NULL, 0, NULL, 0, NULL, 0, index, sizeof index) == (uint64_t)SOCK_UNREADABLE << 56, "nothing to take back");
+    check(sock_oldest(NULL, 0) == (uint64_t)SOCK_INDEX_SHORT << 56 && strcmp(sock_word(17), "index short") == 0, "no index");
+}
+
 /* The swing bridge cabinet's calls: alike inside its figures, and configurations of as many words as it reads, and of two more. */
 static void small_cabinet(size_t length)
 {
@@ -242,6 +271,7 @@ int main(void)
     inline_and_raw(sock_bytes(words));
     overlap(sock_bytes(words));
     journals(sock_bytes(words));
+    indexes(sock_bytes(words));
     small_cabinet(sock_bytes(words));
     null_pointers(sock_bytes(words));
     bills();

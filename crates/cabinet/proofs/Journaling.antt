@@ -209,6 +209,9 @@ module _ (limits : Limits) (low : limits .longest ≤ 8192) (most both : ℕ) (a
   all-bytes : journalStep limits ws k m n ≡ byteJournalStep limits bytes k (length out / 2) (length journal / 2)
   all-bytes = all-room ∙ journal-held limits most all bytes ws e k (length out / 2) (length journal / 2)
 
+  pub large-journal-given : answerAs (answerOf (journalStep limits ws k m n)) ≡ answerAs (answerOf (byteJournalStep limits bytes k (length out / 2) (length journal / 2)))
+  large-journal-given = ap (λ (x : Result Stepped). answerAs (answerOf x)) all-bytes
+
   pub large-journal-answer : packedAs (answerAs (answerOf (journalStep limits ws k m n))) ≡ byteJournalAnswer limits bytes k out journal
   unfolding byteJournalAnswer
   large-journal-answer = packed-as (journalStep limits ws k m n) ∙ ap (λ (x : Result Stepped). packed (answerOf x)) all-bytes
@@ -314,9 +317,8 @@ module _ (bytes : List ℕ) (few : length bytes ≤ 1024) (k : Numbers) (out jou
   same : (a .number ≡ 10 → ⊥) → tried ≡ byteJournalStep standard bytes k (length out / 2) (length journal / 2)
   same h = same-in-bytes bytes few k (length out) (length journal) (λ z. h (its-number ∙ z))
 
-  pub tried-answer : (a .number ≡ 10 → ⊥) → packedAs a ≡ byteJournalAnswer standard bytes k out journal
-  unfolding byteJournalAnswer
-  tried-answer h = ap packedAs p ∙ packed-as tried ∙ ap (λ (x : Result Stepped). packed (answerOf x)) (same h)
+  pub tried-given : (a .number ≡ 10 → ⊥) → a ≡ answerAs (answerOf (byteJournalStep standard bytes k (length out / 2) (length journal / 2)))
+  tried-given h = p ∙ ap (λ (x : Result Stepped). answerAs (answerOf x)) (same h)
 
   pub tried-output : (a .number ≡ 10 → ⊥) → bytesAfter tried out ≡ byteJournalOutput standard bytes k out journal
   unfolding byteJournalOutput
@@ -332,10 +334,18 @@ module _ (bytes : List ℕ) (few : length bytes ≤ 1024) (k : Numbers) (out jou
       let n : 0 < answerOf tried .number = omega (arith, its-number, e) in
       (sym (bytes-refused tried n out), sym (journal-refused (wordsOrNone (wordsOf bytes)) tried n journal))
 
+pub journal-packed :
+    (bytes : List ℕ) (k : Numbers) (out journal : List ℕ) →
+    packedAs (answerAs (answerOf (byteJournalStep standard bytes k (length out / 2) (length journal / 2)))) ≡ byteJournalAnswer standard bytes k out journal
+unfolding byteJournalAnswer
+journal-packed bytes k out journal = packed-as (byteJournalStep standard bytes k (length out / 2) (length journal / 2))
+
 -- taken again with what is as it was
 module _ (bytes : List ℕ) (k : Numbers) {out out' journal journal' : List ℕ} (o : out' ≡ out) (j : journal' ≡ journal) where
-  pub again-answer : byteJournalAnswer standard bytes k out' journal' ≡ byteJournalAnswer standard bytes k out journal
-  again-answer = rw (o, j)
+  pub again-given :
+      answerAs (answerOf (byteJournalStep standard bytes k (length out' / 2) (length journal' / 2)))
+      ≡ answerAs (answerOf (byteJournalStep standard bytes k (length out / 2) (length journal / 2)))
+  again-given = rw (o, j)
 
   pub again-output : byteJournalOutput standard bytes k out' journal' ≡ byteJournalOutput standard bytes k out journal
   again-output = rw (o, j)

@@ -1,4 +1,5 @@
 pub mod Holding
+pub mod Indexing
 pub mod Journaling
 pub mod Placing
 pub mod Spreading

@@ -17,13 +17,24 @@ use Rattle.sock.specs.Bytes.{bytesOf, wordsOf, wordsOrNone, wordsIn, byteTakeBa
 use Rattle.sock.proofs.ByteWords.{words-next, words-length, no-words, no-config}
 use Rattle.sock.proofs.Rooms.{refusal-number}
 use Rattle.sock.proofs.Configuration.{config-found}
-use Rattle.sock.proofs.Journal.{Alike, between-length, JournalFor, restored-only, restored-by, refused-done, some-same}
+use Rattle.sock.proofs.Journal.{Alike, between-length, JournalFor, restored-only, restored-by, refused-done, some-same, taken-readable}
 use Rattle.journal.specs.declared.back.Taken.{Taken}
 use Rattle.journal.specs.Back.{takenAs}
 use Rattle.cabinet.specs.Held.{held, heldPart, roomOf}
 use Rattle.cabinet.proofs.Holding.{read-as}
 use Rattle.cabinet.proofs.Stepping.{room-is}
 use Rattle.cabinet.proofs.Journaling.{leb-room, none-some, readable-held}
+
+-- ---- part of longer scratch
+
+rest : (n m : ℕ) (l : List ℕ) → n ≤ m → m ≤ length l → drop n (take m l) ++ drop m l ≡ drop n l
+rest zero m l h g = take-append-drop m l
+rest (suc n) zero l h g = absurd (omega arith)
+rest (suc n) (suc m) [] h g = absurd (omega arith)
+rest (suc n) (suc m) (x ∷ l) h g = rest n m l (omega arith) (omega arith)
+
+over-part : (us l : List ℕ) (m : ℕ) → length us ≤ m → m ≤ length l → over us (take m l) ++ drop m l ≡ over us l
+over-part us l m h g = append-assoc us (drop (length us) (take m l)) (drop m l) ∙ ap (λ vs. us ++ vs) (rest (length us) m l h g)
 
 -- ---- what the code makes of it
 
@@ -238,15 +249,50 @@ module _ (config ws : List ℕ) (e : ws ≡ held 8192 config) (journal words out
           ∙ sym (back-after us (wordsIn journal) (length out / 2) r)
           ∙ read-bytes (wordsOf config) r
 
-  pub back-answer : (t : Taken) → t ≡ takenAs (takenOf (takeBack standard ws words m)) → t .number * 72057594037927936 + t .length ≡ byteTaken config journal out
-  unfolding byteTaken packedTaken
-  back-answer t p =
-      ap (λ (u : Taken). u .number * 72057594037927936 + u .length) p
-      ∙ ap (λ (x : Result (List ℕ)). takenOf x .number * 72057594037927936 + takenOf x .length) on-bytes
+  pub back-answer : (t : Taken) → t ≡ takenAs (takenOf (takeBack standard ws words m)) → t ≡ takenAs (takenOf (byteTakeBack config journal (length out / 2)))
+  back-answer t p = p ∙ ap (λ (x : Result (List ℕ)). takenAs (takenOf x)) on-bytes
 
   pub back-output : restoredBytes (takeBack standard ws words m) out ≡ byteRestored config journal out
   unfolding byteRestored
   back-output = ap (λ (x : Result (List ℕ)). restoredBytes x out) on-bytes
+
+  -- what is restored in the first words of longer scratch
+  pub back-held :
+      (r0 part : List ℕ) → m ≤ length r0 → part ≡ takeBackOutput standard ws words (take m r0) →
+      part ++ drop m r0 ≡ restoredOver (byteTakeBack config journal (length out / 2)) r0
+  unfolding takeBackOutput restoredOver
+  back-held r0 part h q =
+      let l : length (take m r0) ≡ m = length-take-le m r0 h in
+      ap (λ us. us ++ drop m r0) (q ∙ ap (λ i. restoredOver (takeBack standard ws words i) (take m r0)) l)
+      ∙ laid-by (takeBack standard ws words m) (λ old d. done-fits m old ws words d)
+      ∙ ap (λ x. restoredOver x r0) on-bytes
+    where
+      laid-by :
+          (x : Result (List ℕ)) → ((old : List ℕ) → x ≡ done old → length old ≤ m) →
+          restoredOver x (take m r0) ++ drop m r0 ≡ restoredOver x r0
+      laid-by (refused r) f = take-append-drop m r0
+      laid-by (done old) f = over-part old r0 m (f old refl) h
+
+-- packed, and no longer than a configuration
+module _ (config journal out : List ℕ) (t : Taken) (p : t ≡ takenAs (takenOf (byteTakeBack config journal (length out / 2)))) where
+  pub back-packed : t .number * 72057594037927936 + t .length ≡ byteTaken config journal out
+  unfolding byteTaken packedTaken
+  back-packed = ap (λ (u : Taken). u .number * 72057594037927936 + u .length) p
+
+  restored-short : (o : Option (List ℕ)) (x : Result (List ℕ)) → ((unreadable ! o) >>= λ us. takeBack standard us (wordsIn journal) (length out / 2)) ≡ x → takenOf x .number ≡ 0 → takenOf x .length ≤ 8192
+  unfolding _>>=_ _!_ takenOf
+  restored-short o (refused r) e z = absurd (let g = refusal-number r in omega (arith, z))
+  restored-short none (done old) e z = absurd (refused-done e)
+  restored-short (some us) (done old) e z =
+      let (c, r) = taken-readable standard (length out / 2) old us (wordsIn journal) e in
+      let (same, good) = config-found standard old c r in
+      rw same at (good .short)
+
+  pub back-short : t .number ≡ 0 → t .length ≤ 8192
+  unfolding byteTakeBack
+  back-short z =
+      let g = restored-short (wordsOf config) (byteTakeBack config journal (length out / 2)) refl (sym (ap (λ (u : Taken). u .number) p) ∙ z) in
+      omega (arith, g, ap (λ (u : Taken). u .length) p)
 
 -- ---- the words of a journal's bytes
 
@@ -266,7 +312,7 @@ part-words (suc n) (x ∷ y ∷ bytes) h =
     ∙ words-next n x y (take (n * 2) bytes) l
     ∙ ap (λ (u : List ℕ). (x * 256 + y) ∷ u) (part-words n bytes (omega arith))
 
-words-half : (bytes : List ℕ) → length (wordsIn bytes) * 2 ≤ length bytes
+pub words-half : (bytes : List ℕ) → length (wordsIn bytes) * 2 ≤ length bytes
 unfolding wordsIn
 words-half [] = omega arith
 words-half (x ∷ []) = omega arith

@@ -19,12 +19,12 @@ use stepping::steps::FEW;
 use stepping::steps::MANY;
 use stepping::steps::SHORT;
 ghost use mathlib.Core.Path.{_≡_};
-ghost use Prim.Native.Nat.{_≤_, _*_};
+ghost use Prim.Native.Nat.{_≤_, _*_, _/_};
 ghost use lib.ListN.{length};
 ghost use Rattle.sock.specs.Configuration.{standard};
 ghost use Rattle.sock.specs.Calls.{answerOf};
-ghost use Rattle.sock.specs.Journal.{journalStep, takenOf, takeBack};
-ghost use Rattle.sock.specs.Bytes.{bytesAfter, journalBytesAfter, wordsOf, wordsOrNone, byteJournalStep, byteJournalAnswer, byteJournalOutput, byteJournalWritten, restoredBytes, byteTaken, byteRestored};
+ghost use Rattle.sock.specs.Journal.{journalStep, takenOf, takeBack, takeBackOutput, restoredOver};
+ghost use Rattle.sock.specs.Bytes.{bytesAfter, journalBytesAfter, wordsOf, wordsOrNone, byteJournalStep, byteJournalAnswer, byteJournalOutput, byteJournalWritten, restoredBytes, byteTakeBack, byteTaken, byteRestored};
 ghost use Rattle.layout.specs.Limits.{figures};
 ghost use Rattle.stepping.specs.Answers.{answerAs, numbers};
 ghost use Rattle.stepping.specs.Bundles.{numbersAs};
@@ -66,8 +66,8 @@ pub(crate) fn journaled(
 }
 
 // With scratch for every configuration, every result and every journal.
-fn large_journal(k: Numbers, config: &[u8], out: &mut [u8], journal: &mut [u8]) -> u64
-    ensures answered { λ r. ⌜ r ≡ byteJournalAnswer standard (now (config .entry)) (numbersAs k) (now (out .entry)) (now (journal .entry)) ⌝ }
+fn large_journal(k: Numbers, config: &[u8], out: &mut [u8], journal: &mut [u8]) -> Answer
+    ensures answered { λ r. ⌜ r ≡ answerAs (answerOf (byteJournalStep standard (now (config .entry)) (numbersAs k) (length (now (out .entry)) / 2) (length (now (journal .entry)) / 2))) ⌝ }
     ensures wrote { λ r. ⌜ now (out .exit) ≡ byteJournalOutput standard (now (config .entry)) (numbersAs k) (now (out .entry)) (now (journal .entry)) ⌝ }
     ensures noted { λ r. ⌜ now (journal .exit) ≡ byteJournalWritten standard (now (config .entry)) (numbersAs k) (now (out .entry)) (now (journal .entry)) ⌝ }
 {
@@ -78,7 +78,7 @@ fn large_journal(k: Numbers, config: &[u8], out: &mut [u8], journal: &mut [u8]) 
     let room = room_of(out.len(), LONGEST);
     let mut words = [0u16; JOURNAL];
     let most = room_of(journal.len(), JOURNAL);
-    pack(journaled(
+    journaled(
         &scratch[..n],
         k,
         STANDARD,
@@ -87,7 +87,7 @@ fn large_journal(k: Numbers, config: &[u8], out: &mut [u8], journal: &mut [u8]) 
         &mut words[..most],
         out,
         journal,
-    ))
+    )
 }
 
 // For a short configuration, with room for a result twice as long.
@@ -116,8 +116,23 @@ fn short_journal(k: Numbers, config: &[u8], out: &mut [u8], journal: &mut [u8]) 
     )
 }
 
+// The step with a journal. As in the step, a short configuration is first tried with short scratch; 10 may then be for that alone.
+pub(crate) fn step_journal(k: Numbers, config: &[u8], out: &mut [u8], journal: &mut [u8]) -> Answer
+    ensures answered { λ r. ⌜ r ≡ answerAs (answerOf (byteJournalStep standard (now (config .entry)) (numbersAs k) (length (now (out .entry)) / 2) (length (now (journal .entry)) / 2))) ⌝ }
+    ensures wrote { λ r. ⌜ now (out .exit) ≡ byteJournalOutput standard (now (config .entry)) (numbersAs k) (now (out .entry)) (now (journal .entry)) ⌝ }
+    ensures noted { λ r. ⌜ now (journal .exit) ≡ byteJournalWritten standard (now (config .entry)) (numbersAs k) (now (out .entry)) (now (journal .entry)) ⌝ }
+{
+    if SHORT_BYTES < config.len() {
+        return large_journal(k, config, out, journal);
+    }
+    let a = short_journal(k, config, out, journal);
+    if a.number == 10 {
+        return large_journal(k, config, out, journal);
+    }
+    a
+}
+
 // Step with a journal, packed as the step is: a refusal changes no byte of output and journal.
-// As in the step, a short configuration is first tried with short scratch; 10 may then be for that alone.
 #[no_mangle]
 pub extern "C" fn sock_step_journal(
     engine: u16,
@@ -140,14 +155,7 @@ pub extern "C" fn sock_step_journal(
         second_position: place,
         branch,
     };
-    if SHORT_BYTES < config.len() {
-        return large_journal(k, config, out, journal);
-    }
-    let a = short_journal(k, config, out, journal);
-    if a.number == 10 {
-        return large_journal(k, config, out, journal);
-    }
-    pack(a)
+    pack(step_journal(k, config, out, journal))
 }
 
 // Taking back on words, what is restored written to scratch first.
@@ -155,6 +163,7 @@ fn taken_back(ws: &[u16], words: &[u16], result: &mut [u16], out: &mut [u8]) -> 
     requires { ⌜ length (now result) * 2 ≤ length (now out) ⌝ }
     ensures answered { λ r. ⌜ r ≡ takenAs (takenOf (takeBack standard (now (ws .entry)) (now (words .entry)) (length (now (result .entry))))) ⌝ }
     ensures wrote { λ r. ⌜ now (out .exit) ≡ restoredBytes (takeBack standard (now (ws .entry)) (now (words .entry)) (length (now (result .entry)))) (now (out .entry)) ⌝ }
+    ensures held { λ r. ⌜ now (result .exit) ≡ takeBackOutput standard (now (ws .entry)) (now (words .entry)) (now (result .entry)) ⌝ }
 {
     let t = take_back(ws, words, result);
     if t.number != 0 {
@@ -164,19 +173,34 @@ fn taken_back(ws: &[u16], words: &[u16], result: &mut [u16], out: &mut [u8]) -> 
     t
 }
 
-// Taking back: from the top, the number in 8 bits, 40 zero, the length in 16. A refusal changes no byte. Words past those that a journal of two
-// configurations may have are not part of any, so they need not be held.
-#[no_mangle]
-pub extern "C" fn sock_take_back(config: &[u8], journal: &[u8], out: &mut [u8]) -> u64
-    ensures answered { λ r. ⌜ r ≡ byteTaken (now (config .entry)) (now (journal .entry)) (now (out .entry)) ⌝ }
+// Taking back on bytes, what is restored in the first words of `result`. Words past those that a journal of two configurations may have are not part
+// of any, so they need not be held.
+pub(crate) fn take_back_bytes(
+    config: &[u8],
+    journal: &[u8],
+    result: &mut [u16],
+    out: &mut [u8],
+) -> Taken
+    requires { ⌜ length (now result) ≡ 8192 ⌝ }
+    ensures answered { λ r. ⌜ r ≡ takenAs (takenOf (byteTakeBack (now (config .entry)) (now (journal .entry)) (length (now (out .entry)) / 2))) ⌝ }
     ensures wrote { λ r. ⌜ now (out .exit) ≡ byteRestored (now (config .entry)) (now (journal .entry)) (now (out .entry)) ⌝ }
+    ensures held { λ r. ⌜ now (result .exit) ≡ restoredOver (byteTakeBack (now (config .entry)) (now (journal .entry)) (length (now (out .entry)) / 2)) (now (result .entry)) ⌝ }
 {
     let mut scratch = [0u16; LONGEST];
     let n = hold(config, &mut scratch);
     let mut words = [0u16; JOURNAL];
     let m = hold_part(journal, &mut words);
-    let mut result = [0u16; LONGEST];
     let room = room_of(out.len(), LONGEST);
-    let t = taken_back(&scratch[..n], &words[..m], &mut result[..room], out);
+    taken_back(&scratch[..n], &words[..m], &mut result[..room], out)
+}
+
+// Taking back: from the top, the number in 8 bits, 40 zero, the length in 16. A refusal changes no byte.
+#[no_mangle]
+pub extern "C" fn sock_take_back(config: &[u8], journal: &[u8], out: &mut [u8]) -> u64
+    ensures answered { λ r. ⌜ r ≡ byteTaken (now (config .entry)) (now (journal .entry)) (now (out .entry)) ⌝ }
+    ensures wrote { λ r. ⌜ now (out .exit) ≡ byteRestored (now (config .entry)) (now (journal .entry)) (now (out .entry)) ⌝ }
+{
+    let mut result = [0u16; LONGEST];
+    let t = take_back_bytes(config, journal, &mut result, out);
     (t.number as u64) * 72057594037927936 + (t.length as u64)
 }

@@ -10,7 +10,7 @@ use lib.Dec.{T, eqb}
 use lib.ListN.{length, drop}
 use lib.Seq.{take-append-seam}
 use Rattle.sock.specs.Configuration.{Limits, encode}
-use Rattle.sock.specs.Calls.{Refusal, unreadable, nobodyThere, noMove, noPartner, noFit, installing, serialsSpent, deep, long, short, notFresh, unknownSerial, notDecimal, unmatched, journalShort, number, Result, refused, done, Numbers, Stepped, step, Answer, answerOf, outputOf, over}
+use Rattle.sock.specs.Calls.{Refusal, unreadable, nobodyThere, noMove, noPartner, noFit, installing, serialsSpent, deep, long, short, notFresh, unknownSerial, notDecimal, unmatched, journalShort, indexShort, number, Result, refused, done, Numbers, Stepped, step, Answer, answerOf, outputOf, over}
 use Rattle.sock.specs.Runs.{Call, call, roomFor, outcome, callAnswer, callOutput, accepted, nextWords}
 use Rattle.sock.specs.Journal.{journalOf, lentStep}
 use Rattle.sock.proofs.Journal.{lent-done, done-lent}
@@ -32,6 +32,7 @@ number-positive unknownSerial = refl
 number-positive notDecimal = refl
 number-positive unmatched = refl
 number-positive journalShort = refl
+number-positive indexShort = refl
 
 module _ (limits : Limits) (ws : List ℕ) (k : Call) where
   abbrev result : Result Stepped
@@ -60,13 +61,13 @@ module _ (limits : Limits) (ws : List ℕ) (k : Call) where
     calledRefused : Refused → Called
     calledDone : (s : Stepped) → Done s → Called
 
-  refuses : (r : Refusal) → result ≡ refused r → Refused
+  pub refuses : (r : Refusal) → result ≡ refused r → Refused
   unfolding accepted nextWords callAnswer answerOf
   refuses r e =
       let a : eqb (answerOf result .number) 0 ≡ false = ap (λ x. eqb (answerOf x .number) 0) e ∙ number-positive r in
       record { not-accepted = a; kept = rw a }
 
-  does : (s : Stepped) → result ≡ done s → Done s
+  pub does : (s : Stepped) → result ≡ done s → Done s
   unfolding accepted nextWords callAnswer callOutput outcome answerOf outputOf
   does s e =
       let a : eqb (answerOf result .number) 0 ≡ true = ap (λ x. eqb (answerOf x .number) 0) e in

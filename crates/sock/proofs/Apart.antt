@@ -101,7 +101,7 @@ sends-moves a e = subst (Moves (a .frames) (a .process)) e (move-moves (a .value
 trade-issued : {issued a b : ℕ} {p q : Run} {x : Exchange} → Trade issued a b p q x → x .issued ≡ issued + bit (isSolicit p)
 trade-issued (quietTrade u e h h') = rw (u .asks) (omega arith)
 trade-issued (newTrade o u k e f h h') = rw u (omega arith)
-trade-issued (lastTrade s o u k e h h') = rw u (omega arith)
+trade-issued (lastTrade s o u k e f h h') = rw u (omega arith)
 
 -- ---- lists of engines
 

@@ -200,12 +200,16 @@ module _ (limits : Limits) where
   proper-here s (stepping k) p = p
   proper-here s (takingBack journal out) p = p
 
+  -- events at the chain's own limits
+  pub chain-here : (base : List ℕ) (s : State) (e : Event) → Chain base (s .words) (s .standing) → Proper limits s e → Chain base (next limits s e .words) (next limits s e .standing)
+  chain-here base s e h p = chain-next limits (le-refl (limits .deepest), le-refl (limits .longest)) base s e h (proper-here s e p)
+
   chain-after : (es : List Event) (base : List ℕ) (s : State) → Chain base (s .words) (s .standing) → AllProper limits s es → Chain base (after limits s es .words) (after limits s es .standing)
   unfolding after AllProper
   chain-after [] base s h p = h
   chain-after (e ∷ es) base s h p =
       chain-after es base (next limits s e)
-      (chain-next limits (le-refl (limits .deepest), le-refl (limits .longest)) base s e h (proper-here s e (p .0))) (p .1)
+      (chain-here base s e h (p .0)) (p .1)
 
   run-append : (ks js : List Call) (ws : List ℕ) → run limits ws (ks ++ js) ≡ run limits (run limits ws ks) js
   unfolding run

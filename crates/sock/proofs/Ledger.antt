@@ -244,7 +244,7 @@ module _ {c c' : Config} {d : ℕ → ℕ} (p : Run) (l : Ledger c d) where
   pub ledger-turns : {serial : ℕ} → Turn c c' p serial → Ledger c' (λ s. d s + bit (carries s p))
   ledger-turns (quietly u e h) = kept u e h
   ledger-turns (begins o client server a u k e f h) = opened o client server a k e h
-  ledger-turns (ended s o client server u k e h) = closed o client server s k e h
+  ledger-turns (ended s o client server u k e f h) = closed o client server s k e h
 
 -- the deliveries counted another way
 pub ledger-same : {c : Config} {d d' : ℕ → ℕ} → ((s : ℕ) → d s ≡ d' s) → Ledger c d → Ledger c d'

@@ -17,6 +17,7 @@ pub mod Edges
 pub mod Events
 pub mod Examples
 pub mod Exchange
+pub mod FewOpen
 pub mod Fields
 pub mod Fits
 pub mod Frames
@@ -24,6 +25,9 @@ pub mod Handlers
 pub mod Heads
 pub mod Inside
 pub mod InsideSteps
+pub mod Index
+pub mod IndexFollows
+pub mod Indexed
 pub mod Journal
 pub mod Kept
 pub mod KeptSteps
@@ -35,6 +39,7 @@ pub mod Messages
 pub mod Moves
 pub mod Nodes
 pub mod Opening
+pub mod OpenSerials
 pub mod Orders
 pub mod Pending
 pub mod Placed

@@ -215,6 +215,17 @@ everyRequestAt limits start h calls =
 pub everyRequest : EveryRequestHasOneReply
 everyRequest limits start h calls = let (c, m, d) = everyRequestAt limits start h calls in (c, m)
 
+-- in a run from a fresh start every configuration has a ledger
+pub run-ledger :
+    (limits : Limits) (start : List ℕ) →
+    checkStart limits start ≡ 0 →
+    (calls : List Call) →
+    (c : Config) × (readConfig limits (run limits start calls) ≡ some c) × (d : ℕ → ℕ) × Ledger c d
+run-ledger limits start h calls =
+    let (c, r, f) = started limits start h in
+    let x = after limits calls start r (fresh-ledger c f .1) (fresh-agreed c f) in
+    (x .config, x .reads, _, x .ledger)
+
 -- ---- counts
 
 executor-count : {n : ℕ → ℕ} {o client s : ℕ} {y : List ℕ} {r : Run} → Agrees n (executor o y client s r) → length y ≡ n s

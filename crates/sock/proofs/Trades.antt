@@ -36,6 +36,7 @@ pub data Trade (issued a b : ℕ) (p q : Run) (x : Exchange) : Type 0 where
       isSolicit p ≡ false →
       ((s' : ℕ) → carries s' p ≡ eqb s' s) →
       x .issued ≡ issued →
+      x .serial ≡ s →
       ((t : End → Bool) → tally t (x .sender) + bit (t (working s o b)) ≡ tally t p) →
       ((t : End → Bool) → tally t (x .receiver) + bit (t (waiting s o a)) ≡ tally t q) →
       Trade issued a b p q x
@@ -99,7 +100,7 @@ module _ (issued a b : ℕ) (p q : Run) (vs : List ℕ) where
   awaited-trade :
       (i o client serial : ℕ) (alike : List ℕ → Bool) (k : List ℕ → Bool → Entries → Exchange) →
       Delivers p serial o client →
-      ((x : List ℕ) (dead : Bool) (l : Entries) → (k x dead l .issued ≡ issued) × Endless (k x dead l .sender) × Endless (k x dead l .receiver)) →
+      ((x : List ℕ) (dead : Bool) (l : Entries) → (k x dead l .issued ≡ issued) × (k x dead l .serial ≡ serial) × Endless (k x dead l .sender) × Endless (k x dead l .receiver)) →
       (r : Run) → r ≡ q →
       All (Trade issued a b p q) (awaited a b i o client serial alike r k)
   unfolding awaited tally
@@ -120,12 +121,12 @@ module _ (issued a b : ℕ) (p q : Run) (vs : List ℕ) where
       let ew : waiting s op server ≡ waiting serial o a = cc in
       let ek : working serial o client ≡ working serial o b = cc in
       allSome
-      (lastTrade serial o (u .asks) (u .delivers) (z x dead l .0)
-      (λ t. let c : bit (t (working serial o client)) ≡ bit (t (working serial o b)) = ap (λ w. bit (t w)) ek in omega (arith, u .own t, z x dead l .1 t))
+      (lastTrade serial o (u .asks) (u .delivers) (z x dead l .0) (z x dead l .1)
+      (λ t. let c : bit (t (working serial o client)) ≡ bit (t (working serial o b)) = ap (λ w. bit (t w)) ek in omega (arith, u .own t, z x dead l .2 t))
       (λ t.
       let c : bit (t (waiting s op server)) ≡ bit (t (waiting serial o a)) = ap (λ w. bit (t w)) ew in
       let d : bit (t (waiting s op server)) ≡ tally t q = ap (tally t) e in
-      omega (arith, z x dead l .2 t)))
+      omega (arith, z x dead l .3 t)))
 
   pub exchange-trade : {fs : List Frame} {m : Message} (i : ℕ) → Moves fs p (sends m) → All (Trade issued a b p q) (exchange issued a b i vs q m)
   unfolding exchange replied faulting tally
@@ -134,6 +135,6 @@ module _ (issued a b : ℕ) (p q : Run) (vs : List ℕ) where
   exchange-trade i (asking {o = o} {z = z} {v = v} {x = x} {l = l} u k w) =
       all-guarded (eqb z b) λ g. solicited-trade o v x l (offer q i .next) u k w (offer-hearing q i)
   exchange-trade i (replies {o = o} {client = client} {serial = serial} u) =
-      awaited-trade i o client serial _ _ u (λ x dead l. (refl, (λ t. refl), (λ t. refl))) q refl
+      awaited-trade i o client serial _ _ u (λ x dead l. (refl, refl, (λ t. refl), (λ t. refl))) q refl
   exchange-trade i (faults {o = o} {f = f} {client = client} {serial = serial} u) =
-      awaited-trade i o client serial _ _ u (λ x dead l. (refl, (λ t. refl), (λ t. cond-case (λ r. tally t r ≡ 0) dead (λ d. refl) (λ d. refl)))) q refl
+      awaited-trade i o client serial _ _ u (λ x dead l. (refl, refl, (λ t. refl), (λ t. cond-case (λ r. tally t r ≡ 0) dead (λ d. refl) (λ d. refl)))) q refl

@@ -69,6 +69,7 @@ pub data Turn (c c' : Config) (p : Run) (serial : ℕ) : Type 0 where
       isSolicit p ≡ false →
       ((s' : ℕ) → carries s' p ≡ eqb s' s) →
       c' .issued ≡ c .issued →
+      serial ≡ s →
       ((i : ℕ) (t : End → Bool) → endsAt t c' i + share t i s o client server ≡ endsAt t c i) →
       Turn c c' p serial
 
@@ -205,8 +206,8 @@ module _ (c : Config) (a b : Spot) (x : Standing c a) (y : Standing c b) (apart 
         here-zero i (b .engine),
         after-ends (a .values) (z .values) (z .sender) (z .receiver) i t 0 (bit (t (waiting (suc (c .issued)) o (b .engine)))) 0 (bit (t (working (suc (c .issued)) o (a .engine)))) (omega (arith, h t)) (omega (arith, h' t)),
       )
-  trade-turn {z} (lastTrade s o u k e h h') =
-      ended s o (b .engine) (a .engine) u k e λ i t.
+  trade-turn {z} (lastTrade s o u k e f h h') =
+      ended s o (b .engine) (a .engine) u k e f λ i t.
       omega (
         arith,
         here-zero i (a .engine),
@@ -260,9 +261,9 @@ step-turns limits ws k room =
 pub turn-issued : {c c' : Config} {p : Run} {serial : ℕ} → Turn c c' p serial → c' .issued ≡ c .issued + bit (isSolicit p)
 turn-issued (quietly u e h) = rw (u .asks) (omega arith)
 turn-issued (begins o client server a u k e f h) = rw u (omega arith)
-turn-issued (ended s o client server u k e h) = rw u (omega arith)
+turn-issued (ended s o client server u k e f h) = rw u (omega arith)
 
 pub turn-latest : {c c' : Config} {p : Run} {serial : ℕ} → Turn c c' p serial → (n : ℕ) → n ≡ c .issued → cond (isSolicit p) serial n ≡ c' .issued
 turn-latest (quietly u e h) n z = rw (u .asks) (omega arith)
 turn-latest (begins o client server a u k e f h) n z = rw u (omega arith)
-turn-latest (ended s o client server u k e h) n z = rw u (omega arith)
+turn-latest (ended s o client server u k e f h) n z = rw u (omega arith)

@@ -29,6 +29,7 @@ pub data Refusal : Type 0 where
   unknownSerial : Refusal  -- 12 "unknown serial": serial 0 or above issued
   unmatched : Refusal  -- 15 "journal doesn't match": taking back, after 1 and before 10
   journalShort : Refusal  -- 16 "journal short": the lent journal shorter than this step's; tried after 10
+  indexShort : Refusal  -- 17 "index short": fewer than 2,049 words, or not an index in order; tried before all others
 
 abbrev pub number : Refusal → ℕ
 number unreadable = 1
@@ -46,6 +47,7 @@ number unknownSerial = 12
 number notDecimal = 13
 number unmatched = 15
 number journalShort = 16
+number indexShort = 17
 
 pub data Result (A : Type 0) : Type 0 where
   refused : Refusal → Result A

@@ -22,3 +22,5 @@ pub mod Runs
 pub mod Events
 pub mod Beside
 pub mod Cabinets
+pub mod Index
+pub mod IndexBytes

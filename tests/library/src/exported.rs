@@ -76,6 +76,39 @@ extern "C" {
         output: *mut u8,
         output_length: usize,
     ) -> u64;
+    fn sock_begin_index(
+        config: *const u8,
+        config_length: usize,
+        index: *mut u8,
+        index_length: usize,
+    ) -> u8;
+    fn sock_step_indexed(
+        engine: u16,
+        position: u16,
+        second_engine: u16,
+        second_position: u16,
+        branch: u16,
+        config: *const u8,
+        config_length: usize,
+        output: *mut u8,
+        output_length: usize,
+        journal: *mut u8,
+        journal_length: usize,
+        index: *mut u8,
+        index_length: usize,
+    ) -> u64;
+    fn sock_take_back_indexed(
+        config: *const u8,
+        config_length: usize,
+        journal: *const u8,
+        journal_length: usize,
+        output: *mut u8,
+        output_length: usize,
+        index: *mut u8,
+        index_length: usize,
+    ) -> u64;
+    fn sock_open_count(index: *const u8, index_length: usize) -> u64;
+    fn sock_oldest(index: *const u8, index_length: usize) -> u64;
     fn sock_check_start(config: *const u8, length: usize) -> u8;
     fn sock_check_start_small(config: *const u8, length: usize) -> u8;
     fn sock_check_readable(config: *const u8, length: usize) -> u8;
@@ -156,6 +189,61 @@ pub fn take_back(config: Lent, journal: Lent, output: Lent) -> u64 {
             output.length,
         )
     }
+}
+
+pub fn begin_index(config: Lent, index: Lent) -> u8 {
+    unsafe { sock_begin_index(config.start, config.length, index.start, index.length) }
+}
+
+pub fn step_indexed(
+    numbers: Numbers,
+    config: Lent,
+    output: Lent,
+    journal: Lent,
+    index: Lent,
+) -> u64 {
+    let Numbers { engine, position, second_engine, second_position, branch } = numbers;
+    // All are lent whole for the call, and no reference to any is held meanwhile.
+    unsafe {
+        sock_step_indexed(
+            engine,
+            position,
+            second_engine,
+            second_position,
+            branch,
+            config.start,
+            config.length,
+            output.start,
+            output.length,
+            journal.start,
+            journal.length,
+            index.start,
+            index.length,
+        )
+    }
+}
+
+pub fn take_back_indexed(config: Lent, journal: Lent, output: Lent, index: Lent) -> u64 {
+    unsafe {
+        sock_take_back_indexed(
+            config.start,
+            config.length,
+            journal.start,
+            journal.length,
+            output.start,
+            output.length,
+            index.start,
+            index.length,
+        )
+    }
+}
+
+pub fn open_count(index: Lent) -> u64 {
+    unsafe { sock_open_count(index.start, index.length) }
+}
+
+pub fn oldest(index: Lent) -> u64 {
+    unsafe { sock_oldest(index.start, index.length) }
 }
 
 pub fn check_start(config: Lent) -> u8 {

@@ -19,7 +19,8 @@ pub struct Input<'a> {
     pub config: &'a [u8],
 }
 
-/// A call, without its configuration; a bill has none, and is given by lengths.
+/// A call, without its configuration; a bill has none, and is given by lengths. One that is lent an
+/// index is given by its name and the index's length.
 #[derive(Clone, Copy, Debug)]
 pub enum Call {
     CheckStart { cabinet: Cabinet },
@@ -31,6 +32,7 @@ pub enum Call {
     Pending { engine: u16, position: u16 },
     Step { cabinet: Cabinet, numbers: Numbers, output: usize },
     Bill { rates: usize, replies: usize, totals: usize },
+    Indexed { call: &'static str, index: usize },
 }
 
 /// Bytes of a configuration that are printed; the seed gives the others.

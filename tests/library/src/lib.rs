@@ -10,8 +10,9 @@
 //! stack that a call needs, on the configurations of `deep`. All is deterministic; a difference
 //! prints the class, seed and step of the input, the call and the bytes.
 //!
-//! `window` does the same for the window of faults, which reads no configuration, and `journal`
-//! for the step with a journal and for taking back.
+//! `window` does the same for the window of faults, which reads no configuration, `journal`
+//! for the step with a journal and for taking back, and `index` for both with an index of open
+//! requests, its beginning and its two questions.
 
 pub mod billing;
 pub mod bytes;
@@ -21,6 +22,7 @@ pub mod counts;
 pub mod deep;
 pub mod exported;
 pub mod guard;
+pub mod index;
 pub mod input;
 pub mod journal;
 pub mod memory;

@@ -9,9 +9,10 @@ use library::deep::{shapes, Extent, Shape};
 use library::exported;
 use library::memory::Lent;
 use library::painted::Painted;
-use reference::bytes::from_words;
+use reference::bytes::{from_words, to_words};
 use reference::configuration::Configuration;
 use reference::generate::steps::{fitting, stands};
+use reference::index::{index_of, open_serials, Serials, INDEX_BYTES, MOST};
 use reference::{readable, write, Numbers};
 use std::collections::{BTreeMap, BTreeSet};
 use std::io::Write;
@@ -94,6 +95,11 @@ impl Most {
         if cabinet == Cabinet::Small {
             return;
         }
+        let mut index = [7u8; INDEX_BYTES];
+        let begun = lend(&mut index);
+        let number =
+            self.call("sock_begin_index", shape, || exported::begin_index(lent, begun).into());
+        assert_eq!(number, start, "{shape}");
         let ends = self.call("sock_ends", shape, || exported::ends(lent, 1));
         assert_eq!(ends, reference::sock_ends(config, 1), "{shape}");
         for engine in 0..3 {
@@ -151,7 +157,40 @@ impl Most {
         if answer >> 56 == 0 && cabinet == Cabinet::Large {
             let next = Lent { start: output.start, length: 2 * usize::from(answer as u16) };
             self.back(shape, config, next, journal);
+            self.indexed(shape, config, numbers, (next, journal));
         }
+    }
+
+    /// The same step with an index of as many serials as there may be, and taken back.
+    fn indexed(
+        &mut self,
+        shape: &str,
+        config: &[u8],
+        numbers: Numbers,
+        (next, noted): (Lent, Lent),
+    ) {
+        let full: Serials = (2..2 + MOST as u16).collect();
+        let mut index = from_words(&index_of(&full));
+        let (mut out, mut journal) = (vec![7u8; 16_384], vec![7u8; 32_772]);
+        let lent = Lent { start: config.as_ptr().cast_mut(), length: config.len() };
+        let [output, journal, listed] = [&mut out, &mut journal, &mut index].map(|b| lend(b));
+        let answer = self.call("sock_step_indexed", shape, || {
+            exported::step_indexed(numbers, lent, output, journal, listed)
+        });
+        assert_eq!(usize::from(answer as u16), next.length / 2, "{shape}, {numbers:?}");
+        assert!(output.bytes()[..next.length] == *next.bytes(), "{shape}, {numbers:?}");
+        let mut index = from_words(&index_of(&full));
+        let listed = lend(&mut index);
+        let taken = self.call("sock_take_back_indexed", shape, || {
+            exported::take_back_indexed(next, noted, output, listed)
+        });
+        assert_eq!(taken, config.len() as u64 / 2, "{shape} taken back");
+        let before = readable::read(&self.cabinet.limits(), &to_words(config).expect("words"));
+        let open = open_serials(&before.expect("readable"));
+        assert!(listed.bytes() == from_words(&index_of(&open)), "{shape}: another index");
+        let count = self.call("sock_open_count", shape, || exported::open_count(listed));
+        let oldest = self.call("sock_oldest", shape, || exported::oldest(listed));
+        assert_eq!((count, oldest), (open.len() as u64, open.first().map_or(0, |s| u64::from(*s))));
     }
 
     /// Takes back to the configuration.
@@ -238,7 +277,7 @@ fn no_call_needs_more_stack_than_three_quarters_of_the_promise() {
     let mut most = Most::new(Cabinet::Large);
     most.all(own(Cabinet::Large));
     others(&mut most);
-    most.judge(11, promised("SOCK_STACK"));
+    most.judge(16, promised("SOCK_STACK"));
 }
 
 /// Also on configurations that it refuses: too long, and too deep only.

@@ -94,11 +94,11 @@ fn try_back(
 }
 
 /// The whole words of bytes, an odd last byte left out.
-fn whole(bytes: &[u8]) -> Vec<u16> {
+pub(crate) fn whole(bytes: &[u8]) -> Vec<u16> {
     to_words(&bytes[..bytes.len() / 2 * 2]).expect("an even length")
 }
 
-fn spread(words: &[u16], bytes: &mut [u8]) {
+pub(crate) fn spread(words: &[u16], bytes: &mut [u8]) {
     for (pair, word) in bytes.chunks_exact_mut(2).zip(words) {
         pair.copy_from_slice(&word.to_be_bytes());
     }

@@ -22,7 +22,7 @@
 //! `window` is document 02's change h, and stands by itself; `pending` is change b: what a side has
 //! that can't be killed is searched apart from killing it. `earlier` is the format before change c,
 //! with no lists of variables, and how it is rewritten. `journal` is change f, over the
-//! step of `calls`.
+//! step of `calls`, and `index` change g, over both.
 
 pub mod alone;
 pub mod billing;
@@ -39,6 +39,7 @@ pub mod fields;
 pub mod generate;
 pub mod handlers;
 pub mod handover;
+pub mod index;
 pub mod journal;
 pub mod limits;
 pub mod measure;

@@ -18,6 +18,7 @@ pub enum Refusal {
     /// Taking back: the journal doesn't match.
     Unmatched,
     JournalShort,
+    IndexShort,
 }
 
 impl Refusal {
@@ -38,6 +39,7 @@ impl Refusal {
             Refusal::NotDecimal => 13,
             Refusal::Unmatched => 15,
             Refusal::JournalShort => 16,
+            Refusal::IndexShort => 17,
         }
     }
 }

@@ -7,6 +7,7 @@ pub mod code;
 pub mod damage;
 pub mod edges;
 pub mod growth;
+pub mod indexes;
 pub mod random;
 pub mod replace;
 pub mod roles;

@@ -8,7 +8,7 @@ use Rattle.cabinet.proofs.Holding.{first-held}
 use Rattle.sock.specs.Configuration.{standard}
 use Rattle.stepping.proofs.Modest.{modest-standard, blank-notes}
 use Rattle.cabinet.proofs.Stepping.{part-fits}
-use Rattle.cabinet.proofs.Journaling.{large-journal-answer, large-journal-output, large-journal-written}
+use Rattle.cabinet.proofs.Journaling.{large-journal-given, large-journal-output, large-journal-written}
 use borrow.Author.Needs.{needs}
 use Rattle.cabinet.proofs.journal_bytes.large_journal.Statement.{statement}
 use Rattle.cabinet.proofs.journal_bytes.large_journal.Tie as tie
@@ -53,9 +53,6 @@ journaled-requires : tie.Need-journaled-requires
 journaled-requires c κs =
     (modest-standard refl, blank-notes 16384, part-fits _ _ (omega (arith, (c .before .before .before .before .before .before .before .room-of .ensures .1))) (c .before .before .before .before .before .before .before .room-of .ensures .2), part-fits _ _ (omega (arith, (c .before .before .before .before .before .before .room-of2 .ensures .1))) (c .before .before .before .before .before .before .room-of2 .ensures .2))
 
-pack-requires : tie.Need-pack-requires
-pack-requires c κs = search needs
-
 same-length : tie.Need-same-length
 same-length c = search needs
 
@@ -64,11 +61,11 @@ same-length-2 c = search needs
 
 returns : tie.Need-returns
 returns c =
-    let h = (c .before .before .before .before .before .before .before .before .before .before .before .before .before .before .before .before .before .before .hold .ensures) in
-    let r = (c .before .before .before .before .before .before .before .before .before .before .before .before .before .before .before .before .room-of .ensures) in
-    let t = (c .before .before .before .before .before .before .before .before .before .before .before .before .before .before .before .room-of2 .ensures) in
+    let h = (c .before .before .before .before .before .before .before .before .before .before .before .before .before .before .before .before .before .hold .ensures) in
+    let r = (c .before .before .before .before .before .before .before .before .before .before .before .before .before .before .before .room-of .ensures) in
+    let t = (c .before .before .before .before .before .before .before .before .before .before .before .before .before .before .room-of2 .ensures) in
     let held = first-held _ 8192 _ _ _ _ (search needs) (h .0) (h .1) in
-    ((c .pack .ensures) ∙ (ap packedAs (c .before .before .before .before .before .before .before .before .journaled .ensures .0) ∙ large-journal-answer standard (omega arith) 8192 16388 (omega arith) (omega arith) _ _ held _ _ _ _ _ (length-take-le _ _ (omega (arith, r .1)) ∙ r .0) (length-take-le _ _ (omega (arith, t .1)) ∙ t .0)), ((c .before .before .before .before .before .before .before .before .journaled .ensures .1 .0) ∙ large-journal-output standard (omega arith) 8192 16388 (omega arith) (omega arith) _ _ held _ (c .before .before .before .before .before .before .before .before .before .before .before .before .before .before .before .before .before .before .before .before .before .before .before .args .out .now) _ _ _ (length-take-le _ _ (omega (arith, r .1)) ∙ r .0) (length-take-le _ _ (omega (arith, t .1)) ∙ t .0), (c .before .before .before .before .before .before .before .before .journaled .ensures .1 .1) ∙ large-journal-written standard (omega arith) 8192 16388 (omega arith) (omega arith) _ _ held _ _ (c .before .before .before .before .before .before .before .before .before .before .before .before .before .before .before .before .before .before .before .before .before .before .before .args .journal .now) _ _ (length-take-le _ _ (omega (arith, r .1)) ∙ r .0) (length-take-le _ _ (omega (arith, t .1)) ∙ t .0)))
+    ((c .before .before .before .before .before .before .before .journaled .ensures .0) ∙ large-journal-given standard (omega arith) 8192 16388 (omega arith) (omega arith) _ _ held _ (c .before .before .before .before .before .before .before .before .before .before .before .before .before .before .before .before .before .before .before .before .before .before .args .out .now) (c .before .before .before .before .before .before .before .before .before .before .before .before .before .before .before .before .before .before .before .before .before .before .args .journal .now) _ _ (length-take-le _ _ (omega (arith, r .1)) ∙ r .0) (length-take-le _ _ (omega (arith, t .1)) ∙ t .0), ((c .before .before .before .before .before .before .before .journaled .ensures .1 .0) ∙ large-journal-output standard (omega arith) 8192 16388 (omega arith) (omega arith) _ _ held _ (c .before .before .before .before .before .before .before .before .before .before .before .before .before .before .before .before .before .before .before .before .before .before .args .out .now) _ _ _ (length-take-le _ _ (omega (arith, r .1)) ∙ r .0) (length-take-le _ _ (omega (arith, t .1)) ∙ t .0), (c .before .before .before .before .before .before .before .journaled .ensures .1 .1) ∙ large-journal-written standard (omega arith) 8192 16388 (omega arith) (omega arith) _ _ held _ _ (c .before .before .before .before .before .before .before .before .before .before .before .before .before .before .before .before .before .before .before .before .before .before .args .journal .now) _ _ (length-take-le _ _ (omega (arith, r .1)) ∙ r .0) (length-take-le _ _ (omega (arith, t .1)) ∙ t .0)))
 
 pub large-journal-spec : {M : Type 1} → statement M
 large-journal-spec =
@@ -86,7 +83,6 @@ large-journal-spec =
     array-borrow-prefix-words
     slice-aggregate-journaled-4
     journaled-requires
-    pack-requires
     same-length
     same-length-2
     returns)

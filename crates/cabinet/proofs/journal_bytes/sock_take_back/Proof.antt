@@ -1,50 +1,15 @@
 -- `sock_take_back` of `cabinet::journal_bytes` meets its contract.
 -- Assumes nothing.
-use native.Mathlib.Omega.{arith}
-use mathlib.Core.Path.{sym, _∙_}
-use lib.Seq.{length-take-le}
-use Rattle.cabinet.proofs.Holding.{first-held}
-use Rattle.cabinet.proofs.Stepping.{part-fits}
-use Rattle.cabinet.proofs.TakingBack.{first-part, back-answer, back-output}
+use Rattle.cabinet.proofs.TakingBack.{back-packed}
 use borrow.Author.Needs.{needs}
 use Rattle.cabinet.proofs.journal_bytes.sock_take_back.Statement.{statement}
 use Rattle.cabinet.proofs.journal_bytes.sock_take_back.Tie as tie
 
-slice-aggregate-hold : tie.Need-slice-aggregate-hold
-slice-aggregate-hold c = search needs
+slice-aggregate-take-back-bytes : tie.Need-slice-aggregate-take-back-bytes
+slice-aggregate-take-back-bytes c = search needs
 
-hold-requires : tie.Need-hold-requires
-hold-requires c κs = search needs
-
-slice-aggregate-hold-part : tie.Need-slice-aggregate-hold-part
-slice-aggregate-hold-part c = search needs
-
-hold-part-requires : tie.Need-hold-part-requires
-hold-part-requires c κs = search needs
-
-room-of-requires : tie.Need-room-of-requires
-room-of-requires c κs = search needs
-
-array-share-prefix-scratch : tie.Need-array-share-prefix-scratch
-array-share-prefix-scratch c = search needs
-
-slice-aggregate-taken-back : tie.Need-slice-aggregate-taken-back
-slice-aggregate-taken-back c = sym (length-take-le _ _ (search needs))
-
-array-share-prefix-words : tie.Need-array-share-prefix-words
-array-share-prefix-words c = search needs
-
-slice-aggregate-taken-back-2 : tie.Need-slice-aggregate-taken-back-2
-slice-aggregate-taken-back-2 c = sym (length-take-le _ _ (search needs))
-
-array-borrow-prefix-result : tie.Need-array-borrow-prefix-result
-array-borrow-prefix-result c = search needs
-
-slice-aggregate-taken-back-3 : tie.Need-slice-aggregate-taken-back-3
-slice-aggregate-taken-back-3 c = sym (length-take-le _ _ (omega (arith, (c .before .before .before .room-of .ensures .1))))
-
-taken-back-requires : tie.Need-taken-back-requires
-taken-back-requires c κs = part-fits _ _ (omega (arith, (c .before .before .before .before .room-of .ensures .1))) ((c .before .before .before .before .room-of .ensures .2))
+take-back-bytes-requires : tie.Need-take-back-bytes-requires
+take-back-bytes-requires c κs = search needs
 
 cast-result : tie.Need-cast-result
 cast-result c = search needs
@@ -62,30 +27,14 @@ same-length : tie.Need-same-length
 same-length c = search needs
 
 returns : tie.Need-returns
-returns c =
-    let h = (c .before .before .before .before .before .before .before .before .before .before .before .before .before .before .before .hold .ensures) in
-    let p = (c .before .before .before .before .before .before .before .before .before .before .before .before .hold-part .ensures) in
-    let r = (c .before .before .before .before .before .before .before .before .before .before .room-of .ensures) in
-    let held = first-held _ 8192 _ _ _ _ (search needs) (h .0) (h .1) in
-    let part = first-part _ 16388 _ _ _ _ (search needs) (p .0) (p .1) in
-    (back-answer _ _ held _ _ ((c .before .before .before .before .before .before .before .before .before .before .before .before .before .before .before .before .before .before .before .before .args .out .now)) part _ (length-take-le _ _ (omega (arith, r .1)) ∙ r .0) ((c .before .before .before .before .before .taken-back .result)) ((c .before .before .before .before .before .taken-back .ensures .0)), (c .before .before .before .before .before .taken-back .ensures .1) ∙ back-output _ _ held _ _ ((c .before .before .before .before .before .before .before .before .before .before .before .before .before .before .before .before .before .before .before .before .args .out .now)) part _ (length-take-le _ _ (omega (arith, r .1)) ∙ r .0))
+returns c = (back-packed (c .before .before .before .before .before .before .before .before .before .before .before .args .config .now) (c .before .before .before .before .before .before .before .before .before .before .before .args .journal .now) (c .before .before .before .before .before .before .before .before .before .before .before .args .out .now) _ (c .before .before .before .before .before .take-back-bytes .ensures .0), (c .before .before .before .before .before .take-back-bytes .ensures .1 .0))
 
 pub sock-take-back-spec : {M : Type 1} → statement M
 sock-take-back-spec =
     tie.close
     (tie.spec
-    slice-aggregate-hold
-    hold-requires
-    slice-aggregate-hold-part
-    hold-part-requires
-    room-of-requires
-    array-share-prefix-scratch
-    slice-aggregate-taken-back
-    array-share-prefix-words
-    slice-aggregate-taken-back-2
-    array-borrow-prefix-result
-    slice-aggregate-taken-back-3
-    taken-back-requires
+    slice-aggregate-take-back-bytes
+    take-back-bytes-requires
     cast-result
     mul-result
     cast-result-2

@@ -13,13 +13,15 @@ same-length : tie.Need-same-length
 same-length c = search needs
 
 returns : tie.Need-returns
-returns c = (taken-as ((c .before .before .before .before .before .before .before .before .before .before .args .ws .now)) ((c .before .before .before .before .before .before .before .before .before .before .args .words .now)) ((c .before .before .before .before .before .before .before .before .before .before .args .result .now)) _ ((c .before .before .before .before .take-back .result)) ((c .before .before .before .before .take-back .ensures .0)) ((c .before .before .before .before .take-back .ensures .1)) ((c .before .before .before .before .before .before .before .before .before .before .args .out .now)), taken-refused ((c .before .before .before .before .before .before .before .before .before .before .args .ws .now)) ((c .before .before .before .before .before .before .before .before .before .before .args .words .now)) ((c .before .before .before .before .before .before .before .before .before .before .args .result .now)) _ ((c .before .before .before .before .take-back .result)) ((c .before .before .before .before .take-back .ensures .0)) ((c .before .before .before .before .take-back .ensures .1)) ((c .before .before .before .before .before .before .before .before .before .before .args .out .now)) ((c .if1 .taken)))
+returns c =
+    (taken-as (c .before .before .before .before .before .before .before .before .before .before .args .ws .now) (c .before .before .before .before .before .before .before .before .before .before .args .words .now) (c .before .before .before .before .before .before .before .before .before .before .args .result .now) _ (c .before .before .before .before .take-back .result) (c .before .before .before .before .take-back .ensures .0) (c .before .before .before .before .take-back .ensures .1) (c .before .before .before .before .before .before .before .before .before .before .args .out .now), (taken-refused (c .before .before .before .before .before .before .before .before .before .before .args .ws .now) (c .before .before .before .before .before .before .before .before .before .before .args .words .now) (c .before .before .before .before .before .before .before .before .before .before .args .result .now) _ (c .before .before .before .before .take-back .result) (c .before .before .before .before .take-back .ensures .0) (c .before .before .before .before .take-back .ensures .1) (c .before .before .before .before .before .before .before .before .before .before .args .out .now) (c .if1 .taken), (c .before .before .before .before .take-back .ensures .1)))
 
 cast-spread : tie.Need-cast-spread
 cast-spread c = search needs
 
 spread-requires : tie.Need-spread-requires
-spread-requires c κs = (fits-result ((c .before .before .before .before .before .before .before .before .before .before .before .before .before .args .ws .now)) ((c .before .before .before .before .before .before .before .before .before .before .before .before .before .args .words .now)) ((c .before .before .before .before .before .before .before .before .before .before .before .before .before .args .result .now)) _ ((c .before .before .before .before .before .before .before .take-back .result)) ((c .before .before .before .before .before .before .before .take-back .ensures .0)) ((c .before .before .before .before .before .before .before .take-back .ensures .1)) ((c .before .before .before .before .before .before .before .before .before .before .before .before .before .args .out .now)) ((c .before .before .before .if1 .left)), fits-bytes ((c .before .before .before .before .before .before .before .before .before .before .before .before .before .args .ws .now)) ((c .before .before .before .before .before .before .before .before .before .before .before .before .before .args .words .now)) ((c .before .before .before .before .before .before .before .before .before .before .before .before .before .args .result .now)) _ ((c .before .before .before .before .before .before .before .take-back .result)) ((c .before .before .before .before .before .before .before .take-back .ensures .0)) ((c .before .before .before .before .before .before .before .take-back .ensures .1)) ((c .before .before .before .before .before .before .before .before .before .before .before .before .before .args .out .now)) ((c .before .before .before .if1 .left)) ((c .before .before .before .before .before .before .before .before .before .before .before .before .before .pre)))
+spread-requires c κs =
+    (fits-result (c .before .before .before .before .before .before .before .before .before .before .before .before .before .args .ws .now) (c .before .before .before .before .before .before .before .before .before .before .before .before .before .args .words .now) (c .before .before .before .before .before .before .before .before .before .before .before .before .before .args .result .now) _ (c .before .before .before .before .before .before .before .take-back .result) (c .before .before .before .before .before .before .before .take-back .ensures .0) (c .before .before .before .before .before .before .before .take-back .ensures .1) (c .before .before .before .before .before .before .before .before .before .before .before .before .before .args .out .now) (c .before .before .before .if1 .left), fits-bytes (c .before .before .before .before .before .before .before .before .before .before .before .before .before .args .ws .now) (c .before .before .before .before .before .before .before .before .before .before .before .before .before .args .words .now) (c .before .before .before .before .before .before .before .before .before .before .before .before .before .args .result .now) _ (c .before .before .before .before .before .before .before .take-back .result) (c .before .before .before .before .before .before .before .take-back .ensures .0) (c .before .before .before .before .before .before .before .take-back .ensures .1) (c .before .before .before .before .before .before .before .before .before .before .before .before .before .args .out .now) (c .before .before .before .if1 .left) (c .before .before .before .before .before .before .before .before .before .before .before .before .before .pre))
 
 same-length-2 : tie.Need-same-length-2
 same-length-2 c = search needs
@@ -28,7 +30,8 @@ same-length-3 : tie.Need-same-length-3
 same-length-3 c = search needs
 
 returns-2 : tie.Need-returns-2
-returns-2 c = (taken-as ((c .before .before .before .before .before .before .before .before .before .before .before .before .before .before .before .before .args .ws .now)) ((c .before .before .before .before .before .before .before .before .before .before .before .before .before .before .before .before .args .words .now)) ((c .before .before .before .before .before .before .before .before .before .before .before .before .before .before .before .before .args .result .now)) _ ((c .before .before .before .before .before .before .before .before .before .before .take-back .result)) ((c .before .before .before .before .before .before .before .before .before .before .take-back .ensures .0)) ((c .before .before .before .before .before .before .before .before .before .before .take-back .ensures .1)) ((c .before .before .before .before .before .before .before .before .before .before .before .before .before .before .before .before .args .out .now)), (c .before .before .spread .ensures .1) ∙ taken-done ((c .before .before .before .before .before .before .before .before .before .before .before .before .before .before .before .before .args .ws .now)) ((c .before .before .before .before .before .before .before .before .before .before .before .before .before .before .before .before .args .words .now)) ((c .before .before .before .before .before .before .before .before .before .before .before .before .before .before .before .before .args .result .now)) _ ((c .before .before .before .before .before .before .before .before .before .before .take-back .result)) ((c .before .before .before .before .before .before .before .before .before .before .take-back .ensures .0)) ((c .before .before .before .before .before .before .before .before .before .before .take-back .ensures .1)) ((c .before .before .before .before .before .before .before .before .before .before .before .before .before .before .before .before .args .out .now)) ((c .before .before .before .before .before .before .if1 .left)))
+returns-2 c =
+    (taken-as (c .before .before .before .before .before .before .before .before .before .before .before .before .before .before .before .before .args .ws .now) (c .before .before .before .before .before .before .before .before .before .before .before .before .before .before .before .before .args .words .now) (c .before .before .before .before .before .before .before .before .before .before .before .before .before .before .before .before .args .result .now) _ (c .before .before .before .before .before .before .before .before .before .before .take-back .result) (c .before .before .before .before .before .before .before .before .before .before .take-back .ensures .0) (c .before .before .before .before .before .before .before .before .before .before .take-back .ensures .1) (c .before .before .before .before .before .before .before .before .before .before .before .before .before .before .before .before .args .out .now), ((c .before .before .spread .ensures .1) ∙ taken-done (c .before .before .before .before .before .before .before .before .before .before .before .before .before .before .before .before .args .ws .now) (c .before .before .before .before .before .before .before .before .before .before .before .before .before .before .before .before .args .words .now) (c .before .before .before .before .before .before .before .before .before .before .before .before .before .before .before .before .args .result .now) _ (c .before .before .before .before .before .before .before .before .before .before .take-back .result) (c .before .before .before .before .before .before .before .before .before .before .take-back .ensures .0) (c .before .before .before .before .before .before .before .before .before .before .take-back .ensures .1) (c .before .before .before .before .before .before .before .before .before .before .before .before .before .before .before .before .args .out .now) (c .before .before .before .before .before .before .if1 .left), (c .before .before .before .before .before .before .before .before .before .before .take-back .ensures .1)))
 
 pub taken-back-spec : {M : Type 1} → statement M
 taken-back-spec =

@@ -1,0 +1,4 @@
+pub mod Form
+pub mod Change
+pub mod Bits
+pub mod Waiters
