@@ -7,7 +7,7 @@ use mathlib.Core.List.{List}
 use borrow.Author.Tests.{eq-eqb, ne-eqb}
 use lib.ListN.{length, List·getD-eq-default}
 use Rattle.skipping.specs.Skip.{skipEnd, skipList}
-use Rattle.skipping.specs.Pass.{noteAt, listNoteAt, passEnd, passList}
+use Rattle.skipping.specs.Pass.{noteAt, listNoteAt, passEnd, passEntries}
 
 -- behind the notes there is none
 pub mark-behind : (notes : List ℕ) (i : ℕ) → length notes ≤ i → noteAt notes i ≡ 0
@@ -27,10 +27,10 @@ module _ (d : ℕ) (ws notes : List ℕ) (i : ℕ) where
   unfolding passEnd
   marked e same some = rw (← same, ne-eqb e 0 some)
 
-  pub list-unmarked : listNoteAt notes i ≡ 0 → passList d ws notes i ≡ skipList d ws 128 i
-  unfolding passList
+  pub list-unmarked : listNoteAt notes i ≡ 0 → passEntries d ws notes i ≡ skipList d ws 128 i
+  unfolding passEntries
   list-unmarked e = rw (eq-eqb (listNoteAt notes i) 0 e)
 
-  pub list-marked : (e : ℕ) → e ≡ listNoteAt notes i → (e ≡ 0 → ⊥) → e ≡ passList d ws notes i
-  unfolding passList
+  pub list-marked : (e : ℕ) → e ≡ listNoteAt notes i → (e ≡ 0 → ⊥) → e ≡ passEntries d ws notes i
+  unfolding passEntries
   list-marked e same some = rw (← same, ne-eqb e 0 some)

@@ -3,8 +3,8 @@
 use Prim.Native.Nat.{ℕ, _+_, _*_}
 use mathlib.Core.Bool.{cond}
 use mathlib.Core.List.{List}
-use lib.Dec.{eqb}
-use lib.ListN.{getD}
+use lib.Dec.{leb, eqb}
+use lib.ListN.{length, getD}
 use Rattle.layout.specs.Keys.{noKey}
 use Rattle.skipping.specs.Skip.{skipEnd, skipList}
 
@@ -17,5 +17,9 @@ listNoteAt notes i = getD notes (i * 2 + 1) 0
 unfoldable pub passEnd : ℕ → List ℕ → List ℕ → ℕ → ℕ
 passEnd d ws notes i = cond (eqb (noteAt notes i) 0) (skipEnd d ws i) (noteAt notes i)
 
+unfoldable pub passEntries : ℕ → List ℕ → List ℕ → ℕ → ℕ
+passEntries d ws notes i = cond (eqb (listNoteAt notes i) 0) (skipList d ws noKey i) (listNoteAt notes i)
+
+-- an empty list is told by its count
 unfoldable pub passList : ℕ → List ℕ → List ℕ → ℕ → ℕ
-passList d ws notes i = cond (eqb (listNoteAt notes i) 0) (skipList d ws noKey i) (listNoteAt notes i)
+passList d ws notes i = cond (leb (length ws) i) 0 (cond (eqb (getD ws i 0) 0) (i + 1) (passEntries d ws notes i))

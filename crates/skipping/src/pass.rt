@@ -7,7 +7,7 @@ use layout::number::wide;
 ghost use mathlib.Core.Path.{_≡_};
 ghost use Prim.Native.Nat.{_*_, _<_};
 ghost use lib.ListN.{getD};
-ghost use Rattle.skipping.specs.Pass.{noteAt, passEnd, passList};
+ghost use Rattle.skipping.specs.Pass.{noteAt, passEnd, passEntries, passList};
 
 // What is noted at a place of the notes; 0 behind them.
 fn noted(notes: &[u16], place: usize) -> usize
@@ -40,9 +40,9 @@ pub fn pass(ws: &[u16], notes: &[u16], at: usize, depth: usize) -> usize
     e
 }
 
-// Where the list whose count is at `at` ends.
-pub fn pass_list(ws: &[u16], notes: &[u16], at: usize, depth: usize) -> usize
-    ensures { λ r. ⌜ r ≡ passList depth (now (ws .entry)) (now (notes .entry)) at ⌝ }
+// Where the list whose count is at `at` ends, unless it is empty.
+fn pass_entries(ws: &[u16], notes: &[u16], at: usize, depth: usize) -> usize
+    ensures { λ r. ⌜ r ≡ passEntries depth (now (ws .entry)) (now (notes .entry)) at ⌝ }
 {
     if notes.len() <= at {
         return skip_list(ws, at, depth, NO_KEY);
@@ -52,4 +52,17 @@ pub fn pass_list(ws: &[u16], notes: &[u16], at: usize, depth: usize) -> usize
         return skip_list(ws, at, depth, NO_KEY);
     }
     e
+}
+
+// Where the list whose count is at `at` ends. Most lists of scopes are empty, and the count tells it without a call.
+pub fn pass_list(ws: &[u16], notes: &[u16], at: usize, depth: usize) -> usize
+    ensures { λ r. ⌜ r ≡ passList depth (now (ws .entry)) (now (notes .entry)) at ⌝ }
+{
+    if ws.len() <= at {
+        return 0;
+    }
+    if ws[at] == 0 {
+        return at + 1;
+    }
+    pass_entries(ws, notes, at, depth)
 }

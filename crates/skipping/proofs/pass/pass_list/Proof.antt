@@ -1,48 +1,51 @@
--- `pass_list` of `skipping::pass` meets its contract: behind the notes, and where 0 is noted, the list is passed over.
+-- `pass_list` of `skipping::pass` meets its contract.
 -- Assumes nothing.
-use mathlib.Core.Path.{sym, _∙_}
-use Rattle.skipping.specs.Pass.{listNoteAt}
-use Rattle.skipping.proofs.Passes.{list-mark-behind, list-unmarked, list-marked}
+use Rattle.skipping.specs.Pass.{passList}
+use Rattle.sock.proofs.Tests.{tests}
 use borrow.Author.Needs.{needs}
 use Rattle.skipping.proofs.pass.pass_list.Statement.{statement}
 use Rattle.skipping.proofs.pass.pass_list.Tie as tie
 
-skip-list-requires : tie.Need-skip-list-requires
-skip-list-requires c κs = search needs
-
 returns : tie.Need-returns
-returns c = c .skip-list .ensures ∙ sym (list-unmarked _ _ _ _ (list-mark-behind _ _ (c .before .if1 .taken)))
+unfolding passList
+returns c =
+    let f0 = c .if1 .taken in
+    simp (tests, f0)
 
-mul-noted : tie.Need-mul-noted
-mul-noted c = search needs
+mul-if2 : tie.Need-mul-if2
+mul-if2 c = search needs
 
-add-noted : tie.Need-add-noted
-add-noted c = search needs
+shared-slice-read-if2 : tie.Need-shared-slice-read-if2
+shared-slice-read-if2 c = search needs
 
-noted-requires : tie.Need-noted-requires
-noted-requires c κs = search needs
-
-skip-list-requires-2 : tie.Need-skip-list-requires-2
-skip-list-requires-2 c κs = search needs
+add-result : tie.Need-add-result
+add-result c = search needs
 
 returns-2 : tie.Need-returns-2
-unfolding listNoteAt
+unfolding passList
 returns-2 c =
-    c .skip-list2 .ensures ∙ sym (list-unmarked _ _ _ _ (sym (c .before .before .noted .ensures) ∙ c .before .if2 .taken))
+    let f0 = c .before .before .if1 .left in
+    let f1 = c .if2 .taken in
+    simp (tests, f0, f1)
+
+pass-entries-requires : tie.Need-pass-entries-requires
+pass-entries-requires c κs = search needs
 
 returns-3 : tie.Need-returns-3
-unfolding listNoteAt
-returns-3 c = list-marked _ _ _ _ _ (c .before .noted .ensures) (c .if2 .left)
+unfolding passList
+returns-3 c =
+    let f0 = c .before .before .before .if1 .left in
+    let f1 = c .before .if2 .left in
+    simp (tests, f0, f1, ← (c .pass-entries .ensures))
 
 pub pass-list-spec : {M : Type 1} → statement M
 pass-list-spec =
     tie.close
     (tie.spec
-    skip-list-requires
     returns
-    mul-noted
-    add-noted
-    noted-requires
-    skip-list-requires-2
+    mul-if2
+    shared-slice-read-if2
+    add-result
     returns-2
+    pass-entries-requires
     returns-3)
