@@ -6,8 +6,8 @@ use native.Mathlib.Numerals.{sub-one}
 use mathlib.Core.Path.{_≡_, refl, sym, _∙_}
 use mathlib.Core.Bool.{Bool, true, false, true≢false, _&&_, cond}
 use mathlib.Core.List.{List}
-use borrow.Author.Tests.{eqb-true, eqb-false, leb-false, lt-ltb, le-ltb, lt-leb, le-leb, eq-eqb, ne-eqb}
-use lib.Bits.{bitAnd}
+use borrow.Author.Tests.{eqb-true, eqb-false, ltb-true, ltb-false, leb-false, lt-ltb, le-ltb, lt-leb, le-leb, eq-eqb, ne-eqb}
+use lib.Bits.{bitAnd, and-mask}
 use lib.Dec.{leb, ltb, eqb}
 use lib.ListN.{length}
 use lib.Seq.{set-out}
@@ -18,7 +18,7 @@ use Rattle.reading.specs.Survey.{opens}
 use Rattle.reading.specs.Tables.{spareOf, headMask}
 use Rattle.reading.specs.Walk.{on, when, at, exprEnd, processEnd, twoEnd, restOf, entriesEnd, listEnd, markedEnd, scopeEnd, executorOwn, executorEnd, nodeEnd}
 use Rattle.reading.proofs.Walks.{process-node, process-refused}
-use Rattle.noting.specs.Noting.{Noting, noteW, noteListW, plainPar, seqNotes, parNotes, bodyNotes, scopeNotes, executorNotes, nodeNotes, enabledNotes, notesW, enginesNotes, surveyNotes}
+use Rattle.noting.specs.Noting.{Noting, noteW, noteListW, plainPar, plainLeaf, seqNotes, parNotes, bodyNotes, scopeNotes, executorNotes, nodeNotes, enabledNotes, notesW, enginesNotes, surveyNotes}
 
 -- ---- one note
 
@@ -235,6 +235,58 @@ par-ends d ws bound c i h m some inside same low high is e y q n =
     let head : Headed d ws c i h (headMask c (h / 2048)) =
     record { deep = some; inside = inside; word = same; mask = refl; clear = clear; low = low; high = high } in
     a-par d ws bound c i h (headMask c (h / 2048)) m head e y three q n
+
+-- ---- a throw or a comp, without a look at the table
+
+-- nor has its head: the bits below the name are all that have to be 0
+leaf-clear : (c k h : ℕ) → 8 ≤ c → c < 10 → 13 ≤ k → k < 15 → h % 32 ≡ 0 → bitAnd (h + 65536) (headMask c k) ≡ 0
+unfolding headMask spareOf allowed placed rowOf rows
+leaf-clear c k h low high above below none = rw (mask (eqb c 8) (eqb k 13) refl refl) (and-mask (h + 65536) 5 ∙ spare)
+  where
+    spare : (h + 65536) % 32 ≡ 0
+    spare = omega arith
+
+    mask : (a b : Bool) → eqb c 8 ≡ a → eqb k 13 ≡ b → headMask c k ≡ 31
+    mask true true p q = rw (eqb-true c 8 p, eqb-true k 13 q)
+    mask true false p q = let next : k ≡ 14 = omega (arith, eqb-false k 13 q) in rw (eqb-true c 8 p, next)
+    mask false true p q = let nine : c ≡ 9 = omega (arith, eqb-false c 8 p) in rw (nine, eqb-true k 13 q)
+    mask false false p q =
+        let nine : c ≡ 9 = omega (arith, eqb-false c 8 p) in
+        let next : k ≡ 14 = omega (arith, eqb-false k 13 q) in
+        rw (nine, next)
+
+leaf-is : (h c : ℕ) → plainLeaf h c ≡ true → (c < 10) × (h % 32 ≡ 0) × (13 ≤ h / 2048) × (h / 2048 < 15)
+unfolding plainLeaf
+leaf-is h c e = by (leb 10 c) (eqb (h % 32) 0) (ltb (h / 2048) 13) (ltb (h / 2048) 15) refl refl refl refl e
+  where
+    by :
+        (a b x y : Bool) → leb 10 c ≡ a → eqb (h % 32) 0 ≡ b → ltb (h / 2048) 13 ≡ x → ltb (h / 2048) 15 ≡ y →
+        cond a false (cond b (cond x false y) false) ≡ true → (c < 10) × (h % 32 ≡ 0) × (13 ≤ h / 2048) × (h / 2048 < 15)
+    by true b x y p q r s e = absurd (true≢false (sym e))
+    by false false x y p q r s e = absurd (true≢false (sym e))
+    by false true true y p q r s e = absurd (true≢false (sym e))
+    by false true false false p q r s e = absurd (true≢false (sym e))
+    by false true false true p q r s e = (leb-false 10 c p, eqb-true (h % 32) 0 q, ltb-false (h / 2048) 13 r, ltb-true (h / 2048) 15 s)
+
+pub leaf-ends :
+    (d : ℕ) (ws : List ℕ) (bound c i h : ℕ) (m : List ℕ) → (d ≡ 0 → ⊥) → i < length ws → h ≡ at ws i → 8 ≤ c → c < 12 → plainLeaf h c ≡ true →
+    (i + 1 ≡ processEnd d ws bound c i) × (m ≡ enabledNotes d ws bound c i m)
+unfolding nodeEnd
+leaf-ends d ws bound c i h m some inside same low high is =
+    let p = leaf-is h c is in
+    let clear : bitAnd (h + 65536) (headMask c (h / 2048)) ≡ 0 = leaf-clear c (h / 2048) h low (p .0) (p .2) (p .3) (p .1) in
+    let head : Headed d ws c i h (headMask c (h / 2048)) =
+    record { deep = some; inside = inside; word = same; mask = refl; clear = clear; low = low; high = high } in
+    by (eqb (h / 2048) 13) refl head (p .2) (p .3)
+  where
+    by :
+        (b : Bool) → eqb (h / 2048) 13 ≡ b → Headed d ws c i h (headMask c (h / 2048)) → 13 ≤ h / 2048 → h / 2048 < 15 →
+        (i + 1 ≡ processEnd d ws bound c i) × (m ≡ enabledNotes d ws bound c i m)
+    by true e head above below =
+        one-word d ws bound c i h (headMask c (h / 2048)) m head 13 (eqb-true (h / 2048) 13 e) (λ h e. rw e refl) (λ z. omega arith) (λ z. omega arith) (λ z. omega arith) (λ z. omega arith)
+    by false e head above below =
+        let next : h / 2048 ≡ 14 = omega (arith, eqb-false (h / 2048) 13 e) in
+        one-word d ws bound c i h (headMask c (h / 2048)) m head 14 next (λ h e. rw e refl) (λ z. omega arith) (λ z. omega arith) (λ z. omega arith) (λ z. omega arith)
 
 -- ---- engines
 

@@ -8,7 +8,7 @@ use lib.Bits.{bitAnd}
 use lib.Dec.{leb, ltb, eqb}
 use lib.ListN.{length, set}
 use Rattle.sock.specs.Kind
-use Rattle.sock.specs.Words.{kindOf, headOf}
+use Rattle.sock.specs.Words.{kindOf, secondOf, headOf}
 use Rattle.sock.specs.Configuration.{Limits}
 use Rattle.layout.specs.Contexts.{code, running, notNil, receiver, root}
 use Rattle.reading.specs.Survey.{opens}
@@ -24,6 +24,12 @@ noteListW m i e = set m (i * 2 + 1) (e % 65536)
 -- the head of a par, in a context where one may stand
 unfoldable pub plainPar : ℕ → ℕ → Bool
 plainPar h c = cond (leb (running + receiver) c) false (eqb h (headOf Kind.par 0))
+
+-- the head of a throw or a comp with no bit that it does not use, in a context where one may stand
+unfoldable pub plainLeaf : ℕ → ℕ → Bool
+plainLeaf h c =
+    cond (leb (running + receiver) c) false
+    (cond (eqb (secondOf h) 0) (cond (ltb (kindOf h) Kind.throw) false (ltb (kindOf h) Kind.cH)) false)
 
 -- noting in a context, at a position, into notes
 abbrev pub Noting : Type 0

@@ -17,7 +17,7 @@ ghost use Prim.Native.Nat.{_+_, _*_, _≤_, _<_};
 ghost use lib.ListN.{length, getD};
 ghost use Rattle.layout.specs.Contexts.{code, running, contexts};
 ghost use Rattle.reading.specs.Walk.{processEnd, twoEnd, markedEnd, scopeEnd, executorEnd};
-ghost use Rattle.noting.specs.Noting.{enabled, noteW, noteListW, plainPar, notesW, enabledNotes, seqNotes, parNotes, scopeNotes, executorNotes};
+ghost use Rattle.noting.specs.Noting.{enabled, noteW, noteListW, plainPar, plainLeaf, notesW, enabledNotes, seqNotes, parNotes, scopeNotes, executorNotes};
 
 // The process at `at` ends at `e`.
 fn note(notes: &mut [u16], at: usize, e: usize) -> usize
@@ -92,6 +92,9 @@ fn enabled(
     if plain_par(h, context) {
         return par(ws, at + 1, d, bound, notes);
     }
+    if plain_leaf(h, context) {
+        return at + 1;
+    }
     let k = h / unit::KIND;
     if (h + WORD) & head_mask(context, k) != 0 {
         return 0;
@@ -101,8 +104,6 @@ fn enabled(
         kind::SEQ => seq(ws, at + 1, d, bound, notes),
         kind::PAR => par(ws, at + 1, d, bound, notes),
         kind::SCOPE => scope(ws, at, d, h, bound, notes),
-        kind::THROW => at + 1,
-        kind::COMP => at + 1,
         kind::EXECUTOR => executor(ws, at, d, bound, notes),
         _ => read(ws, at, depth, context, bound),
     }
@@ -124,6 +125,22 @@ fn plain_par(h: usize, context: usize) -> bool
         return false;
     }
     h == PAR
+}
+
+// Whether a head is a throw's or a comp's with no bit that it does not use, and may stand in the context. Many of the other half are these.
+fn plain_leaf(h: usize, context: usize) -> bool
+    ensures { λ r. ⌜ r ≡ plainLeaf h context ⌝ }
+{
+    if ABOVE <= context {
+        return false;
+    }
+    if h % unit::SECOND != 0 {
+        return false;
+    }
+    if h / unit::KIND < kind::THROW {
+        return false;
+    }
+    h / unit::KIND < kind::CH
 }
 
 // The parts of a seq: the first is enabled.

@@ -7,7 +7,7 @@ use mathlib.Core.Path.{refl, sym, _∙_}
 use borrow.Author.Needs.{needs}
 use Rattle.reading.specs.Walk.{nodeEnd}
 use Rattle.noting.specs.Noting.{noting, notesW}
-use Rattle.noting.proofs.Notes.{Headed, none-deep, none-left, refused, others, one-word, a-seq, a-par, a-scope, an-executor, par-ends, two-none, two-next, seq-none, seq-next, par-none, par-next, scope-short, scope-none, scope-next, executor-none, executor-next, same-note}
+use Rattle.noting.proofs.Notes.{Headed, none-deep, none-left, refused, others, one-word, a-seq, a-par, a-scope, an-executor, par-ends, leaf-ends, two-none, two-next, seq-none, seq-next, par-none, par-next, scope-short, scope-none, scope-next, executor-none, executor-next, same-note}
 use borrow.Fn.Kinds.{In}
 use borrow.Fn.PlainCycle.{Measures, is, falls, and}
 use Rattle.noting.proofs.enabled.enabled.Reads as enabled
@@ -32,6 +32,7 @@ use Rattle.layout.proofs.number.wide.Reads as wide-reads
 use Rattle.noting.proofs.enabled.listed.Reads as listed-reads
 use Rattle.noting.proofs.enabled.note.Reads as note-reads
 use Rattle.noting.proofs.enabled.note_list.Reads as note-list-reads
+use Rattle.noting.proofs.enabled.plain_leaf.Reads as plain-leaf-reads
 use Rattle.noting.proofs.enabled.plain_par.Reads as plain-par-reads
 use Rattle.reading.proofs.reader.executor_own.Reads as executor-own-reads
 use Rattle.reading.proofs.reader.read.Reads as read-reads
@@ -95,7 +96,7 @@ abbrev seq-below : ℕ → In 2 seq-kinds.ps
 seq-below t = and 2 seq-kinds.ps (falls 2 seq-kinds.ps _<_ μ-seq t) seq.Pre
 
 abbrev enabled-claims : ℕ → enabled-lts.Claims
-enabled-claims t = (wide-reads.Asked, wide-reads.Learnt, plain-par-reads.Asked, plain-par-reads.Learnt, par-below t, par.Post, head-mask-reads.Asked, head-mask-reads.Learnt, seq-below t, seq.Post, scope-below t, scope.Post, executor-below t, executor.Post, read-reads.Asked, read-reads.Learnt)
+enabled-claims t = (wide-reads.Asked, wide-reads.Learnt, plain-par-reads.Asked, plain-par-reads.Learnt, par-below t, par.Post, plain-leaf-reads.Asked, plain-leaf-reads.Learnt, head-mask-reads.Asked, head-mask-reads.Learnt, seq-below t, seq.Post, scope-below t, scope.Post, executor-below t, executor.Post, read-reads.Asked, read-reads.Learnt)
 
 enabled-returns : (t : ℕ) → enabled-lts.Need-returns (enabled-claims t) (enabled-at t) enabled.Post
 enabled-returns t c = none-deep _ _ _ _ _ _ ((c .if1 .taken))
@@ -130,32 +131,41 @@ enabled-same-length t c = search needs
 enabled-returns-3 : (t : ℕ) → enabled-lts.Need-returns-3 (enabled-claims t) (enabled-at t) enabled.Post
 enabled-returns-3 t c = par-ends _ _ _ _ _ _ _ ((c .before .before .before .before .before .before .before .before .before .if1 .left)) ((c .before .before .before .before .before .before .before .before .if2 .left)) ((c .before .before .before .before .before .before .wide .ensures .0)) ((c .before .before .before .before .before .before .before .before .before .before .before .before .pre .1 .0)) ((c .before .before .before .before .before .before .before .before .before .before .before .before .pre .1 .1)) (sym ((c .before .before .before .before .before .plain-par .ensures)) ∙ (c .before .before .before .before .if3 .taken)) _ _ ((c .before .before .par .ensures .0)) ((c .before .before .par .ensures .1))
 
-enabled-add-if4 : (t : ℕ) → enabled-lts.Need-add-if4 (enabled-claims t) (enabled-at t) enabled.Post
-enabled-add-if4 t c = search needs
+enabled-plain-leaf-requires : (t : ℕ) → enabled-lts.Need-plain-leaf-requires (enabled-claims t) (enabled-at t) enabled.Post
+enabled-plain-leaf-requires t c κs = search needs
+
+enabled-add-result : (t : ℕ) → enabled-lts.Need-add-result (enabled-claims t) (enabled-at t) enabled.Post
+enabled-add-result t c = search needs
+
+enabled-returns-4 : (t : ℕ) → enabled-lts.Need-returns-4 (enabled-claims t) (enabled-at t) enabled.Post
+enabled-returns-4 t c = leaf-ends _ _ _ _ _ _ _ ((c .before .before .before .before .before .before .before .if1 .left)) ((c .before .before .before .before .before .before .if2 .left)) ((c .before .before .before .before .wide .ensures .0)) ((c .before .before .before .before .before .before .before .before .before .before .pre .1 .0)) ((c .before .before .before .before .before .before .before .before .before .before .pre .1 .1)) (sym ((c .before .plain-leaf .ensures)) ∙ (c .if4 .taken))
+
+enabled-add-if5 : (t : ℕ) → enabled-lts.Need-add-if5 (enabled-claims t) (enabled-at t) enabled.Post
+enabled-add-if5 t c = search needs
 
 -- what is known where a process is read by its kind
 enabled-head :
-    (t : ℕ) (k : enabled-lts.Else4 (enabled-claims t) (enabled-at t) enabled.Post) →
-    let a = k .before .before .before .before .before .before .before .before .before .before .args in
-    Headed (a .depth) (a .ws .now) (a .context) (a .at) (k .before .before .before .before .wide .result) (k .before .head-mask .result)
+    (t : ℕ) (k : enabled-lts.Else5 (enabled-claims t) (enabled-at t) enabled.Post) →
+    let a = k .before .before .before .before .before .before .before .before .before .before .before .before .args in
+    Headed (a .depth) (a .ws .now) (a .context) (a .at) (k .before .before .before .before .before .before .wide .result) (k .before .head-mask .result)
 enabled-head t k = record {
-  deep = k .before .before .before .before .before .before .before .if1 .left;
-  inside = k .before .before .before .before .before .before .if2 .left;
-  word = k .before .before .before .before .wide .ensures .0;
+  deep = k .before .before .before .before .before .before .before .before .before .if1 .left;
+  inside = k .before .before .before .before .before .before .before .before .if2 .left;
+  word = k .before .before .before .before .before .before .wide .ensures .0;
   mask = k .before .head-mask .ensures;
-  clear = k .if4 .left;
-  low = k .before .before .before .before .before .before .before .before .before .before .pre .1 .0;
-  high = k .before .before .before .before .before .before .before .before .before .before .pre .1 .1;
+  clear = k .if5 .left;
+  low = k .before .before .before .before .before .before .before .before .before .before .before .before .pre .1 .0;
+  high = k .before .before .before .before .before .before .before .before .before .before .before .before .pre .1 .1;
 }
 
 enabled-head-mask-requires : (t : ℕ) → enabled-lts.Need-head-mask-requires (enabled-claims t) (enabled-at t) enabled.Post
 enabled-head-mask-requires t c κs = search needs
 
-enabled-returns-4 : (t : ℕ) → enabled-lts.Need-returns-4 (enabled-claims t) (enabled-at t) enabled.Post
-enabled-returns-4 t c = refused _ _ _ _ _ _ _ _ ((c .before .before .before .before .before .before .before .if1 .left)) ((c .before .before .before .before .before .before .if2 .left)) ((c .before .before .before .before .wide .ensures .0)) ((c .before .head-mask .ensures)) ((c .if4 .taken))
+enabled-returns-5 : (t : ℕ) → enabled-lts.Need-returns-5 (enabled-claims t) (enabled-at t) enabled.Post
+enabled-returns-5 t c = refused _ _ _ _ _ _ _ _ ((c .before .before .before .before .before .before .before .before .before .if1 .left)) ((c .before .before .before .before .before .before .before .before .if2 .left)) ((c .before .before .before .before .before .before .wide .ensures .0)) ((c .before .head-mask .ensures)) ((c .if5 .taken))
 
-enabled-add-result : (t : ℕ) → enabled-lts.Need-add-result (enabled-claims t) (enabled-at t) enabled.Post
-enabled-add-result t c = search needs
+enabled-add-result-2 : (t : ℕ) → enabled-lts.Need-add-result-2 (enabled-claims t) (enabled-at t) enabled.Post
+enabled-add-result-2 t c = search needs
 
 enabled-add-seq : (t : ℕ) → enabled-lts.Need-add-seq (enabled-claims t) (enabled-at t) enabled.Post
 enabled-add-seq t c = search needs
@@ -172,59 +182,43 @@ enabled-par-requires-2 t c κs = search needs
 enabled-scope-requires : (t : ℕ) → enabled-lts.Need-scope-requires (enabled-claims t) (enabled-at t) enabled.Post
 enabled-scope-requires t c κs = search needs
 
-enabled-add-result-2 : (t : ℕ) → enabled-lts.Need-add-result-2 (enabled-claims t) (enabled-at t) enabled.Post
-enabled-add-result-2 t c = search needs
-
-enabled-add-result-3 : (t : ℕ) → enabled-lts.Need-add-result-3 (enabled-claims t) (enabled-at t) enabled.Post
-enabled-add-result-3 t c = search needs
-
 enabled-executor-requires : (t : ℕ) → enabled-lts.Need-executor-requires (enabled-claims t) (enabled-at t) enabled.Post
 enabled-executor-requires t c κs = search needs
 
 enabled-read-requires : (t : ℕ) → enabled-lts.Need-read-requires (enabled-claims t) (enabled-at t) enabled.Post
 enabled-read-requires t c κs = search needs
 
-enabled-returns-5 : (t : ℕ) → enabled-lts.Need-returns-5 (enabled-claims t) (enabled-at t) enabled.Post
+enabled-returns-6 : (t : ℕ) → enabled-lts.Need-returns-6 (enabled-claims t) (enabled-at t) enabled.Post
 unfolding nodeEnd
-enabled-returns-5 t c =
+enabled-returns-6 t c =
     one-word _ _ _ _ _ _ _ _ (enabled-head t (c .before)) 0 ((c .match .keys1)) (λ h e. rw e refl) (λ z. omega arith) (λ z. omega arith) (λ z. omega arith) (λ z. omega arith)
 
 enabled-same-length-2 : (t : ℕ) → enabled-lts.Need-same-length-2 (enabled-claims t) (enabled-at t) enabled.Post
 enabled-same-length-2 t c = search needs
 
-enabled-returns-6 : (t : ℕ) → enabled-lts.Need-returns-6 (enabled-claims t) (enabled-at t) enabled.Post
-enabled-returns-6 t c = a-seq _ _ _ _ _ _ _ _ (enabled-head t (c .before .before .before .before .before)) _ _ ((c .before .before .before .before .match .keys2)) ((c .before .before .seq .ensures .0)) ((c .before .before .seq .ensures .1))
+enabled-returns-7 : (t : ℕ) → enabled-lts.Need-returns-7 (enabled-claims t) (enabled-at t) enabled.Post
+enabled-returns-7 t c = a-seq _ _ _ _ _ _ _ _ (enabled-head t (c .before .before .before .before .before)) _ _ ((c .before .before .before .before .match .keys2)) ((c .before .before .seq .ensures .0)) ((c .before .before .seq .ensures .1))
 
 enabled-same-length-3 : (t : ℕ) → enabled-lts.Need-same-length-3 (enabled-claims t) (enabled-at t) enabled.Post
 enabled-same-length-3 t c = search needs
 
-enabled-returns-7 : (t : ℕ) → enabled-lts.Need-returns-7 (enabled-claims t) (enabled-at t) enabled.Post
-enabled-returns-7 t c = a-par _ _ _ _ _ _ _ _ (enabled-head t (c .before .before .before .before .before)) _ _ ((c .before .before .before .before .match .keys3)) ((c .before .before .par2 .ensures .0)) ((c .before .before .par2 .ensures .1))
+enabled-returns-8 : (t : ℕ) → enabled-lts.Need-returns-8 (enabled-claims t) (enabled-at t) enabled.Post
+enabled-returns-8 t c = a-par _ _ _ _ _ _ _ _ (enabled-head t (c .before .before .before .before .before)) _ _ ((c .before .before .before .before .match .keys3)) ((c .before .before .par2 .ensures .0)) ((c .before .before .par2 .ensures .1))
 
 enabled-same-length-4 : (t : ℕ) → enabled-lts.Need-same-length-4 (enabled-claims t) (enabled-at t) enabled.Post
 enabled-same-length-4 t c = search needs
 
-enabled-returns-8 : (t : ℕ) → enabled-lts.Need-returns-8 (enabled-claims t) (enabled-at t) enabled.Post
-enabled-returns-8 t c = a-scope _ _ _ _ _ _ _ _ (enabled-head t (c .before .before .before .before .before)) _ _ ((c .before .before .before .before .match .keys4)) ((c .before .before .scope .ensures .0)) ((c .before .before .scope .ensures .1))
-
 enabled-returns-9 : (t : ℕ) → enabled-lts.Need-returns-9 (enabled-claims t) (enabled-at t) enabled.Post
-unfolding nodeEnd
-enabled-returns-9 t c =
-    one-word _ _ _ _ _ _ _ _ (enabled-head t (c .before)) 13 ((c .match .keys5)) (λ h e. rw e refl) (λ z. omega arith) (λ z. omega arith) (λ z. omega arith) (λ z. omega arith)
-
-enabled-returns-10 : (t : ℕ) → enabled-lts.Need-returns-10 (enabled-claims t) (enabled-at t) enabled.Post
-unfolding nodeEnd
-enabled-returns-10 t c =
-    one-word _ _ _ _ _ _ _ _ (enabled-head t (c .before)) 14 ((c .match .keys6)) (λ h e. rw e refl) (λ z. omega arith) (λ z. omega arith) (λ z. omega arith) (λ z. omega arith)
+enabled-returns-9 t c = a-scope _ _ _ _ _ _ _ _ (enabled-head t (c .before .before .before .before .before)) _ _ ((c .before .before .before .before .match .keys4)) ((c .before .before .scope .ensures .0)) ((c .before .before .scope .ensures .1))
 
 enabled-same-length-5 : (t : ℕ) → enabled-lts.Need-same-length-5 (enabled-claims t) (enabled-at t) enabled.Post
 enabled-same-length-5 t c = search needs
 
-enabled-returns-11 : (t : ℕ) → enabled-lts.Need-returns-11 (enabled-claims t) (enabled-at t) enabled.Post
-enabled-returns-11 t c = an-executor _ _ _ _ _ _ _ _ (enabled-head t (c .before .before .before .before .before)) _ _ ((c .before .before .before .before .match .keys7)) ((c .before .before .executor .ensures .0)) ((c .before .before .executor .ensures .1))
+enabled-returns-10 : (t : ℕ) → enabled-lts.Need-returns-10 (enabled-claims t) (enabled-at t) enabled.Post
+enabled-returns-10 t c = an-executor _ _ _ _ _ _ _ _ (enabled-head t (c .before .before .before .before .before)) _ _ ((c .before .before .before .before .match .keys5)) ((c .before .before .executor .ensures .0)) ((c .before .before .executor .ensures .1))
 
-enabled-returns-12 : (t : ℕ) → enabled-lts.Need-returns-12 (enabled-claims t) (enabled-at t) enabled.Post
-enabled-returns-12 t c = ((c .read .ensures), others _ _ _ _ _ _ _ _ (enabled-head t (c .before .before)) _ refl ((c .before .match .rest .0 .0 .0 .0 .0 .1)) ((c .before .match .rest .0 .0 .0 .0 .1)) ((c .before .match .rest .0 .0 .0 .1)) ((c .before .match .rest .1)))
+enabled-returns-11 : (t : ℕ) → enabled-lts.Need-returns-11 (enabled-claims t) (enabled-at t) enabled.Post
+enabled-returns-11 t c = ((c .read .ensures), others _ _ _ _ _ _ _ _ (enabled-head t (c .before .before)) _ refl ((c .before .match .rest .0 .0 .0 .1)) ((c .before .match .rest .0 .0 .1)) ((c .before .match .rest .0 .1)) ((c .before .match .rest .1)))
 
 abbrev executor-claims : ℕ → executor-lts.Claims
 executor-claims t = (executor-own-reads.Asked, executor-own-reads.Learnt, noted-below t, noted.Post)
@@ -346,6 +340,8 @@ pub +enabled+executor+noted+par+scope+seq-spec : {M : Type 1} → statement M
       plain-par-reads.Learnt,
       par-below t,
       par.Post,
+      plain-leaf-reads.Asked,
+      plain-leaf-reads.Learnt,
       head-mask-reads.Asked,
       head-mask-reads.Learnt,
       seq-below t,
@@ -370,31 +366,30 @@ pub +enabled+executor+noted+par+scope+seq-spec : {M : Type 1} → statement M
     (enabled-par-requires t)
     (enabled-same-length t)
     (enabled-returns-3 t)
-    (enabled-add-if4 t)
-    (enabled-head-mask-requires t)
-    (enabled-returns-4 t)
+    (enabled-plain-leaf-requires t)
     (enabled-add-result t)
+    (enabled-returns-4 t)
+    (enabled-add-if5 t)
+    (enabled-head-mask-requires t)
+    (enabled-returns-5 t)
+    (enabled-add-result-2 t)
     (enabled-add-seq t)
     (enabled-seq-requires t)
     (enabled-add-par-2 t)
     (enabled-par-requires-2 t)
     (enabled-scope-requires t)
-    (enabled-add-result-2 t)
-    (enabled-add-result-3 t)
     (enabled-executor-requires t)
     (enabled-read-requires t)
-    (enabled-returns-5 t)
-    (enabled-same-length-2 t)
     (enabled-returns-6 t)
-    (enabled-same-length-3 t)
+    (enabled-same-length-2 t)
     (enabled-returns-7 t)
-    (enabled-same-length-4 t)
+    (enabled-same-length-3 t)
     (enabled-returns-8 t)
+    (enabled-same-length-4 t)
     (enabled-returns-9 t)
-    (enabled-returns-10 t)
     (enabled-same-length-5 t)
-    (enabled-returns-11 t)
-    (enabled-returns-12 t))
+    (enabled-returns-10 t)
+    (enabled-returns-11 t))
     (λ t. executor-lts.spec (
       executor-own-reads.Asked,
       executor-own-reads.Learnt,
