@@ -127,7 +127,7 @@ module _ (ws notes : List ℕ) (right : Right ws notes) (n issued : ℕ) (few : 
       let s = scope-parts ws name mark true l a at rest e in
       rw (kill-at ws notes f hole d at out to 11 (run-inside ws rest at (scope name mark true l a) e) (run-kind ws rest at (scope name mark true l a) e (scopeSound bn m fl ga)))
       (dead-gives d (killW d ws notes f hole) ws notes rest name mark l a hole at bn (pass-scope ws notes right fl d at (omega arith) (runWords a ++ rest) (s .0)) out to near
-      (kills ga d (at + 3 + length (entriesWords l)) (omega arith) rest (s .1)) e room)
+      (kills ga d (at + 3 + length (entriesWords l)) (omega arith) rest (s .1)) (gone-nil ga d (at + 3 + length (entriesWords l)) (omega arith) rest (s .1)) e room)
   kills (scopeSound {name} {mark} {zombie = false} {h = l} {a} bn m fl ga) (suc d) at h rest e out to room near =
       let y = depth-scope name mark false l a in
       let s = scope-parts ws name mark false l a at rest e in
@@ -135,7 +135,7 @@ module _ (ws notes : List ℕ) (right : Right ws notes) (n issued : ℕ) (few : 
       let done : eqb (getD ws body 0) 0 ≡ isDone a = ap (λ w. eqb w 0) (run-head ws rest body a (s .1)) ∙ head-done ga in
       rw (kill-at ws notes f hole d at out to 11 (run-inside ws rest at (scope name mark false l a) e) (run-kind ws rest at (scope name mark false l a) e (scopeSound bn m fl ga)))
       (turned-gives d (killW d ws notes f hole) ws notes rest name mark l a hole at bn (pass-scope ws notes right fl d at (omega arith) (runWords a ++ rest) (s .0)) out to near
-      (kills ga d body (omega arith) rest (s .1)) e done room)
+      (kills ga d body (omega arith) rest (s .1)) (gone-nil ga d body (omega arith) rest (s .1)) e done room)
   kills (executorSound {o} {y} {client} {serial} {a} bo bv t ga) (suc d) at h rest e out to room near =
       let z = depth-executor o y client serial a in
       let s : Sound n issued (executor o y client serial a) = executorSound bo bv t ga in

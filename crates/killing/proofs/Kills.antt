@@ -15,7 +15,7 @@ use Rattle.layout.specs.Killed.{noticeHead, noticeWord}
 use Rattle.layout.specs.Own.{ownEnd}
 use Rattle.layout.specs.Positions.{onward}
 use Rattle.writers.specs.Writing.{pasted, pastedEnd, lowered}
-use Rattle.killing.specs.Killing.{Killed, Walk, stuckW, made, goes, noticeW, executorOn, executorW, headFor, liveOn, liveW, goneKind, goneW, leftOn, parW, rightOn, rightW, scopeAt, scopeW, kindW, killW}
+use Rattle.killing.specs.Killing.{Killed, Walk, stuckW, made, goes, noticeW, executorOn, executorW, headFor, liveOn, liveW, listW, listEndW, begunW, turnedOn, turnedW, goneKind, goneW, leftOn, parW, rightOn, rightW, scopeAt, scopeW, kindW, killW}
 use Rattle.killing.specs.declared.kill.Moved.{Moved}
 
 pub kill-step :
@@ -93,6 +93,25 @@ pub live-made :
 unfolding liveW liveOn goes
 live-made sub ws hole i body out to b h one start p next headed last e1 e2 e3 e4 e5 e6 e7 e8 e9 =
     rw (← e1, ← e2, ← e3, ← e4, ne-eqb (p .end) 0 e5, ← e6, ← e7, ← e8, ← e9)
+
+-- a live scope whose body just becomes nil
+pub turned-made :
+    (d : ℕ) (ws notes : List ℕ) (hole i body : ℕ) (out : List ℕ) (to end h one two behind past : ℕ) (first second third last : List ℕ) →
+    i < length ws →
+    end ≡ passEnd d ws notes body →
+    h ≡ headFor ws i hole end →
+    one ≡ onward to 1 →
+    first ≡ set out to h →
+    two ≡ onward one 1 →
+    second ≡ set first one 0 →
+    behind ≡ listEndW ws (i + 2) body two →
+    third ≡ listW ws (i + 2) body second two →
+    past ≡ onward behind 1 →
+    last ≡ set third behind 0 →
+    made end past 0 last ≡ turnedW d ws notes hole i body out to
+unfolding turnedW turnedOn begunW
+turned-made d ws notes hole i body out to end h one two behind past first second third last e0 e1 e2 e3 e4 e5 e6 e7 e8 e9 e10 =
+    rw (lt-leb (length ws) i e0, ← e1, ← e2, ← e3, ← e4, ← e5, ← e6, ← e7, ← e8, ← e9, ← e10)
 
 -- a par whose left side just becomes nil
 pub par-gone :

@@ -5,26 +5,28 @@ use native.Mathlib.Omega.{arith}
 use mathlib.Core.Path.{_≡_, refl, ap, _∙_}
 use mathlib.Core.Bool.{Bool, true, false, not, cond}
 use mathlib.Core.Option.{Option, some}
-use mathlib.Core.List.{List, _∷_, _++_, append-assoc}
+use mathlib.Core.List.{List, [], _∷_, _++_, append-assoc}
 use lib.Dec.{leb, eqb}
-use lib.ListN.{length, getD, drop}
-use borrow.Author.Tests.{lt-leb, ne-eqb}
-use Rattle.sock.specs.Term.{Entries}
+use lib.ListN.{length, getD, set, drop}
+use borrow.Author.Tests.{eqb-true, eqb-false, lt-leb, ne-eqb}
+use Rattle.sock.specs.Term.{Entries, noEntries, entry}
 use Rattle.sock.specs.Layout.{count, entriesWords}
-use Rattle.sock.specs.Running.{Mark, unmarked, ownName, markedFault, scopeHead, Run, scope, runWords, size}
+use Rattle.sock.specs.Running.{Mark, unmarked, ownName, markedFault, scopeHead, Run, nil, scope, runWords, size}
 use Rattle.sock.specs.Configuration.{guarded}
 use Rattle.sock.specs.Frames.{isDone}
 use Rattle.sock.specs.Rules.{also}
 use Rattle.sock.proofs.Fields.{mark-below, scope-zombie}
-use Rattle.sock.proofs.Measures.{words-scope, size-scope}
+use Rattle.sock.proofs.Measures.{words-nil, words-scope, size-nil, size-scope}
 use Rattle.sock.proofs.Located.{size-positive}
-use Rattle.skipping.specs.Pass.{passList}
+use Rattle.skipping.specs.Pass.{passEnd, passList}
+use Rattle.layout.specs.Positions.{onward}
 use Rattle.writers.specs.Writing.{pasted, pastedEnd}
-use Rattle.killing.specs.Killing.{Killed, Walk, stuckW, ownZombie, plainZombie, headFor, zombieOn, zombieW, liveOn, liveW, scopeAt, scopeW}
-use Rattle.writers.proofs.Laid.{Near, onward-near, Laid, laid-then, laid-again, laid-set, laid-copy, copy-end}
-use Rattle.sock.proofs.Positions.{stands-within, word-at}
+use Rattle.killing.specs.Killing.{Killed, Walk, stuckW, ownZombie, plainZombie, headFor, zombieOn, zombieW, liveOn, liveW, goneW, listW, listEndW, begunW, turnedOn, turnedW, scopeAt, scopeW}
+use Rattle.writers.proofs.Laid.{Near, onward-near, Laid, laid-put, laid-then, laid-again, laid-set, laid-copy, copy-end}
+use Rattle.sock.proofs.Positions.{stands-within, word-at, at-head}
+use Rattle.sock.proofs.Heads.{scope-parts}
 use Rattle.sock.proofs.Around.{markAround}
-use Rattle.killing.proofs.Gives.{Gives, stops, gives, Does, goes-stops, goes-on}
+use Rattle.killing.proofs.Gives.{Gives, stops, gives, Does, Vanishes, goes-stops, goes-on}
 
 -- the head that a live scope gets
 module _ (name : ℕ) (mark : Mark) (b : name < 64) where
@@ -147,11 +149,89 @@ module _
           small = omega arith;
         }))
 
+-- the list of a scope, from its count on
+bare : (h : Entries) → length (entriesWords h) ≡ 0 → count h ∷ entriesWords h ≡ 0 ∷ []
+unfolding count entriesWords
+bare noEntries e = refl
+bare (entry k p es) e = absurd (omega arith)
+
+module _
+    (ws more : List ℕ) (h : Entries) (i end : ℕ) (stands : drop i ws ≡ (count h ∷ entriesWords h) ++ more) (past : end ≡ i + 1 + length (entriesWords h))
+    (out : List ℕ) (to : ℕ) (room : to + 1 + length (entriesWords h) ≤ length out)
+  where
+    list-laid : Laid out to (count h ∷ entriesWords h) (listW ws i end out to)
+    unfolding listW
+    list-laid =
+        let here : i < length ws = at-head ws i (count h) (entriesWords h ++ more) stands .inside in
+        rw (lt-leb (length ws) i here) (by here (eqb end (i + 1)) refl)
+      where
+        by : i < length ws → (x : Bool) → eqb end (i + 1) ≡ x → Laid out to (count h ∷ entriesWords h) (cond x (set out to 0) (pasted ws i end out to))
+        by here true e = rw (bare h (omega (arith, eqb-true end (i + 1) e))) (laid-put out to 0 (omega arith))
+        by here false e = laid-copy ws (count h ∷ entriesWords h) more i end out to stands (omega arith) (omega arith) (omega arith)
+
+    list-reaches : Near (length out) → listEndW ws i end to ≡ to + 1 + length (entriesWords h)
+    unfolding listEndW
+    list-reaches near =
+        let here : i < length ws = at-head ws i (count h) (entriesWords h ++ more) stands .inside in
+        rw (lt-leb (length ws) i here) (by here (eqb end (i + 1)) refl)
+      where
+        by : i < length ws → (x : Bool) → eqb end (i + 1) ≡ x → cond x (onward to 1) (pastedEnd ws i end to) ≡ to + 1 + length (entriesWords h)
+        by here true e = onward-near to 1 (length out) near (omega arith) ∙ omega (arith, eqb-true end (i + 1) e)
+        by here false e =
+            copy-end ws (count h ∷ entriesWords h) more i end to (length out) stands (omega arith) (omega arith) near (omega arith) ∙ omega arith
+
+-- a live scope whose body just becomes nil
+gone-gives :
+    (d : ℕ) (ws notes rest : List ℕ) (name : ℕ) (mark : Mark) (h : Entries) (a : Run) (hole at : ℕ) (b : name < 64)
+    (e : drop at ws ≡ runWords (scope name mark false h a) ++ rest)
+    (out : List ℕ) (to : ℕ) (room : to + 2 * size (scope name mark false h a) ≤ length out) (near : Near (length out)) →
+    passEnd d ws notes (at + 3 + length (entriesWords h)) ≡ at + 3 + length (entriesWords h) + size a →
+    Gives (scope name mark false h a) out to (at + size (scope name mark false h a)) (turnedW d ws notes hole at (at + 3 + length (entriesWords h)) out to)
+    (some (scope name (markAround hole at (at + 3 + length (entriesWords h) + size a)) true h nil))
+unfolding turnedW turnedOn begunW isDone
+gone-gives d ws notes rest name mark h a hole at b e out to room near passes =
+    let r : Run = scope name mark false h a in
+    let n : ℕ = length (entriesWords h) in
+    let mk : Mark = markAround hole at (at + 3 + n + size a) in
+    let z : size r ≡ 3 + n + size a = size-scope name mark false h a in
+    let p = size-positive a in
+    let w = scope-within ws rest name mark false h a at b e in
+    let head : ℕ = scopeHead name mk true in
+    let one : onward to 1 ≡ to + 1 = onward-near to 1 (length out) near (omega arith) in
+    let two : onward (to + 1) 1 ≡ to + 1 + 1 = onward-near (to + 1) 1 (length out) near (omega arith) in
+    let first : Laid out to (head ∷ []) (set out to head) = laid-put out to head (omega arith) in
+    let l : length (set out to head) ≡ length out = first .keeps in
+    let begun : Laid out to (head ∷ 0 ∷ []) (set (set out to head) (to + 1) 0) = laid-then first (laid-put (set out to head) (to + 1) 0 (omega arith)) in
+    let k : length (set (set out to head) (to + 1) 0) ≡ length out = begun .keeps in
+    let start : List ℕ = set (set out to head) (to + 1) 0 in
+    let stands = scope-parts ws name mark false h a at rest e .0 in
+    let list : Laid start (to + 1 + 1) (count h ∷ entriesWords h) (listW ws (at + 2) (at + 3 + n) start (to + 1 + 1)) =
+    list-laid ws (runWords a ++ rest) h (at + 2) (at + 3 + n) stands (omega arith) start (to + 1 + 1) (omega arith) in
+    let reached : listEndW ws (at + 2) (at + 3 + n) (to + 1 + 1) ≡ to + 3 + n =
+    list-reaches ws (runWords a ++ rest) h (at + 2) (at + 3 + n) stands (omega arith) start (to + 1 + 1) (omega arith) (rw k near) ∙ omega arith in
+    let place : to + 2 ≡ to + 1 + 1 = omega arith in
+    let all : Laid out to (head ∷ 0 ∷ count h ∷ entriesWords h) (listW ws (at + 2) (at + 3 + n) start (to + 1 + 1)) = laid-then begun (rw place list) in
+    let m : length (listW ws (at + 2) (at + 3 + n) start (to + 1 + 1)) ≡ length out = all .keeps in
+    let behind : to + length (head ∷ 0 ∷ count h ∷ entriesWords h) ≡ to + 3 + n = omega arith in
+    let last : Laid out to (head ∷ 0 ∷ count h ∷ (entriesWords h ++ 0 ∷ [])) (set (listW ws (at + 2) (at + 3 + n) start (to + 1 + 1)) (to + 3 + n) 0) =
+    laid-then all (rw behind (laid-put (listW ws (at + 2) (at + 3 + n) start (to + 1 + 1)) (to + 3 + n) 0 (omega arith))) in
+    let y : size (scope name mk true h nil) ≡ 3 + n + size nil = size-scope name mk true h nil in
+    let o = size-nil in
+    rw (lt-leb (length ws) at (omega arith), passes, head-for ws rest name mark h a hole at b e out to room near, one, two, reached, onward-near (to + 3 + n) 1 (length out) near (omega arith))
+    (gives (record {
+      ends = let q : at + 3 + n + size a ≡ at + size r = omega arith in q;
+      done = refl;
+      reaches = let q : to + 3 + n + 1 ≡ to + size (scope name mk true h nil) = omega arith in q;
+      laid = rw (words-scope name mk true h nil, fault-for ws rest name mark h a hole at b e out to room near, words-nil) last;
+      small = omega arith;
+    }))
+
 -- the whole
 module _
     (d : ℕ) (sub : Walk) (ws notes rest : List ℕ) (name : ℕ) (mark : Mark) (h : Entries) (a : Run) (hole at : ℕ) (b : name < 64)
     (lists : passList d ws notes (at + 2) ≡ at + 3 + length (entriesWords h))
     (out : List ℕ) (to : ℕ) (near : Near (length out)) {oa : Option Run} (fa : Does sub (at + 3 + length (entriesWords h)) a oa)
+    (va : Vanishes d ws notes (at + 3 + length (entriesWords h)) a oa)
   where
     pub dead-gives :
         drop at ws ≡ runWords (scope name mark true h a) ++ rest →
@@ -178,7 +258,7 @@ module _
         to + 2 * size (scope name mark false h a) ≤ length out →
         Gives (scope name mark false h a) out to (at + size (scope name mark false h a)) (scopeW d sub ws notes hole at out to)
         (guarded (not (isDone a)) (also oa λ a'. some (scope name (markAround hole at (at + 3 + length (entriesWords h) + size a)) true h a')))
-    unfolding scopeW scopeAt liveW guarded
+    unfolding scopeW scopeAt liveW guarded also
     turned-gives e done room =
         let z = size-scope name mark false h a in
         let w = scope-within ws rest name mark false h a at b e in
@@ -192,20 +272,23 @@ module _
           scope-zombie name mark false b,
           done,
         )
-        (by (isDone a) z w p)
+        (by (isDone a) (goneW ws (at + 3 + length (entriesWords h))) refl z w p)
       where
         r : Run
         r = scope name mark false h a
 
         by :
-            (x : Bool) → size r ≡ 3 + length (entriesWords h) + size a → at + 3 + length (entriesWords h) + size a ≤ length ws → 0 < size a →
+            (x g : Bool) → goneW ws (at + 3 + length (entriesWords h)) ≡ g →
+            size r ≡ 3 + length (entriesWords h) + size a → at + 3 + length (entriesWords h) + size a ≤ length ws → 0 < size a →
             Gives r out to (at + size r)
             (cond x (stuckW out)
+            (cond g (turnedW d ws notes hole at (at + 3 + length (entriesWords h)) out to)
             (liveOn ws hole at to
-            (sub (at + 3 + length (entriesWords h)) (pasted ws at (at + 3 + length (entriesWords h)) out to) (pastedEnd ws at (at + 3 + length (entriesWords h)) to))))
+            (sub (at + 3 + length (entriesWords h)) (pasted ws at (at + 3 + length (entriesWords h)) out to) (pastedEnd ws at (at + 3 + length (entriesWords h)) to)))))
             (guarded (not x) (also oa λ a'. some (scope name (markAround hole at (at + 3 + length (entriesWords h) + size a)) true h a')))
-        by true z w p = stops refl
-        by false z w p =
+        by true g q z w p = stops refl
+        by false true q z w p = rw (va q .0) (gone-gives d ws notes rest name mark h a hole at b e out to room near (va q .1))
+        by false false q z w p =
             let begun : List ℕ = own ws rest name mark false h a at b e in
             let stands = own-stands ws rest name mark false h a at b e in
             let body : ℕ = at + 3 + length (entriesWords h) in

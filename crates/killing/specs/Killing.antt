@@ -138,16 +138,39 @@ liveOn ws hole i to k =
 unfoldable pub liveW : Walk → List ℕ → ℕ → ℕ → ℕ → List ℕ → ℕ → Killed
 liveW sub ws hole i body out to = liveOn ws hole i to (sub body (pasted ws i body out to) (pastedEnd ws i body to))
 
-unfoldable pub scopeAt : Walk → List ℕ → ℕ → ℕ → ℕ → List ℕ → ℕ → Killed
-scopeAt sub ws hole i body out to =
+-- the words i..end of a list, of an empty one the count, and the place behind them
+unfoldable pub listW : List ℕ → ℕ → ℕ → List ℕ → ℕ → List ℕ
+listW ws i end out to = cond (leb (length ws) i) out (cond (eqb end (i + 1)) (set out to 0) (pasted ws i end out to))
+
+unfoldable pub listEndW : List ℕ → ℕ → ℕ → ℕ → ℕ
+listEndW ws i end to = cond (leb (length ws) i) to (cond (eqb end (i + 1)) (onward to 1) (pastedEnd ws i end to))
+
+-- a live scope's words before its list
+unfoldable pub begunW : List ℕ → ℕ → ℕ → ℕ → List ℕ → ℕ → List ℕ
+begunW ws hole i end out to = set (set out to (headFor ws i hole end)) (onward to 1) 0
+
+-- a live scope whose body just becomes nil, and ends at `end`
+unfoldable pub turnedOn : List ℕ → ℕ → ℕ → ℕ → ℕ → List ℕ → ℕ → Killed
+turnedOn ws hole i body end out to =
+    let two = onward (onward to 1) 1 in
+    let behind = listEndW ws (i + 2) body two in
+    made end (onward behind 1) 0 (set (listW ws (i + 2) body (begunW ws hole i end out to) two) behind 0)
+
+unfoldable pub turnedW : ℕ → List ℕ → List ℕ → ℕ → ℕ → ℕ → List ℕ → ℕ → Killed
+turnedW d ws notes hole i body out to =
+    cond (leb (length ws) i) (stuckW out) (turnedOn ws hole i body (passEnd d ws notes body) out to)
+
+unfoldable pub scopeAt : ℕ → Walk → List ℕ → List ℕ → ℕ → ℕ → ℕ → List ℕ → ℕ → Killed
+scopeAt d sub ws notes hole i body out to =
     cond (eqb body 0) (stuckW out)
     (cond (leb (length ws) body) (stuckW out)
     (cond (eqb (zombieOf (at ws i)) 1) (zombieW sub ws i body out to)
-    (cond (eqb (at ws body) 0) (stuckW out) (liveW sub ws hole i body out to))))
+    (cond (eqb (at ws body) 0) (stuckW out)
+    (cond (goneW ws body) (turnedW d ws notes hole i body out to) (liveW sub ws hole i body out to)))))
 
 unfoldable pub scopeW : ℕ → Walk → List ℕ → List ℕ → ℕ → Walk
 scopeW d sub ws notes hole i out to =
-    cond (leb (length ws) i) (stuckW out) (scopeAt sub ws hole i (passList d ws notes (i + 2)) out to)
+    cond (leb (length ws) i) (stuckW out) (scopeAt d sub ws notes hole i (passList d ws notes (i + 2)) out to)
 
 -- ---- executor
 

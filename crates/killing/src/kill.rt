@@ -17,7 +17,7 @@ use writers::write::down;
 use writers::write::put;
 ghost use mathlib.Core.Path.{_≡_};
 ghost use Rattle.killing.specs.Killing.{stopped, ownZombie, plainZombie, headFor, deadWord};
-ghost use Rattle.killing.specs.Killing.{noticeW, waiterW, keptW, vanishedW, killW, goneW, seqW, parW, rightW, scopeW, zombieW, liveW, executorW};
+ghost use Rattle.killing.specs.Killing.{noticeW, waiterW, keptW, listEndW, listW, turnedW, vanishedW, killW, goneW, seqW, parW, rightW, scopeW, zombieW, liveW, executorW};
 
 // Where the source ends and where the writing has come to; `nil` is 1 if only nil was written, else 0, a number since the bytes behind a
 // bool would be copied with it. `end` is 0 where something can't be killed.
@@ -214,6 +214,9 @@ fn kill_scope(
     if ws[body] == head::NIL {
         return stuck();
     }
+    if gone(ws, body) {
+        return turn_zombie(ws, notes, Scope { at, body }, hole, depth, out, to);
+    }
     kill_live(ws, notes, Scope { at, body }, fault, hole, depth, out, to)
 }
 
@@ -238,6 +241,46 @@ fn kill_zombie(
     Moved {
         end: p.end,
         to: copy(ws, at, p.end, out, to),
+        nil: 0,
+    }
+}
+
+// The list at..end; an empty one is its count.
+fn copy_list(ws: &[u16], at: usize, end: usize, out: &mut [u16], to: usize) -> usize
+    ensures { λ r. ⌜ (r ≡ listEndW (now (ws .entry)) at end to) × (now (out .exit) ≡ listW (now (ws .entry)) at end (now (out .entry)) to) ⌝ }
+{
+    if ws.len() <= at {
+        return to;
+    }
+    if end == at + 1 {
+        return put(out, to, 0);
+    }
+    copy(ws, at, end, out, to)
+}
+
+// A live scope whose body just becomes nil turns zombie, as below; nothing in it is killed, and each word is written once.
+fn turn_zombie(
+    ws: &[u16],
+    notes: &[u16],
+    s: Scope,
+    hole: usize,
+    depth: usize,
+    out: &mut [u16],
+    to: usize,
+) -> Moved
+    ensures { λ r. ⌜ (r ≡ turnedW depth (now (ws .entry)) (now (notes .entry)) hole (s .at) (s .body) (now (out .entry)) to .moved) × (now (out .exit) ≡ turnedW depth (now (ws .entry)) (now (notes .entry)) hole (s .at) (s .body) (now (out .entry)) to .out) ⌝ }
+{
+    let at = s.at;
+    if ws.len() <= at {
+        return stuck();
+    }
+    let end = pass(ws, notes, s.body, depth);
+    let one = put(out, to, zombie_head(ws, at, hole, end));
+    let two = put(out, one, 0);
+    let behind = copy_list(ws, at + 2, s.body, out, two);
+    Moved {
+        end,
+        to: put(out, behind, head::NIL),
         nil: 0,
     }
 }

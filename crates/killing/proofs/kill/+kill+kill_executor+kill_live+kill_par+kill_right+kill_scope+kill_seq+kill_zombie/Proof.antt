@@ -41,6 +41,7 @@ use Rattle.killing.proofs.kill.keep.Reads as keep-reads
 use Rattle.killing.proofs.kill.kill_waiter.Reads as kill-waiter-reads
 use Rattle.killing.proofs.kill.notice.Reads as notice-reads
 use Rattle.killing.proofs.kill.stuck.Reads as stuck-reads
+use Rattle.killing.proofs.kill.turn_zombie.Reads as turn-zombie-reads
 use Rattle.killing.proofs.kill.vanish.Reads as vanish-reads
 use Rattle.killing.proofs.kill.zombie_head.Reads as zombie-head-reads
 use Rattle.layout.proofs.field.kind_of.Reads as kind-of-reads
@@ -522,35 +523,35 @@ kill-right-returns-4 t c =
     let e = right-stays (a .depth) (killW (a .depth) (a .ws .now) (a .notes .now) (a .fault) (a .hole)) (a .ws .now) (a .notes .now) (a .left .end) (a .out .now) (a .one) (a .left .to) _ _ (sym (c .before .before .before .before .before .before .before .before .before .gone .ensures) ∙ (c .before .before .before .before .before .before .before .before .if1 .left)) (c .before .before .before .before .before .before .kill .ensures .0) (c .before .before .before .before .before .before .kill .ensures .1) (c .before .before .if2 .left) (c .if3 .left) in
     (ap moved e, ap output e)
 
-kill-scope-stuck-requires : (t : ℕ) → kill-scope-lts.Need-stuck-requires (stuck-reads.Asked, stuck-reads.Learnt, pass-list-reads.Asked, pass-list-reads.Learnt, zombie-of-reads.Asked, zombie-of-reads.Learnt, kill-zombie-below t, kill-zombie.Post, kill-live-below t, kill-live.Post) (kill-scope-at t) kill-scope.Post
+kill-scope-stuck-requires : (t : ℕ) → kill-scope-lts.Need-stuck-requires (stuck-reads.Asked, stuck-reads.Learnt, pass-list-reads.Asked, pass-list-reads.Learnt, zombie-of-reads.Asked, zombie-of-reads.Learnt, kill-zombie-below t, kill-zombie.Post, gone-reads.Asked, gone-reads.Learnt, turn-zombie-reads.Asked, turn-zombie-reads.Learnt, kill-live-below t, kill-live.Post) (kill-scope-at t) kill-scope.Post
 kill-scope-stuck-requires t c κs = search needs
 
-kill-scope-returns : (t : ℕ) → kill-scope-lts.Need-returns (stuck-reads.Asked, stuck-reads.Learnt, pass-list-reads.Asked, pass-list-reads.Learnt, zombie-of-reads.Asked, zombie-of-reads.Learnt, kill-zombie-below t, kill-zombie.Post, kill-live-below t, kill-live.Post) (kill-scope-at t) kill-scope.Post
+kill-scope-returns : (t : ℕ) → kill-scope-lts.Need-returns (stuck-reads.Asked, stuck-reads.Learnt, pass-list-reads.Asked, pass-list-reads.Learnt, zombie-of-reads.Asked, zombie-of-reads.Learnt, kill-zombie-below t, kill-zombie.Post, gone-reads.Asked, gone-reads.Learnt, turn-zombie-reads.Asked, turn-zombie-reads.Learnt, kill-live-below t, kill-live.Post) (kill-scope-at t) kill-scope.Post
 unfolding scopeAt scopeW
 kill-scope-returns t c =
     let f0 = c .before .if1 .taken in
     (simp (tests, ← (c .stuck .ensures), f0), simp (tests, f0))
 
-kill-scope-add-pass-list : (t : ℕ) → kill-scope-lts.Need-add-pass-list (stuck-reads.Asked, stuck-reads.Learnt, pass-list-reads.Asked, pass-list-reads.Learnt, zombie-of-reads.Asked, zombie-of-reads.Learnt, kill-zombie-below t, kill-zombie.Post, kill-live-below t, kill-live.Post) (kill-scope-at t) kill-scope.Post
+kill-scope-add-pass-list : (t : ℕ) → kill-scope-lts.Need-add-pass-list (stuck-reads.Asked, stuck-reads.Learnt, pass-list-reads.Asked, pass-list-reads.Learnt, zombie-of-reads.Asked, zombie-of-reads.Learnt, kill-zombie-below t, kill-zombie.Post, gone-reads.Asked, gone-reads.Learnt, turn-zombie-reads.Asked, turn-zombie-reads.Learnt, kill-live-below t, kill-live.Post) (kill-scope-at t) kill-scope.Post
 kill-scope-add-pass-list t c = search needs
 
-kill-scope-pass-list-requires : (t : ℕ) → kill-scope-lts.Need-pass-list-requires (stuck-reads.Asked, stuck-reads.Learnt, pass-list-reads.Asked, pass-list-reads.Learnt, zombie-of-reads.Asked, zombie-of-reads.Learnt, kill-zombie-below t, kill-zombie.Post, kill-live-below t, kill-live.Post) (kill-scope-at t) kill-scope.Post
+kill-scope-pass-list-requires : (t : ℕ) → kill-scope-lts.Need-pass-list-requires (stuck-reads.Asked, stuck-reads.Learnt, pass-list-reads.Asked, pass-list-reads.Learnt, zombie-of-reads.Asked, zombie-of-reads.Learnt, kill-zombie-below t, kill-zombie.Post, gone-reads.Asked, gone-reads.Learnt, turn-zombie-reads.Asked, turn-zombie-reads.Learnt, kill-live-below t, kill-live.Post) (kill-scope-at t) kill-scope.Post
 kill-scope-pass-list-requires t c κs = search needs
 
-kill-scope-stuck-requires-2 : (t : ℕ) → kill-scope-lts.Need-stuck-requires-2 (stuck-reads.Asked, stuck-reads.Learnt, pass-list-reads.Asked, pass-list-reads.Learnt, zombie-of-reads.Asked, zombie-of-reads.Learnt, kill-zombie-below t, kill-zombie.Post, kill-live-below t, kill-live.Post) (kill-scope-at t) kill-scope.Post
+kill-scope-stuck-requires-2 : (t : ℕ) → kill-scope-lts.Need-stuck-requires-2 (stuck-reads.Asked, stuck-reads.Learnt, pass-list-reads.Asked, pass-list-reads.Learnt, zombie-of-reads.Asked, zombie-of-reads.Learnt, kill-zombie-below t, kill-zombie.Post, gone-reads.Asked, gone-reads.Learnt, turn-zombie-reads.Asked, turn-zombie-reads.Learnt, kill-live-below t, kill-live.Post) (kill-scope-at t) kill-scope.Post
 kill-scope-stuck-requires-2 t c κs = search needs
 
-kill-scope-returns-2 : (t : ℕ) → kill-scope-lts.Need-returns-2 (stuck-reads.Asked, stuck-reads.Learnt, pass-list-reads.Asked, pass-list-reads.Learnt, zombie-of-reads.Asked, zombie-of-reads.Learnt, kill-zombie-below t, kill-zombie.Post, kill-live-below t, kill-live.Post) (kill-scope-at t) kill-scope.Post
+kill-scope-returns-2 : (t : ℕ) → kill-scope-lts.Need-returns-2 (stuck-reads.Asked, stuck-reads.Learnt, pass-list-reads.Asked, pass-list-reads.Learnt, zombie-of-reads.Asked, zombie-of-reads.Learnt, kill-zombie-below t, kill-zombie.Post, gone-reads.Asked, gone-reads.Learnt, turn-zombie-reads.Asked, turn-zombie-reads.Learnt, kill-live-below t, kill-live.Post) (kill-scope-at t) kill-scope.Post
 unfolding scopeAt scopeW
 kill-scope-returns-2 t c =
     let f0 = c .before .if2 .taken in
     let f1 = c .before .before .before .if1 .left in
     (simp (tests, ← (c .stuck2 .ensures), f0, ← (c .before .before .pass-list .ensures), f1), simp (tests, f0, ← (c .before .before .pass-list .ensures), f1))
 
-kill-scope-stuck-requires-3 : (t : ℕ) → kill-scope-lts.Need-stuck-requires-3 (stuck-reads.Asked, stuck-reads.Learnt, pass-list-reads.Asked, pass-list-reads.Learnt, zombie-of-reads.Asked, zombie-of-reads.Learnt, kill-zombie-below t, kill-zombie.Post, kill-live-below t, kill-live.Post) (kill-scope-at t) kill-scope.Post
+kill-scope-stuck-requires-3 : (t : ℕ) → kill-scope-lts.Need-stuck-requires-3 (stuck-reads.Asked, stuck-reads.Learnt, pass-list-reads.Asked, pass-list-reads.Learnt, zombie-of-reads.Asked, zombie-of-reads.Learnt, kill-zombie-below t, kill-zombie.Post, gone-reads.Asked, gone-reads.Learnt, turn-zombie-reads.Asked, turn-zombie-reads.Learnt, kill-live-below t, kill-live.Post) (kill-scope-at t) kill-scope.Post
 kill-scope-stuck-requires-3 t c κs = search needs
 
-kill-scope-returns-3 : (t : ℕ) → kill-scope-lts.Need-returns-3 (stuck-reads.Asked, stuck-reads.Learnt, pass-list-reads.Asked, pass-list-reads.Learnt, zombie-of-reads.Asked, zombie-of-reads.Learnt, kill-zombie-below t, kill-zombie.Post, kill-live-below t, kill-live.Post) (kill-scope-at t) kill-scope.Post
+kill-scope-returns-3 : (t : ℕ) → kill-scope-lts.Need-returns-3 (stuck-reads.Asked, stuck-reads.Learnt, pass-list-reads.Asked, pass-list-reads.Learnt, zombie-of-reads.Asked, zombie-of-reads.Learnt, kill-zombie-below t, kill-zombie.Post, gone-reads.Asked, gone-reads.Learnt, turn-zombie-reads.Asked, turn-zombie-reads.Learnt, kill-live-below t, kill-live.Post) (kill-scope-at t) kill-scope.Post
 unfolding scopeAt scopeW
 kill-scope-returns-3 t c =
     let f0 = c .before .if3 .taken in
@@ -558,22 +559,22 @@ kill-scope-returns-3 t c =
     let f2 = c .before .before .before .before .if1 .left in
     (simp (tests, ← (c .stuck3 .ensures), f0, f1, ← (c .before .before .before .pass-list .ensures), f2), simp (tests, ← (c .stuck3 .ensures), f0, f1, ← (c .before .before .before .pass-list .ensures), f2))
 
-kill-scope-mul-zombie-of : (t : ℕ) → kill-scope-lts.Need-mul-zombie-of (stuck-reads.Asked, stuck-reads.Learnt, pass-list-reads.Asked, pass-list-reads.Learnt, zombie-of-reads.Asked, zombie-of-reads.Learnt, kill-zombie-below t, kill-zombie.Post, kill-live-below t, kill-live.Post) (kill-scope-at t) kill-scope.Post
+kill-scope-mul-zombie-of : (t : ℕ) → kill-scope-lts.Need-mul-zombie-of (stuck-reads.Asked, stuck-reads.Learnt, pass-list-reads.Asked, pass-list-reads.Learnt, zombie-of-reads.Asked, zombie-of-reads.Learnt, kill-zombie-below t, kill-zombie.Post, gone-reads.Asked, gone-reads.Learnt, turn-zombie-reads.Asked, turn-zombie-reads.Learnt, kill-live-below t, kill-live.Post) (kill-scope-at t) kill-scope.Post
 kill-scope-mul-zombie-of t c = search needs
 
-kill-scope-shared-slice-read-zombie-of : (t : ℕ) → kill-scope-lts.Need-shared-slice-read-zombie-of (stuck-reads.Asked, stuck-reads.Learnt, pass-list-reads.Asked, pass-list-reads.Learnt, zombie-of-reads.Asked, zombie-of-reads.Learnt, kill-zombie-below t, kill-zombie.Post, kill-live-below t, kill-live.Post) (kill-scope-at t) kill-scope.Post
+kill-scope-shared-slice-read-zombie-of : (t : ℕ) → kill-scope-lts.Need-shared-slice-read-zombie-of (stuck-reads.Asked, stuck-reads.Learnt, pass-list-reads.Asked, pass-list-reads.Learnt, zombie-of-reads.Asked, zombie-of-reads.Learnt, kill-zombie-below t, kill-zombie.Post, gone-reads.Asked, gone-reads.Learnt, turn-zombie-reads.Asked, turn-zombie-reads.Learnt, kill-live-below t, kill-live.Post) (kill-scope-at t) kill-scope.Post
 kill-scope-shared-slice-read-zombie-of t c = search needs
 
-kill-scope-zombie-of-requires : (t : ℕ) → kill-scope-lts.Need-zombie-of-requires (stuck-reads.Asked, stuck-reads.Learnt, pass-list-reads.Asked, pass-list-reads.Learnt, zombie-of-reads.Asked, zombie-of-reads.Learnt, kill-zombie-below t, kill-zombie.Post, kill-live-below t, kill-live.Post) (kill-scope-at t) kill-scope.Post
+kill-scope-zombie-of-requires : (t : ℕ) → kill-scope-lts.Need-zombie-of-requires (stuck-reads.Asked, stuck-reads.Learnt, pass-list-reads.Asked, pass-list-reads.Learnt, zombie-of-reads.Asked, zombie-of-reads.Learnt, kill-zombie-below t, kill-zombie.Post, gone-reads.Asked, gone-reads.Learnt, turn-zombie-reads.Asked, turn-zombie-reads.Learnt, kill-live-below t, kill-live.Post) (kill-scope-at t) kill-scope.Post
 kill-scope-zombie-of-requires t c κs = search needs
 
-kill-scope-kill-zombie-requires : (t : ℕ) → kill-scope-lts.Need-kill-zombie-requires (stuck-reads.Asked, stuck-reads.Learnt, pass-list-reads.Asked, pass-list-reads.Learnt, zombie-of-reads.Asked, zombie-of-reads.Learnt, kill-zombie-below t, kill-zombie.Post, kill-live-below t, kill-live.Post) (kill-scope-at t) kill-scope.Post
+kill-scope-kill-zombie-requires : (t : ℕ) → kill-scope-lts.Need-kill-zombie-requires (stuck-reads.Asked, stuck-reads.Learnt, pass-list-reads.Asked, pass-list-reads.Learnt, zombie-of-reads.Asked, zombie-of-reads.Learnt, kill-zombie-below t, kill-zombie.Post, gone-reads.Asked, gone-reads.Learnt, turn-zombie-reads.Asked, turn-zombie-reads.Learnt, kill-live-below t, kill-live.Post) (kill-scope-at t) kill-scope.Post
 kill-scope-kill-zombie-requires t c κs = search needs
 
-kill-scope-same-length : (t : ℕ) → kill-scope-lts.Need-same-length (stuck-reads.Asked, stuck-reads.Learnt, pass-list-reads.Asked, pass-list-reads.Learnt, zombie-of-reads.Asked, zombie-of-reads.Learnt, kill-zombie-below t, kill-zombie.Post, kill-live-below t, kill-live.Post) (kill-scope-at t) kill-scope.Post
+kill-scope-same-length : (t : ℕ) → kill-scope-lts.Need-same-length (stuck-reads.Asked, stuck-reads.Learnt, pass-list-reads.Asked, pass-list-reads.Learnt, zombie-of-reads.Asked, zombie-of-reads.Learnt, kill-zombie-below t, kill-zombie.Post, gone-reads.Asked, gone-reads.Learnt, turn-zombie-reads.Asked, turn-zombie-reads.Learnt, kill-live-below t, kill-live.Post) (kill-scope-at t) kill-scope.Post
 kill-scope-same-length t c = search needs
 
-kill-scope-returns-4 : (t : ℕ) → kill-scope-lts.Need-returns-4 (stuck-reads.Asked, stuck-reads.Learnt, pass-list-reads.Asked, pass-list-reads.Learnt, zombie-of-reads.Asked, zombie-of-reads.Learnt, kill-zombie-below t, kill-zombie.Post, kill-live-below t, kill-live.Post) (kill-scope-at t) kill-scope.Post
+kill-scope-returns-4 : (t : ℕ) → kill-scope-lts.Need-returns-4 (stuck-reads.Asked, stuck-reads.Learnt, pass-list-reads.Asked, pass-list-reads.Learnt, zombie-of-reads.Asked, zombie-of-reads.Learnt, kill-zombie-below t, kill-zombie.Post, gone-reads.Asked, gone-reads.Learnt, turn-zombie-reads.Asked, turn-zombie-reads.Learnt, kill-live-below t, kill-live.Post) (kill-scope-at t) kill-scope.Post
 unfolding scopeAt scopeW
 kill-scope-returns-4 t c =
     let f0 = c .before .before .before .before .if4 .taken in
@@ -582,36 +583,57 @@ kill-scope-returns-4 t c =
     let f3 = c .before .before .before .before .before .before .before .before .before .before .if1 .left in
     (simp (tests, ← (c .before .before .kill-zombie .ensures .0), f0, ← (c .before .before .before .before .before .zombie-of .ensures .0), f1, f2, ← (c .before .before .before .before .before .before .before .before .before .pass-list .ensures), f3), simp (tests, ← (c .before .before .kill-zombie .ensures .1), f0, ← (c .before .before .before .before .before .zombie-of .ensures .0), f1, f2, ← (c .before .before .before .before .before .before .before .before .before .pass-list .ensures), f3))
 
-kill-scope-mul-if5 : (t : ℕ) → kill-scope-lts.Need-mul-if5 (stuck-reads.Asked, stuck-reads.Learnt, pass-list-reads.Asked, pass-list-reads.Learnt, zombie-of-reads.Asked, zombie-of-reads.Learnt, kill-zombie-below t, kill-zombie.Post, kill-live-below t, kill-live.Post) (kill-scope-at t) kill-scope.Post
+kill-scope-mul-if5 : (t : ℕ) → kill-scope-lts.Need-mul-if5 (stuck-reads.Asked, stuck-reads.Learnt, pass-list-reads.Asked, pass-list-reads.Learnt, zombie-of-reads.Asked, zombie-of-reads.Learnt, kill-zombie-below t, kill-zombie.Post, gone-reads.Asked, gone-reads.Learnt, turn-zombie-reads.Asked, turn-zombie-reads.Learnt, kill-live-below t, kill-live.Post) (kill-scope-at t) kill-scope.Post
 kill-scope-mul-if5 t c = search needs
 
-kill-scope-shared-slice-read-if5 : (t : ℕ) → kill-scope-lts.Need-shared-slice-read-if5 (stuck-reads.Asked, stuck-reads.Learnt, pass-list-reads.Asked, pass-list-reads.Learnt, zombie-of-reads.Asked, zombie-of-reads.Learnt, kill-zombie-below t, kill-zombie.Post, kill-live-below t, kill-live.Post) (kill-scope-at t) kill-scope.Post
+kill-scope-shared-slice-read-if5 : (t : ℕ) → kill-scope-lts.Need-shared-slice-read-if5 (stuck-reads.Asked, stuck-reads.Learnt, pass-list-reads.Asked, pass-list-reads.Learnt, zombie-of-reads.Asked, zombie-of-reads.Learnt, kill-zombie-below t, kill-zombie.Post, gone-reads.Asked, gone-reads.Learnt, turn-zombie-reads.Asked, turn-zombie-reads.Learnt, kill-live-below t, kill-live.Post) (kill-scope-at t) kill-scope.Post
 kill-scope-shared-slice-read-if5 t c = search needs
 
-kill-scope-stuck-requires-4 : (t : ℕ) → kill-scope-lts.Need-stuck-requires-4 (stuck-reads.Asked, stuck-reads.Learnt, pass-list-reads.Asked, pass-list-reads.Learnt, zombie-of-reads.Asked, zombie-of-reads.Learnt, kill-zombie-below t, kill-zombie.Post, kill-live-below t, kill-live.Post) (kill-scope-at t) kill-scope.Post
+kill-scope-stuck-requires-4 : (t : ℕ) → kill-scope-lts.Need-stuck-requires-4 (stuck-reads.Asked, stuck-reads.Learnt, pass-list-reads.Asked, pass-list-reads.Learnt, zombie-of-reads.Asked, zombie-of-reads.Learnt, kill-zombie-below t, kill-zombie.Post, gone-reads.Asked, gone-reads.Learnt, turn-zombie-reads.Asked, turn-zombie-reads.Learnt, kill-live-below t, kill-live.Post) (kill-scope-at t) kill-scope.Post
 kill-scope-stuck-requires-4 t c κs = search needs
 
-kill-scope-returns-5 : (t : ℕ) → kill-scope-lts.Need-returns-5 (stuck-reads.Asked, stuck-reads.Learnt, pass-list-reads.Asked, pass-list-reads.Learnt, zombie-of-reads.Asked, zombie-of-reads.Learnt, kill-zombie-below t, kill-zombie.Post, kill-live-below t, kill-live.Post) (kill-scope-at t) kill-scope.Post
+kill-scope-returns-5 : (t : ℕ) → kill-scope-lts.Need-returns-5 (stuck-reads.Asked, stuck-reads.Learnt, pass-list-reads.Asked, pass-list-reads.Learnt, zombie-of-reads.Asked, zombie-of-reads.Learnt, kill-zombie-below t, kill-zombie.Post, gone-reads.Asked, gone-reads.Learnt, turn-zombie-reads.Asked, turn-zombie-reads.Learnt, kill-live-below t, kill-live.Post) (kill-scope-at t) kill-scope.Post
 kill-scope-returns-5 t c =
     let a = c .before .before .before .before .before .before .before .before .before .before .before .before .before .args in
     let e = scope-stuck (a .depth) (killW (a .depth) (a .ws .now) (a .notes .now) (a .fault) (a .hole)) (a .ws .now) (a .notes .now) (a .hole) (a .at) (a .out .now) (a .to) _ _ (c .before .before .before .before .before .before .before .before .before .if1 .left) (c .before .before .before .before .before .before .before .before .pass-list .ensures) (c .before .before .before .before .before .before .before .if2 .left) (c .before .before .before .before .before .before .if3 .left) (c .before .before .before .before .zombie-of .ensures .0) (c .before .before .before .if4 .left) (c .before .if5 .taken) in
     ((c .stuck4 .ensures) ∙ ap moved e, ap output e)
 
-kill-scope-kill-live-requires : (t : ℕ) → kill-scope-lts.Need-kill-live-requires (stuck-reads.Asked, stuck-reads.Learnt, pass-list-reads.Asked, pass-list-reads.Learnt, zombie-of-reads.Asked, zombie-of-reads.Learnt, kill-zombie-below t, kill-zombie.Post, kill-live-below t, kill-live.Post) (kill-scope-at t) kill-scope.Post
-kill-scope-kill-live-requires t c κs = search needs
+kill-scope-gone-requires : (t : ℕ) → kill-scope-lts.Need-gone-requires (stuck-reads.Asked, stuck-reads.Learnt, pass-list-reads.Asked, pass-list-reads.Learnt, zombie-of-reads.Asked, zombie-of-reads.Learnt, kill-zombie-below t, kill-zombie.Post, gone-reads.Asked, gone-reads.Learnt, turn-zombie-reads.Asked, turn-zombie-reads.Learnt, kill-live-below t, kill-live.Post) (kill-scope-at t) kill-scope.Post
+kill-scope-gone-requires t c κs = search needs
 
-kill-scope-same-length-2 : (t : ℕ) → kill-scope-lts.Need-same-length-2 (stuck-reads.Asked, stuck-reads.Learnt, pass-list-reads.Asked, pass-list-reads.Learnt, zombie-of-reads.Asked, zombie-of-reads.Learnt, kill-zombie-below t, kill-zombie.Post, kill-live-below t, kill-live.Post) (kill-scope-at t) kill-scope.Post
+kill-scope-turn-zombie-requires : (t : ℕ) → kill-scope-lts.Need-turn-zombie-requires (stuck-reads.Asked, stuck-reads.Learnt, pass-list-reads.Asked, pass-list-reads.Learnt, zombie-of-reads.Asked, zombie-of-reads.Learnt, kill-zombie-below t, kill-zombie.Post, gone-reads.Asked, gone-reads.Learnt, turn-zombie-reads.Asked, turn-zombie-reads.Learnt, kill-live-below t, kill-live.Post) (kill-scope-at t) kill-scope.Post
+kill-scope-turn-zombie-requires t c κs = search needs
+
+kill-scope-same-length-2 : (t : ℕ) → kill-scope-lts.Need-same-length-2 (stuck-reads.Asked, stuck-reads.Learnt, pass-list-reads.Asked, pass-list-reads.Learnt, zombie-of-reads.Asked, zombie-of-reads.Learnt, kill-zombie-below t, kill-zombie.Post, gone-reads.Asked, gone-reads.Learnt, turn-zombie-reads.Asked, turn-zombie-reads.Learnt, kill-live-below t, kill-live.Post) (kill-scope-at t) kill-scope.Post
 kill-scope-same-length-2 t c = search needs
 
-kill-scope-returns-6 : (t : ℕ) → kill-scope-lts.Need-returns-6 (stuck-reads.Asked, stuck-reads.Learnt, pass-list-reads.Asked, pass-list-reads.Learnt, zombie-of-reads.Asked, zombie-of-reads.Learnt, kill-zombie-below t, kill-zombie.Post, kill-live-below t, kill-live.Post) (kill-scope-at t) kill-scope.Post
+kill-scope-returns-6 : (t : ℕ) → kill-scope-lts.Need-returns-6 (stuck-reads.Asked, stuck-reads.Learnt, pass-list-reads.Asked, pass-list-reads.Learnt, zombie-of-reads.Asked, zombie-of-reads.Learnt, kill-zombie-below t, kill-zombie.Post, gone-reads.Asked, gone-reads.Learnt, turn-zombie-reads.Asked, turn-zombie-reads.Learnt, kill-live-below t, kill-live.Post) (kill-scope-at t) kill-scope.Post
 unfolding scopeAt scopeW
 kill-scope-returns-6 t c =
-    let f0 = c .before .before .before .before .if5 .left in
-    let f1 = c .before .before .before .before .before .before .if4 .left in
-    let f2 = c .before .before .before .before .before .before .before .before .before .if3 .left in
-    let f3 = c .before .before .before .before .before .before .before .before .before .before .if2 .left in
-    let f4 = c .before .before .before .before .before .before .before .before .before .before .before .before .if1 .left in
-    (simp (tests, ← (c .before .before .kill-live .ensures .0), f0, f1, ← (c .before .before .before .before .before .before .before .zombie-of .ensures .0), f2, f3, ← (c .before .before .before .before .before .before .before .before .before .before .before .pass-list .ensures), f4), simp (tests, ← (c .before .before .kill-live .ensures .1), f0, f1, ← (c .before .before .before .before .before .before .before .zombie-of .ensures .0), f2, f3, ← (c .before .before .before .before .before .before .before .before .before .before .before .pass-list .ensures), f4))
+    let g = sym (c .before .before .before .before .before .gone .ensures) ∙ c .before .before .before .before .if6 .taken in
+    let f0 = c .before .before .before .before .before .before .if5 .left in
+    let f1 = c .before .before .before .before .before .before .before .before .if4 .left in
+    let f2 = c .before .before .before .before .before .before .before .before .before .before .before .if3 .left in
+    let f3 = c .before .before .before .before .before .before .before .before .before .before .before .before .if2 .left in
+    let f4 = c .before .before .before .before .before .before .before .before .before .before .before .before .before .before .if1 .left in
+    (simp (tests, ← (c .before .before .turn-zombie .ensures .0), g, f0, f1, ← (c .before .before .before .before .before .before .before .before .before .zombie-of .ensures .0), f2, f3, ← (c .before .before .before .before .before .before .before .before .before .before .before .before .before .pass-list .ensures), f4), simp (tests, ← (c .before .before .turn-zombie .ensures .1), g, f0, f1, ← (c .before .before .before .before .before .before .before .before .before .zombie-of .ensures .0), f2, f3, ← (c .before .before .before .before .before .before .before .before .before .before .before .before .before .pass-list .ensures), f4))
+
+kill-scope-kill-live-requires : (t : ℕ) → kill-scope-lts.Need-kill-live-requires (stuck-reads.Asked, stuck-reads.Learnt, pass-list-reads.Asked, pass-list-reads.Learnt, zombie-of-reads.Asked, zombie-of-reads.Learnt, kill-zombie-below t, kill-zombie.Post, gone-reads.Asked, gone-reads.Learnt, turn-zombie-reads.Asked, turn-zombie-reads.Learnt, kill-live-below t, kill-live.Post) (kill-scope-at t) kill-scope.Post
+kill-scope-kill-live-requires t c κs = search needs
+
+kill-scope-same-length-3 : (t : ℕ) → kill-scope-lts.Need-same-length-3 (stuck-reads.Asked, stuck-reads.Learnt, pass-list-reads.Asked, pass-list-reads.Learnt, zombie-of-reads.Asked, zombie-of-reads.Learnt, kill-zombie-below t, kill-zombie.Post, gone-reads.Asked, gone-reads.Learnt, turn-zombie-reads.Asked, turn-zombie-reads.Learnt, kill-live-below t, kill-live.Post) (kill-scope-at t) kill-scope.Post
+kill-scope-same-length-3 t c = search needs
+
+kill-scope-returns-7 : (t : ℕ) → kill-scope-lts.Need-returns-7 (stuck-reads.Asked, stuck-reads.Learnt, pass-list-reads.Asked, pass-list-reads.Learnt, zombie-of-reads.Asked, zombie-of-reads.Learnt, kill-zombie-below t, kill-zombie.Post, gone-reads.Asked, gone-reads.Learnt, turn-zombie-reads.Asked, turn-zombie-reads.Learnt, kill-live-below t, kill-live.Post) (kill-scope-at t) kill-scope.Post
+unfolding scopeAt scopeW
+kill-scope-returns-7 t c =
+    let g = sym (c .before .before .before .before .before .gone .ensures) ∙ c .before .before .before .before .if6 .left in
+    let f0 = c .before .before .before .before .before .before .if5 .left in
+    let f1 = c .before .before .before .before .before .before .before .before .if4 .left in
+    let f2 = c .before .before .before .before .before .before .before .before .before .before .before .if3 .left in
+    let f3 = c .before .before .before .before .before .before .before .before .before .before .before .before .if2 .left in
+    let f4 = c .before .before .before .before .before .before .before .before .before .before .before .before .before .before .if1 .left in
+    (simp (tests, ← (c .before .before .kill-live .ensures .0), g, f0, f1, ← (c .before .before .before .before .before .before .before .before .before .zombie-of .ensures .0), f2, f3, ← (c .before .before .before .before .before .before .before .before .before .before .before .before .before .pass-list .ensures), f4), simp (tests, ← (c .before .before .kill-live .ensures .1), g, f0, f1, ← (c .before .before .before .before .before .before .before .before .before .zombie-of .ensures .0), f2, f3, ← (c .before .before .before .before .before .before .before .before .before .before .before .before .before .pass-list .ensures), f4))
 
 kill-seq-kill-requires : (t : ℕ) → kill-seq-lts.Need-kill-requires (kill-below t, kill.Post, stuck-reads.Asked, stuck-reads.Learnt, pass-reads.Asked, pass-reads.Learnt) (kill-seq-at t) kill-seq.Post
 kill-seq-kill-requires t c κs = search needs
@@ -862,6 +884,10 @@ pub +kill+kill-executor+kill-live+kill-par+kill-right+kill-scope+kill-seq+kill-z
       zombie-of-reads.Learnt,
       kill-zombie-below t,
       kill-zombie.Post,
+      gone-reads.Asked,
+      gone-reads.Learnt,
+      turn-zombie-reads.Asked,
+      turn-zombie-reads.Learnt,
       kill-live-below t,
       kill-live.Post,
     )
@@ -885,9 +911,13 @@ pub +kill+kill-executor+kill-live+kill-par+kill-right+kill-scope+kill-seq+kill-z
     (kill-scope-shared-slice-read-if5 t)
     (kill-scope-stuck-requires-4 t)
     (kill-scope-returns-5 t)
-    (kill-scope-kill-live-requires t)
+    (kill-scope-gone-requires t)
+    (kill-scope-turn-zombie-requires t)
     (kill-scope-same-length-2 t)
-    (kill-scope-returns-6 t))
+    (kill-scope-returns-6 t)
+    (kill-scope-kill-live-requires t)
+    (kill-scope-same-length-3 t)
+    (kill-scope-returns-7 t))
     (λ t. kill-seq-lts.spec (
       kill-below t,
       kill.Post,
