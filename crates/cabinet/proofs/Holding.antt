@@ -5,10 +5,10 @@ use native.Mathlib.Omega.{arith}
 use mathlib.Core.Path.{_≡_, refl, sym, ap, _∙_}
 use mathlib.Core.Bool.{Bool, true, false, cond, _&&_}
 use mathlib.Core.Option.{Option}
-use mathlib.Core.List.{List, [], _∷_}
+use mathlib.Core.List.{List, [], _∷_, _++_}
 use lib.Dec.{ltb, leb}
 use lib.ListN.{length, getD, set, take, drop}
-use lib.Seq.{take-all, take-at}
+use lib.Seq.{length-take-le, take-all, take-at, drop-at, getD-take}
 use borrow.Author.Tests.{lt-ltb, le-ltb, ltb-true}
 use Rattle.sock.specs.Bytes.{wordsOf, wordsOrNone, byteCheckReadable, byteCheckStart, byteEnds, packedEnds, packedPart, byteProcess}
 use Rattle.sock.specs.Words.{bit}
@@ -20,7 +20,7 @@ use Rattle.sock.specs.Configuration.{Config, Limits, standard, readConfig, fres
 use Rattle.sock.proofs.ByteWords.{words-next, words-length, words-of-odd, length-words, no-words, long-unread}
 use Rattle.reading.specs.declared.ends.EndCounts.{EndCounts}
 use Rattle.reading.specs.Answers.{endCounts}
-use Rattle.cabinet.specs.Held.{held, pairAt}
+use Rattle.cabinet.specs.Held.{roundWord, rounds, held, pairAt}
 
 pair-next : (h l j : ℕ) (bytes : List ℕ) → pairAt (h ∷ l ∷ bytes) (suc j) ≡ pairAt bytes j
 pair-next h l j bytes =
@@ -46,24 +46,101 @@ laid-next i (u ∷ us) [] a b = absurd (omega arith)
 laid-next zero (u ∷ us) (w ∷ ws) a b = refl
 laid-next (suc i) (u ∷ us) (w ∷ ws) a b = ap (λ (l : List ℕ). u ∷ l) (laid-next i us ws (omega arith) (omega arith))
 
-pub fill-turn :
-    (n : ℕ) (bytes ws ws₀ : List ℕ) (i w : ℕ) → length bytes ≡ n * 2 → i < n → i < length ws₀ → w ≡ pairAt bytes i →
-    ws ≡ over (take i (wordsOrNone (wordsOf bytes))) ws₀ → set ws i w ≡ over (take (i + 1) (wordsOrNone (wordsOf bytes))) ws₀
-fill-turn n bytes ws ws₀ i w e a b q f =
-    let us = wordsOrNone (wordsOf bytes) in
-    let inside : i < length us = omega (arith, words-length n bytes e) in
+pub laid-turn :
+    (us ws ws₀ : List ℕ) (i w : ℕ) → i < length us → i < length ws₀ → w ≡ getD us i 0 → ws ≡ over (take i us) ws₀ →
+    set ws i w ≡ over (take (i + 1) us) ws₀
+laid-turn us ws ws₀ i w a b q f =
     let one-more : suc i ≡ i + 1 = omega arith in
     ap (λ (l : List ℕ). set l i w) f
-    ∙ ap (λ (v : ℕ). set (over (take i us) ws₀) i v) (q ∙ words-at n bytes e i a)
-    ∙ laid-next i us ws₀ inside b
+    ∙ ap (λ (v : ℕ). set (over (take i us) ws₀) i v) q
+    ∙ laid-next i us ws₀ a b
     ∙ ap (λ (m : ℕ). over (take m us) ws₀) one-more
 
-pub fill-end :
-    (n i : ℕ) (bytes ws ws₀ : List ℕ) → length bytes ≡ n * 2 → i ≡ n → ws ≡ over (take i (wordsOrNone (wordsOf bytes))) ws₀ →
-    ws ≡ over (wordsOrNone (wordsOf bytes)) ws₀
-fill-end n i bytes ws ws₀ e p f =
-    let all : take i (wordsOrNone (wordsOf bytes)) ≡ wordsOrNone (wordsOf bytes) = take-all i _ (omega (arith, words-length n bytes e)) in
-    f ∙ ap (λ (us : List ℕ). over us ws₀) all
+pub laid-end : (us ws ws₀ : List ℕ) (i : ℕ) → i ≡ length us → ws ≡ over (take i us) ws₀ → ws ≡ over us ws₀
+laid-end us ws ws₀ i p f =
+    let all : take i us ≡ us = take-all i us (omega arith) in
+    f ∙ ap (λ (l : List ℕ). over l ws₀) all
+
+-- behind those that are over it, a list is as it was
+pub laid-behind : (us ws ws₀ : List ℕ) (i : ℕ) → i < length us → i < length ws₀ → ws ≡ over (take i us) ws₀ → getD ws i 0 ≡ getD ws₀ i 0
+laid-behind us ws ws₀ i a b f = ap (λ (l : List ℕ). getD l i 0) f ∙ go i us ws₀ a b
+  where
+    go : (i : ℕ) (us ws : List ℕ) → i < length us → i < length ws → getD (over (take i us) ws) i 0 ≡ getD ws i 0
+    go i [] ws a b = absurd (omega arith)
+    go i (u ∷ us) [] a b = absurd (omega arith)
+    go zero (u ∷ us) (w ∷ ws) a b = refl
+    go (suc i) (u ∷ us) (w ∷ ws) a b = go i us ws (omega arith) (omega arith)
+
+-- ---- words with their bytes the other way round
+
+pub rounds-length : (ws : List ℕ) → length (rounds ws) ≡ length ws
+unfolding rounds
+rounds-length [] = refl
+rounds-length (w ∷ ws) = ap suc (rounds-length ws)
+
+pub rounds-at : (ws : List ℕ) (i : ℕ) → i < length ws → getD (rounds ws) i 0 ≡ roundWord (getD ws i 0)
+unfolding rounds
+rounds-at [] i h = absurd (omega arith)
+rounds-at (w ∷ ws) zero h = refl
+rounds-at (w ∷ ws) (suc i) h = rounds-at ws i (omega arith)
+
+-- the first n words turned, one more of them
+pub turn-length : (n : ℕ) (ws : List ℕ) → n ≤ length ws → length (rounds (take n ws)) ≡ n
+turn-length n ws h = rounds-length (take n ws) ∙ length-take-le n ws h
+
+pub turn-next :
+    (n i w : ℕ) (ws ws₀ : List ℕ) → n ≤ length ws₀ → i < n → w ≡ roundWord (getD ws i 0) → ws ≡ over (take i (rounds (take n ws₀))) ws₀ →
+    set ws i w ≡ over (take (i + 1) (rounds (take n ws₀))) ws₀
+turn-next n i w ws ws₀ h a q f =
+    let us = rounds (take n ws₀) in
+    let inside : i < length us = omega (arith, turn-length n ws₀ h) in
+    let first : i < length (take n ws₀) = omega (arith, length-take-le n ws₀ h) in
+    laid-turn us ws ws₀ i w inside (omega arith)
+    (q ∙ ap roundWord (laid-behind us ws ws₀ i inside (omega arith) f ∙ sym (getD-take n ws₀ i 0 a)) ∙ sym (rounds-at (take n ws₀) i first)) f
+
+-- what is made of two bytes so
+pub round-pair :
+    (n : ℕ) (bytes : List ℕ) (i w : ℕ) → length bytes ≡ n * 2 → i < n → getD bytes (i * 2) 0 < 256 → getD bytes (i * 2 + 1) 0 < 256 →
+    w ≡ getD bytes (i * 2 + 1) 0 * 256 + getD bytes (i * 2) 0 → w ≡ getD (rounds (wordsOrNone (wordsOf bytes))) i 0
+round-pair n bytes i w e a high low q =
+    let inside : i < length (wordsOrNone (wordsOf bytes)) = omega (arith, words-length n bytes e) in
+    let same : getD bytes (i * 2 + 1) 0 * 256 + getD bytes (i * 2) 0 ≡ roundWord (pairAt bytes i) = omega arith in
+    q ∙ same ∙ ap roundWord (words-at n bytes e i a) ∙ sym (rounds-at (wordsOrNone (wordsOf bytes)) i inside)
+
+twice : (n : ℕ) (bytes : List ℕ) → length bytes ≡ n * 2 → ((j : ℕ) → getD bytes j 0 < 256) → rounds (rounds (wordsOrNone (wordsOf bytes))) ≡ wordsOrNone (wordsOf bytes)
+unfolding rounds wordsOf wordsOrNone
+twice n [] e small = refl
+twice n (h ∷ []) e small = absurd (omega arith)
+twice zero (h ∷ l ∷ bytes) e small = absurd (omega arith)
+twice (suc n) (h ∷ l ∷ bytes) e small =
+    let a : h < 256 = small 0 in
+    let b : l < 256 = small 1 in
+    let rest : length bytes ≡ n * 2 = omega arith in
+    let same : roundWord (roundWord (h * 256 + l)) ≡ h * 256 + l = omega arith in
+    let others = twice n bytes rest (λ j. small (suc (suc j))) in
+    ap (λ (us : List ℕ). rounds (rounds us)) (words-next n h l bytes rest)
+    ∙ ap (λ (w : ℕ). w ∷ rounds (rounds (wordsOrNone (wordsOf bytes)))) same
+    ∙ ap (λ (us : List ℕ). (h * 256 + l) ∷ us) others
+    ∙ sym (words-next n h l bytes rest)
+
+over-again : (us vs ws : List ℕ) → length vs ≡ length us → over us (over vs ws) ≡ over us ws
+over-again us vs ws e =
+    ap (λ (n : ℕ). us ++ drop n (vs ++ drop (length vs) ws)) (sym e)
+    ∙ ap (λ (l : List ℕ). us ++ l) (drop-at vs (drop (length vs) ws) (length vs) refl ∙ ap (λ (n : ℕ). drop n ws) e)
+
+pub rounds-back :
+    (n : ℕ) (bytes ws mid out : List ℕ) → length bytes ≡ n * 2 → ((j : ℕ) → getD bytes j 0 < 256) →
+    mid ≡ over (rounds (wordsOrNone (wordsOf bytes))) ws → out ≡ over (rounds (take n mid)) mid →
+    out ≡ over (wordsOrNone (wordsOf bytes)) ws
+rounds-back n bytes ws mid out e small p q =
+    let us = wordsOrNone (wordsOf bytes) in
+    let long : length (rounds us) ≡ n = rounds-length us ∙ words-length n bytes e in
+    let first : take n mid ≡ rounds us = ap (take n) p ∙ take-at (rounds us) (drop (length (rounds us)) ws) n long in
+    q
+    ∙ ap (λ (l : List ℕ). over (rounds l) mid) first
+    ∙ ap (λ (l : List ℕ). over l mid) (twice n bytes e small)
+    ∙ ap (over us) p
+    ∙ over-again us (rounds us) ws (rounds-length us)
 
 held-as : (room : ℕ) (bytes : List ℕ) (b : Bool) → ltb (room * 2) (length bytes) ≡ b → held room bytes ≡ cond b [] (wordsOrNone (wordsOf bytes))
 unfolding held

@@ -1,7 +1,7 @@
 -- The words that the calls are handed: those of the bytes, none where there is no room for them, as there is for every configuration.
-use Prim.Native.Nat.{ℕ, _+_, _*_, _/_}
+use Prim.Native.Nat.{ℕ, _+_, _*_, _/_, _%_}
 use mathlib.Core.Bool.{cond}
-use mathlib.Core.List.{List, []}
+use mathlib.Core.List.{List, [], _∷_}
 use lib.Dec.{ltb}
 use lib.ListN.{length, getD, take}
 use Rattle.sock.specs.Bytes.{wordsOf, wordsOrNone, wordsIn}
@@ -17,6 +17,14 @@ heldPart room bytes = take room (wordsIn bytes)
 
 abbrev pub pairAt : List ℕ → ℕ → ℕ
 pairAt bytes i = getD bytes (i * 2) 0 * 256 + getD bytes (i * 2 + 1) 0
+
+-- words with their bytes the other way round
+abbrev pub roundWord : ℕ → ℕ
+roundWord w = w % 256 * 256 + w / 256
+
+unfoldable pub rounds : List ℕ → List ℕ
+rounds [] = []
+rounds (w ∷ ws) = roundWord w ∷ rounds ws
 
 -- the answer of a step in 64 bits, from the type that the code declares
 abbrev pub packedAs : Answer → ℕ

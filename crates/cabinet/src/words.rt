@@ -2,10 +2,10 @@
 use crate::stepping_bytes::room_of;
 ghost use mathlib.Core.Path.{_≡_};
 ghost use Prim.Native.Nat.{_≤_, _+_, _*_};
-ghost use lib.ListN.{length};
+ghost use lib.ListN.{length, take};
 ghost use Rattle.sock.specs.Bytes.{wordsOf, wordsOrNone};
 ghost use Rattle.sock.specs.Calls.{over};
-ghost use Rattle.cabinet.specs.Held.{held, heldPart};
+ghost use Rattle.cabinet.specs.Held.{roundWord, rounds, held, heldPart};
 
 fn word(high: u8, low: u8) -> u16
     ensures { λ r. ⌜ r ≡ high * 256 + low ⌝ }
@@ -13,17 +13,46 @@ fn word(high: u8, low: u8) -> u16
     (high as u16) * 256 + (low as u16)
 }
 
-// The words of `n` pairs of bytes.
+// A word with its bytes the other way round.
+fn round(w: u16) -> u16
+    ensures { λ r. ⌜ r ≡ roundWord w ⌝ }
+{
+    w % 256 * 256 + w / 256
+}
+
+// The words of `n` pairs of bytes, each the other way round: so it is a plain copy in memory.
+fn fill_round(bytes: &[u8], n: usize, ws: &mut [u16]) -> usize
+    requires { ⌜ (length (now bytes) ≡ n * 2) × (n ≤ length (now ws)) ⌝ }
+    ensures { λ r. ⌜ (r ≡ n) × (now (ws .exit) ≡ over (rounds (wordsOrNone (wordsOf (now (bytes .entry))))) (now (ws .entry))) ⌝ }
+{
+    let mut i = 0;
+    while i < n {
+        ws[i] = word(bytes[i * 2 + 1], bytes[i * 2]);
+        i = i + 1;
+    }
+    i
+}
+
+// The first `n` words the other way round.
+fn turn(ws: &mut [u16], n: usize) -> usize
+    requires { ⌜ n ≤ length (now ws) ⌝ }
+    ensures { λ r. ⌜ (r ≡ n) × (now (ws .exit) ≡ over (rounds (take n (now (ws .entry)))) (now (ws .entry))) ⌝ }
+{
+    let mut i = 0;
+    while i < n {
+        ws[i] = round(ws[i]);
+        i = i + 1;
+    }
+    i
+}
+
+// The words of `n` pairs of bytes. Two passes that take many words at once are faster than one that makes each word of its two bytes.
 fn fill(bytes: &[u8], n: usize, ws: &mut [u16]) -> usize
     requires { ⌜ (length (now bytes) ≡ n * 2) × (n ≤ length (now ws)) ⌝ }
     ensures { λ r. ⌜ (r ≡ n) × (now (ws .exit) ≡ over (wordsOrNone (wordsOf (now (bytes .entry)))) (now (ws .entry))) ⌝ }
 {
-    let mut i = 0;
-    while i < n {
-        ws[i] = word(bytes[i * 2], bytes[i * 2 + 1]);
-        i = i + 1;
-    }
-    i
+    fill_round(bytes, n, ws);
+    turn(ws, n)
 }
 
 // How many words the bytes are, and the words over the first of `ws`; none where the length is odd, or `ws` has too little room for them.

@@ -1,88 +1,25 @@
--- `fill` of `cabinet::words` meets its contract. The loop's invariant: the first i words are over what was there.
+-- `fill` of `cabinet::words` meets its contract: the other way round twice.
 -- Assumes nothing.
-use Prim.Native.Nat.{ℕ, _-_, _≤_}
-use mathlib.Core.Path.{_≡_, refl}
-use lib.ListN.{length, take}
 use native.Mathlib.Omega.{arith}
 use borrow.Author.Needs.{needs}
-use Rattle.sock.specs.Bytes.{wordsOf, wordsOrNone}
-use Rattle.sock.specs.Calls.{over}
-use Rattle.cabinet.proofs.Holding.{fill-turn, fill-end}
+use Rattle.cabinet.proofs.Holding.{rounds-back}
 use Rattle.cabinet.proofs.words.fill.Statement.{statement}
 use Rattle.cabinet.proofs.words.fill.Tie as tie
 
-abbrev Inv-loop : tie.InvT-loop
-Inv-loop bytes n ws₀ i₀ ws i = (i ≤ n) × (length ws ≡ length ws₀) × (ws ≡ over (take i (wordsOrNone (wordsOf bytes))) ws₀)
+fill-round-requires : tie.Need-fill-round-requires
+fill-round-requires c κs = search needs
 
-abbrev μ-loop : tie.MeasureT-loop
-μ-loop bytes n ws₀ i₀ ws i = n - i
+turn-requires : tie.Need-turn-requires
+turn-requires c κs = search needs
 
-loop-holds : tie.Need-loop-holds Inv-loop μ-loop
-loop-holds c = (omega arith, refl, refl)
-
-mul-word : tie.Need-mul-word Inv-loop μ-loop
-mul-word c = search needs
-
-shared-slice-read-word : tie.Need-shared-slice-read-word Inv-loop μ-loop
-shared-slice-read-word c = search needs
-
-mul-word-2 : tie.Need-mul-word-2 Inv-loop μ-loop
-mul-word-2 c = search needs
-
-add-word : tie.Need-add-word Inv-loop μ-loop
-add-word c = search needs
-
-shared-slice-read-word-2 : tie.Need-shared-slice-read-word-2 Inv-loop μ-loop
-shared-slice-read-word-2 c = search needs
-
-word-requires : tie.Need-word-requires Inv-loop μ-loop
-word-requires c κs = search needs
-
-mul-ws : tie.Need-mul-ws Inv-loop μ-loop
-mul-ws c = search needs
-
-slice-write-ws : tie.Need-slice-write-ws Inv-loop μ-loop
-slice-write-ws c = search needs
-
-add-i : tie.Need-add-i Inv-loop μ-loop
-add-i c = search needs
-
-loop-less : tie.Need-loop-less Inv-loop μ-loop
-loop-less c = search needs
-
-loop-again : tie.Need-loop-again Inv-loop μ-loop
-loop-again c =
-    let l = c .before .before .before .before .loop in
-    let a = c .before .before .before .before .before .before .before .args in
-    (omega arith, search needs, fill-turn (a .n) (a .bytes .now) (l .ws) (a .ws .now) (l .i) _ (c .before .before .before .before .before .before .before .pre .0) (c .before .before .before .loop-test .taken) (omega arith) (c .word .ensures) (l .inv .2))
-
-same-length : tie.Need-same-length Inv-loop μ-loop
+same-length : tie.Need-same-length
 same-length c = search needs
 
-returns : tie.Need-returns Inv-loop μ-loop
+returns : tie.Need-returns
 returns c =
-    let l = c .before .loop in
-    let a = c .before .before .before .before .args in
-    let i : l .i ≡ a .n = omega arith in
-    (i, fill-end _ _ (a .bytes .now) _ (a .ws .now) (c .before .before .before .before .pre .0) i (l .inv .2))
+    let a = c .before .before .before .before .before .before .before .before .before .before .args in
+    let byte = c .before .before .before .before .before .before .before .before .before .shared-slice-known .given in
+    (c .before .before .turn .ensures .0, rounds-back (a .n) (a .bytes .now) (a .ws .now) _ _ (c .before .before .before .before .before .before .before .before .before .before .pre .0) (λ j. omega (arith, byte j)) (c .before .before .before .before .before .before .fill-round .ensures .1) (c .before .before .turn .ensures .1))
 
 pub fill-spec : {M : Type 1} → statement M
-fill-spec =
-    tie.close
-    (tie.spec
-    Inv-loop
-    μ-loop
-    loop-holds
-    mul-word
-    shared-slice-read-word
-    mul-word-2
-    add-word
-    shared-slice-read-word-2
-    word-requires
-    mul-ws
-    slice-write-ws
-    add-i
-    loop-less
-    loop-again
-    same-length
-    returns)
+fill-spec = tie.close (tie.spec fill-round-requires turn-requires same-length returns)
