@@ -12,7 +12,7 @@
  * own, so that the compiler tells one answer from another.
  *
  * Platform. x86-64 Linux, with its usual calling convention. Link with libcabinet.a, which `rt staticlib cabinet` writes to
- * target/staticlib. It is position-independent and needs two functions from outside: memset and memmove.
+ * target/staticlib. It is position-independent and needs three functions from outside: memcpy, memmove and memset.
  *
  * Memory. No call allocates, keeps a pointer or reads or writes outside what it is lent, and the library has no variables of its own. A
  * length may be 0; the pointer is then not followed, and may be null. With any other length it must point to so many bytes. Lent memory

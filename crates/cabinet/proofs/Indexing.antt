@@ -30,9 +30,9 @@ use Rattle.index.specs.Form.{present, inOrder, serialsIn, openBy, toldAs}
 use Rattle.index.specs.declared.questions.Told.{Told as Answered}
 use Rattle.index.proofs.Forming.{listed-is, unlisted-is}
 use Rattle.index.proofs.Answering.{answer-is, short-is, begins, begun-passed}
-use Rattle.cabinet.specs.Held.{packedAs, heldPart}
-use Rattle.cabinet.proofs.Stepping.{packed-as}
-use Rattle.cabinet.proofs.TakingBack.{words-half}
+use Rattle.bytewise.specs.Held.{packedAs, heldPart}
+use Rattle.bytewise.proofs.Stepping.{packed-as}
+use Rattle.bytewise.proofs.Parts.{words-half}
 
 -- ---- an index's own words
 

@@ -25,9 +25,9 @@ use Rattle.journal.specs.Laying.{layW, layEnd}
 use Rattle.journal.specs.Stepping.{comparedOf}
 use Rattle.journal.proofs.Laying.{over-length}
 use Rattle.journal.proofs.Stepping.{short-old, short-new, kept, Wrote, wrote, scratch-fits, scratch-length, scratch-words, noted-end, noted-words}
-use Rattle.cabinet.specs.Held.{held, packedAs, roomOf}
-use Rattle.cabinet.proofs.Holding.{held-short, read-as}
-use Rattle.cabinet.proofs.Stepping.{room-is, room-below, large-same, packed-as}
+use Rattle.bytewise.specs.Held.{held, packedAs, roomOf}
+use Rattle.bytewise.proofs.Holding.{held-short, read-as}
+use Rattle.bytewise.proofs.Stepping.{room-is, room-below, large-same, packed-as}
 
 -- ---- what the code makes of a step in scratch
 

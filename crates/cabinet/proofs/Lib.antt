@@ -1,7 +1,3 @@
-pub mod Holding
 pub mod Indexing
 pub mod Journaling
-pub mod Placing
-pub mod Spreading
-pub mod Stepping
 pub mod TakingBack

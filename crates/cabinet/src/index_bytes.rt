@@ -3,9 +3,9 @@
 use crate::calls::sock_check_start;
 use crate::journal_bytes::step_journal;
 use crate::journal_bytes::take_back_bytes;
-use crate::stepping_bytes::pack;
-use crate::stepping_bytes::spread;
-use crate::words::hold_part;
+use bytewise::stepping_bytes::pack;
+use bytewise::stepping_bytes::spread;
+use bytewise::words::hold_part;
 use index::form::WORDS;
 use index::form::in_order;
 use index::questions::Told;

@@ -1,11 +1,11 @@
 // The step with a journal, and taking back, on bytes. A journal's space, or its words, are half its bytes, rounded down.
-use crate::stepping_bytes::SHORT_BYTES;
-use crate::stepping_bytes::TWICE;
-use crate::stepping_bytes::pack;
-use crate::stepping_bytes::room_of;
-use crate::stepping_bytes::spread;
-use crate::words::hold;
-use crate::words::hold_part;
+use bytewise::stepping_bytes::SHORT_BYTES;
+use bytewise::stepping_bytes::TWICE;
+use bytewise::stepping_bytes::pack;
+use bytewise::stepping_bytes::room_of;
+use bytewise::stepping_bytes::spread;
+use bytewise::words::hold;
+use bytewise::words::hold_part;
 use journal::back::Taken;
 use journal::back::take_back;
 use journal::lay::lay;
@@ -30,7 +30,7 @@ ghost use Rattle.stepping.specs.Answers.{answerAs, numbers};
 ghost use Rattle.stepping.specs.Bundles.{numbersAs};
 ghost use Rattle.stepping.specs.Lent.{Modest, Blank};
 ghost use Rattle.journal.specs.Back.{takenAs};
-ghost use Rattle.cabinet.specs.Held.{packedAs, roomOf};
+ghost use Rattle.bytewise.specs.Held.{packedAs, roomOf};
 
 // Words for the journal of any step: its four counts and two configurations; and of a step of a short one.
 const JOURNAL: usize = 16388;

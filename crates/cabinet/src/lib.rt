@@ -6,4 +6,3 @@ pub mod journal_bytes;
 pub mod small_bytes;
 pub mod stepping_bytes;
 pub mod window_bytes;
-pub mod words;

@@ -1,9 +1,9 @@
 // The swing bridge cabinet's calls on bytes (document 02, i): the same as the large cabinet's, with limits and scratch of its own.
 use crate::journal_bytes::journaled;
-use crate::stepping_bytes::pack;
-use crate::stepping_bytes::room_of;
-use crate::stepping_bytes::written;
-use crate::words::hold;
+use bytewise::stepping_bytes::pack;
+use bytewise::stepping_bytes::room_of;
+use bytewise::stepping_bytes::written;
+use bytewise::words::hold;
 use layout::limit::SMALL;
 use layout::limit::SMALL_LONGEST;
 use reading::calls::readable_at;

@@ -10,7 +10,7 @@ use lib.ListN.{length, getD, take}
 use lib.Seq.{length-take-le}
 use borrow.Author.Tests.{lt-ltb, le-ltb}
 use Rattle.sock.specs.Bytes.{wordsOf, wordsOrNone}
-use Rattle.cabinet.specs.Held.{held}
+use Rattle.bytewise.specs.Held.{held}
 use Rattle.handover.specs.Printed.{countIn, wantedFor, startWords}
 
 pub count-missing : (head : List ℕ) → length head < 2 → 8193 ≡ countIn head

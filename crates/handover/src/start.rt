@@ -1,7 +1,7 @@
 // The start: how many words the configuration has, and what the start check says of them.
 use crate::state::Next;
 use crate::text::start_line;
-use cabinet::words::hold;
+use bytewise::words::hold;
 use reading::calls::check_start;
 ghost use mathlib.Core.Path.{_≡_};
 ghost use Prim.Native.Nat.{_+_, _*_, _≤_};

@@ -7,7 +7,7 @@ use lib.ListN.{length, take, drop}
 use Rattle.sock.specs.Calls.{Numbers, stepOutput}
 use Rattle.sock.specs.Configuration.{standard}
 use Rattle.stepping.specs.Answers.{numbers}
-use Rattle.cabinet.specs.Held.{pairAt}
+use Rattle.bytewise.specs.Held.{pairAt}
 
 -- behind the count of words
 unfoldable pub numbersOf : List ℕ → Numbers

@@ -1,7 +1,7 @@
 // Reads cases on standard input and prints, a line each, what the step answers: its number, kind, serial, fault and length, and a sum over
 // all words of the output. A case is, in words of two bytes, high first: the count of words, the step's five numbers, the output's
 // length, then the words.
-use cabinet::words::hold;
+use bytewise::words::hold;
 use cases::print;
 use cases::sum;
 use cases::take;

@@ -7,7 +7,7 @@ use borrow.Author.Needs.{needs}
 use Rattle.sock.specs.Calls.{Numbers, stepOutput}
 use Rattle.sock.specs.Configuration.{standard}
 use Rattle.stepping.specs.Answers.{numbers}
-use Rattle.cabinet.specs.Held.{pairAt}
+use Rattle.bytewise.specs.Held.{pairAt}
 use Rattle.step_cases.specs.Lent.{numbersOf}
 use Rattle.step_cases.proofs.answer.Statement.{statement}
 use Rattle.step_cases.proofs.answer.Tie as tie

@@ -2,7 +2,7 @@
 -- Assumes nothing.
 use mathlib.Core.Path.{sym, _∙_}
 use lib.Seq.{length-take-le}
-use Rattle.cabinet.proofs.TakingBack.{first-part}
+use Rattle.bytewise.proofs.Parts.{first-part}
 use Rattle.cabinet.proofs.Indexing.{order-held, words-held}
 use borrow.Author.Needs.{needs}
 use Rattle.cabinet.proofs.index_bytes.held_index.Statement.{statement}

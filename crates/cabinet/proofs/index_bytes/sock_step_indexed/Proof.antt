@@ -5,7 +5,7 @@ use mathlib.Core.Path.{sym, ap, _∙_}
 use lib.ListN.{length-replicate}
 use Rattle.sock.specs.Bytes.{wordsIn}
 use Rattle.index.proofs.Forming.{listed-is}
-use Rattle.cabinet.specs.Held.{packedAs}
+use Rattle.bytewise.specs.Held.{packedAs}
 use Rattle.cabinet.proofs.Indexing.{ordered-there, room-for, step-unlisted, step-answer, step-output, step-journal, index-same, index-opens}
 use borrow.Author.Needs.{needs}
 use Rattle.cabinet.proofs.index_bytes.sock_step_indexed.Statement.{statement}

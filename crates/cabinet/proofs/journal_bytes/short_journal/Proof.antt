@@ -6,9 +6,9 @@ use lib.Seq.{length-take-le}
 use Rattle.sock.specs.Calls.{Result, Stepped, answerOf}
 use Rattle.sock.specs.Bytes.{bytesAfter}
 use Rattle.stepping.specs.Answers.{answerAs}
-use Rattle.cabinet.proofs.Holding.{first-held}
+use Rattle.bytewise.proofs.Holding.{first-held}
 use Rattle.stepping.proofs.Modest.{modest-standard, blank-notes}
-use Rattle.cabinet.proofs.Stepping.{part-fits}
+use Rattle.bytewise.proofs.Stepping.{part-fits}
 use Rattle.cabinet.proofs.Journaling.{small-journal-step, small-journal-after}
 use borrow.Author.Needs.{needs}
 use Rattle.cabinet.proofs.journal_bytes.short_journal.Statement.{statement}

@@ -1,7 +1,7 @@
 -- `sock_step_journal` of `cabinet::journal_bytes` meets its contract.
 -- Assumes nothing.
 use mathlib.Core.Path.{ap, _∙_}
-use Rattle.cabinet.specs.Held.{packedAs}
+use Rattle.bytewise.specs.Held.{packedAs}
 use Rattle.cabinet.proofs.Journaling.{journal-packed}
 use borrow.Author.Needs.{needs}
 use Rattle.cabinet.proofs.journal_bytes.sock_step_journal.Statement.{statement}

@@ -3,9 +3,10 @@
 use native.Mathlib.Omega.{arith}
 use mathlib.Core.Path.{sym, _∙_}
 use lib.Seq.{length-take-le}
-use Rattle.cabinet.proofs.Holding.{first-held}
-use Rattle.cabinet.proofs.Stepping.{part-fits}
-use Rattle.cabinet.proofs.TakingBack.{first-part, back-answer, back-output, back-held}
+use Rattle.bytewise.proofs.Holding.{first-held}
+use Rattle.bytewise.proofs.Stepping.{part-fits}
+use Rattle.bytewise.proofs.Parts.{first-part}
+use Rattle.cabinet.proofs.TakingBack.{back-answer, back-output, back-held}
 use borrow.Author.Needs.{needs}
 use Rattle.cabinet.proofs.journal_bytes.take_back_bytes.Statement.{statement}
 use Rattle.cabinet.proofs.journal_bytes.take_back_bytes.Tie as tie

@@ -4,7 +4,7 @@ use native.Mathlib.Omega.{arith}
 use mathlib.Core.Path.{sym, _∙_}
 use lib.Seq.{length-take-le}
 use Rattle.sock.specs.Cabinets.{small}
-use Rattle.cabinet.proofs.Holding.{first-held, start-as}
+use Rattle.bytewise.proofs.Holding.{first-held, start-as}
 use borrow.Author.Needs.{needs}
 use Rattle.cabinet.proofs.small_bytes.sock_check_start_small.Statement.{statement}
 use Rattle.cabinet.proofs.small_bytes.sock_check_start_small.Tie as tie

@@ -3,11 +3,11 @@
 use native.Mathlib.Omega.{arith}
 use mathlib.Core.Path.{refl, sym, ap, _∙_}
 use lib.Seq.{length-take-le}
-use Rattle.cabinet.specs.Held.{packedAs}
-use Rattle.cabinet.proofs.Holding.{first-held}
+use Rattle.bytewise.specs.Held.{packedAs}
+use Rattle.bytewise.proofs.Holding.{first-held}
 use Rattle.sock.specs.Cabinets.{small}
 use Rattle.stepping.proofs.Modest.{modest-small, blank-notes}
-use Rattle.cabinet.proofs.Stepping.{part-fits, large-answer, large-output}
+use Rattle.bytewise.proofs.Stepping.{part-fits, large-answer, large-output}
 use borrow.Author.Needs.{needs}
 use Rattle.cabinet.proofs.small_bytes.sock_step_small.Statement.{statement}
 use Rattle.cabinet.proofs.small_bytes.sock_step_small.Tie as tie

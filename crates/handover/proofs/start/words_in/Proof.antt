@@ -7,8 +7,8 @@ use mathlib.Core.List.{List}
 use lib.ListN.{length, take}
 use lib.Seq.{length-take-le}
 use Rattle.sock.specs.Calls.{over}
-use Rattle.cabinet.specs.Held.{held}
-use Rattle.cabinet.proofs.Holding.{first-held}
+use Rattle.bytewise.specs.Held.{held}
+use Rattle.bytewise.proofs.Holding.{first-held}
 use Rattle.handover.specs.Printed.{startWords}
 use Rattle.handover.proofs.Starting.{too-many, some-missing, held-there}
 use borrow.Author.Needs.{needs}

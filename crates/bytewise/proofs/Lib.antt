@@ -1,0 +1,5 @@
+pub mod Holding
+pub mod Parts
+pub mod Placing
+pub mod Spreading
+pub mod Stepping

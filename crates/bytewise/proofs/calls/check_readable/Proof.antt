@@ -1,0 +1,39 @@
+-- `check_readable` of `bytewise::calls` meets its contract.
+-- Assumes nothing.
+use native.Mathlib.Omega.{arith}
+use mathlib.Core.Path.{sym, _∙_}
+use lib.Seq.{length-take-le}
+use Rattle.sock.specs.Configuration.{standard}
+use Rattle.bytewise.proofs.Holding.{first-held, readable-as}
+use borrow.Author.Needs.{needs}
+use Rattle.bytewise.proofs.calls.check_readable.Statement.{statement}
+use Rattle.bytewise.proofs.calls.check_readable.Tie as tie
+
+slice-aggregate-hold : tie.Need-slice-aggregate-hold
+slice-aggregate-hold c = search needs
+
+hold-requires : tie.Need-hold-requires
+hold-requires c κs = search needs
+
+array-share-prefix-scratch : tie.Need-array-share-prefix-scratch
+array-share-prefix-scratch c = search needs
+
+slice-aggregate-check-readable : tie.Need-slice-aggregate-check-readable
+slice-aggregate-check-readable c = sym (length-take-le _ _ (search needs))
+
+check-readable-requires : tie.Need-check-readable-requires
+check-readable-requires c κs = search needs
+
+returns : tie.Need-returns
+returns c = (c .check-readable .ensures) ∙ readable-as standard 8192 (omega arith) _ _ (first-held _ 8192 _ _ _ _ (search needs) (c .before .before .before .hold .ensures .0) (c .before .before .before .hold .ensures .1))
+
+pub check-readable-spec : {M : Type 1} → statement M
+check-readable-spec =
+    tie.close
+    (tie.spec
+    slice-aggregate-hold
+    hold-requires
+    array-share-prefix-scratch
+    slice-aggregate-check-readable
+    check-readable-requires
+    returns)
