@@ -22,5 +22,7 @@ pub mod Runs
 pub mod Events
 pub mod Beside
 pub mod Cabinets
+pub mod Engines
+pub mod House
 pub mod Index
 pub mod IndexBytes
