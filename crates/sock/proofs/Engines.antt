@@ -18,7 +18,7 @@ use Rattle.sock.specs.Running.{Run, nil, seq, par, scope, executor, wait
 use Rattle.sock.specs.Configuration.{Limits, Engine, Config, engineWords, enginesWords, encode, enginesDepth, readEngine, readConfig, freshRun, isScope}
 use Rattle.sock.specs.Frames.{isDone}
 use Rattle.sock.specs.Calls.{unreadable, long, short, notFresh, houseFull, stillAtWork, engineAt, End, waiting, working, isEnd, tally, tallyAll}
-use Rattle.sock.specs.Engines.{nothingBehind, newcomer, withNext, join, lastOf, withoutLast, engineOf, pointsTo, mayLeave, leave}
+use Rattle.sock.specs.Engines.{nothingBehind, newcomer, withNext, admitting, join, lastOf, withoutLast, engineOf, pointsTo, mayLeave, leave}
 use Rattle.sock.proofs.Logic.{and-left, and-right, All, allNone, allSome, all-also, all-guarded}
 use Rattle.sock.proofs.Fits.{Sound, nilSound, seqSound, parSound, scopeSound, executorSound, waiterSound, noticeSound, actSound, FitsEngine, FitsEngines, noEngines, oneEngine, FitsConfig, Readable}
 use Rattle.sock.proofs.Fields.{end-tests, end-fits}
@@ -303,11 +303,16 @@ pub record Joins (limits : Limits) (ws engine : List ℕ) (out : List ℕ) : Typ
   pub calm : Calm limits before (withNext before comer)
   pub words : out ≡ encode (withNext before comer)
 
+admits : (limits : Limits) (ws : List ℕ) → Sure (λ c. (readConfig limits ws ≡ some c) × T (ltb (length (c .engines)) 8)) (admitting limits ws)
+unfolding admitting
+admits limits ws =
+    sure-then (sure-given unreadable (all-equal (readConfig limits ws))) λ c r. sure-unless houseFull (ltb (length (c .engines)) 8) λ few. sureDone (r, few)
+
 pub join-joins : (limits : Limits) (ws engine : List ℕ) (room : ℕ) → Sure (Joins limits ws engine) (join limits ws engine room)
 unfolding join
 join-joins limits ws engine room =
-    sure-then (sure-given unreadable (all-equal (readConfig limits ws))) λ c r.
-    sure-unless houseFull (ltb (length (c .engines)) 8) λ few.
+    sure-then (admits limits ws) λ c a.
+    let r : readConfig limits ws ≡ some c = a .0 in
     sure-then (sure-given notFresh (newcomer-new limits (suc (length (c .engines))) engine)) λ e x.
     sure-unless long (leb (length (encode (withNext c e))) (limits .longest)) λ fits.
     sure-unless short (leb (length (encode (withNext c e))) room) λ enough.
@@ -316,7 +321,7 @@ join-joins limits ws engine room =
       before = c;
       comer = e;
       reads = r;
-      calm = next-calm (config-found limits ws c r .1) x (ltb→lt (length (c .engines)) 8 few) (leb→le (length (encode (withNext c e))) (limits .longest) fits);
+      calm = next-calm (config-found limits ws c r .1) x (ltb→lt (length (c .engines)) 8 (a .1)) (leb→le (length (encode (withNext c e))) (limits .longest) fits);
       words = refl;
     })
 

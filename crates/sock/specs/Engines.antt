@@ -30,11 +30,17 @@ newcomer limits n words =
 unfoldable pub withNext : Config → Engine → Config
 withNext c e = record { issued = c .issued; engines = c .engines ++ e ∷ [] }
 
+-- 1, 21: whether there is room for one more is asked before who it is
+unfoldable pub admitting : Limits → List ℕ → Result Config
+admitting limits ws = do
+  c ← unreadable ! readConfig limits ws
+  houseFull unless ltb (length (c .engines)) 8
+  done c
+
 -- Joining: 1, 21, 11, 9, 10
 unfoldable pub join : Limits → List ℕ → List ℕ → ℕ → Result (List ℕ)
 join limits ws engine room = do
-  c ← unreadable ! readConfig limits ws
-  houseFull unless ltb (length (c .engines)) 8
+  c ← admitting limits ws
   e ← notFresh ! newcomer limits (suc (length (c .engines))) engine
   long unless leb (length (encode (withNext c e))) (limits .longest)
   short unless leb (length (encode (withNext c e))) room
