@@ -1,3 +1,4 @@
+pub mod Engines
 pub mod Holding
 pub mod Indexing
 pub mod Journaling

@@ -221,7 +221,8 @@ fn an_end_elsewhere_keeps_the_last_engine() {
     ];
     for sort in sorts {
         for (named, number) in [(2, 22), (1, 0), (0, 0)] {
-            let inside = build::scope(1, build::par(build::throw(1), build::seq(sort(named), build::nil())));
+            let inside =
+                build::scope(1, build::par(build::throw(1), build::seq(sort(named), build::nil())));
             let house = build::configuration(1, vec![build::nil(), inside, build::nil()]);
             assert_eq!(left(&words(&house)).0, number);
         }

@@ -91,8 +91,12 @@ pub fn unfit(random: &mut Random, way: &str) -> Vec<u16> {
     let entry = || build::list([(Key::Fault(2), build::throw(3))]);
     let mut spoiled = words(&engine(match way {
         "nil" => build::nil(),
-        "marked" => build::scope_with(1, crate::process::Mark::Fault(2), false, entry(), build::nil()),
-        "zombie" => build::scope_with(1, crate::process::Mark::None, true, build::list([]), build::nil()),
+        "marked" => {
+            build::scope_with(1, crate::process::Mark::Fault(2), false, entry(), build::nil())
+        }
+        "zombie" => {
+            build::scope_with(1, crate::process::Mark::None, true, build::list([]), build::nil())
+        }
         "listed" => build::scope_with(1, crate::process::Mark::None, false, entry(), build::nil()),
         "executor" => scope(build::executor(1, 1, 0, 1, build::nil())),
         "waiter" => scope(build::waiter(1, 1, false, 0, 1, build::list([]))),
