@@ -28,7 +28,7 @@ fn engine(process: Part) -> Engine {
     Engine { values: [0; 32], process }
 }
 
-/// A start: engine 0 serves for ever, what it does for a request being nothing, an assignment or a throw; engine 1
+/// A start: engine 0 serves for ever, one or two at a time, what it does for a request being nothing, an assignment or a throw; engine 1
 /// asks, again and again, whoever has the number in its variable.
 pub fn basin(random: &mut Random) -> Configuration {
     let work = match random.below(3) {
@@ -37,6 +37,10 @@ pub fn basin(random: &mut Random) -> Configuration {
         _ => build::scope(4, build::throw(5)),
     };
     let serve = build::while_true(build::constant(1), build::request(SERVED, 1, 2, work));
+    let serve = match random.percent(60) {
+        true => build::par(serve.clone(), serve),
+        false => serve,
+    };
     let ask = build::solicit(PUMPED, 1, PUMP, 2, build::list([]));
     let again = build::scope(6, build::par(ask, build::throw(5)));
     let ask = match random.percent(70) {
