@@ -72,6 +72,17 @@ int main(void)
     sock_follow_step(reply, config, length, out, sizeof out, journal, sizeof journal, index, sizeof index);
     printf(", then %d\n", sock_count_open(index, sizeof index).serials);
 
+    /* A pump joins as engine 2, its values 0, with a scope around nil. It may not leave before that has ended. */
+    static uint8_t pump[2 * (SOCK_VALUE_WORDS + 4)], wider[SOCK_BYTES];
+    sock_put(pump, SOCK_VALUE_WORDS, 0x5820);
+    struct sock_house_answer house = sock_let_in(config, length, pump, sizeof pump, wider, sizeof wider);
+    printf("a pump joins: %s, %d engines, %d words\n", sock_word(house.number), sock_get(wider, 0), house.length);
+    printf("it leaves: %s", sock_word(sock_let_go(wider, sock_bytes(house.length), out, sizeof out).number));
+    struct sock_move ended = {2, 0, 0, 0, 0};
+    answer = sock_take_step(ended, wider, sock_bytes(house.length), out, sizeof out);
+    house = sock_let_go(out, sock_bytes(answer.length), wider, sizeof wider);
+    printf(", then %s, %d words\n", sock_word(house.number), house.length);
+
     /* What engines 2 and 7 owe: two replies of 1 litre at 1 cent per 1,000 litres, each a cent, and one of 1,000 litres at 250. */
     static uint8_t rates[SOCK_RATE_BYTES], replies[3 * SOCK_REPLY_BYTES];
     static const uint32_t list[9] = {5, 2, 1, 5, 2, 1, 6, 7, 1000};

@@ -40,9 +40,9 @@ extern "C" {
 
 /* This header's version. The first number rises when a call, an answer or the format changes, the second when something is added. */
 #define SOCK_VERSION_MAJOR 4
-#define SOCK_VERSION_MINOR 3
+#define SOCK_VERSION_MINOR 4
 #define SOCK_VERSION_PATCH 0
-#define SOCK_VERSION "4.3.0"
+#define SOCK_VERSION "4.4.0"
 
 /* The most words and bytes that a configuration has. */
 #define SOCK_WORDS 8192
@@ -86,7 +86,7 @@ enum sock_number {
     SOCK_DEEP = 8,            /* the result would be deeper than 64, in the swing bridge cabinet than 32 */
     SOCK_LONG = 9,            /* the result would be longer than 8,192 words, in the swing bridge cabinet than 2,048 */
     SOCK_SHORT_PAPER = 10,    /* the output is shorter than the result */
-    SOCK_NOT_FRESH = 11,      /* start check: readable, but not a start */
+    SOCK_NOT_FRESH = 11,      /* start check: readable, but not a start; joining: the newcomer is not readable and fresh */
     SOCK_UNKNOWN_SERIAL = 12, /* ends: the serial is 0 or above issued */
     SOCK_NOT_DECIMAL = 13,    /* assign, if or while: an operand of a decimal operator has a digit above 9; after 5 and before 6 */
     SOCK_UNMATCHED = 15,      /* taking back: the journal is cut or does not match, or what it restores is not readable */
@@ -95,6 +95,8 @@ enum sock_number {
     SOCK_WINDOW_WIDTH = 18,   /* window: a width that is not 1 to 1,024, an operation above 63, or a window that no run gives */
     SOCK_RATE_TOO_HIGH = 19,  /* bill: a rate is above 1,000,000, or the rates are not 256 bytes */
     SOCK_LIST_UNFIT = 20,     /* bill: list cut or too long, operation above 63 or engine above 7; or totals of fewer than 64 bytes */
+    SOCK_HOUSE_FULL = 21,     /* joining: there are eight engines; after 1 */
+    SOCK_STILL_AT_WORK = 22,  /* leaving: the last engine is the only one, its process is not nil, or an end elsewhere names it; after 1 */
     SOCK_OVERLAP = 255        /* inline calls that write: what was lent overlaps, so no call was made */
 };
 
@@ -145,6 +147,8 @@ static inline const char *sock_word(unsigned number)
     case SOCK_WINDOW_WIDTH: return "window width";
     case SOCK_RATE_TOO_HIGH: return "rate too high";
     case SOCK_LIST_UNFIT: return "list cut or too long, operation above 63 or engine above 7";
+    case SOCK_HOUSE_FULL: return "house full";
+    case SOCK_STILL_AT_WORK: return "still at work";
     case SOCK_OVERLAP: return "overlap";
     default: return "";
     }
@@ -304,6 +308,58 @@ static inline struct sock_back_answer sock_go_back(const uint8_t *config, size_t
     taken.number = sock_number(answer);
     taken.length = sock_length(answer);
     return taken;
+}
+
+/* ---- Joining and leaving: engines come as the next number, and the last one goes. ----
+ *
+ * `newcomer` is SOCK_VALUE_WORDS words of values and a process: a scope that has not begun, with no end in it and nothing behind it. Accepted: `out`
+ * holds the configuration with one engine more, the newcomer's words at its end. SOCK_UNREADABLE, SOCK_HOUSE_FULL, SOCK_NOT_FRESH (also
+ * for an odd length), SOCK_LONG, SOCK_SHORT_PAPER. A newcomer of more than SOCK_NEWCOMER_WORDS words is not read, and SOCK_LONG.
+ *
+ * The last engine may leave once its process is nil: `out` then holds the configuration without it. SOCK_UNREADABLE, SOCK_STILL_AT_WORK,
+ * SOCK_SHORT_PAPER. In a run from a start the two ends of a request name each other, so nothing names an engine whose process is nil; in
+ * other words that are readable something may.
+ *
+ * The answer is a number and a length, as taking back's; a refusal changes no byte of `out`, and bytes past the length stay. Numbers are used
+ * again: a variable that holds 1 reaches whoever is engine 1 when the step is made, and SOCK_NO_PARTNER is the answer while nobody is.
+ * A joining or a leaving is not taken back, and no step before it is any more: its journal may match, and what it restores means nothing.
+ * An index of open requests stays right; these calls need none.
+ */
+#define SOCK_NEWCOMER_WORDS 16384
+uint64_t sock_join(const uint8_t *config, size_t config_length, const uint8_t *newcomer, size_t newcomer_length, uint8_t *out,
+                   size_t out_length);
+uint64_t sock_leave(const uint8_t *config, size_t config_length, uint8_t *out, size_t out_length);
+
+struct sock_house_answer {
+    enum sock_number number;
+    uint16_t length; /* words of the result */
+};
+
+/* Joining; SOCK_OVERLAP, before all others, where the output overlaps configuration or newcomer. */
+static inline struct sock_house_answer sock_let_in(const uint8_t *config, size_t config_length, const uint8_t *newcomer,
+                                                   size_t newcomer_length, uint8_t *out, size_t out_length)
+{
+    struct sock_house_answer came = {SOCK_OVERLAP, 0};
+    uint64_t answer;
+    if (sock_overlap(config, config_length, out, out_length) || sock_overlap(newcomer, newcomer_length, out, out_length))
+        return came;
+    answer = sock_join(config, config_length, newcomer, newcomer_length, out, out_length);
+    came.number = sock_number(answer);
+    came.length = sock_length(answer);
+    return came;
+}
+
+/* Leaving; SOCK_OVERLAP, before all others, where output and configuration overlap. */
+static inline struct sock_house_answer sock_let_go(const uint8_t *config, size_t config_length, uint8_t *out, size_t out_length)
+{
+    struct sock_house_answer went = {SOCK_OVERLAP, 0};
+    uint64_t answer;
+    if (sock_overlap(config, config_length, out, out_length))
+        return went;
+    answer = sock_leave(config, config_length, out, out_length);
+    went.number = sock_number(answer);
+    went.length = sock_length(answer);
+    return went;
 }
 
 /* ---- Index of open requests: how many serials are open, and the oldest one, without reading the engines. ----

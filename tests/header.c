@@ -127,6 +127,39 @@ static void journals(size_t length)
     check(sock_go_back(out, sock_bytes(146), journal, sizeof journal, journal, 2).number == SOCK_OVERLAP, "an output in the journal");
 }
 
+/* A pump joins as engine 2, ends, and leaves. */
+static void engines(size_t length)
+{
+    static uint8_t pump[2 * (SOCK_VALUE_WORDS + 4)], wider[SOCK_BYTES], idle[SOCK_BYTES];
+    static uint8_t crowd[SOCK_NEWCOMER_WORDS * 2 + 2];
+    struct sock_move ends = {2, 0, 0, 0, 0};
+    size_t at = SOCK_VALUE_WORDS;
+    sock_put_value(pump, 62, 0x01020304);
+    sock_put(pump, sock_put(pump, sock_put(pump, sock_put(pump, at, 0x5820), 0), 0), 0);
+    struct sock_house_answer came = sock_let_in(config, length, pump, sizeof pump, wider, sizeof wider);
+    uint64_t raw = sock_join(config, length, pump, sizeof pump, wider, sizeof wider);
+    check(came.number == SOCK_ACCEPTED && came.length == length / 2 + 68 && raw == length / 2 + 68, "a pump joins");
+    check(sock_get(wider, 0) == 3 && sock_get(wider, 1) == 0 && memcmp(wider + 4, config + 4, length - 4) == 0, "behind the others");
+    struct sock_process_answer process = sock_find_process(wider, sock_bytes(came.length), 2);
+    check(process.count == 4 && sock_get_value(wider, sock_variable(process, 31)) == 0x01020304, "with its values");
+    check(sock_let_go(wider, sock_bytes(came.length), out, sizeof out).number == SOCK_STILL_AT_WORK, "it is still at work");
+    check(sock_let_in(config, length, pump, sizeof pump - 1, out, sizeof out).number == SOCK_NOT_FRESH, "an odd newcomer");
+    check(sock_let_in(config, length, pump, sizeof pump - 2, out, sizeof out).number == SOCK_NOT_FRESH, "a newcomer that is cut");
+    check(sock_let_in(config, length, crowd, sizeof crowd, out, sizeof out).number == SOCK_LONG, "a newcomer that is not read");
+    check(sock_let_in(config, length, pump, sizeof pump, out, sock_bytes(came.length) - 1).number == SOCK_SHORT_PAPER, "short paper");
+    check(sock_let_in(config, length, pump, sizeof pump, pump, 2).number == SOCK_OVERLAP, "an output in the newcomer");
+    struct sock_step_answer taken = sock_take_step(ends, wider, sock_bytes(came.length), idle, sizeof idle);
+    check(taken.number == SOCK_ACCEPTED && taken.kind == SOCK_SCOPE, "it ends");
+    struct sock_house_answer went = sock_let_go(idle, sock_bytes(taken.length), out, sizeof out);
+    raw = sock_leave(idle, sock_bytes(taken.length), out, sizeof out);
+    check(went.number == SOCK_ACCEPTED && went.length == length / 2 && raw == length / 2, "it leaves");
+    check(memcmp(out, config, length) == 0, "and all is as before it came");
+    check(sock_let_go(idle, sock_bytes(taken.length), idle, 2).number == SOCK_OVERLAP, "an output in the configuration");
+    check(sock_join(NULL, 0, NULL, 0, NULL, 0) == (uint64_t)SOCK_UNREADABLE << 56, "nothing to join");
+    check(sock_leave(NULL, 0, NULL, 0) == (uint64_t)SOCK_UNREADABLE << 56, "nothing to leave");
+    check(strcmp(sock_word(21), "house full") == 0 && strcmp(sock_word(22), "still at work") == 0, "words about engines");
+}
+
 /* An index over a solicit, taken back. */
 static void indexes(size_t length)
 {
@@ -272,6 +305,7 @@ int main(void)
     overlap(sock_bytes(words));
     journals(sock_bytes(words));
     indexes(sock_bytes(words));
+    engines(sock_bytes(words));
     small_cabinet(sock_bytes(words));
     null_pointers(sock_bytes(words));
     bills();

@@ -23,7 +23,7 @@ use Rattle.stepping.specs.Answers.{answerAs}
 use Rattle.journal.specs.declared.steps.Compared.{Compared}
 use Rattle.journal.specs.Laying.{layW, layEnd}
 use Rattle.journal.specs.Stepping.{comparedOf}
-use Rattle.journal.proofs.Laying.{over-length}
+use Rattle.writers.proofs.Over.{over-length}
 use Rattle.journal.proofs.Stepping.{short-old, short-new, kept, Wrote, wrote, scratch-fits, scratch-length, scratch-words, noted-end, noted-words}
 use Rattle.bytewise.specs.Held.{held, packedAs, roomOf}
 use Rattle.bytewise.proofs.Holding.{held-short, read-as}

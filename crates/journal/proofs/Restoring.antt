@@ -20,7 +20,7 @@ use Rattle.writers.specs.Writing.{pasted}
 use Rattle.journal.specs.declared.back.Taken.{Taken}
 use Rattle.journal.specs.declared.back.Counts.{Counts}
 use Rattle.journal.specs.Back.{takenAs, countsOf, said, soundBy, Fits, putW, checkedBack}
-use Rattle.journal.proofs.Laying.{pasted-over, pasted-first}
+use Rattle.writers.proofs.Over.{pasted-over, pasted-first}
 
 -- ---- the tests
 

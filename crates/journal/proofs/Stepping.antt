@@ -27,7 +27,8 @@ use Rattle.journal.specs.declared.steps.Compared.{Compared}
 use Rattle.journal.specs.Comparing.{bothOf}
 use Rattle.journal.specs.Laying.{layW, layEnd}
 use Rattle.journal.specs.Stepping.{neededOf, comparedOf, roomIn}
-use Rattle.journal.proofs.Laying.{over-length, pasted-first, journal-words, laid-journal, ends-new}
+use Rattle.writers.proofs.Over.{over-length, pasted-first}
+use Rattle.journal.proofs.Laying.{journal-words, laid-journal, ends-new}
 
 -- ---- room in scratch
 

@@ -43,7 +43,7 @@ module _ (d n issued : ℕ) (few : n ≤ 8) (word : issued < 65536) where
   engine-from (got vs next) = holds-then (process-code next) λ p rest q.
       something {a = record { values = vs; process = awake p }} {rest = rest} (rw (q .0), q .1)
 
-  engine-code : (ws : List ℕ) → Holds (λ e rest. (readEngine d (running n issued) ws ≡ got e rest) × T (freshRun (e .process))) (readEngine d (code false) ws)
+  pub engine-code : (ws : List ℕ) → Holds (λ e rest. (readEngine d (running n issued) ws ≡ got e rest) × T (freshRun (e .process))) (readEngine d (code false) ws)
   unfolding readEngine
   engine-code ws = engine-from (readValues 32 ws)
 
@@ -66,7 +66,7 @@ module _ (d n issued : ℕ) (few : n ≤ 8) (word : issued < 65536) where
   engine-onto (got vs next) = holds-then (process-back next) λ p rest q.
       something {a = record { values = vs; process = awake p }} {rest = rest} λ t. rw (q t)
 
-  engine-back : (ws : List ℕ) → Holds (λ e rest. T (freshRun (e .process)) → readEngine d (code false) ws ≡ got e rest) (readEngine d (running n issued) ws)
+  pub engine-back : (ws : List ℕ) → Holds (λ e rest. T (freshRun (e .process)) → readEngine d (code false) ws ≡ got e rest) (readEngine d (running n issued) ws)
   unfolding readEngine
   engine-back ws = engine-onto (readValues 32 ws)
 

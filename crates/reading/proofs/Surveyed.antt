@@ -75,7 +75,7 @@ noted e i [] starts = set starts e (i + 64)
 noted e i (g ∷ gs) starts = noted (e + 1) (i + length (engineWords g)) gs (set starts e (i + 64))
 
 -- an engine from i on whose process ends at f, or too few words for its values, or no process
-data EngineAt (ws : List ℕ) (i f : ℕ) : Got Engine → Type 0 where
+pub data EngineAt (ws : List ℕ) (i f : ℕ) : Got Engine → Type 0 where
   noValues : length ws - i < 64 → EngineAt ws i f fail
   noProcess : 64 ≤ length ws - i → f ≡ 0 → EngineAt ws i f fail
   anEngine : {g : Engine} → 64 ≤ length ws - i → (f ≡ 0 → ⊥) → f ≤ length ws → f ≡ i + length (engineWords g) → EngineAt ws i f (got g (drop f ws))
@@ -129,7 +129,7 @@ module _
     by-values i (short h) = noValues h
     by-values i (full {vs} {j} h v e) = rw (← e) (process-at i j vs h e v (below j) (found d s root (drop j ws)))
 
-    engine-at : (i : ℕ) → i ≤ length ws → EngineAt ws i (sub (i + 64)) (readEngine d s (drop i ws))
+    pub engine-at : (i : ℕ) → i ≤ length ws → EngineAt ws i (sub (i + 64)) (readEngine d s (drop i ws))
     unfolding readEngine
     engine-at i h = by-values i (values-at ws ok 32 i h)
 

@@ -49,7 +49,7 @@ module _ (test : End → Bool) where
   all-below [] = omega arith
   all-below (g ∷ gs) = simp length-append (omega (arith, tally-below (g .process), all-below gs))
 
-engine-depth : (es : List Engine) (e : ℕ) (d : Engine) → e < length es → runDepth (getD es e d .process) ≤ enginesDepth es
+pub engine-depth : (es : List Engine) (e : ℕ) (d : Engine) → e < length es → runDepth (getD es e d .process) ≤ enginesDepth es
 unfolding enginesDepth
 engine-depth [] e d h = absurd (omega arith)
 engine-depth (g ∷ gs) zero d h = omega arith

@@ -10,7 +10,7 @@ use lib.Dec.{T, eqb}
 use lib.ListN.{length, drop}
 use lib.Seq.{take-append-seam}
 use Rattle.sock.specs.Configuration.{Limits, encode}
-use Rattle.sock.specs.Calls.{Refusal, unreadable, nobodyThere, noMove, noPartner, noFit, installing, serialsSpent, deep, long, short, notFresh, unknownSerial, notDecimal, unmatched, journalShort, indexShort, number, Result, refused, done, Numbers, Stepped, step, Answer, answerOf, outputOf, over}
+use Rattle.sock.specs.Calls.{Refusal, unreadable, nobodyThere, noMove, noPartner, noFit, installing, serialsSpent, deep, long, short, notFresh, unknownSerial, notDecimal, unmatched, journalShort, indexShort, houseFull, stillAtWork, number, Result, refused, done, Numbers, Stepped, step, Answer, answerOf, outputOf, over}
 use Rattle.sock.specs.Runs.{Call, call, roomFor, outcome, callAnswer, callOutput, accepted, nextWords}
 use Rattle.sock.specs.Journal.{journalOf, lentStep}
 use Rattle.sock.proofs.Journal.{lent-done, done-lent}
@@ -33,6 +33,8 @@ number-positive notDecimal = refl
 number-positive unmatched = refl
 number-positive journalShort = refl
 number-positive indexShort = refl
+number-positive houseFull = refl
+number-positive stillAtWork = refl
 
 module _ (limits : Limits) (ws : List ℕ) (k : Call) where
   abbrev result : Result Stepped

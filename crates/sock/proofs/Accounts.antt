@@ -35,10 +35,17 @@ module _ (t : End → Bool) where
   ends-inside (e ∷ es) zero h = omega arith
   ends-inside (e ∷ es) (suc i) h = let x : i < length es = ends-inside es i h in omega arith
 
-  all-none : (es : List Engine) → ((i : ℕ) → endsIn t es i ≡ 0) → tallyAll t es ≡ 0
+  pub all-none : (es : List Engine) → ((i : ℕ) → endsIn t es i ≡ 0) → tallyAll t es ≡ 0
   unfolding tallyAll
   all-none [] h = refl
   all-none (e ∷ es) h = omega (arith, h 0, all-none es (λ i. h (suc i)))
+
+  -- engines that hold the same, one by one, hold the same in all
+  pub all-same : (es fs : List Engine) → ((i : ℕ) → endsIn t es i ≡ endsIn t fs i) → tallyAll t es ≡ tallyAll t fs
+  unfolding tallyAll tally
+  all-same [] fs h = sym (all-none fs (λ i. sym (h i)))
+  all-same (e ∷ es) [] h = omega (arith, h 0, all-none es (λ i. h (suc i)))
+  all-same (e ∷ es) (f ∷ fs) h = omega (arith, h 0, all-same es fs (λ i. h (suc i)))
 
   all-here : (es : List Engine) (k n : ℕ) → k < length es → ((i : ℕ) → endsIn t es i ≡ here i k n) → tallyAll t es ≡ n
   unfolding tallyAll
@@ -112,7 +119,7 @@ module _ {c : Config} {d : ℕ → ℕ} (l : Ledger c d) (s : ℕ) where
 -- ---- a fresh start
 
 module _ (t : End → Bool) where
-  fresh-tally : (r : Run) → T (freshRun r) → tally t r ≡ 0
+  pub fresh-tally : (r : Run) → T (freshRun r) → tally t r ≡ 0
   unfolding freshRun tally
   fresh-tally nil f = refl
   fresh-tally (seq p q) f = fresh-tally p f

@@ -80,7 +80,7 @@ pub step-agrees :
 step-agrees = step-kept any-closed Counted counted-on
 
 -- a start has no ends
-fresh-agrees : (n : ℕ → ℕ) (r : Run) → T (freshRun r) → Agrees n r
+pub fresh-agrees : (n : ℕ → ℕ) (r : Run) → T (freshRun r) → Agrees n r
 unfolding freshRun
 fresh-agrees n nil t = nilKept
 fresh-agrees n (seq p q) t = seqKept (fresh-agrees n p t) tt

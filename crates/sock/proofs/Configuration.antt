@@ -35,12 +35,12 @@ values-found (suc k) ws =
 
 module _ (d n issued : ℕ) where
   -- an engine that fits and is not too deep
-  record EngineFound (ws : List ℕ) (e : Engine) (rest : List ℕ) : Type 0 where
-    begins : ws ≡ engineWords e ++ rest
-    fitting : FitsEngine n issued e
-    shallow : runDepth (e .process) ≤ d
+  pub record EngineFound (ws : List ℕ) (e : Engine) (rest : List ℕ) : Type 0 where
+    pub begins : ws ≡ engineWords e ++ rest
+    pub fitting : FitsEngine n issued e
+    pub shallow : runDepth (e .process) ≤ d
 
-  engine-found : (ws : List ℕ) → Holds (EngineFound ws) (readEngine d (running n issued) ws)
+  pub engine-found : (ws : List ℕ) → Holds (EngineFound ws) (readEngine d (running n issued) ws)
   unfolding readEngine engineWords runWords runDepth
   engine-found ws =
       holds-then (values-found 32 ws) λ vs next q.
@@ -138,7 +138,7 @@ values-finds noneBelow rest = refl
 values-finds (oneBelow {v} {vs} h hs) rest = rw (wide-finds v h (valuesWords vs ++ rest), values-finds hs rest)
 
 module _ (d : ℕ) {n issued : ℕ} (few : n ≤ 8) (word : issued < 65536) where
-  engine-finds :
+  pub engine-finds :
       {e : Engine} → FitsEngine n issued e → runDepth (e .process) ≤ d →
       (rest : List ℕ) → readEngine d (running n issued) (engineWords e ++ rest) ≡ got e rest
   unfolding readEngine engineWords runWords runDepth andThen

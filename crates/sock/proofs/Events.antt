@@ -32,12 +32,12 @@ use Rattle.sock.proofs.Requests.{everyRequest}
 
 -- ---- an answer with number 0
 
-taken-number : (r : Result (List ℕ)) → eqb (takenOf r .number) 0 ≡ true → (old : List ℕ) × (r ≡ done old)
+pub taken-number : (r : Result (List ℕ)) → eqb (takenOf r .number) 0 ≡ true → (old : List ℕ) × (r ≡ done old)
 unfolding takenOf
 taken-number (refused r) e = absurd (subst T (sym e ∙ number-positive r) tt)
 taken-number (done old) e = (old, refl)
 
-taken-words : (old out : List ℕ) {r : Result (List ℕ)} → r ≡ done old → take (takenOf r .length) (restoredOver r out) ≡ old
+pub taken-words : (old out : List ℕ) {r : Result (List ℕ)} → r ≡ done old → take (takenOf r .length) (restoredOver r out) ≡ old
 unfolding takenOf restoredOver
 taken-words old out e = rw e (take-append-seam old (drop (length old) out))
 
@@ -148,7 +148,7 @@ module _ (limits : Limits) where
   Chain base ws (x ∷ xs) = (ws ≡ nextWords limits (x .read) (x .by)) × T (accepted limits (x .read) (x .by)) × Chain base (x .read) xs
 
   -- a taking back goes back along it, whatever figures it is made at
-  went-back :
+  pub went-back :
       (figures : Limits) (x : Standing) (ws journal out rest : List ℕ) → ws ≡ nextWords limits (x .read) (x .by) → journal ≡ ownJournal limits x ++ rest →
       takes figures ws journal out ≡ true → wordsBefore figures ws journal out ≡ x .read
   unfolding ownJournal

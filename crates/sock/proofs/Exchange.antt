@@ -27,16 +27,17 @@ use Rattle.sock.proofs.Running.{enable-sound}
 use Rattle.sock.proofs.Frames.{seqOf-sound}
 use Rattle.sock.proofs.Rules.{FitValues, values-set-all, FitsMessage, notificationFits, solicitationFits, replyFits, failureFits}
 
--- ---- more serials
+-- ---- more engines, more serials
 
-module _ (n : ℕ) {issued issued' : ℕ} (h : issued ≤ issued') where
-  end-later : (engine serial : ℕ) → T (endFits n issued engine serial) → T (endFits n issued' engine serial)
+module _ {n n' issued issued' : ℕ} (w : n ≤ n') (h : issued ≤ issued') where
+  end-later : (engine serial : ℕ) → T (endFits n issued engine serial) → T (endFits n' issued' engine serial)
   end-later engine serial t =
       let e = end-tests n issued engine serial t in
+      let b : engine < n' = le-trans (e .below) w in
       let g : serial ≤ issued' = le-trans (e .given) h in
-      end-fits (record { below = e .below; positive = e .positive; given = g })
+      end-fits (record { below = b; positive = e .positive; given = g })
 
-  pub sound-later : {r : Run} → Sound n issued r → Sound n issued' r
+  pub sound-later : {r : Run} → Sound n issued r → Sound n' issued' r
   sound-later nilSound = nilSound
   sound-later (seqSound g t q) = seqSound (sound-later g) t q
   sound-later (parSound g t k u) = parSound (sound-later g) t (sound-later k) u
@@ -46,14 +47,14 @@ module _ (n : ℕ) {issued issued' : ℕ} (h : issued ≤ issued') where
   sound-later (noticeSound {client = c} {serial = s} o f e) = noticeSound o f (end-later c s e)
   sound-later (actSound t g) = actSound t g
 
-  frame-later : {f : Frame} → SoundFrame n issued f → SoundFrame n issued' f
+  frame-later : {f : Frame} → SoundFrame n issued f → SoundFrame n' issued' f
   frame-later (seqFrameSound q) = seqFrameSound q
   frame-later (leftFrameSound g t) = leftFrameSound (sound-later g) t
   frame-later (rightFrameSound g t) = rightFrameSound (sound-later g) t
   frame-later (scopeFrameSound a m c) = scopeFrameSound a m c
   frame-later (executorFrameSound {client = c} {serial = s} o y e) = executorFrameSound o y (end-later c s e)
 
-  pub frames-later : {fs : List Frame} → SoundFrames n issued fs → SoundFrames n issued' fs
+  pub frames-later : {fs : List Frame} → SoundFrames n issued fs → SoundFrames n' issued' fs
   frames-later noFrames = noFrames
   frames-later (oneFrame f fs) = oneFrame (frame-later f) (frames-later fs)
 

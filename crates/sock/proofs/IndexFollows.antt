@@ -15,20 +15,21 @@ use Rattle.sock.specs.Configuration.{Limits, Config, encode, readConfig}
 use Rattle.sock.specs.Calls.{Refusal, indexShort, number, Result, refused, done, Numbers, Stepped, over, passed, start, checkStart}
 use Rattle.sock.specs.Journal.{journalStep, takeBack, takenOf, restoredOver, takeBackAnswer, takeBackOutput, lentStep}
 use Rattle.sock.specs.Runs.{Call, call, outcome, accepted, nextWords}
-use Rattle.sock.specs.Events.{stepping, takingBack, takes, wordsBefore, State, begun, next, after, struckOut, Proper, AllProper}
-use Rattle.sock.specs.Index.{rising, indexOf, listed, upTo, hasWaiter, openSerials, openOf, openAfter, beginning, indexAfter, beginAnswer, beginIndex, mapped, indexedIndex, indexedRelisted, openCount, oldest, IndexedEvent, stepIndexed, takeBackIndexed, bare, Follow, follow, followAll, TheIndexFollows}
-use Rattle.sock.proofs.Configuration.{config-found}
+use Rattle.sock.specs.Events.{takes, wordsBefore}
+use Rattle.sock.specs.House.{Act, stepping, joining, leaving, accepts, wordsAfter, Event, acting, takingBack, State, begun, next, after, struckOut, Proper, AllProper}
+use Rattle.sock.specs.Index.{rising, indexOf, listed, upTo, hasWaiter, openSerials, openOf, openAfter, beginning, indexAfter, beginAnswer, beginIndex, mapped, indexedIndex, indexedRelisted, openCount, oldest, IndexedEvent, stepIndexed, takeBackIndexed, comes, goes, bare, Follow, follow, followAll, TheIndexFollows}
+use Rattle.sock.proofs.Configuration.{config-found, config-finds}
 use Rattle.sock.proofs.Steps.{Sure, sureRefused, sureDone, sure-then, sure-unless, sure-done, step-readable}
 use Rattle.sock.proofs.Journal.{journal-done}
 use Rattle.sock.proofs.Accepted.{number-positive, refuses, does}
 use Rattle.sock.proofs.Ledger.{Ledger}
 use Rattle.sock.proofs.Accounts.{fresh-ledger}
-use Rattle.sock.proofs.Requests.{started, run-ledger}
-use Rattle.sock.proofs.Events.{Chain, chain-here, struck-run, chain-begun}
+use Rattle.sock.proofs.Requests.{started}
+use Rattle.sock.proofs.House.{Calmly, join-calmly, leave-calmly, join-refused, leave-refused, led-acts, Chain, chain-next, struck-leads, chain-begun}
 use Rattle.sock.proofs.Index.{upTo-rising, over-index, listed-over, count-told, oldest-told}
 use Rattle.sock.proofs.Indexed.{step-serials, back-serials}
 use Rattle.sock.proofs.FewOpen.{readable-few}
-use Rattle.sock.proofs.OpenSerials.{step-open}
+use Rattle.sock.proofs.OpenSerials.{step-open, calm-open}
 
 module _ (limits : Limits) (small : limits .longest ≤ 8192) where
   -- the open serials of the configuration in some words
@@ -57,13 +58,13 @@ module _ (limits : Limits) (small : limits .longest ≤ 8192) where
 
   -- ---- one event: the words read next, and the serials that the index then lists
 
-  next-words : (s : State) (k : Call) → next limits s (stepping k) .words ≡ nextWords limits (s .words) k
-  unfolding next nextWords
+  next-words : (s : State) (k : Call) → next limits s (acting (stepping k)) .words ≡ nextWords limits (s .words) k
+  unfolding next accepts wordsAfter nextWords
   next-words s k = by (accepted limits (s .words) k) refl
     where
       by :
           (b : Bool) → accepted limits (s .words) k ≡ b →
-          let n : State = cond b (record { words = nextWords limits (s .words) k; standing = record { read = s .words; by = k } ∷ s .standing }) s in
+          let n : State = cond b (record { words = nextWords limits (s .words) k; standing = record { read = s .words; by = stepping k } ∷ s .standing }) s in
           n .words ≡ nextWords limits (s .words) k
       by true e = refl
       by false e = rw e
@@ -90,6 +91,29 @@ module _ (limits : Limits) (small : limits .longest ≤ 8192) where
     unfolding indexedRelisted
     back-index journal out = ap (λ r. indexAfter r index) (back-serials limits ws index e journal (length out))
 
+  -- ---- a joining and a leaving open and close nothing
+
+  calm-serials : {c : Config} (ws us : List ℕ) → readConfig limits ws ≡ some c → Calmly limits c us → serials us ≡ serials ws
+  calm-serials {c} ws us r y =
+      ap serials (y .words)
+      ∙ serials-read (encode (y .config)) (config-finds limits (y .config) (y .calm .readable))
+      ∙ calm-open (y .calm)
+      ∙ sym (serials-read ws r)
+
+  join-serials : (ws engine out : List ℕ) {c : Config} → readConfig limits ws ≡ some c → serials (wordsAfter limits ws (joining engine out)) ≡ serials ws
+  join-serials ws engine out r = by (accepts limits ws (joining engine out)) refl
+    where
+      by : (b : Bool) → accepts limits ws (joining engine out) ≡ b → serials (wordsAfter limits ws (joining engine out)) ≡ serials ws
+      by true e = calm-serials ws _ r (join-calmly limits ws engine out r e)
+      by false e = ap serials (join-refused limits ws engine out e)
+
+  leave-serials : (ws out : List ℕ) {c : Config} → readConfig limits ws ≡ some c → serials (wordsAfter limits ws (leaving out)) ≡ serials ws
+  leave-serials ws out r = by (accepts limits ws (leaving out)) refl
+    where
+      by : (b : Bool) → accepts limits ws (leaving out) ≡ b → serials (wordsAfter limits ws (leaving out)) ≡ serials ws
+      by true e = calm-serials ws _ r (leave-calmly limits ws out r e)
+      by false e = ap serials (leave-refused limits ws out e)
+
   -- ---- in a run from a fresh start
 
   module _ (base : List ℕ) (starts : checkStart limits base ≡ 0) (begin : List ℕ) where
@@ -101,8 +125,8 @@ module _ (limits : Limits) (small : limits .longest ≤ 8192) where
 
     held : (s : State) → Chain limits base (s .words) (s .standing) → Held (s .words)
     held s h =
-        let (c, r, d, l) = run-ledger limits base starts (struckOut s) in
-        record { config = c; reads = subst (λ ws. readConfig limits ws ≡ some c) (struck-run limits base s h) r; delivered = d; ledger = l }
+        let x = led-acts limits base starts (struckOut s) in
+        record { config = x .config; reads = subst (λ ws. readConfig limits ws ≡ some (x .config)) (struck-leads limits base s h) (x .reads); delivered = _; ledger = x .ledger }
 
     -- what stands leads to the words read now, and the index lists their open serials
     record Follows (x : Follow) : Type 0 where
@@ -123,7 +147,7 @@ module _ (limits : Limits) (small : limits .longest ≤ 8192) where
         lent = call k out (some journal)
 
         abbrev stepped : State
-        stepped = next limits (x .state) (stepping lent)
+        stepped = next limits (x .state) (acting (stepping lent))
 
         step-refused : {r : Refusal} → journalStep limits (x .state .words) k (length out) (length journal) ≡ refused r → stepped .words ≡ x .state .words
         unfolding outcome lentStep
@@ -144,7 +168,7 @@ module _ (limits : Limits) (small : limits .longest ≤ 8192) where
         unfolding Proper mapped indexAfter
         step-follows =
             record {
-              chain = chain-here limits base (x .state) (stepping lent) (f .chain) tt;
+              chain = chain-next limits base (x .state) (acting (stepping lent)) (f .chain) tt;
               laid = step-index (x .state .words) (x .index) lists k out journal ∙ by (journalStep limits (x .state .words) k (length out) (length journal)) refl;
             }
           where
@@ -162,7 +186,7 @@ module _ (limits : Limits) (small : limits .longest ≤ 8192) where
         unfolding mapped indexAfter
         back-follows =
             record {
-              chain = chain-here limits base (x .state) (takingBack journal out) (f .chain) p;
+              chain = chain-next limits base (x .state) (takingBack journal out) (f .chain) p;
               laid = back-index (x .state .words) (x .index) lists journal out ∙ by (takeBack limits (x .state .words) journal (length out)) refl;
             }
           where
@@ -172,10 +196,28 @@ module _ (limits : Limits) (small : limits .longest ≤ 8192) where
             by (refused r) e = f .laid ∙ ap (λ s. over (indexOf (serials (s .words))) begin) (sym (back-refused (x .state) journal out e))
             by (done old) e = relaid old ∙ ap (λ ws. over (indexOf (serials ws)) begin) (sym (back-words (x .state) journal out e))
 
+      -- a joining or a leaving
+      calm-follows : (a : Act) → serials (wordsAfter limits (x .state .words) a) ≡ serials (x .state .words) → Follows (record { state = next limits (x .state) (acting a); index = x .index })
+      unfolding next Proper
+      calm-follows a same =
+          record {
+            chain = chain-next limits base (x .state) (acting a) (f .chain) tt;
+            laid = f .laid ∙ ap (λ ss. over (indexOf ss) begin) (sym (by (accepts limits (x .state .words) a)));
+          }
+        where
+          by :
+              (b : Bool) →
+              let n : State = cond b (record { words = wordsAfter limits (x .state .words) a; standing = record { read = x .state .words; by = a } ∷ x .state .standing }) (x .state) in
+              serials (n .words) ≡ serials (x .state .words)
+          by true = same
+          by false = refl
+
       follow-one : (e : IndexedEvent) → Proper limits (x .state) (bare e) → (follow limits x e .state ≡ next limits (x .state) (bare e)) × Follows (follow limits x e)
       unfolding follow bare
       follow-one (stepIndexed k out journal) p = rw (lists, follow) (refl, step-follows k out journal)
       follow-one (takeBackIndexed journal out) p = rw (lists, follow) (refl, back-follows journal out p)
+      follow-one (comes engine out) p = (refl, calm-follows (joining engine out) (join-serials (x .state .words) engine out (held (x .state) (f .chain) .reads)))
+      follow-one (goes out) p = (refl, calm-follows (leaving out) (leave-serials (x .state .words) out (held (x .state) (f .chain) .reads)))
 
     follow-all :
         (es : List IndexedEvent) (x : Follow) → Follows x → AllProper limits (x .state) (map bare es) →

@@ -12,6 +12,7 @@ use Rattle.sock.specs.Words.{bit}
 use Rattle.sock.specs.Running.{Run}
 use Rattle.sock.specs.Configuration.{Config}
 use Rattle.sock.specs.Calls.{End, waiting, working}
+use Rattle.sock.specs.Engines.{serialOf}
 use Rattle.sock.specs.Runs.{carries, same}
 use Rattle.sock.proofs.Fields.{three}
 use Rattle.sock.proofs.Moves.{Quiet}
@@ -36,10 +37,6 @@ Apart idle = Unit {0}
 Apart (pending o client server) = client ≡ server → ⊥
 
 -- a test that only ends of serial s pass
-abbrev serialOf : End → ℕ
-serialOf (waiting s o engine) = s
-serialOf (working s o engine) = s
-
 abbrev pub Only : ℕ → (End → Bool) → Type 0
 Only s t = (x : End) → T (t x) → serialOf x ≡ s
 
@@ -109,7 +106,7 @@ module _ (s o g : ℕ) where
       cc
 
 -- ends of another serial pass no such test
-share-other : {s n : ℕ} (t : End → Bool) → Only s t → (s ≡ n → ⊥) → (i o client server : ℕ) → share t i n o client server ≡ 0
+pub share-other : {s n : ℕ} (t : End → Bool) → Only s t → (s ≡ n → ⊥) → (i o client server : ℕ) → share t i n o client server ≡ 0
 share-other {s} {n} t only d i o client server =
     let w : bit (t (waiting n o server)) ≡ 0 = bit-none (t (waiting n o server)) (λ u. d (sym (only (waiting n o server) u))) in
     let k : bit (t (working n o client)) ≡ 0 = bit-none (t (working n o client)) (λ u. d (sym (only (working n o client) u))) in

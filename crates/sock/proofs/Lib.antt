@@ -14,6 +14,7 @@ pub mod Decimals
 pub mod Delivery
 pub mod EarlierReading
 pub mod Edges
+pub mod Engines
 pub mod Events
 pub mod Examples
 pub mod Exchange
@@ -23,6 +24,7 @@ pub mod Fits
 pub mod Frames
 pub mod Handlers
 pub mod Heads
+pub mod House
 pub mod Inside
 pub mod InsideSteps
 pub mod Index

@@ -26,7 +26,8 @@ use Rattle.sock.proofs.Steps.{sure-done, enabled-fits}
 use Rattle.sock.proofs.Taken.{Taken, takenAlone, takenBetween, step-accepts}
 use Rattle.sock.proofs.Turns.{Turn, quietly, begins, ended, Stepping, step-turns}
 use Rattle.sock.proofs.Ledger.{Ledger, ledger-turns}
-use Rattle.sock.proofs.Accounts.{waits-all}
+use Rattle.sock.proofs.Accounts.{waits-all, all-same}
+use Rattle.sock.proofs.Engines.{Calm}
 use Rattle.sock.proofs.Index.{upTo-same, putIn-upTo, takeOut-upTo}
 
 -- ---- by the kind
@@ -168,3 +169,12 @@ step-open limits ws k room s e {c} r l =
     let turn : Turn c (s .config) (x .spot .process) (s .serial) = subst (λ c. Turn c (s .config) (x .spot .process) (s .serial)) here (x .turn) in
     turn-open s (taken-kind (subst (λ c. Taken c k s) there (y .taken)) at)
     (all-some (enabled-fits (config-found limits ws c r .1 .fitting) (k .engine) (k .position)) at .process) l (ledger-turns (x .spot .process) l turn) turn
+
+-- ---- a joining, a leaving
+
+-- engines that hold the same ends have the same serials open
+pub calm-open : {limits : Limits} {c c' : Config} → Calm limits c c' → openSerials c' ≡ openSerials c
+unfolding openSerials hasWaiter
+calm-open {c = c} {c'} x =
+    upTo-same (hasWaiter c') (hasWaiter c) (c' .issued) (λ s a b. ap (λ n. ltb 0 n) (all-same (waits s) (c' .engines) (c .engines) (λ i. x .ends i (waits s))))
+    ∙ ap (upTo (hasWaiter c)) (x .issued)

@@ -40,7 +40,7 @@ data Ready (s : ℕ) : Run → Type 0 where
 data Awaiting (s : ℕ) : Run → Type 0 where
   awaiting : (o : ℕ) (x : List ℕ) (dead : Bool) (server : ℕ) (l : Entries) → Awaiting s (waiter o x dead server s l)
 
-nil-when : (r : Run) → T (isDone r) → nil ≡ r
+pub nil-when : (r : Run) → T (isDone r) → nil ≡ r
 unfolding isDone
 nil-when nil d = refl
 nil-when (seq p q) d = absurd d
@@ -113,7 +113,7 @@ meets (faultReady o f g) (awaiting o' x dead g' l) a (waiterKept c' h) eo es ec 
 
 -- ---- what an engine and a position name
 
-spot-named :
+pub spot-named :
     (t : Run → Bool) (o : Option Spot) → T (ofSpot t o) → (a : Spot) × (o ≡ some a) × T (t (a .process))
 unfolding ofSpot
 spot-named t none h = absurd h
@@ -124,7 +124,7 @@ unfolding also
 spot-ended none h = absurd (let z : _≡_ {A = ℕ} 0 1 = cc in omega arith)
 spot-ended (some a) h = (a, refl, h)
 
-same-end : (x y : End) → T (same x y) → y ≡ x
+pub same-end : (x y : End) → T (same x y) → y ≡ x
 unfolding same
 same-end (waiting s o g) (waiting s' o' g') t =
     let (a, b, c) = three (eqb s s') (eqb o o') (eqb g g') t in
@@ -156,7 +156,7 @@ tally-own t (waiter o x dead server serial l) = omega arith
 tally-own t (notice o f client serial) = omega arith
 tally-own t (act p) = omega arith
 
-is-same : (x : End) (r : Run) → T (isEnd (same x) r) → endOf r ≡ some x
+pub is-same : (x : End) (r : Run) → T (isEnd (same x) r) → endOf r ≡ some x
 is-same x r t = by (endOf r) t
   where
     by : (o : Option End) → T (ofEnd (same x) o) → o ≡ some x
@@ -189,7 +189,7 @@ module _ {limits : Limits} {c : Config} (readable : Readable limits c) where
       omega (arith, y .ends (same x))
 
   -- an end that is named stands in its engine
-  named-stands : (e p : ℕ) (x : End) → endAt c e p ≡ some x → stands c e x
+  pub named-stands : (e p : ℕ) (x : End) → endAt c e p ≡ some x → stands c e x
   unfolding endAt
   named-stands e p x h =
       let (a, at, n) = spot-ended (enabledAt c e p) h in

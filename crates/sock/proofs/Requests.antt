@@ -16,7 +16,7 @@ use Rattle.sock.specs.Running.{Run, executor, waiter}
 use Rattle.sock.specs.Configuration.{Limits, Config, encode, readConfig, fresh}
 use Rattle.sock.specs.Rules.{also}
 use Rattle.sock.specs.Calls.{unreadable, notFresh, number, Result, refused, done, _>>=_, _>>_, _!_, _unless_, Spot, enabledAt, Stepped, step, passed, start, checkStart, End, isEnd, tallyAll, waits, works, known, counted, ends}
-use Rattle.sock.specs.Runs.{Call, callAnswer, accepted, nextWords, run, named, ofSpot, isSolicit, carries, counts, total, solicits, deliveries, lastSerial, awaits, delivery, Matched, EveryRequestHasOneReply}
+use Rattle.sock.specs.Runs.{Call, callAnswer, accepted, nextWords, run, named, ofSpot, isSolicit, carries, counts, total, solicits, deliveries, lastSerial, awaits, delivery, Course, course, Matched, MatchedBy, EveryRequestHasOneReply}
 use Rattle.sock.specs.Everywhere.{everywhere}
 use Rattle.sock.specs.Cabinets.{DeliverableAt}
 use Rattle.sock.proofs.Logic.{all-some}
@@ -49,13 +49,19 @@ delivered-at limits ws {c} l w reads s e p e' p' out journal n n' room enough =
 module _ (limits : Limits) where
   -- ---- one call
 
-  record OneCall (ws : List ℕ) (k : Call) (c : Config) (d : ℕ → ℕ) : Type 0 where
-    config : Config
-    reads : readConfig limits (nextWords limits ws k) ≡ some config
-    ledger : Ledger config (λ s. d s + counts (carries s) limits ws k)
-    agreed : Agreed config
-    issued : config .issued ≡ c .issued + counts isSolicit limits ws k
-    latest :
+  -- what a call leaves is what it read, or a turn further
+  pub data Changed (c c' : Config) : Type 0 where
+    stays : c' ≡ c → Changed c c'
+    turns : (p : Run) (serial : ℕ) → Turn c c' p serial → Changed c c'
+
+  pub record OneCall (ws : List ℕ) (k : Call) (c : Config) (d : ℕ → ℕ) : Type 0 where
+    pub config : Config
+    pub changed : Changed c config
+    pub reads : readConfig limits (nextWords limits ws k) ≡ some config
+    pub ledger : Ledger config (λ s. d s + counts (carries s) limits ws k)
+    pub agreed : Agreed config
+    pub issued : config .issued ≡ c .issued + counts isSolicit limits ws k
+    pub latest :
         (serial : ℕ) → serial ≡ c .issued →
         cond (accepted limits ws k && ofSpot isSolicit (named limits ws k)) (callAnswer limits ws k .serial) serial ≡ config .issued
 
@@ -69,6 +75,7 @@ module _ (limits : Limits) where
         let no : (test : Run → Bool) → counts test limits ws k ≡ 0 = counts-refused (u .not-accepted) in
         record {
           config = c;
+          changed = stays refl;
           reads = rw (u .kept) r;
           ledger = ledger-same (λ s. omega (arith, no (carries s))) l;
           agreed = w;
@@ -95,6 +102,7 @@ module _ (limits : Limits) where
         let counting : (test : Run → Bool) → counts test limits ws k ≡ bit (test p) = counts-done (u .is-accepted) found in
         record {
           config = s .config;
+          changed = turns p (s .serial) turn;
           reads = rw (u .next) (step-readable limits ws (k .numbers) (length (k .output)) s (u .step-done));
           ledger = ledger-same (λ n. omega (arith, counting (carries n))) (ledger-turns p l turn);
           agreed = sure-done (step-agrees limits ws (k .numbers) (length (k .output)) r w) (u .step-done);
@@ -102,7 +110,7 @@ module _ (limits : Limits) where
           latest = λ serial e. rw (u .is-accepted, found, u .serial) (turn-latest turn serial e);
         }
 
-    one-call : OneCall ws k c d
+    pub one-call : OneCall ws k c d
     one-call = by (called limits ws k)
       where
         by : Called limits ws k → OneCall ws k c d
@@ -156,49 +164,66 @@ module _ (limits : Limits) where
   unfolding ends known counted _>>=_ _>>_ _!_ _unless_
   ends-known ws {c} s r a b = rw (r, lt-ltb 0 s a, le-leb s (c .issued) b)
 
-  matched :
-      (ws : List ℕ) {c₀ : Config} → c₀ .issued ≡ 0 → (calls : List Call) (x : After ws calls c₀ (λ s. 0)) → Matched limits ws calls (x .config)
+  -- what is known of the configuration that a course leads to
+  pub record Led (r : Course) : Type 0 where
+    pub config : Config
+    pub reads : readConfig limits (r .words) ≡ some config
+    pub ledger : Ledger config (r .deliveries)
+    pub agreed : Agreed config
+    pub issued : config .issued ≡ r .solicits
+    pub latest : r .lastSerial ≡ config .issued
+
+  pub matched : (r : Course) (x : Led r) → MatchedBy limits r (x .config)
   unfolding encode awaits carries
-  matched ws z calls x =
+  matched r x =
       record {
         readable = x .reads;
-        issued = ap (λ ws. getD ws 1 0) (sym words) ∙ count;
-        latest = λ h. x .latest 0 (sym z) ∙ count;
+        issued = ap (λ ws. getD ws 1 0) (sym words) ∙ x .issued;
+        latest = λ h. x .latest ∙ x .issued;
         counted = λ s a b. ap (λ r. r .number) (answered s a b);
         balanced = λ s a b. rw (answered s a b) (waits-all l s ∙ sym (works-all l s));
-        once = λ s a b. rw (answered s a b) (omega (arith, waits-all l s, l .given s a (omega (arith, count))));
+        once = λ s a b. rw (answered s a b) (omega (arith, waits-all l s, l .given s a (omega (arith, x .issued))));
         all = λ s a b. (here-all (waits s) ∙ ap (λ r. r .waiters) (sym (answered s a b)), here-all (works s) ∙ ap (λ r. r .workers) (sym (answered s a b)));
         others = λ s f.
-            let free : openOf (l .status s) ≡ 0 = omega (arith, l .others s (λ a b. f a (omega (arith, count)))) in
+            let free : openOf (l .status s) ≡ 0 = omega (arith, l .others s (λ a b. f a (omega (arith, x .issued)))) in
             (here-all (waits s) ∙ waits-all l s ∙ free, here-all (works s) ∙ works-all l s ∙ free);
         placed = end-placed good;
         paired = named-paired good l;
         awaited = ready-awaited good l;
-        deliverable = delivered-at limits (run limits ws calls) l (x .agreed) (x .reads);
+        deliverable = delivered-at limits (r .words) l (x .agreed) (x .reads);
       }
     where
       c : Config
       c = x .config
 
-      l : Ledger c (λ s. 0 + deliveries s limits ws calls)
+      l : Ledger c (r .deliveries)
       l = x .ledger
 
-      words : encode c ≡ run limits ws calls
-      words = config-found limits (run limits ws calls) c (x .reads) .0
+      words : encode c ≡ r .words
+      words = config-found limits (r .words) c (x .reads) .0
 
       good : Readable limits c
-      good = config-found limits (run limits ws calls) c (x .reads) .1
+      good = config-found limits (r .words) c (x .reads) .1
 
       here-all : (t : End → Bool) → everywhere (isEnd t) c ≡ tallyAll t (c .engines)
       here-all t = everywhere-all t (good .fitting)
 
-      count : c .issued ≡ solicits limits ws calls
-      count = omega (arith, x .issued)
-
       answered :
-          (s : ℕ) → 0 < s → s ≤ solicits limits ws calls →
-          ends limits (run limits ws calls) s ≡ record { number = 0; waiters = tallyAll (waits s) (c .engines); workers = tallyAll (works s) (c .engines) }
-      answered s a b = ends-known (run limits ws calls) s (x .reads) a (omega (arith, count))
+          (s : ℕ) → 0 < s → s ≤ r .solicits →
+          ends limits (r .words) s ≡ record { number = 0; waiters = tallyAll (waits s) (c .engines); workers = tallyAll (works s) (c .engines) }
+      answered s a b = ends-known (r .words) s (x .reads) a (omega (arith, x .issued))
+
+  -- a list of calls from a configuration with nothing issued
+  led-by : (ws : List ℕ) {c₀ : Config} → c₀ .issued ≡ 0 → (calls : List Call) → After ws calls c₀ (λ s. 0) → Led (course limits ws calls)
+  led-by ws z calls x =
+      record {
+        config = x .config;
+        reads = x .reads;
+        ledger = ledger-same (λ s. omega arith) (x .ledger);
+        agreed = x .agreed;
+        issued = omega (arith, x .issued);
+        latest = x .latest 0 (sym z);
+      }
 
 -- Demand 3, and delivery at any limits that read the configuration
 pub everyRequestAt :
@@ -209,22 +234,11 @@ pub everyRequestAt :
 everyRequestAt limits start h calls =
     let (c, r, f) = started limits start h in
     let (z, l) = fresh-ledger c f in
-    let x = after limits calls start r l (fresh-agreed c f) in
-    (x .config, matched limits start z calls x, λ s. delivered-at s (run limits start calls) (x .ledger) (x .agreed))
+    let x = led-by limits start z calls (after limits calls start r l (fresh-agreed c f)) in
+    (x .config, matched limits (course limits start calls) x, λ s. delivered-at s (run limits start calls) (x .ledger) (x .agreed))
 
 pub everyRequest : EveryRequestHasOneReply
 everyRequest limits start h calls = let (c, m, d) = everyRequestAt limits start h calls in (c, m)
-
--- in a run from a fresh start every configuration has a ledger
-pub run-ledger :
-    (limits : Limits) (start : List ℕ) →
-    checkStart limits start ≡ 0 →
-    (calls : List Call) →
-    (c : Config) × (readConfig limits (run limits start calls) ≡ some c) × (d : ℕ → ℕ) × Ledger c d
-run-ledger limits start h calls =
-    let (c, r, f) = started limits start h in
-    let x = after limits calls start r (fresh-ledger c f .1) (fresh-agreed c f) in
-    (x .config, x .reads, _, x .ledger)
 
 -- ---- counts
 

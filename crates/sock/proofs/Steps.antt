@@ -71,12 +71,13 @@ engine-fits noEngines e h d = absurd (omega arith)
 engine-fits (oneEngine g gs) zero h d = g
 engine-fits (oneEngine g gs) (suc e) h d = engine-fits gs e (omega arith) d
 
-engine-later : {n issued issued' : ℕ} {e : Engine} → issued ≤ issued' → FitsEngine n issued e → FitsEngine n issued' e
-engine-later {n} h g = record { counted = g .counted; bounded = g .bounded; sound = sound-later n h (g .sound); placed = g .placed }
+module _ {n n' issued issued' : ℕ} (w : n ≤ n') (h : issued ≤ issued') where
+  pub engine-later : {e : Engine} → FitsEngine n issued e → FitsEngine n' issued' e
+  engine-later g = record { counted = g .counted; bounded = g .bounded; sound = sound-later w h (g .sound); placed = g .placed }
 
-engines-later : {n issued issued' : ℕ} {es : List Engine} → issued ≤ issued' → FitsEngines n issued es → FitsEngines n issued' es
-engines-later h noEngines = noEngines
-engines-later h (oneEngine g gs) = oneEngine (engine-later h g) (engines-later h gs)
+  pub engines-later : {es : List Engine} → FitsEngines n issued es → FitsEngines n' issued' es
+  engines-later noEngines = noEngines
+  engines-later (oneEngine g gs) = oneEngine (engine-later g) (engines-later gs)
 
 engines-set : {n issued : ℕ} {es : List Engine} {x : Engine} → FitsEngines n issued es → (e : ℕ) → FitsEngine n issued x → FitsEngines n issued (set es e x)
 engines-set noEngines e h = noEngines
@@ -218,7 +219,7 @@ put-fits :
     Sound (length (c .engines)) issued p →
     FitsEngine (length (c .engines)) issued (record { values = vs; process = plug (a .frames) p })
 put-fits {c} {a} {p = p} x h t v g =
-    engine-of v (plug-sound (frames-later (length (c .engines)) h (x .frames)) g)
+    engine-of v (plug-sound (frames-later (le-refl (length (c .engines))) h (x .frames)) g)
     (plug-rootable (a .frames) p (based-any (a .frames) (rootable p) (subst (λ b. T (based (a .frames) b)) (test-false (rootable (a .process)) t) (x .inside))))
 
 abbrev NextOf : Stepped → Type 0
@@ -238,7 +239,7 @@ carried-fits {c} g {a} {b} x y (betweenFits {x = e} f t u) =
     ∙ length-set (c .engines) (a .engine) (record { values = a .values; process = plug (a .frames) (e .sender) }))
     (g .some) (g .few)
     (engines-set
-    (engines-set (engines-later (f .later) (g .engines)) (a .engine) (put-fits x (f .later) t (x .values) (f .sender)))
+    (engines-set (engines-later (le-refl (length (c .engines))) (f .later) (g .engines)) (a .engine) (put-fits x (f .later) t (x .values) (f .sender)))
     (b .engine)
     (put-fits y (f .later) u (f .values) (f .receiver))))
 

@@ -8,7 +8,7 @@ use mathlib.Core.List.{List, [], _∷_}
 use lib.Dec.{T, leb}
 use lib.ListN.{length}
 use Rattle.sock.specs.Configuration.{Limits, Config, encode, enginesDepth, guarded, also, readConfig}
-use Rattle.sock.specs.Calls.{Refusal, unreadable, nobodyThere, noMove, noPartner, noFit, notDecimal, installing, serialsSpent, deep, long, short, notFresh, unknownSerial, unmatched, journalShort, indexShort, Result, refused, done, Numbers, Stepped, checkStart}
+use Rattle.sock.specs.Calls.{Refusal, unreadable, nobodyThere, noMove, noPartner, noFit, notDecimal, installing, serialsSpent, deep, long, short, notFresh, unknownSerial, unmatched, journalShort, indexShort, houseFull, stillAtWork, Result, refused, done, Numbers, Stepped, checkStart}
 use Rattle.sock.specs.Journal.{journalOf, lentStep}
 use Rattle.sock.specs.Runs.{call, callAnswer, nextWords, run, Matched, roomFor, names, ready, awaits, delivery}
 use Rattle.sock.specs.Events.{Event, stepping, takingBack, takes, State, begun, next, struckOut, Undoes, AllAccepted}
@@ -66,6 +66,8 @@ beforeLimits unknownSerial = false
 beforeLimits unmatched = false
 beforeLimits journalShort = false
 beforeLimits indexShort = false
+beforeLimits houseFull = false
+beforeLimits stillAtWork = false
 
 -- They agree where the input is inside s
 abbrev pub RefusedInside : Type 0

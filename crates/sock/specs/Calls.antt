@@ -30,6 +30,8 @@ pub data Refusal : Type 0 where
   unmatched : Refusal  -- 15 "journal doesn't match": taking back, after 1 and before 10
   journalShort : Refusal  -- 16 "journal short": the lent journal shorter than this step's; tried after 10
   indexShort : Refusal  -- 17 "index short": fewer than 2,049 words, or not an index in order; tried before all others
+  houseFull : Refusal  -- 21 "house full": joining eight engines; tried after 1
+  stillAtWork : Refusal  -- 22 "still at work": leaving as the only engine, with a process that isn't nil, or named by an end; tried after 1
 
 abbrev pub number : Refusal → ℕ
 number unreadable = 1
@@ -48,6 +50,8 @@ number notDecimal = 13
 number unmatched = 15
 number journalShort = 16
 number indexShort = 17
+number houseFull = 21
+number stillAtWork = 22
 
 pub data Result (A : Type 0) : Type 0 where
   refused : Refusal → Result A

@@ -22,5 +22,8 @@ pub mod Runs
 pub mod Events
 pub mod Beside
 pub mod Cabinets
+pub mod Engines
+pub mod EnginesBytes
+pub mod House
 pub mod Index
 pub mod IndexBytes

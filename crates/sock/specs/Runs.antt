@@ -130,35 +130,52 @@ endAt c e p = also (enabledAt c e p) λ a. endOf (a .process)
 abbrev pub delivery : ℕ → ℕ → ℕ → ℕ → Numbers
 delivery e p e' p' = record { engine = e; position = p; second = e'; secondPosition = p'; branch = 0 }
 
--- What is so after a list of calls, for the configuration that is then read
-pub record Matched (limits : Limits) (start : List ℕ) (calls : List Call) (c : Config) : Type 0 where
+-- What a list of calls, or of events that count as such, comes to: the words that are read after it, how many solicits it accepted, the serial
+-- in the last one's answer, and how often it delivered each serial
+pub record Course : Type 0 where
+  pub words : List ℕ
+  pub solicits : ℕ
+  pub lastSerial : ℕ
+  pub deliveries : ℕ → ℕ
+
+abbrev pub course : Limits → List ℕ → List Call → Course
+course limits start calls =
+    record {
+      words = run limits start calls;
+      solicits = solicits limits start calls;
+      lastSerial = lastSerial 0 limits start calls;
+      deliveries = λ s. deliveries s limits start calls;
+    }
+
+-- What is so after it, for the configuration that is then read
+pub record MatchedBy (limits : Limits) (r : Course) (c : Config) : Type 0 where
   -- the configuration is readable
-  pub readable : readConfig limits (run limits start calls) ≡ some c
+  pub readable : readConfig limits (r .words) ≡ some c
   -- the word issued is the count of accepted solicits and, where there is one, the serial in the last one's answer
-  pub issued : getD (run limits start calls) 1 0 ≡ solicits limits start calls
-  pub latest : 0 < solicits limits start calls → lastSerial 0 limits start calls ≡ solicits limits start calls
+  pub issued : getD (r .words) 1 0 ≡ r .solicits
+  pub latest : 0 < r .solicits → r .lastSerial ≡ r .solicits
   -- each serial issued has as many waiting ends as working ends, and that number is one minus the count of accepted calls that delivered it
-  pub counted : (s : ℕ) → 0 < s → s ≤ solicits limits start calls → ends limits (run limits start calls) s .number ≡ 0
+  pub counted : (s : ℕ) → 0 < s → s ≤ r .solicits → ends limits (r .words) s .number ≡ 0
   pub balanced :
       (s : ℕ) →
       0 < s →
-      s ≤ solicits limits start calls →
-      ends limits (run limits start calls) s .waiters ≡ ends limits (run limits start calls) s .workers
+      s ≤ r .solicits →
+      ends limits (r .words) s .waiters ≡ ends limits (r .words) s .workers
   pub once :
       (s : ℕ) →
       0 < s →
-      s ≤ solicits limits start calls →
-      ends limits (run limits start calls) s .waiters + deliveries s limits start calls ≡ 1
+      s ≤ r .solicits →
+      ends limits (r .words) s .waiters + r .deliveries s ≡ 1
   -- and these are all its ends, wherever they stand; no other serial has an end
   pub all :
       (s : ℕ) →
       0 < s →
-      s ≤ solicits limits start calls →
-      (everywhere (awaits s) c ≡ ends limits (run limits start calls) s .waiters)
-      × (everywhere (carries s) c ≡ ends limits (run limits start calls) s .workers)
+      s ≤ r .solicits →
+      (everywhere (awaits s) c ≡ ends limits (r .words) s .waiters)
+      × (everywhere (carries s) c ≡ ends limits (r .words) s .workers)
   pub others :
       (s : ℕ) →
-      (0 < s → s ≤ solicits limits start calls → ⊥) →
+      (0 < s → s ≤ r .solicits → ⊥) →
       (everywhere (awaits s) c ≡ 0) × (everywhere (carries s) c ≡ 0)
   -- every end, wherever it stands, has an engine and a position that name it
   pub placed : (x : End) → 0 < everywhere (isEnd (same x)) c → (e : ℕ) × (p : ℕ) × (endAt c e p ≡ some x)
@@ -179,12 +196,16 @@ pub record Matched (limits : Limits) (start : List ℕ) (calls : List Call) (c :
       (s e p e' p' : ℕ) (out : List ℕ) (journal : Option (List ℕ)) →
       names c (ready s) e p →
       names c (awaits s) e' p' →
-      length (run limits start calls) ≤ length out →
+      length (r .words) ≤ length out →
       roomFor
-      (length (journalOf (run limits start calls) (nextWords limits (run limits start calls) (call (delivery e p e' p') out none))))
+      (length (journalOf (r .words) (nextWords limits (r .words) (call (delivery e p e' p') out none))))
       journal →
-      (callAnswer limits (run limits start calls) (call (delivery e p e' p') out journal) .number ≡ 0)
-      × (callAnswer limits (run limits start calls) (call (delivery e p e' p') out journal) .serial ≡ s)
+      (callAnswer limits (r .words) (call (delivery e p e' p') out journal) .number ≡ 0)
+      × (callAnswer limits (r .words) (call (delivery e p e' p') out journal) .serial ≡ s)
+
+-- after a list of calls
+abbrev pub Matched : Limits → List ℕ → List Call → Config → Type 0
+Matched limits start calls c = MatchedBy limits (course limits start calls) c
 
 -- Demand 3: for every start that the start check answers with 0, and every list of calls
 abbrev pub EveryRequestHasOneReply : Type 0

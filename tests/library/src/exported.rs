@@ -76,6 +76,20 @@ extern "C" {
         output: *mut u8,
         output_length: usize,
     ) -> u64;
+    fn sock_join(
+        config: *const u8,
+        config_length: usize,
+        newcomer: *const u8,
+        newcomer_length: usize,
+        output: *mut u8,
+        output_length: usize,
+    ) -> u64;
+    fn sock_leave(
+        config: *const u8,
+        config_length: usize,
+        output: *mut u8,
+        output_length: usize,
+    ) -> u64;
     fn sock_begin_index(
         config: *const u8,
         config_length: usize,
@@ -189,6 +203,23 @@ pub fn take_back(config: Lent, journal: Lent, output: Lent) -> u64 {
             output.length,
         )
     }
+}
+
+pub fn join(config: Lent, newcomer: Lent, output: Lent) -> u64 {
+    unsafe {
+        sock_join(
+            config.start,
+            config.length,
+            newcomer.start,
+            newcomer.length,
+            output.start,
+            output.length,
+        )
+    }
+}
+
+pub fn leave(config: Lent, output: Lent) -> u64 {
+    unsafe { sock_leave(config.start, config.length, output.start, output.length) }
 }
 
 pub fn begin_index(config: Lent, index: Lent) -> u8 {

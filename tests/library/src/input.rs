@@ -33,6 +33,8 @@ pub enum Call {
     Step { cabinet: Cabinet, numbers: Numbers, output: usize },
     Bill { rates: usize, replies: usize, totals: usize },
     Indexed { call: &'static str, index: usize },
+    Join { newcomer: usize, output: usize },
+    Leave { output: usize },
 }
 
 /// Bytes of a configuration that are printed; the seed gives the others.

@@ -11,8 +11,8 @@
 //! prints the class, seed and step of the input, the call and the bytes.
 //!
 //! `window` does the same for the window of faults, which reads no configuration, `journal`
-//! for the step with a journal and for taking back, and `index` for both with an index of open
-//! requests, its beginning and its two questions.
+//! for the step with a journal and for taking back, `index` for both with an index of open
+//! requests, its beginning and its two questions, and `engines` for joining and leaving.
 
 pub mod billing;
 pub mod bytes;
@@ -20,6 +20,7 @@ pub mod cabinet;
 pub mod compare;
 pub mod counts;
 pub mod deep;
+pub mod engines;
 pub mod exported;
 pub mod guard;
 pub mod index;

@@ -9,8 +9,11 @@ use library::deep::{shapes, Extent, Shape};
 use library::exported;
 use library::memory::Lent;
 use library::painted::Painted;
+use reference::build;
 use reference::bytes::{from_words, to_words};
 use reference::configuration::Configuration;
+use reference::engines;
+use reference::generate::comers::words;
 use reference::generate::steps::{fitting, stands};
 use reference::index::{index_of, open_serials, Serials, INDEX_BYTES, MOST};
 use reference::{readable, write, Numbers};
@@ -100,6 +103,7 @@ impl Most {
         let number =
             self.call("sock_begin_index", shape, || exported::begin_index(lent, begun).into());
         assert_eq!(number, start, "{shape}");
+        self.engines(shape, config);
         let ends = self.call("sock_ends", shape, || exported::ends(lent, 1));
         assert_eq!(ends, reference::sock_ends(config, 1), "{shape}");
         for engine in 0..3 {
@@ -107,6 +111,33 @@ impl Most {
             assert_eq!(process, reference::sock_process(config, engine), "{shape}");
             let pending = self.call("sock_pending", shape, || exported::pending(lent, engine, 0));
             assert_eq!(pending, reference::sock_pending(engine, 0, config), "{shape}");
+        }
+    }
+
+    /// Leaving; and joining with the configuration as it is and, so that it is the newcomer that is deep and
+    /// long, with its engines one by one joining a house of one.
+    fn engines(&mut self, shape: &str, config: &[u8]) {
+        let lent = Lent { start: config.as_ptr().cast_mut(), length: config.len() };
+        let (mut out, mut expected) = (vec![7u8; 16_384], vec![7u8; 16_384]);
+        let output = lend(&mut out);
+        let left = self.call("sock_leave", shape, || exported::leave(lent, output));
+        assert_eq!(left, engines::sock_leave(config, &mut expected), "{shape}");
+        let house = from_words(&write::configuration(&build::configuration(0, vec![build::nil()])));
+        let small = Lent { start: house.as_ptr().cast_mut(), length: house.len() };
+        let all = readable::read(&self.cabinet.limits(), &to_words(config).expect("words"));
+        for engine in all.expect("readable").engines {
+            let mut comer = from_words(&words(&engine));
+            let newcomer = lend(&mut comer);
+            for (house, bytes) in [(lent, config), (small, &house[..])] {
+                let came =
+                    self.call("sock_join", shape, || exported::join(house, newcomer, output));
+                assert_eq!(
+                    came,
+                    engines::sock_join(bytes, newcomer.bytes(), &mut expected),
+                    "{shape}"
+                );
+                assert!(output.bytes() == expected, "{shape}: another output");
+            }
         }
     }
 
@@ -277,7 +308,7 @@ fn no_call_needs_more_stack_than_three_quarters_of_the_promise() {
     let mut most = Most::new(Cabinet::Large);
     most.all(own(Cabinet::Large));
     others(&mut most);
-    most.judge(16, promised("SOCK_STACK"));
+    most.judge(18, promised("SOCK_STACK"));
 }
 
 /// Also on configurations that it refuses: too long, and too deep only.

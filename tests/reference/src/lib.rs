@@ -22,7 +22,7 @@
 //! `window` is document 02's change h, and stands by itself; `pending` is change b: what a side has
 //! that can't be killed is searched apart from killing it. `earlier` is the format before change c,
 //! with no lists of variables, and how it is rewritten. `journal` is change f, over the
-//! step of `calls`, and `index` change g, over both.
+//! step of `calls`, `index` change g, over both, and `engines` change k.
 
 pub mod alone;
 pub mod billing;
@@ -33,6 +33,7 @@ pub mod configuration;
 pub mod context;
 pub mod coverage;
 pub mod earlier;
+pub mod engines;
 pub mod expression;
 pub mod fault;
 pub mod fields;

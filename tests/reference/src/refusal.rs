@@ -19,6 +19,8 @@ pub enum Refusal {
     Unmatched,
     JournalShort,
     IndexShort,
+    HouseFull,
+    StillAtWork,
 }
 
 impl Refusal {
@@ -40,6 +42,8 @@ impl Refusal {
             Refusal::Unmatched => 15,
             Refusal::JournalShort => 16,
             Refusal::IndexShort => 17,
+            Refusal::HouseFull => 21,
+            Refusal::StillAtWork => 22,
         }
     }
 }

@@ -4,6 +4,7 @@
 pub mod beside;
 pub mod cabinets;
 pub mod code;
+pub mod comers;
 pub mod damage;
 pub mod edges;
 pub mod growth;

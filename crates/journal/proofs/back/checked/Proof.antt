@@ -10,7 +10,7 @@ use Rattle.sock.specs.Calls.{checkReadable, over}
 use Rattle.sock.specs.Configuration.{standard}
 use Rattle.sock.specs.Journal.{putBack}
 use Rattle.journal.specs.Back.{said}
-use Rattle.journal.proofs.Laying.{over-length, pasted-first}
+use Rattle.writers.proofs.Over.{over-length, pasted-first}
 use Rattle.journal.proofs.Restoring.{put-words, put-laid, old-length, gives-refused, gives-done, not-read, not-fitting, is-restored}
 use borrow.Author.Needs.{needs}
 use Rattle.journal.proofs.back.checked.Statement.{statement}

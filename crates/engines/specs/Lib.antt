@@ -1,0 +1,4 @@
+pub mod Answers
+pub mod Comer
+pub mod Placing
+pub mod Leaving
