@@ -1,4 +1,6 @@
 // The calls on bytes, exported for C. Words are two bytes, high first; an odd length is unreadable.
+#![tactic(auto)]
+
 pub mod billing_bytes;
 pub mod calls;
 pub mod engines_bytes;

@@ -1,5 +1,7 @@
 // What the programs over vectors share: a word of two bytes, a sum over words, and input and output. The kit's contracts of reading and
 // writing do not tell which bytes move, so no contract here can.
+#![tactic(auto)]
+
 ghost use Rattle.std.specs.Prelude.{◌≡◌, ◌+◌, ◌*◌, ◌≤◌, true, length};
 ghost use Rattle.cases.specs.Sums.{summed};
 

@@ -1,5 +1,7 @@
 // The program handover: reads a configuration and steps on standard input and prints what the start check and each step answer. What is
 // printed, and when to stop, is decided by functions without input or output; here bytes are only read, handed over and written.
+#![tactic(auto)]
+
 mod run;
 mod start;
 mod state;

@@ -1,4 +1,6 @@
 // The index of open requests (document 02, change g): the serials that have a waiter, kept beside the steps.
+#![tactic(auto)]
+
 pub mod back;
 pub mod begin;
 pub mod bits;

@@ -1,2 +1,4 @@
 // What a kill leaves of a process.
+#![tactic(auto)]
+
 pub mod kill;

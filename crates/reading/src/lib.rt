@@ -1,4 +1,6 @@
 // Reading words: what a configuration is, in one pass over its words.
+#![tactic(auto)]
+
 pub mod calls;
 pub mod ends;
 pub mod reader;

@@ -1,6 +1,8 @@
 // Reads cases on standard input and prints, a line each, what the five calls that only read answer: readable check, start check, ends (number,
 // waiters, workers), of the engine's process the count of words and a sum over them, and pending (number, found, count). A case is, in words of two
 // bytes, high first: the count of words, a serial, an engine, a position, then the words.
+#![tactic(auto)]
+
 use bytewise::words::hold;
 use cases::{print, sum, take, word};
 

@@ -1,4 +1,6 @@
 // The rules that look at no scope's list: what a process turns into, alone or between two engines.
+#![tactic(auto)]
+
 pub mod alone;
 pub mod edit;
 pub mod message;

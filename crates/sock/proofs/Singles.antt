@@ -3,7 +3,7 @@
 use Prim.Native.Nat.{ℕ, zero, suc, ◌*◌}
 use native.Mathlib.Omega.{arith}
 use mathlib.Core.Path.{◌≡◌, refl, sym, subst, ap, ◌∙◌}
-use mathlib.Core.Bool.{Bool, ◌&&◌, ◌||◌}
+use mathlib.Core.Bool.{Bool, cond, ◌&&◌, ◌||◌}
 use mathlib.Core.Option.{some}
 use mathlib.Core.List.{List, [], ◌∷◌}
 use lib.Dec.{leb, ltb, eqb}
@@ -119,12 +119,12 @@ module _ {old : Node} (g : Single old) where
     all_replaced_lem none_single = none_single
     all_replaced_lem (part_single s ss) = part_single (replaced_single s) (all_replaced_lem ss)
 
-update_single : {h l : Entries} → SingleEntries h → SingleEntries l → SingleEntries (update h l)
+update_single : (h : Entries) {l : Entries} → SingleEntries h → SingleEntries l → SingleEntries (update h l)
 unfolding update installed
-update_single g empty_single = g
-update_single {h} g (entry_single {k = k} {p = p} s l) =
+update_single h g empty_single = g
+update_single h g (entry_single {k = k} {p = p} s l) =
     let new : Single (replaced (handler k h) p) = replaced_single (handler_single k g) s in
-    update_single
+    update_single (cond (leb 64 k && is_nil (replaced (handler k h) p)) (without k h) (put k (replaced (handler k h) p) h))
     (cond-case SingleEntries (leb 64 k && is_nil (replaced (handler k h) p)) (λ t. without_single k g) (λ t. put_single k new g))
     l
 
@@ -146,7 +146,7 @@ single_closed =
       listed = λ n. listed n;
       under = λ k l. handler_single k l;
       less = λ k l. without_single k l;
-      updated = λ h l. update_single h l;
+      updated = λ h l. update_single _ h l;
       empty = empty_single;
       one = λ k p. entry_single p empty_single;
       installs = λ l. single_as {k = 12} refl no_own (list_single l) none_single;

@@ -168,14 +168,14 @@ data FitsEffect (c : Config) (a b : Spot) : Effect → Type 0 where
       T (not (rootable b.process)) →
       FitsEffect c a b (between x)
 
-movable_fits : {n issued : ℕ} (k : Numbers) {m : Move} {p : Run} → FitsMove n issued m → Inner p m → All (λ m. FitsMove n issued m × Inner p m) (movable k m)
+movable_fits : {n issued : ℕ} (k : Numbers) {m : Move} (p : Run) → FitsMove n issued m → Inner p m → All (λ m. FitsMove n issued m × Inner p m) (movable k m)
 unfolding movable
-movable_fits k stuck_fits t = all_none
-movable_fits k (alone_fits v g r) t =
+movable_fits k p stuck_fits t = all_none
+movable_fits k p (alone_fits v g r) t =
     all_guarded (eqb k.second 0 && eqb k.second_position 0 && eqb k.branch 0) λ u. all_some (alone_fits v g r, t)
-movable_fits k unvalued_fits t =
+movable_fits k p unvalued_fits t =
     all_guarded (eqb k.second 0 && eqb k.second_position 0 && eqb k.branch 0) λ u. all_some (unvalued_fits, t)
-movable_fits k (sends_fits g) t = all_some (sends_fits g, t)
+movable_fits k p (sends_fits g) t = all_some (sends_fits g, t)
 
 module _ {c : Config} (g : FitsConfig c) (k : Numbers) {a : Spot} (x : FitsSpot c a) where
   partner_fits : (m : Move) → All (FitsSpot c) (partner c k a m)
@@ -251,7 +251,7 @@ step_fits limits ws k room =
     sure_then (sure_given unreadable (config_all limits ws)) λ c g'.
     let g : FitsConfig c = g'.fitting in
     sure_then (sure_given nobody_there (enabled_fits g k.engine k.position)) λ a x.
-    sure_then (sure_given no_move (movable_fits k {p = a.process} (move_fits x.values x.frames x.process x.inside) (sender_inner a.values a.frames a.process))) λ m y.
+    sure_then (sure_given no_move (movable_fits k a.process (move_fits x.values x.frames x.process x.inside) (sender_inner a.values a.frames a.process))) λ m y.
     sure_then (sure_given no_partner (partner_fits g k x m)) λ b z.
     sure_then (sure_given no_fit (effect_fits g k x z y.0 y.1)) λ o w.
     sure_then (sure_given _ w) λ e f.

@@ -1,9 +1,11 @@
 // The fixed table of the nineteen kinds, for code: what follows each one's head.
+#![tactic(auto)]
+
 ghost use Rattle.std.specs.Prelude.{◌≡◌};
 ghost use Rattle.sock.specs.Counts.{counts_of};
 
 // How many fixed words, lists of variables, expressions, lists and processes follow the head of a kind; for a choice, processes per branch.
-#[derive(Drop)]
+#[derive(Clone, Copy)]
 pub struct Counts {
     pub fixed: u8,
     pub variables: u8,

@@ -1,6 +1,8 @@
 // Reads cases on standard input and prints, a line each, what the step answers: its number, kind, serial, fault and length, and a sum over
 // all words of the output. A case is, in words of two bytes, high first: the count of words, the step's five numbers, the output's
 // length, then the words.
+#![tactic(auto)]
+
 ghost use Rattle.std.specs.Prelude.{◌≡◌};
 ghost use Rattle.sock.specs.Configuration.{standard};
 ghost use Rattle.sock.specs.Calls.{step_output};

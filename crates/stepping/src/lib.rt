@@ -1,4 +1,6 @@
 // The step: from a configuration's words to the next one's.
+#![tactic(auto)]
+
 pub mod alone;
 pub mod answer;
 pub mod bundles;

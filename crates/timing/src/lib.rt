@@ -1,4 +1,6 @@
 // The readable check on words, exported for the benchmark.
+#![tactic(auto)]
+
 ghost use Rattle.std.specs.Prelude.{◌≡◌};
 ghost use Rattle.sock.specs.Configuration.{standard};
 ghost use Rattle.sock.specs.Calls.{check_readable};

@@ -1,2 +1,4 @@
 // Words written one after the other.
+#![tactic(auto)]
+
 pub mod write;
