@@ -1,5 +1,5 @@
 -- What the calls answer, in the types that the code declares.
-use Prim.Native.Nat.{ℕ}
+use Rattle.std.specs.Prelude.{ℕ}
 use Rattle.sock.specs.Calls.{Ends}
 use Rattle.checking.specs.declared.ends.EndCounts.{EndCounts}
 

@@ -1,10 +1,6 @@
 -- The walks behind the calls that only read, on positions, as the code goes: the ends of a serial in a process and in all engines, and
 -- whether an engine's process is nil. No contract of a call names them.
-use Prim.Native.Nat.{ℕ, zero, suc, ◌+◌, ◌-◌}
-use mathlib.Core.Bool.{Bool, true, false, ◌&&◌, cond}
-use mathlib.Core.List.{List}
-use lib.Dec.{leb, ltb, eqb}
-use lib.ListN.{length, get_or}
+use Rattle.std.specs.Prelude.{ℕ, zero, suc, ◌+◌, ◌-◌, Bool, true, false, ◌&&◌, cond, List, leb, ltb, eqb, length, get_or}
 use Rattle.sock.specs.Kind
 use Rattle.sock.specs.Words.{bit, kind_of}
 use Rattle.layout.specs.Contexts.{code, running}

@@ -1,8 +1,5 @@
 // The calls that only read: readable check, start check, process of an engine.
-ghost use mathlib.Core.Path.{◌≡◌};
-ghost use Prim.Native.Nat.{ℕ, ◌<◌};
-ghost use lib.Dec.{eqb};
-ghost use lib.ListN.{length, get_or};
+ghost use Rattle.std.specs.Prelude.{◌≡◌, ℕ, ◌<◌, eqb, length, get_or};
 ghost use Rattle.sock.specs.Configuration.{standard};
 ghost use Rattle.sock.specs.Calls.{check_readable, check_start, process_of};
 ghost use Rattle.layout.specs.Limits.{figures};

@@ -1,8 +1,6 @@
 // Ends: how many waiting and working ends a serial has. They stand only enabled, so the walk goes where processes are enabled and
 // passes over code by reading it.
-ghost use mathlib.Core.Path.{◌≡◌};
-ghost use Prim.Native.Nat.{◌<◌, ◌≤◌};
-ghost use lib.ListN.{length};
+ghost use Rattle.std.specs.Prelude.{◌≡◌, ◌<◌, ◌≤◌, length};
 ghost use Rattle.sock.specs.Configuration.{standard};
 ghost use Rattle.sock.specs.Calls as calls;
 ghost use Rattle.reading.specs.Walk.{executor_own, process_end};

@@ -1,5 +1,3 @@
 // The calls that only read: the two checks, the ends of a serial, the process of an engine.
-#![tactic(auto)]
-
 pub mod calls;
 pub mod ends;

@@ -1,5 +1,5 @@
 -- What the call answers, in the types that the code declares.
-use Prim.Native.Nat.{ℕ}
+use Rattle.std.specs.Prelude.{ℕ}
 use Rattle.keeper.specs.declared.calls.Played.{Played}
 
 -- with no move to show

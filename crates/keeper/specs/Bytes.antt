@@ -1,7 +1,5 @@
 -- The call keeper for C: the configuration on bytes, the scratch in words, the answer in one number of 64 bits.
-use Prim.Native.Nat.{ℕ, ◌+◌, ◌*◌, ◌^◌, ◌<◌}
-use mathlib.Core.Path.{◌≡◌}
-use mathlib.Core.List.{List}
+use Rattle.std.specs.Prelude.{ℕ, ◌+◌, ◌*◌, ◌^◌, ◌<◌, ◌≡◌, List}
 use Rattle.sock.specs.Bytes.{words_of, words_or_none}
 use Rattle.sock.specs.Calls.{Numbers}
 use Rattle.keeper.specs.Calls.{keeper_number, keeper_outcome, Showing}

@@ -1,9 +1,5 @@
 -- The call keeper (document 02, m): its refusals and their order, the outcome, and what the move shown has to be.
-use Prim.Native.Nat.{ℕ, suc, ◌*◌}
-use mathlib.Core.Path.{◌≡◌}
-use mathlib.Core.Bool.{Bool, true, false, cond}
-use mathlib.Core.List.{List}
-use lib.Dec.{T, leb, eqb}
+use Rattle.std.specs.Prelude.{ℕ, suc, ◌*◌, ◌≡◌, Bool, true, false, cond, List, T, leb, eqb}
 use Rattle.sock.specs.Configuration.{standard, Config}
 use Rattle.sock.specs.Calls.{Numbers, Result, refused, done, number, known}
 use Rattle.keeper.specs.Game.{keeper, river, kept, moved, accepts, has_move, won, forces}

@@ -1,9 +1,6 @@
 -- Keeper against the river (document 02, m): whether the keeper can force that a serial is delivered by a reply within so many moves. A game over
 -- words, for the standard figures.
-use Prim.Native.Nat.{ℕ, zero, suc, ◌/◌, ◌%◌, ◌^◌}
-use mathlib.Core.Bool.{Bool, true, false, not, ◌&&◌, ◌||◌, cond}
-use mathlib.Core.List.{List}
-use lib.Dec.{eqb}
+use Rattle.std.specs.Prelude.{ℕ, zero, suc, ◌/◌, ◌%◌, ◌^◌, Bool, true, false, not, ◌&&◌, ◌||◌, cond, List, eqb}
 use Rattle.sock.specs.Kind
 use Rattle.sock.specs.Configuration.{standard, encode}
 use Rattle.sock.specs.Calls.{Numbers, Result, refused, done, Stepped, step}

@@ -1,9 +1,5 @@
 -- What the search tells from words and notes alone, before it looks for a process. No contract of a call names it.
-use Prim.Native.Nat.{ℕ, ◌-◌}
-use mathlib.Core.Bool.{Bool, true, false, cond}
-use mathlib.Core.List.{List}
-use lib.Dec.{leb, ltb, eqb}
-use lib.ListN.{length}
+use Rattle.std.specs.Prelude.{ℕ, ◌-◌, Bool, true, false, cond, List, leb, ltb, eqb, length}
 use Rattle.sock.specs.Kind
 use Rattle.sock.specs.Words.{first_variable, executors_client, notices_client}
 use Rattle.skipping.specs.Pass.{note_at}

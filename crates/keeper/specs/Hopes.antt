@@ -1,9 +1,5 @@
 -- Positions that are lost whoever moves and whatever the set of engines: told from the words. No contract of a call names it.
-use Prim.Native.Nat.{ℕ}
-use mathlib.Core.Path.{◌≡◌}
-use mathlib.Core.Bool.{Bool, true, false, cond}
-use mathlib.Core.List.{List}
-use lib.Dec.{eqb}
+use Rattle.std.specs.Prelude.{ℕ, ◌≡◌, Bool, true, false, cond, List, eqb}
 use Rattle.sock.specs.Kind
 use Rattle.sock.specs.Words.{kind_of}
 use Rattle.layout.specs.Own.{own_end}

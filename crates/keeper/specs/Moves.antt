@@ -1,5 +1,5 @@
 -- The five numbers of a move as one number, as the code goes through them.
-use Prim.Native.Nat.{ℕ, ◌+◌, ◌*◌, ◌/◌, ◌%◌}
+use Rattle.std.specs.Prelude.{ℕ, ◌+◌, ◌*◌, ◌/◌, ◌%◌}
 use Rattle.stepping.specs.declared.bundles.Numbers.{Numbers}
 
 unfoldable pub numbers_at : ℕ → Numbers

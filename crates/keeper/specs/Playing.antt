@@ -1,10 +1,5 @@
 -- The game as the code goes through it. No contract of a call names it.
-use Prim.Native.Nat.{ℕ, suc, ◌+◌, ◌*◌, ◌≤◌, ◌<◌}
-use mathlib.Core.Path.{◌≡◌}
-use mathlib.Core.Bool.{Bool, true, false, not, ◌&&◌, ◌||◌, cond}
-use mathlib.Core.List.{List}
-use lib.Dec.{T, eqb}
-use lib.ListN.{length, take, drop}
+use Rattle.std.specs.Prelude.{ℕ, suc, ◌+◌, ◌*◌, ◌≤◌, ◌<◌, ◌≡◌, Bool, true, false, not, ◌&&◌, ◌||◌, cond, List, T, eqb, length, take, drop}
 use Rattle.sock.specs.Kind
 use Rattle.sock.specs.Calls.{Stepped}
 use Rattle.results.specs.declared.answer.Answer.{Answer}

@@ -1,10 +1,5 @@
 -- What the search for the moves of a side gives, step by step. No contract of a call names it.
-use Prim.Native.Nat.{ℕ, ◌≤◌, ◌<◌}
-use mathlib.Core.Path.{◌≡◌}
-use mathlib.Core.Bool.{Bool, true, false}
-use mathlib.Core.List.{List}
-use lib.Dec.{T}
-use lib.ListN.{length, get_or, take, drop, replicate}
+use Rattle.std.specs.Prelude.{ℕ, ◌≤◌, ◌<◌, ◌≡◌, Bool, true, false, List, T, length, get_or, take, drop, replicate}
 use Rattle.sock.specs.Words.{kind_of}
 use Rattle.sock.specs.Configuration.{standard, encode}
 use Rattle.sock.specs.Calls.{Numbers as Asked, done, Stepped}

@@ -1,7 +1,5 @@
 // The call keeper on words: the refusals in their order, then the game.
-ghost use mathlib.Core.Path.{◌≡◌};
-ghost use Prim.Native.Nat.{◌≤◌};
-ghost use lib.ListN.{length};
+ghost use Rattle.std.specs.Prelude.{◌≡◌, ◌≤◌, length};
 ghost use Rattle.keeper.specs.Calls.{keeper_number, keeper_outcome, outcome_of, Showing};
 ghost use Rattle.keeper.specs.Answers.{plainly};
 ghost use Rattle.keeper.specs.Hopes.{gone_in};

@@ -1,7 +1,5 @@
 // The game, depth first with the moves left falling. The scratch keeps one configuration a level, each 8,192 words behind the one it came from.
-ghost use mathlib.Core.Path.{◌≡◌};
-ghost use Prim.Native.Nat.{suc, ◌+◌, ◌*◌, ◌≤◌};
-ghost use lib.ListN.{length, take, drop};
+ghost use Rattle.std.specs.Prelude.{◌≡◌, suc, ◌+◌, ◌*◌, ◌≤◌, length, take, drop};
 ghost use Rattle.keeper.specs.Game.{forces};
 ghost use Rattle.keeper.specs.Seeking.{side_of};
 ghost use Rattle.keeper.specs.Playing.{delivers_by, won_by, turned, Forced, First};

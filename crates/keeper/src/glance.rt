@@ -1,5 +1,5 @@
 // What the search tells from words and notes alone, so that it looks for a process only where one may move or receive.
-ghost use mathlib.Core.Path.{◌≡◌};
+ghost use Rattle.std.specs.Prelude.{◌≡◌};
 ghost use Rattle.keeper.specs.Glances.{acts_w, hears_w, behind_w, meant_w};
 
 use evaluating::evaluate::variable;

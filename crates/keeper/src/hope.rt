@@ -1,8 +1,5 @@
 // Positions that are lost whoever moves: with no move left, and with one left where no reply of the serial is ready.
-ghost use mathlib.Core.Path.{◌≡◌};
-ghost use Prim.Native.Nat.{ℕ, ◌<◌};
-ghost use mathlib.Core.Bool.{false};
-ghost use lib.ListN.{length};
+ghost use Rattle.std.specs.Prelude.{◌≡◌, ℕ, ◌<◌, false, length};
 ghost use Rattle.keeper.specs.Hopes.{ready_at, Hope};
 
 use layout::field::kind_of;

@@ -1,6 +1,4 @@
 // Keeper against the river: whether a request can be brought home, whatever the river does.
-#![tactic(auto)]
-
 pub mod calls;
 pub mod game;
 pub mod glance;

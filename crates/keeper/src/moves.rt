@@ -1,7 +1,6 @@
 // The five numbers of a move as one number, so that a search goes through them in order: engine, position, second engine, position there,
 // branch, in 3, 13, 3, 13 and 4 bits. No accepted step has larger ones.
-ghost use mathlib.Core.Path.{◌≡◌};
-ghost use Prim.Native.Nat.{◌^◌, ◌<◌, ◌≤◌};
+ghost use Rattle.std.specs.Prelude.{◌≡◌, ◌^◌, ◌<◌, ◌≤◌};
 ghost use Rattle.keeper.specs.Game.{kept, of_side};
 ghost use Rattle.keeper.specs.Moves.{numbers_at, past_of};
 ghost use Rattle.keeper.specs.Seeking.{side_of};

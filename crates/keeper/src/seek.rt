@@ -1,8 +1,6 @@
 // The moves of a side one after the other: each five numbers that can be a move are tried by the step, and such that cannot are passed by. What
 // is enabled is known from one survey.
-ghost use mathlib.Core.Path.{◌≡◌};
-ghost use Prim.Native.Nat.{◌<◌, ◌≤◌};
-ghost use lib.ListN.{length};
+ghost use Rattle.std.specs.Prelude.{◌≡◌, ◌<◌, ◌≤◌, length};
 ghost use Rattle.results.specs.Answering.{refusing};
 ghost use Rattle.keeper.specs.Moves.{past_of};
 ghost use Rattle.keeper.specs.Seeking.{side_of, Surveyed, There, Here, Sends, Tried, Looked, Scanned, Sought};

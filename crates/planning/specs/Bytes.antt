@@ -1,8 +1,6 @@
 -- The call that translates on bytes (document 02, e): an odd length is 1, an odd last byte of the output keeps its content. The answer is packed as
 -- that of taking back.
-use Prim.Native.Nat.{ℕ, ◌+◌, ◌*◌, ◌/◌, ◌^◌}
-use mathlib.Core.List.{List}
-use lib.ListN.{length}
+use Rattle.std.specs.Prelude.{ℕ, ◌+◌, ◌*◌, ◌/◌, ◌^◌, List, length}
 use Rattle.sock.specs.Configuration.{Config, standard, encode}
 use Rattle.sock.specs.Calls.{unreadable, over}
 use Rattle.sock.specs.Bytes.{words_of, bytes_of}

@@ -1,10 +1,6 @@
 -- The call that translates (document 02, e): from the planners' words and the output lent to number, length and every word of the output.
-use Prim.Native.Nat.{ℕ}
-use mathlib.Core.Bool.{Bool, true, false, not}
-use mathlib.Core.Option.{Option, none, some}
-use mathlib.Core.List.{List}
-use lib.Dec.{leb}
-use lib.ListN.{length}
+use Rattle.std.specs.Prelude.{ℕ, Bool, true, false, not, List, leb, length}
+use Rattle.std.proofs.Math.Option.{Option, none, some}
 use Rattle.sock.specs.Configuration.{Limits, Config, encode, engines_depth, read_config, fresh}
 use Rattle.sock.specs.Calls as calls
 use Rattle.sock.specs.Calls.{unreadable, deep, long, short, not_fresh, over, start}

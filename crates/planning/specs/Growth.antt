@@ -1,8 +1,5 @@
 -- How many words a translation adds (document 02, e): 12 for each fixed scope, 10 where its P is nil.
-use Prim.Native.Nat.{ℕ, ◌+◌}
-use mathlib.Core.Bool.{cond}
-use mathlib.Core.List.{List, [], ◌∷◌}
-use lib.Dec.{eqb}
+use Rattle.std.specs.Prelude.{ℕ, ◌+◌, cond, List, [], ◌∷◌, eqb}
 use Rattle.sock.specs.Words.{kind_of}
 use Rattle.sock.specs.Term.{Node, node, Block, absent, list, Entries, no_entries, entry, Nodes, no_parts, ◌&◌, head_word, part_at}
 use Rattle.planning.specs.Plan.{fixed_scope, Planned}

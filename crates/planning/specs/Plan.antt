@@ -1,12 +1,8 @@
 -- Planners' words (document 02, e): the layout of document 01 with one kind more. Kind 19 is a fixed scope: its name in the head; a list of
 -- fault handlers; termination process, compensation process and body. A plan is what words laid out so are; whether it is readable is said
 -- in `Translation`.
-use Prim.Native.Nat.{ℕ, zero, suc, ◌-◌}
-use mathlib.Core.Bool.{Bool, true, false, ◌&&◌, cond}
-use mathlib.Core.Option.{Option, none, some}
-use mathlib.Core.List.{List, [], ◌∷◌, ◌++◌}
-use lib.Dec.{leb, ltb, eqb}
-use lib.ListN.{length}
+use Rattle.std.specs.Prelude.{ℕ, zero, suc, ◌-◌, Bool, true, false, ◌&&◌, cond, List, [], ◌∷◌, ◌++◌, leb, ltb, eqb, length}
+use Rattle.std.proofs.Math.Option.{Option, none, some}
 use Rattle.sock.specs.Words.{clear, kind_of, key_of}
 use Rattle.sock.specs.Counts.{counts_of}
 use Rattle.sock.specs.declared.Counts.{Counts}

@@ -1,8 +1,5 @@
 -- What a fixed scope becomes, when a plan is readable, and where cH is free in a fixed scope's own handlers (document 02, e).
-use Prim.Native.Nat.{ℕ}
-use mathlib.Core.Bool.{Bool, true, false, not, ◌&&◌, ◌||◌, cond}
-use mathlib.Core.List.{List, [], ◌∷◌}
-use lib.Dec.{eqb}
+use Rattle.std.specs.Prelude.{ℕ, Bool, true, false, not, ◌&&◌, ◌||◌, cond, List, [], ◌∷◌, eqb}
 use Rattle.sock.specs.Kind
 use Rattle.sock.specs.Words.{kind_of, name_of, head_of, scope_key}
 use Rattle.sock.specs.Term.{Node, node, Block, absent, list, Entries, no_entries, entry, Nodes, no_parts, ◌&◌, head_word, part_at, entries_of}

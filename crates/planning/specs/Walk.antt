@@ -1,10 +1,6 @@
 -- The rewriting on positions, as the code goes; the proofs show that it is `rewritten` of the plan that the words are. No contract of a
 -- call names it.
-use Prim.Native.Nat.{ℕ, zero, suc, ◌+◌, ◌-◌, ◌*◌, ◌/◌, ◌%◌}
-use mathlib.Core.Bool.{Bool, true, false, not, ◌&&◌, ◌||◌, cond}
-use mathlib.Core.List.{List}
-use lib.Dec.{leb, ltb, eqb}
-use lib.ListN.{length, get_or, set}
+use Rattle.std.specs.Prelude.{ℕ, zero, suc, ◌+◌, ◌-◌, ◌*◌, ◌/◌, ◌%◌, Bool, true, false, not, ◌&&◌, ◌||◌, cond, List, leb, ltb, eqb, length, get_or, set}
 use Rattle.sock.specs.Kind
 use Rattle.sock.specs.Configuration.{Limits}
 use Rattle.sock.specs.Calls.{check_readable, check_start}

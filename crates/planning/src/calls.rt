@@ -1,7 +1,5 @@
 // The call that translates a planners' start.
-ghost use mathlib.Core.Path.{◌≡◌};
-ghost use Prim.Native.Nat.{◌≤◌};
-ghost use lib.ListN.{length};
+ghost use Rattle.std.specs.Prelude.{◌≡◌, ◌≤◌, length};
 ghost use Rattle.sock.specs.Configuration.{standard};
 ghost use Rattle.planning.specs.Call.{translate_answer, translate_output};
 ghost use Rattle.planning.specs.Walk.{judged, measured};

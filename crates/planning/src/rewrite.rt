@@ -3,11 +3,7 @@
 //
 // A fixed scope has its compensation process before its body, and what it becomes has it behind. So the compensation process is rewritten
 // into the other scratch, from `spare` on, and copied from there; meanwhile the two change their parts.
-ghost use mathlib.Core.Path.{◌≡◌};
-ghost use Prim.Native.Nat.{◌<◌};
-ghost use mathlib.Core.Bool.{not, ◌&&◌, ◌||◌};
-ghost use lib.Dec.{eqb};
-ghost use lib.ListN.{length};
+ghost use Rattle.std.specs.Prelude.{◌≡◌, ◌<◌, not, ◌&&◌, ◌||◌, eqb, length};
 ghost use Rattle.planning.specs.Translation.{own_ch};
 ghost use Rattle.planning.specs.Walk.{lost, key_w, copied_w, front_w, one_w, parts_of, process_w, node_w, fixed_w, rest_w, body_w, listed_w, each_w, engine_w, engines_w, rewrite_w};
 

@@ -1,8 +1,6 @@
 // Where what stands before a process's list and parts ends in words that nobody has read: its own words and its expression, by the fixed table
 // of kinds. 0 where there are no such words; from 0 on everything ends at 0.
-ghost use mathlib.Core.Path.{◌≡◌};
-ghost use Prim.Native.Nat.{◌+◌, ◌<◌};
-ghost use lib.ListN.{length};
+ghost use Rattle.std.specs.Prelude.{◌≡◌, ◌+◌, ◌<◌, length};
 ghost use Rattle.planning.specs.Walk.{past, variables_past, lists_past, own_past, expression_past};
 
 use layout::number::{less_one, wide};

@@ -1,9 +1,5 @@
 -- The answer of a step and the result written, as the code goes.
-use Prim.Native.Nat.{ℕ, ◌-◌, ◌%◌}
-use mathlib.Core.Bool.{cond}
-use mathlib.Core.List.{List}
-use lib.Dec.{ltb, eqb}
-use lib.ListN.{length, set}
+use Rattle.std.specs.Prelude.{ℕ, ◌-◌, ◌%◌, cond, List, ltb, eqb, length, set}
 use Rattle.layout.specs.Positions.{onward}
 use Rattle.rules.specs.declared.edit.Edit.{Edit}
 use Rattle.layout.specs.declared.limit.Limits.{Limits}

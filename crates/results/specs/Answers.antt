@@ -1,5 +1,5 @@
 -- The numbers handed to a step and what it answers, in the types that the code declares.
-use Prim.Native.Nat.{ℕ}
+use Rattle.std.specs.Prelude.{ℕ}
 use Rattle.sock.specs.Calls.{Numbers, Answer as Defined}
 use Rattle.results.specs.declared.answer.Answer.{Answer}
 

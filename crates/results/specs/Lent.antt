@@ -1,8 +1,5 @@
 -- What a step at given limits takes for granted: limits that fuel and scratch are made for, and notes that are all 0, however many.
-use Prim.Native.Nat.{ℕ, ◌≤◌}
-use mathlib.Core.Path.{◌≡◌}
-use mathlib.Core.List.{List}
-use lib.ListN.{length, replicate}
+use Rattle.std.specs.Prelude.{ℕ, ◌≤◌, ◌≡◌, List, length, replicate}
 use Rattle.layout.specs.declared.limit.Limits.{Limits}
 
 -- no more than the standard ones

@@ -1,9 +1,5 @@
 -- Writing the result, as the code goes.
-use Prim.Native.Nat.{ℕ, ◌+◌, ◌-◌, ◌*◌}
-use mathlib.Core.Bool.{cond}
-use mathlib.Core.List.{List, ◌++◌}
-use lib.Dec.{leb, ltb}
-use lib.ListN.{length, take, drop, set}
+use Rattle.std.specs.Prelude.{ℕ, ◌+◌, ◌-◌, ◌*◌, cond, List, ◌++◌, leb, ltb, length, take, drop, set}
 use Rattle.sock.specs.Words.{high_word, low_word}
 use Rattle.layout.specs.Positions.{onward}
 use Rattle.writers.specs.Writing.{pasted, pasted_end}

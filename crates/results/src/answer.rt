@@ -1,6 +1,5 @@
 // The answer of a step, and the result written if it fits.
-ghost use mathlib.Core.Path.{◌≡◌};
-ghost use Prim.Native.Nat.{◌-◌};
+ghost use Rattle.std.specs.Prelude.{◌≡◌, ◌-◌};
 ghost use Rattle.results.specs.Answering.{refusing, accepting, sized_w, write_one_w, length_of, one_w, write_two_w, two_w};
 
 use crate::writing::engine;

@@ -1,5 +1,5 @@
 // Writing the result, once it is known to fit: the words of the configuration, with an edit's in the place of an engine's process.
-ghost use mathlib.Core.Path.{◌≡◌};
+ghost use Rattle.std.specs.Prelude.{◌≡◌};
 ghost use Rattle.results.specs.Writing.{front_w, back_w, process_w, value_w, store_w, lent_w, engine_w};
 
 use layout::field::{high_word, low_word};

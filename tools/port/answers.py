@@ -1,0 +1,323 @@
+#!/usr/bin/env python3
+"""Turns Proof.antt files of the older form into Answers.antt and Invariants.antt.
+
+usage: tools/port/answers.py CRATE OLD NAMES [FOLDER..]
+
+CRATE is a crate's folder, OLD a folder that has its Proof.antt files under the same paths below proofs/ (they are no longer in CRATE), NAMES
+what `rt check --generated NAMES --old-names` wrote. Goals that only said `search rules` are left to the checker. Prints what is left by hand.
+"""
+import json
+import os
+import re
+import sys
+
+LEFT = []
+
+
+def norm(n):
+    n = re.sub(r"_lem$", "", n)
+    return n.replace("_", "-")
+
+
+def bare(n):
+    """A goal's name without what kind of overflow it speaks of, which old names did not have."""
+    n = norm(n)
+    n = re.sub(r"^(overflow|nonzero)[-_]", "", n)
+    return n
+
+
+def blocks(text):
+    out, now = [], []
+    for line in text.split("\n"):
+        if line and not line[0].isspace() and re.match(r"^(pub |abbrev |unfoldable |mutual|module )*[^\s]+.* : |^(pub |abbrev )*[^\s]+ :$|^mutual|^module |^-- ", line) and now and not now[-1].strip():
+            out.append("\n".join(now).rstrip())
+            now = []
+        now.append(line)
+    out.append("\n".join(now).rstrip())
+    return [b for b in out if b.strip()]
+
+
+class Function:
+    def __init__(self, data, key):
+        self.key = key
+        self.needs = data["needs"]
+        self.asked_at = data["asked_at"]
+        self.places = {}
+        for old, parent, step, callee, more in data["places"]:
+            self.places.setdefault(old, (parent, step, callee))
+        self.arms = data["arms"]
+        self.names = data["places_by_name"]
+        self.typed = data["typed"]
+        self.params = data["params"]
+        self.loops = data["loops"]
+        self.data = data
+        self.settled = data["settled"]
+
+    def find(self, name):
+        """The index of the goal of that old name."""
+        for f in (norm, bare):
+            for i, (old, new) in enumerate(self.needs):
+                if f(old) == f(name):
+                    return i
+        return None
+
+    def chain(self, i):
+        """The steps in scope at a goal: normalised old name to new name and callee; and arms by old step and field."""
+        steps, arms = {}, {}
+        at = self.asked_at[i][0] if self.asked_at[i] else None
+        order = list(self.places)
+        while at is not None and at in self.places:
+            parent, (old, new), callee = self.places[at]
+            if old:
+                steps.setdefault(norm(old), (new, callee))
+            arm = self.arms[order.index(at)] if order.index(at) < len(self.arms) else None
+            if arm:
+                for field, step, path in arm[2]:
+                    arms.setdefault((norm(step), ".".join(path)), (arm[0], field))
+            at = parent
+        return steps, arms
+
+
+def turn_body(f, i, body, var="c"):
+    steps, arms = f.chain(i)
+    typed = {norm(s): v for v, s in f.typed[i]} if i < len(f.typed) else {}
+
+    def slices(m):
+        step = norm(m.group(1))
+        v = typed.get(step)
+        if v is None and typed:
+            base = re.sub(r"\d+$", "", step)
+            v = next((x for s, x in typed.items()), None)
+        return f"{var}.type_inv.{v}" if v else None
+
+    def whole(m):
+        v = slices(m)
+        return v if v else m.group(0)
+
+    path = rf"\b{var}(?:\.before)*\.(shared[-_]slice[-_]known[\w-]*)\.given"
+    body = re.sub(rf"\(λ (\w+)\. \({path} \1\)\.fits\)".replace(r"\.(shared", r"\.(?P<s>shared"), lambda m: (lambda v: v if v else m.group(0))(typed_of(typed, m.group("s"), var)), body)
+    body = re.sub(rf"\({path} ((?:[\w.'₀-]+|\([^()]*\)))\)\.fits".replace(r"\.(shared", r"\.(?P<s>shared"), lambda m: f"({typed_of(typed, m.group('s'), var)} {m.group(2)})", body)
+
+    def step(m):
+        name, rest = m.group(1), m.group(2) or ""
+        n = norm(name)
+        if n in ("args", "requires", "well-formed", "ranges"):
+            return f"{var}.{name.replace('-', '_')}{rest}"
+        parts = rest.split(".")[1:]
+        if re.match(r"match\d*$", n) and parts and parts[0] == "rest":
+            for at, arm in enumerate(f.arms):
+                if arm and arm[0].startswith("in_default"):
+                    for x in arm[2]:
+                        if norm(x[1]) == n and not x[2]:
+                            return ".".join([var, arm[0], x[0], "rest"] + parts[1:])
+        for k in range(len(parts), -1, -1):
+            key = (n, ".".join(parts[:k]))
+            if key in arms and (k or n in ("match",)):
+                arm, field = arms[key]
+                return ".".join([var, arm, field] + parts[k:])
+        if n in steps:
+            new, callee = steps[n]
+            if parts and parts[0] == "new" and callee in f.params and len(parts) > 1 and parts[1].isdigit():
+                ps = f.params[callee]
+                k = int(parts[1])
+                if k < len(ps):
+                    parts[1] = ps[k]
+            return ".".join([var, new] + parts)
+        LEFT.append(f"{f.key}: {f.needs[i][1]}: no step {name}")
+        return f"{var}.{name}{rest}"
+
+    return re.sub(rf"(?<![\w.'-]){var}(?:\.before)*\.([\w-]+)((?:\.[\w'-]+)*)", step, body)
+
+
+def spec_arguments(text):
+    """The arguments of `tie.spec`."""
+    at = text.find("tie.spec")
+    if at < 0:
+        return []
+    rest, out, depth, now = text[at + 8:], [], 0, ""
+    for ch in rest:
+        if ch == "(":
+            depth += 1
+        if ch == ")":
+            depth -= 1
+            if depth < 0:
+                break
+        if depth == 0 and ch.isspace():
+            if now:
+                out.append(now)
+            now = ""
+        else:
+            now += ch
+    if now:
+        out.append(now)
+    return out
+
+
+def typed_of(typed, step, var):
+    v = typed.get(norm(step))
+    if v is None:
+        v = next(iter(typed.values()), None)
+    return f"{var}.type_inv.{v}" if v else f"{var}.{step}.given"
+
+
+def loop_body(line_args, body, prefix):
+    """The text of an invariant over the record l; the first variables are those outside, then those at the start (with ₀), then those now."""
+    names = {}
+    for a in line_args:
+        names[a] = f"l.initial.{a[:-1]}" if a.endswith("₀") else f"l.{a}"
+    return re.sub(r"(?<![\w.'-])([A-Za-z_][\w']*₀?)", lambda m: names.get(m.group(1), m.group(1)), body)
+
+
+def main(argv):
+    crate, old, names = argv[:3]
+    only = argv[3:]
+    name = os.path.basename(crate.rstrip("/"))
+    table = json.load(open(os.path.join(names, "names.json"), encoding="utf-8"))
+    for folder, dirs, fs in os.walk(os.path.join(old, "proofs")):
+        if "Proof.antt" not in fs:
+            continue
+        rel = os.path.relpath(folder, os.path.join(old, "proofs"))
+        if only and rel not in only:
+            continue
+        convert(crate, name, rel, os.path.join(folder, "Proof.antt"), table)
+    for l in LEFT:
+        print("left:", l)
+    return 0
+
+
+def functions(table, name, rel):
+    path = rel.replace("/", ".")
+    out = {}
+    for key in table:
+        k = key.partition("-proofs.")[2]
+        if k == path + ".Lts":
+            out[""] = Function(table[key], key)
+        elif k.startswith(path + ".Lts-"):
+            out[norm(k[len(path) + 5:])] = Function(table[key], key)
+    return out
+
+
+def convert(crate, name, rel, path, table):
+    text = open(path, encoding="utf-8").read()
+    fs = functions(table, name, rel)
+    if not fs:
+        LEFT.append(f"{rel}: no names in the table")
+        return
+    lines = text.split("\n")
+    k = 0
+    while k < len(lines) and lines[k].startswith("--"):
+        k += 1
+    header = [l for l in lines[:k] if "Assumes nothing" not in l]
+    uses, rest = [], []
+    for l in lines[k:]:
+        if l.startswith("use "):
+            if re.search(r"\.(Reads|Kinds|Tie|Statement|Lts[\w-]*)\b|borrow\.Fn\.|\{statement\}|Tie\.\{close\}", l):
+                continue
+            uses.append(l)
+        else:
+            rest.append(l)
+    aliases = {}
+    for l in lines:
+        m = re.match(r"use Rattle\.\S+\.Lts-(\S+) as (\S+)$", l)
+        if m:
+            aliases[m.group(2)] = norm(m.group(1))
+    answers, invariants, helpers = [], [], []
+    cycle = len(fs) > 1 or "" not in fs
+    for b in blocks("\n".join(rest)):
+        first = b.split("\n")[0]
+        m = re.match(r"^(?:abbrev |pub )*(\S+) :\s*(.*)$", first)
+        if not m:
+            if b.strip().startswith("--"):
+                helpers.append(b)
+            else:
+                LEFT.append(f"{rel}: block not understood: {first}")
+                helpers.append(b)
+            continue
+        label, typ = m.group(1), m.group(2)
+        body_lines = b.split("\n")[1:]
+        if not typ and body_lines:
+            typ = body_lines.pop(0).strip()
+        g = re.match(r"^(?:\(t : ℕ\) → )?([\w-]+)\.Need-([\w-]+)( .*)?$", typ)
+        inv = re.match(r"^([\w-]+)\.(invariant|decreases)-(loop[\w-]*)$", typ)
+        if g:
+            who = "" if g.group(1) == "tie" else aliases.get(g.group(1), norm(g.group(1)[:-4]))
+            if who not in fs:
+                LEFT.append(f"{rel}: no function {who}")
+                continue
+            f = fs[who]
+            i = f.find(g.group(2))
+            if i is None:
+                if not re.search(r"= search rules$", b):
+                    LEFT.append(f"{rel}: goal {g.group(2)} is not there: {' '.join(b.split())[:300]}")
+                continue
+            new = f.needs[i][1]
+            unf = [l for l in body_lines if l.startswith("unfolding")]
+            body = "\n".join(l for l in body_lines if not l.startswith("unfolding"))
+            m2 = re.match(rf"^{re.escape(label)}((?: [\w₀κ]+)*) =(.*)$", body, re.S)
+            if not m2:
+                LEFT.append(f"{rel}: {label}: no plain body")
+                continue
+            args, body = m2.group(1).split(), m2.group(2)
+            args = [a for a in args if a != "κs"]
+            if body.strip() == "search rules":
+                continue
+            var = args[-1] if args else "c"
+            body = turn_body(f, i, body, var)
+            full = new if not cycle else f"{who_name(f)}-{new}"
+            answers.append("\n".join([f"pub {full} : goal.{full}"] + unf + [" ".join([full] + args) + " =" + body]))
+        elif inv:
+            who = "" if inv.group(1) == "tie" else aliases.get(inv.group(1), norm(inv.group(1)[:-4]))
+            f = fs[who]
+            loop = inv.group(3)
+            for o, n in [x[:2] for x in f.loops if isinstance(x, list) and len(x) >= 2 and all(isinstance(y, str) for y in x[:2])]:
+                if norm(o) == norm(loop):
+                    loop = n
+            kind = inv.group(2)
+            body = "\n".join(body_lines)
+            m2 = re.match(rf"^((?:unfolding[^\n]*\n)?)(?:{re.escape(label)})((?: [^\s=]+)*) =(.*)$", body, re.S)
+            if not m2:
+                LEFT.append(f"{rel}: {label}: no plain body")
+                continue
+            args, body = m2.group(2).split(), m2.group(3)
+            full = f"{kind}-{loop}" if not cycle else f"{who_name(f)}-{kind}-{loop}"
+            invariants.append(f"abbrev pub {full} : goal.{full}\n{full} l =" + loop_body(args, body, "l"))
+        elif re.search(r"Measures|: ℕ → In |Claims|statement M|PlainCycle", first) or "→ In " in typ or typ.endswith("statement M"):
+            if "Measures" in first:
+                invariants.append("-- MEASURE " + b.replace("\n", "\n-- "))
+            if typ.endswith("statement M") and not cycle:
+                f = fs[""]
+                unf = [l for l in body_lines if l.startswith("unfolding")]
+                given = spec_arguments("\n".join(body_lines))
+                given = given[len(given) - len(f.needs):] if len(given) >= len(f.needs) else given
+                for i, arg in enumerate(given):
+                    m3 = re.match(r"^\(λ (\w+)((?: \w+)*)\. (.*)\)$", arg, re.S)
+                    if m3 and i < len(f.needs):
+                        body = turn_body(f, i, m3.group(3), m3.group(1))
+                        if body.strip() == "search rules":
+                            continue
+                        new = f.needs[i][1]
+                        extra = [a for a in m3.group(2).split() if a != "κs"]
+                        if m3.group(2).strip() and "κs" not in m3.group(2):
+                            LEFT.append(f"{rel}: {new}: more than one variable")
+                        answers.append("\n".join([f"pub {new} : goal.{new}"] + unf + [f"{new} {m3.group(1)} = {body}"]))
+        else:
+            if re.search(r"lts\.|\.before|tie\.", b):
+                LEFT.append(f"{rel}: helper {label} cites what is no longer made")
+            helpers.append(b)
+    to = os.path.join(crate, "proofs", rel)
+    os.makedirs(to, exist_ok=True)
+    mod = f"Rattle.{name}.proofs.{rel.replace('/', '.')}"
+    if invariants:
+        with open(os.path.join(to, "Invariants.antt"), "w", encoding="utf-8") as out:
+            out.write("\n".join(header + uses + [f"use {mod}.Given as goal", ""]) + "\n" + "\n\n".join(invariants) + "\n")
+    if answers or helpers:
+        with open(os.path.join(to, "Answers.antt"), "w", encoding="utf-8") as out:
+            out.write("\n".join(header + uses + [f"use {mod}.Goals as goal", ""]) + "\n" + "\n\n".join(helpers + answers) + "\n")
+
+
+def who_name(f):
+    return f.key.split(".Lts-", 1)[1]
+
+
+if __name__ == "__main__":
+    raise SystemExit(main(sys.argv[1:]))
