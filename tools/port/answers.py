@@ -101,7 +101,12 @@ def turn_body(f, i, body, var="c"):
     def step(m):
         name, rest = m.group(1), m.group(2) or ""
         n = norm(name)
-        if n in ("args", "requires", "well-formed", "ranges"):
+        if n == "requires" and ".Lts-" in f.key:
+            if rest.startswith(".1"):
+                return f"{var}.requires{rest[2:]}"
+            if rest.startswith(".0"):
+                return f"{var}.decreases{rest[2:]}"
+        if n in ("args", "requires", "well-formed", "ranges", "type-inv", "decreases"):
             return f"{var}.{name.replace('-', '_')}{rest}"
         parts = rest.split(".")[1:]
         if re.match(r"match\d*$", n) and parts and parts[0] == "rest":
@@ -123,7 +128,9 @@ def turn_body(f, i, body, var="c"):
                 if k < len(ps):
                     parts[1] = ps[k]
             return ".".join([var, new] + parts)
-        LEFT.append(f"{f.key}: {f.needs[i][1]}: no step {name}")
+        if re.sub(r"\d+$", "", n) in steps:
+            return ".".join([var, steps[re.sub(r"\d+$", "", n)][0]] + parts)
+        LEFT.append(f"{f.key.split('-proofs.')[1]}: {f.needs[i][1]}: no step {name}")
         return f"{var}.{name}{rest}"
 
     return re.sub(rf"(?<![\w.'-]){var}(?:\.before)*\.([\w-]+)((?:\.[\w'-]+)*)", step, body)
@@ -171,7 +178,7 @@ def loop_body(line_args, body, prefix):
 def main(argv):
     crate, old, names = argv[:3]
     only = argv[3:]
-    name = os.path.basename(crate.rstrip("/"))
+    name = os.path.basename(os.path.abspath(crate))
     table = json.load(open(os.path.join(names, "names.json"), encoding="utf-8"))
     for folder, dirs, fs in os.walk(os.path.join(old, "proofs")):
         if "Proof.antt" not in fs:
@@ -199,6 +206,7 @@ def functions(table, name, rel):
 
 def convert(crate, name, rel, path, table):
     text = open(path, encoding="utf-8").read()
+    text = re.sub(r"^use [^\n]*\{\n[^}]*\}", lambda m: re.sub(r"\s*\n\s*", "", m.group(0)).replace(",}", "}").replace(",", ", "), text, flags=re.M)
     fs = functions(table, name, rel)
     if not fs:
         LEFT.append(f"{rel}: no names in the table")
@@ -222,7 +230,8 @@ def convert(crate, name, rel, path, table):
         if m:
             aliases[m.group(2)] = norm(m.group(1))
     answers, invariants, helpers = [], [], []
-    cycle = len(fs) > 1 or "" not in fs
+    alone = "" in fs
+    cycle = len(fs) > 1
     for b in blocks("\n".join(rest)):
         first = b.split("\n")[0]
         m = re.match(r"^(?:abbrev |pub )*(\S+) :\s*(.*)$", first)
@@ -269,9 +278,10 @@ def convert(crate, name, rel, path, table):
             who = "" if inv.group(1) == "tie" else aliases.get(inv.group(1), norm(inv.group(1)[:-4]))
             f = fs[who]
             loop = inv.group(3)
-            for o, n in [x[:2] for x in f.loops if isinstance(x, list) and len(x) >= 2 and all(isinstance(y, str) for y in x[:2])]:
+            for (o, n), _ in f.loops:
                 if norm(o) == norm(loop):
                     loop = n
+                    break
             kind = inv.group(2)
             body = "\n".join(body_lines)
             m2 = re.match(rf"^((?:unfolding[^\n]*\n)?)(?:{re.escape(label)})((?: [^\s=]+)*) =(.*)$", body, re.S)
@@ -283,8 +293,8 @@ def convert(crate, name, rel, path, table):
             invariants.append(f"abbrev pub {full} : goal.{full}\n{full} l =" + loop_body(args, body, "l"))
         elif re.search(r"Measures|: ℕ → In |Claims|statement M|PlainCycle", first) or "→ In " in typ or typ.endswith("statement M"):
             if "Measures" in first:
-                invariants.append("-- MEASURE " + b.replace("\n", "\n-- "))
-            if typ.endswith("statement M") and not cycle:
+                invariants.append(measure(crate, rel, label, b))
+            if typ.endswith("statement M") and alone:
                 f = fs[""]
                 unf = [l for l in body_lines if l.startswith("unfolding")]
                 given = spec_arguments("\n".join(body_lines))
@@ -313,6 +323,32 @@ def convert(crate, name, rel, path, table):
     if answers or helpers:
         with open(os.path.join(to, "Answers.antt"), "w", encoding="utf-8") as out:
             out.write("\n".join(header + uses + [f"use {mod}.Goals as goal", ""]) + "\n" + "\n\n".join(helpers + answers) + "\n")
+
+
+def parameters(crate, rel, function):
+    """The names of a function's parameters, from its source."""
+    module = rel.split("/")[:-1]
+    path = os.path.join(crate, "src", *module) + ".rt" if module else os.path.join(crate, "src", "lib.rt")
+    if not os.path.exists(path):
+        path = os.path.join(crate, "src", "main.rt")
+    text = open(path, encoding="utf-8").read()
+    m = re.search(rf"fn {function}(?:<[^>]*>)?\(([^)]*)\)", text, re.S)
+    return [re.sub(r"^(mut )?", "", p.strip()).split(":")[0].strip() for p in m.group(1).split(",") if p.strip()] if m else []
+
+
+def measure(crate, rel, label, block):
+    names = re.sub(r"^μ-", "", label).replace("-", "_")
+    ps = parameters(crate, rel, names)
+    body = block.split("=", 1)[1]
+    def arg(m):
+        k = m.group(1).count(".1")
+        return f"l.{ps[k]}" if k < len(ps) else m.group(0)
+    body = re.sub(r"(?<![\w.])a((?:\.1)*)\.0(?![\w])", arg, body)
+    if re.search(r"(?<![\w.])a(?:\.\d)+", body):
+        body = re.sub(r"(?<![\w.])a((?:\.1)+)(?![\w.])", lambda m: f"l.{ps[m.group(1).count('.1')]}" if m.group(1).count(".1") < len(ps) else m.group(0), body)
+    if not ps:
+        LEFT.append(f"{rel}: no parameters of {names}")
+    return f"abbrev pub decreases-{names} : goal.decreases-{names}\ndecreases-{names} l ={body}"
 
 
 def who_name(f):

@@ -5,7 +5,7 @@ ghost use Rattle.sock.specs.Evaluation.{of_digits};
 ghost use Rattle.evaluating.specs.Valuing.{no_value, good_value, value_as};
 
 // Whether there is a value, and the value; 0 where there is none.
-#[derive(Drop)]
+#[derive(Clone, Copy)]
 pub struct Value {
     pub good: bool,
     pub value: u32,

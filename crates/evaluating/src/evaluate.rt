@@ -10,7 +10,7 @@ use layout::number::word;
 use layout::tag;
 
 // Where an expression ends, whether it has a value, and the value; 0 where it has none.
-#[derive(Drop)]
+#[derive(Clone, Copy)]
 pub struct Evaluated {
     pub end: usize,
     pub good: bool,

@@ -12,7 +12,7 @@ use skipping::skip::skip_list;
 // The process at `at`, `level` levels deep. Were it nil, the words from..upto and gap..end would go; `hollow` tells that a nil would stand at `from`.
 // `scope` is the head of the nearest scope, `scope_level` its level, `catcher` the head of the scope that stops the fault of a throw; 0
 // where there is none.
-#[derive(Drop)]
+#[derive(Clone, Copy)]
 pub struct Site {
     pub at: usize,
     pub level: usize,
@@ -27,7 +27,7 @@ pub struct Site {
     pub catcher: usize,
 }
 
-#[derive(Drop)]
+#[derive(Clone, Copy)]
 pub enum Found {
     Hit(Site),
     Past(usize),

@@ -10,7 +10,7 @@ use layout::own::own_end;
 use layout::{kind, tag};
 
 // Where a process or an expression ends, and how many levels it has.
-#[derive(Drop)]
+#[derive(Clone, Copy)]
 pub struct Measured {
     pub end: usize,
     pub levels: usize,

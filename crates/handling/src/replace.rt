@@ -10,7 +10,7 @@ use layout::{head, kind};
 use writers::write::{copy, down, put};
 
 // Where the source ends, where the writing has come to, whether only nil was written, and how deep that is.
-#[derive(Drop)]
+#[derive(Clone, Copy)]
 pub struct Rebuilt {
     pub end: usize,
     pub to: usize,
@@ -19,7 +19,7 @@ pub struct Rebuilt {
 }
 
 // The process that takes cH's place: the words from..upto unless it is nil, and its levels.
-#[derive(Drop)]
+#[derive(Clone, Copy)]
 pub struct Old {
     pub from: usize,
     pub upto: usize,

@@ -8,7 +8,7 @@ use skipping::skip::skip;
 use writers::write::{copy, put};
 
 // The place behind the new list; the process taken out stands from..upto, or upto is 0.
-#[derive(Drop)]
+#[derive(Clone, Copy)]
 pub struct Taken {
     pub to: usize,
     pub from: usize,
@@ -16,7 +16,7 @@ pub struct Taken {
 }
 
 // How far it has come: the next entry, and what is taken so far.
-#[derive(Drop)]
+#[derive(Clone, Copy)]
 pub struct Passing {
     pub at: usize,
     pub to: usize,

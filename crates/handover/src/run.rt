@@ -31,7 +31,7 @@ fn stepped(ws: &[u16], bytes: &[u8], out: &mut [u16]) -> Answer
 }
 
 // What a step answers, and how many words the next one reads.
-#[derive(Drop)]
+#[derive(Clone, Copy)]
 struct Moved {
     answer: Answer,
     length: usize,

@@ -7,7 +7,7 @@ ghost use Rattle.index.specs.Form.{told_as};
 use crate::form::in_order;
 
 // The number, and what was asked for; 0 in a refusal.
-#[derive(Drop)]
+#[derive(Clone, Copy)]
 pub struct Told {
     pub number: u8,
     pub value: u16,

@@ -10,7 +10,7 @@ use reading::calls::check_readable;
 use writers::write::copy;
 
 // A refusal's number, or 0; the words of the configuration restored.
-#[derive(Drop)]
+#[derive(Clone, Copy)]
 pub struct Taken {
     pub number: u8,
     pub length: u16,
@@ -23,7 +23,7 @@ fn refuse(number: u8) -> Taken
 }
 
 // The four counts at the head of a journal.
-#[derive(Drop)]
+#[derive(Clone, Copy)]
 pub struct Counts {
     pub old: u16,
     pub new: u16,

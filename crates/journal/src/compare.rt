@@ -88,7 +88,7 @@ pub fn last_alike(a: &[u16], b: &[u16]) -> usize
 }
 
 // The first words alike, and the last ones in what is left behind them.
-#[derive(Drop)]
+#[derive(Clone, Copy)]
 pub struct Alike {
     pub first: usize,
     pub last: usize,

@@ -25,7 +25,7 @@ const TWICE: usize = 1024;
 pub const JOURNAL_ENOUGH: usize = 16386;
 
 // A step, and what its result has alike with what it read.
-#[derive(Drop)]
+#[derive(Clone, Copy)]
 pub struct Compared {
     pub answer: Answer,
     pub first: usize,

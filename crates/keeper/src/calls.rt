@@ -18,7 +18,7 @@ pub const MOVES: u16 = 6;
 pub const SCRATCH: usize = 57344;
 
 // A refusal's number, or 0; the outcome: 0 no, 1 yes by a move, 2 yes by a pass; the move's five numbers, all 0 where there is none.
-#[derive(Drop)]
+#[derive(Clone, Copy)]
 pub struct Played {
     pub number: u8,
     pub outcome: u8,

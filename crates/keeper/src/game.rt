@@ -11,7 +11,7 @@ use layout::limit::LONGEST;
 use results::answer::Answer;
 
 // Whether the keeper can force it, and the move that decided; the count of moves if none did.
-#[derive(Drop)]
+#[derive(Clone, Copy)]
 pub struct Verdict {
     pub forced: bool,
     pub index: usize,

@@ -18,7 +18,7 @@ use stepping::steps::{MANY, moves, moving};
 use writers::write::copy;
 
 // What was tried, and where to go on.
-#[derive(Drop)]
+#[derive(Clone, Copy)]
 pub struct Glance {
     pub answer: Answer,
     pub next: usize,
@@ -170,7 +170,7 @@ fn look(
 }
 
 // A move and what its step answers; the count of moves if there is none.
-#[derive(Drop)]
+#[derive(Clone, Copy)]
 pub struct Move {
     pub index: usize,
     pub answer: Answer,

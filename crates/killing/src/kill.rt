@@ -14,7 +14,7 @@ use writers::write::{copy, down, put};
 
 // Where the source ends and where the writing has come to; `nil` is 1 if only nil was written, else 0, a number since the bytes behind a
 // bool would be copied with it. `end` is 0 where something can't be killed.
-#[derive(Drop)]
+#[derive(Clone, Copy)]
 pub struct Moved {
     pub end: usize,
     pub to: usize,
@@ -179,7 +179,7 @@ fn kill_right(
 }
 
 // Where a scope stands, and where its body begins.
-#[derive(Drop)]
+#[derive(Clone, Copy)]
 pub struct Scope {
     pub at: usize,
     pub body: usize,

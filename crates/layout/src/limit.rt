@@ -4,7 +4,7 @@ ghost use Rattle.std.specs.Prelude.{◌≡◌};
 ghost use Rattle.sock.specs.Configuration.{standard};
 ghost use Rattle.layout.specs.Limits.{figures};
 
-#[derive(Drop)]
+#[derive(Clone, Copy)]
 pub struct Limits {
     pub deepest: usize,
     pub longest: usize,

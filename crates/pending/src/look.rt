@@ -12,7 +12,7 @@ use layout::{head, kind};
 use skipping::pass::{pass, pass_list};
 
 // Where the search has come to, 0 if it ended at a pending process; and how many enabled processes it has met, that one with them.
-#[derive(Drop)]
+#[derive(Clone, Copy)]
 pub struct Seen {
     pub end: usize,
     pub count: usize,

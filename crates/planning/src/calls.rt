@@ -11,7 +11,7 @@ use layout::limit::{DEEPEST, LONGEST, Limits};
 use writers::write::copy;
 
 // A refusal's number, or 0; the words of the start.
-#[derive(Drop)]
+#[derive(Clone, Copy)]
 pub struct Translated {
     pub number: u8,
     pub length: u16,

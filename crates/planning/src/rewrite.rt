@@ -24,7 +24,7 @@ const FAULTS: usize = 64;
 const KEYS: usize = 128;
 
 // Where the reading and the writing have come to, and whether cH was met free in a fixed scope's own handlers. A lost spot is at 0.
-#[derive(Drop)]
+#[derive(Clone, Copy)]
 pub struct Spot {
     pub at: usize,
     pub to: usize,

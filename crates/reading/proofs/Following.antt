@@ -4,7 +4,7 @@
 use Prim.Native.Nat.{ℕ, ◌+◌, ◌≤◌, ◌<◌}
 use native.Mathlib.Omega.{arith}
 use mathlib.Core.Path.{◌≡◌, refl, ap, ◌∙◌}
-use mathlib.Core.Bool.{Bool, true, false, not, ◌&&◌, ◌||◌, and_true}
+use mathlib.Core.Bool.{Bool, true, false, not, ◌&&◌, ◌||◌, and-true}
 use mathlib.Core.List.{List, [], ◌∷◌, ◌++◌}
 use lib.Dec.{T, eqb}
 use lib.ListN.{length, drop}
@@ -61,7 +61,7 @@ mute_fits s h f b t =
 -- of a kind that receives, the condition is that no variable stands twice
 apart_fits : (s : Stratum) (h : ℕ) (f : List ℕ) (b : Block) → T (is_free (kind_of h)) → node_fits s h f b ≡ distinct (receives_in h f)
 unfolding node_fits
-apart_fits s h f b t = rw (test_true (fields_fit s h f b) (free_fields s h f b t), and_true)
+apart_fits s h f b t = rw (test_true (fields_fit s h f b) (free_fields s h f b t), and-true)
 
 -- the tests of a request and of a solicit in the order of the walk
 request_order : (t l m x : Bool) (e : ℕ) → when (t && (l && m) && x) e ≡ when t (when (l && x) (when m e))

@@ -4,7 +4,7 @@ use Prim.Native.Nat.{ℕ, zero, suc, ◌+◌, ◌*◌, ◌/◌, ◌%◌, ◌<◌
 use native.Mathlib.Omega.{arith}
 use mathlib.Core.Logic.{◌≢◌}
 use mathlib.Core.Path.{◌≡◌, refl}
-use mathlib.Core.Bool.{Bool, true, false, not, ◌&&◌, and_assoc, and_true}
+use mathlib.Core.Bool.{Bool, true, false, not, ◌&&◌, and_assoc, and-true}
 use mathlib.Core.List.{List}
 use lib.Dec.{T, leb, ltb, eqb}
 use lib.ListN.{length, drop}
@@ -43,12 +43,12 @@ module _
     unfolding branched
     plain s e t r =
         let b : Bool = clear (row_of (kind_of h)).spare h in
-        rw (test_false (eqb (kind_of h) Kind.choice) t, e, and_true) (ends_check b λ t. r)
+        rw (test_false (eqb (kind_of h) Kind.choice) t, e, and-true) (ends_check b λ t. r)
 
     scope_headed : {s : Stratum} → Bounded bound s → kind_of h ≡ Kind.scope → Headed ws bound d s p h i
     unfolding branched spare_of row_of rows
-    scope_headed (is_code {c = false}) e = rw (e, and_true) (resting_follows ws ok bound d below h i inside false p e)
-    scope_headed (is_code {c = true}) e = rw (e, and_true) (resting_follows ws ok bound d below h i inside true p e)
+    scope_headed (is_code {c = false}) e = rw (e, and-true) (resting_follows ws ok bound d below h i inside false p e)
+    scope_headed (is_code {c = true}) e = rw (e, and-true) (resting_follows ws ok bound d below h i inside true p e)
     scope_headed is_running e = plain _ (rw e refl) (rw e tt) (running_follows ws ok bound d below h i inside p e)
 
     executor_headed : {s : Stratum} → Bounded bound s → kind_of h ≡ Kind.executor → T (allowed s Kind.executor) → Headed ws bound d s p h i

@@ -3,7 +3,7 @@
 use Prim.Native.Nat.{ℕ, zero, suc, ◌+◌, ◌*◌, ◌-◌, ◌/◌, ◌%◌, ◌≤◌, ◌<◌}
 use native.Mathlib.Omega.{arith}
 use mathlib.Core.Path.{◌≡◌, refl, sym, ap, ◌∙◌}
-use mathlib.Core.Bool.{Bool, true, false, not, ◌&&◌, and_assoc, and_true, and_false}
+use mathlib.Core.Bool.{Bool, true, false, not, ◌&&◌, and_assoc, and-true, and-false}
 use mathlib.Core.List.{List, [], ◌∷◌}
 use lib.Dec.{T, leb, ltb, eqb, nleb→lt, eqb-suc-zero}
 use borrow.Author.Tests.{lt-leb, le-leb}
@@ -30,7 +30,7 @@ running_fits :
     (n issued h w : ℕ) → kind_of h ≡ Kind.scope → (l : Block) →
     node_fits (running n issued) h (w ∷ []) l ≡ scope_fits (mark_of h) (zombie_of h) (first_name w) (entries_of l)
 unfolding node_fits fields_fit receives_in distinct
-running_fits n issued h w e l = rw e (simp and_true)
+running_fits n issued h w e l = rw e (simp and-true)
 
 resting_fits_lem :
     (c : Bool) (h w : ℕ) → kind_of h ≡ Kind.scope → (l : Block) → node_fits (code c) h (w ∷ []) l ≡ resting_fits (mark_of h) (zombie_of h) (first_name w) (entries_of l)
@@ -68,8 +68,8 @@ module _ (ws : List ℕ) (i : ℕ) (sub : List ℕ → Got Node) (m z f : ℕ) w
   resting_entries (suc v) q =
       let g : Got Block = and_then (entries sub true (suc v) 0 (drop (i + 3) ws)) λ l rest. got (list l) rest in
       let full : Holds (λ l rest. resting_fits m z f (entries_of l) ≡ false) g =
-      holds_then (full_list sub true v 0 (drop (i + 3) ws)) λ l rest e. something {a = list l} (rw (e, and_false)) in
-      rw (eqb-suc-zero v, and_false, never {g = g} (λ l. resting_fits m z f (entries_of l)) full) fails
+      holds_then (full_list sub true v 0 (drop (i + 3) ws)) λ l rest e. something {a = list l} (rw (e, and-false)) in
+      rw (eqb-suc-zero v, and-false, never {g = g} (λ l. resting_fits m z f (entries_of l)) full) fails
 
   resting_list :
       (a : Bool) →

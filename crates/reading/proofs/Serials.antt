@@ -3,7 +3,7 @@
 use Prim.Native.Nat.{ℕ, ◌+◌, ◌-◌, ◌/◌, ◌%◌, ◌≤◌, ◌<◌}
 use native.Mathlib.Omega.{arith}
 use mathlib.Core.Path.{◌≡◌, refl, sym, ap, ◌∙◌}
-use mathlib.Core.Bool.{Bool, true, false, ◌&&◌, and_true}
+use mathlib.Core.Bool.{Bool, true, false, ◌&&◌, and-true}
 use mathlib.Core.List.{List, [], ◌∷◌, ◌++◌}
 use borrow.Author.Tests.{lt-ltb}
 use lib.Dec.{T, leb, ltb}
@@ -32,12 +32,12 @@ use Rattle.reading.proofs.Following.{Follows}
 module _ (n issued h w v : ℕ) (g : List ℕ) (l : Block) where
   executor_fits : kind_of h ≡ Kind.executor → w < 65536 → node_fits (running n issued) h (w ∷ v ∷ g) l ≡ end_fits n issued (w / 8192 % 8) v
   unfolding node_fits fields_fit receives_in distinct
-  executor_fits e b = let q : w / 8192 % 8 ≡ w / 8192 = omega arith in rw (e, q) (simp and_true)
+  executor_fits e b = let q : w / 8192 % 8 ≡ w / 8192 = omega arith in rw (e, q) (simp and-true)
 
   waiter_fits :
       kind_of h ≡ Kind.waiter → node_fits (running n issued) h (w ∷ v ∷ g) l ≡ distinct (variables_of (second_of h) g) && end_fits n issued (w / 4096 % 8) v
   unfolding node_fits fields_fit receives_in
-  waiter_fits e = rw (e, and_true)
+  waiter_fits e = rw (e, and-true)
 
   notice_fits : kind_of h ≡ Kind.notice → node_fits (running n issued) h (w ∷ v ∷ g) l ≡ end_fits n issued (w / 128 % 8) v
   unfolding node_fits fields_fit receives_in distinct

@@ -17,7 +17,7 @@ use layout::unit::WORD;
 use layout::{kind, unit};
 
 // Waiters, and executors plus notices, up to `end`; all 0 if there is no end.
-#[derive(Drop)]
+#[derive(Clone, Copy)]
 pub struct Counted {
     pub end: usize,
     pub waiters: usize,
@@ -25,7 +25,7 @@ pub struct Counted {
 }
 
 // What the call answers: document 01's number, and the two counts.
-#[derive(Drop)]
+#[derive(Clone, Copy)]
 pub struct EndCounts {
     pub number: u8,
     pub waiters: u16,

@@ -10,7 +10,7 @@ use layout::number::wide;
 use layout::unit::WORD;
 
 // How many engines there are, 0 if the words are unreadable, and where each one's process begins; behind the last, where the next would.
-#[derive(Drop)]
+#[derive(Clone, Copy)]
 pub struct Starts {
     pub engines: usize,
     pub starts: [usize; 9],

@@ -9,7 +9,7 @@ use rules::edit::Edit;
 use writers::write::{copy, put};
 
 // A refusal's number, or 0; the kind of the process that moved, the serial and whether a fault was delivered; the words of the result.
-#[derive(Drop)]
+#[derive(Clone, Copy)]
 pub struct Answer {
     pub number: u8,
     pub kind: u8,
@@ -103,7 +103,7 @@ pub fn one(
 }
 
 // A process start..end, and the edit of it.
-#[derive(Drop)]
+#[derive(Clone, Copy)]
 pub struct Change {
     pub start: usize,
     pub end: usize,
@@ -111,7 +111,7 @@ pub struct Change {
 }
 
 // What an exchange answers, and the serials issued after it.
-#[derive(Drop)]
+#[derive(Clone, Copy)]
 pub struct Told {
     pub kind: u8,
     pub serial: u16,

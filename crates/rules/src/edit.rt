@@ -10,7 +10,7 @@ use writers::write::put;
 
 // A refusal's number, or 0. The words list..past become the first `listed` fresh words, from..upto the fresh words listed..fresh, and
 // gap..end go; the engine's variables take what `store` says.
-#[derive(Drop)]
+#[derive(Clone, Copy)]
 pub struct Edit {
     pub number: u8,
     pub list: usize,

@@ -13,7 +13,7 @@ use skipping::skip::skip;
 use writers::write::put;
 
 // Where a receiver stands in the words, and from next..upto the process that follows a chosen branch; next is 0 where none does.
-#[derive(Drop)]
+#[derive(Clone, Copy)]
 pub struct Offer {
     pub some: bool,
     pub guard: usize,

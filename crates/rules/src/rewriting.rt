@@ -7,7 +7,7 @@ use layout::number::word;
 
 // A refusal's number, or 0. The process turns into nil, or into the first `fresh` fresh words and, of its own `end` words, those
 // from..upto. The engine's variables take what `store` says.
-#[derive(Drop)]
+#[derive(Clone, Copy)]
 pub struct Rewriting {
     pub number: u8,
     pub nil: bool,

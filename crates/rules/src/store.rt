@@ -6,14 +6,14 @@ ghost use Rattle.rules.specs.Storing.{no_taking, unchanged, takes};
 pub const NO_VARIABLE: usize = 32;
 
 // The variable takes the value, unless it is none.
-#[derive(Drop)]
+#[derive(Clone, Copy)]
 pub struct Taking {
     pub variable: usize,
     pub value: u32,
 }
 
 // The variable takes the value, unless it is none; and then the further ones take theirs, in order.
-#[derive(Drop)]
+#[derive(Clone, Copy)]
 pub struct Store {
     pub variable: usize,
     pub value: u32,

@@ -15,7 +15,7 @@ use noting::survey::survey;
 use pending::look::pending;
 
 // The number, whether there is a pending process, and the count up to it, all if there is none.
-#[derive(Drop)]
+#[derive(Clone, Copy)]
 pub struct Pending {
     pub number: u8,
     pub found: bool,

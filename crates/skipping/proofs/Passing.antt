@@ -4,7 +4,7 @@
 use Prim.Native.Nat.{ℕ, zero, suc, ◌+◌, ◌*◌, ◌/◌, ◌%◌, ◌≤◌, ◌<◌}
 use native.Mathlib.Omega.{arith}
 use mathlib.Core.Path.{◌≡◌, refl, sym, ap, ◌∙◌}
-use mathlib.Core.Bool.{Bool, true, ◌||◌, cond, or_false, or_assoc}
+use mathlib.Core.Bool.{Bool, true, ◌||◌, cond, or-false, or_assoc}
 use mathlib.Core.List.{List, [], ◌∷◌, ◌++◌, append_assoc}
 use borrow.Author.Tests.{lt-ltb}
 use lib.Dec.{leb, eqb}
@@ -231,7 +231,7 @@ module _ (ws : List ℕ) where
         {o : Bool} {least : ℕ} {l : Entries} → FitsEntries o least l → (d : ℕ) → entries_depth l ≤ d →
         (wanted : ℕ) (met : Bool) (i : ℕ) (rest : List ℕ) → drop i ws ≡ entries_words l ++ rest →
         entries_skip (skip_end d ws) ws wanted (count l) met i ≡ cond (met || holds wanted l) (i + length (entries_words l)) 0
-    entries_pass empty_fits d shallow wanted met i rest there = rw (or_false met) (ap (λ n. cond met n 0) (no_more i))
+    entries_pass empty_fits d shallow wanted met i rest there = rw (or-false met) (ap (λ n. cond met n 0) (no_more i))
     entries_pass (entry_fits_on {k = k} {p = m} {es = l} low high good f fs) zero shallow wanted met i rest there = absurd (omega (arith, depth_some m))
     entries_pass (entry_fits_on {k = k} {p = m} {es = l} low high good f fs) (suc d) shallow wanted met i rest there =
         let here : At ws i (key_word k) ((words m ++ entries_words l) ++ rest) = at_head ws i (key_word k) _ there in

@@ -7,7 +7,7 @@ use layout::limit::VALUES;
 use layout::number::wide;
 
 // Engine and position of the process that moves; a second engine, a position there, and a branch.
-#[derive(Drop)]
+#[derive(Clone, Copy)]
 pub struct Numbers {
     pub engine: u16,
     pub position: u16,
@@ -17,7 +17,7 @@ pub struct Numbers {
 }
 
 // How many engines there are, the serials issued, and where each one's process begins.
-#[derive(Drop)]
+#[derive(Clone, Copy)]
 pub struct Engines {
     pub count: usize,
     pub issued: u16,
@@ -33,7 +33,7 @@ pub fn bound(g: Engines) -> usize
 }
 
 // An engine's process start..end, and the process found in it.
-#[derive(Drop)]
+#[derive(Clone, Copy)]
 pub struct Side {
     pub start: usize,
     pub end: usize,
@@ -59,7 +59,7 @@ pub fn side_in(g: Engines, engine: u16, site: Site) -> Side
 }
 
 // Two processes that may exchange something: the kind of the one that sends, both engines, the branch, and where the two were found.
-#[derive(Drop)]
+#[derive(Clone, Copy)]
 pub struct Encounter {
     pub kind: usize,
     pub engine: u16,

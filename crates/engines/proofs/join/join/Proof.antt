@@ -1,7 +1,7 @@
 -- `join` of `engines::join` meets its contract.
 -- Assumes nothing.
 use native.Mathlib.Omega.{arith}
-use borrow.Author.Tests.{not_true, not-false}
+use borrow.Author.Tests.{not-true, not-false}
 use Rattle.engines.proofs.Joining.{admitted, read_some, join_gives, not_admitted, not_fresh_lem, given_placed}
 use borrow.Author.Rules.{rules}
 use Rattle.engines.proofs.join.join.Statement.{statement}
@@ -38,7 +38,7 @@ returns-2 : tie.Need-returns-2
 returns-2 c =
     let a = admitted (c.before.before.before.before.before.before.before.before.before.before.args.ws.now) _ (c.before.before.before.before.before.before.admit.ensures) (c.before.before.before.before.before.if1.false) in
     join_gives _ _ _ _ _
-    (not_fresh_lem (c.before.before.before.before.before.before.before.before.before.before.args.ws.now) (c.before.before.before.before.before.before.before.before.before.before.args.engine.now) (c.before.before.before.before.before.before.before.before.before.before.args.out.now) a _ (omega (arith, c.before.before.before.wide.ensures.0, c.before.before.before.before.word.ensures)) _ (c.before.before.begins.ensures) (not_true (c.before.before.begins.result) (c.before.if2.true)) _ (c.refuse2.ensures))
+    (not_fresh_lem (c.before.before.before.before.before.before.before.before.before.before.args.ws.now) (c.before.before.before.before.before.before.before.before.before.before.args.engine.now) (c.before.before.before.before.before.before.before.before.before.before.args.out.now) a _ (omega (arith, c.before.before.before.wide.ensures.0, c.before.before.before.before.word.ensures)) _ (c.before.before.begins.ensures) (not-true (c.before.before.begins.result) (c.before.if2.true)) _ (c.refuse2.ensures))
 
 cast-append : tie.Need-overflow-cast-append
 cast-append c =

@@ -2,7 +2,7 @@
 -- Assumes nothing.
 use native.Mathlib.Omega.{arith}
 use mathlib.Core.Path.{refl}
-use borrow.Author.Tests.{not_true, not-false}
+use borrow.Author.Tests.{not-true, not-false}
 use Rattle.sock.specs.Configuration.{standard}
 use Rattle.reading.proofs.Known.{survey_known, few_engines, known_length}
 use Rattle.engines.proofs.Going.{leave_gives, leave_unread, at_work, leave_short, leave_done}
@@ -29,7 +29,7 @@ refuse-requires-2 c κs = search rules
 
 returns-2 : tie.Need-returns-2
 returns-2 c =
-    leave_gives _ (λ i. (c.before.before.before.before.before.before.before.shared-slice-known.given i).fits) _ (c.before.before.before.before.before.survey.ensures) _ _ _ (at_work (c.before.before.before.before.before.before.before.before.args.ws.now) (λ i. (c.before.before.before.before.before.before.before.shared-slice-known.given i).fits) _ (c.before.before.before.before.before.survey.ensures) (c.before.before.before.before.before.before.before.before.args.out.now) (c.before.before.before.before.if1.false) _ (c.before.before.rests.ensures) (not_true (c.before.before.rests.result) (c.before.if2.true)) _ (c.refuse2.ensures))
+    leave_gives _ (λ i. (c.before.before.before.before.before.before.before.shared-slice-known.given i).fits) _ (c.before.before.before.before.before.survey.ensures) _ _ _ (at_work (c.before.before.before.before.before.before.before.before.args.ws.now) (λ i. (c.before.before.before.before.before.before.before.shared-slice-known.given i).fits) _ (c.before.before.before.before.before.survey.ensures) (c.before.before.before.before.before.before.before.before.args.out.now) (c.before.before.before.before.if1.false) _ (c.before.before.rests.ensures) (not-true (c.before.before.rests.result) (c.before.if2.true)) _ (c.refuse2.ensures))
 
 less-requires : tie.Need-less-requires
 less-requires c κs = search rules

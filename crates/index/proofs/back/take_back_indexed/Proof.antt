@@ -2,7 +2,7 @@
 -- Assumes nothing.
 use mathlib.Core.Path.{sym, ◌∙◌}
 use borrow.Author.Rules.{rules}
-use borrow.Author.Tests.{not_true, not-false}
+use borrow.Author.Tests.{not-true, not-false}
 use lib.Seq.{length-take-le}
 use Rattle.index.proofs.Forming.{order_long}
 use Rattle.index.proofs.Answering.{back_unlisted, back_refuses, back_within, back_accepts}
@@ -18,7 +18,7 @@ same_length c = search rules
 returns : tie.Need-returns
 returns c =
     let a = c.before.before.before.before.before.before.before.args in
-    back_unlisted a.ws.now a.journal.now a.out.now a.index.now (sym c.before.in_order.ensures ∙ not_true c.before.in_order.result c.if1.true)
+    back_unlisted a.ws.now a.journal.now a.out.now a.index.now (sym c.before.in_order.ensures ∙ not-true c.before.in_order.result c.if1.true)
 
 take-back-requires : tie.Need-take-back-requires
 take-back-requires c κs = search rules

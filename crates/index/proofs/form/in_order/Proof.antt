@@ -2,7 +2,7 @@
 -- Assumes nothing.
 use mathlib.Core.Path.{sym, ◌∙◌}
 use borrow.Author.Rules.{rules}
-use borrow.Author.Tests.{not_true, not-false}
+use borrow.Author.Tests.{not-true, not-false}
 use Rattle.index.proofs.Forming.{order_short, order_many, order_falls, order_rises}
 use Rattle.index.proofs.form.in_order.Statement.{statement}
 use Rattle.index.proofs.form.in_order.Tie as tie
@@ -23,7 +23,7 @@ rises-requires : tie.Need-rises-requires
 rises-requires c κs = search rules
 
 returns-3 : tie.Need-returns-3
-returns-3 c = order_falls c.before.before.before.before.before.before.before.args.index.now c.before.before.before.before.before.if1.false c.before.before.before.wide.result c.before.before.before.wide.ensures.0 c.before.before.if2.false (sym c.before.rises.ensures ∙ not_true c.before.rises.result c.if3.true)
+returns-3 c = order_falls c.before.before.before.before.before.before.before.args.index.now c.before.before.before.before.before.if1.false c.before.before.before.wide.result c.before.before.before.wide.ensures.0 c.before.before.if2.false (sym c.before.rises.ensures ∙ not-true c.before.rises.result c.if3.true)
 
 add-zeros : tie.Need-overflow-add-zeros
 add-zeros c = search rules

@@ -2,7 +2,7 @@
 -- Assumes nothing.
 use mathlib.Core.Path.{sym, ◌∙◌}
 use borrow.Author.Rules.{rules}
-use borrow.Author.Tests.{not_true, not-false}
+use borrow.Author.Tests.{not-true, not-false}
 use Rattle.stepping.specs.Bundles.{numbers_as}
 use Rattle.index.proofs.Answering.{step_unlisted, step_refuses, step_accepts}
 use Rattle.index.proofs.steps.step_indexed.Statement.{statement}
@@ -20,7 +20,7 @@ same_length c = search rules
 returns : tie.Need-returns
 returns c =
     let a = c.before.before.before.before.before.before.before.before.args in
-    let u = step_unlisted a.ws.now (numbers_as a.k) a.out.now a.journal.now a.index.now (sym c.before.before.in_order.ensures ∙ not_true c.before.before.in_order.result c.before.if1.true) in
+    let u = step_unlisted a.ws.now (numbers_as a.k) a.out.now a.journal.now a.index.now (sym c.before.before.in_order.ensures ∙ not-true c.before.before.in_order.result c.before.if1.true) in
     (c.refuse.ensures ∙ u.0, u.1)
 
 step-requires : tie.Need-step-requires

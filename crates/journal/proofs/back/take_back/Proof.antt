@@ -2,7 +2,7 @@
 -- Assumes nothing.
 use mathlib.Core.Path.{sym, ◌∙◌}
 use lib.ListN.{length}
-use borrow.Author.Tests.{not_true, not-false}
+use borrow.Author.Tests.{not-true, not-false}
 use Rattle.journal.proofs.Restoring.{sound_as, gives_refused, gives_same, back_unreadable, back_cut, back_unsound, back_left, back_checked, back_answer, back_output}
 use borrow.Author.Rules.{rules}
 use Rattle.journal.proofs.back.take_back.Statement.{statement}
@@ -43,7 +43,7 @@ refuse-requires-3 c κs = search rules
 returns-3 : tie.Need-returns-3
 returns-3 c =
     let h = sym (c.before.before.before.before.before.before.check-readable.ensures) ∙ c.before.before.before.before.before.if1.false in
-    let e = sym (sound_as _ (c.before.before.before.before.before.before.before.before.before.before.args.ws.now) (c.before.before.before.before.before.before.before.before.before.before.args.journal.now)) ∙ sym (c.before.before.sound.ensures) ∙ not_true (c.before.before.sound.result) (c.before.if3.true) in
+    let e = sym (sound_as _ (c.before.before.before.before.before.before.before.before.before.before.args.ws.now) (c.before.before.before.before.before.before.before.before.before.before.args.journal.now)) ∙ sym (c.before.before.sound.ensures) ∙ not-true (c.before.before.sound.result) (c.before.if3.true) in
     let g = gives_refused _ (c.before.before.before.before.before.before.before.before.before.before.args.out.now) (back_unsound (c.before.before.before.before.before.before.before.before.before.before.args.ws.now) (c.before.before.before.before.before.before.before.before.before.before.args.journal.now) (length (c.before.before.before.before.before.before.before.before.before.before.args.out.now)) _ (c.before.before.before.counts-in.ensures) h (c.before.before.before.before.if2.false) e) (c.refuse3.ensures) in
     (back_answer (c.before.before.before.before.before.before.before.before.before.before.args.ws.now) (c.before.before.before.before.before.before.before.before.before.before.args.journal.now) (c.before.before.before.before.before.before.before.before.before.before.args.out.now) _ _ g, back_output (c.before.before.before.before.before.before.before.before.before.before.args.ws.now) (c.before.before.before.before.before.before.before.before.before.before.args.journal.now) (c.before.before.before.before.before.before.before.before.before.before.args.out.now) _ _ g)
 
@@ -57,7 +57,7 @@ returns-4 : tie.Need-returns-4
 returns-4 c =
     let h = sym (c.before.before.before.before.before.before.before.before.check-readable.ensures) ∙ c.before.before.before.before.before.before.before.if1.false in
     let e = sym (sound_as _ (c.before.before.before.before.before.before.before.before.before.before.before.before.args.ws.now) (c.before.before.before.before.before.before.before.before.before.before.before.before.args.journal.now)) ∙ sym (c.before.before.before.before.sound.ensures) ∙ not-false (c.before.before.before.before.sound.result) (c.before.before.before.if3.false) in
-    let d = sym (c.before.before.left.ensures) ∙ not_true (c.before.before.left.result) (c.before.if4.true) in
+    let d = sym (c.before.before.left.ensures) ∙ not-true (c.before.before.left.result) (c.before.if4.true) in
     let g = gives_refused _ (c.before.before.before.before.before.before.before.before.before.before.before.before.args.out.now) (back_left (c.before.before.before.before.before.before.before.before.before.before.before.before.args.ws.now) (c.before.before.before.before.before.before.before.before.before.before.before.before.args.journal.now) (length (c.before.before.before.before.before.before.before.before.before.before.before.before.args.out.now)) _ (c.before.before.before.before.before.counts-in.ensures) h (c.before.before.before.before.before.before.if2.false) e d) (c.refuse4.ensures) in
     (back_answer (c.before.before.before.before.before.before.before.before.before.before.before.before.args.ws.now) (c.before.before.before.before.before.before.before.before.before.before.before.before.args.journal.now) (c.before.before.before.before.before.before.before.before.before.before.before.before.args.out.now) _ _ g, back_output (c.before.before.before.before.before.before.before.before.before.before.before.before.args.ws.now) (c.before.before.before.before.before.before.before.before.before.before.before.before.args.journal.now) (c.before.before.before.before.before.before.before.before.before.before.before.before.args.out.now) _ _ g)
 

@@ -1,0 +1,85 @@
+-- The functions of `reading::reader` that call each other meet their contracts. The measure is 8 times the depth, and for the same depth up to 5
+-- for who calls whom: scope, then solicit, waiter, marked, branch and choice, then `list` and those that call `process` alone, then `process`,
+-- `whole` and `node`. Invariants: in `process`, what is read from here on, and then what is kept for later, ends where the whole does (`Later.Going`);
+-- in `list` and `choice`, the entries or branches that are left end where all of them do. Each loop's measure is what is left to read.
+use Prim.Native.Nat.{ℕ, ◌+◌, ◌*◌, ◌-◌, ◌<◌}
+use native.Mathlib.Omega.{arith}
+use mathlib.Core.Path.{◌≡◌, refl, ap, ◌∙◌}
+use borrow.Author.Rules.{rules}
+use lib.ListN.{length, get_or-eq_default}
+use Rattle.reading.proofs.Fitting.{slot_small}
+use Rattle.reading.proofs.Later.{Going, begins, Ready, small, three_tests, too_deep_lem, no_words, whole_fails, read_last, read_next, leaf_last, leaf_next, part_next, past_node, past_whole}
+use Rattle.layout.proofs.Others.{beyond}
+use Rattle.sock.proofs.Tests.{tests}
+use Rattle.reading.proofs.Walks.{process_step, branches_step, branches_end_lem, entries_step, entries_end_lem, process_node, process_refused, key_inside, entries_turn}
+use Rattle.reading.specs.Tables.{shape_of}
+use Rattle.reading.specs.Walk.{expr_end, item_end, slot_of}
+use Rattle.reading.specs.Walk.{on, when, process_end, two_end, branch_end, repeat_end, branches_end, choice_end, request_end, entries_end, list_end, solicit_end, marked_end, resting_end, scope_end, executor_end, waiter_end, node_end}
+use Rattle.reading.proofs.reader.+branch_choice_executor_list_marked_node_process_repeat_request_resting_scope_solicit_two_waiter_whole.Given as goal
+
+abbrev pub decreases-branch : goal.decreases-branch
+decreases-branch l = l.depth * 8 + 4
+
+abbrev pub decreases-choice : goal.decreases-choice
+decreases-choice l = l.depth * 8 + 4
+
+abbrev pub decreases-executor : goal.decreases-executor
+decreases-executor l = l.depth * 8 + 3
+
+abbrev pub decreases-list : goal.decreases-list
+decreases-list l = l.depth * 8 + 3
+
+abbrev pub decreases-marked : goal.decreases-marked
+decreases-marked l = l.depth * 8 + 4
+
+abbrev pub decreases-node : goal.decreases-node
+decreases-node l = l.depth * 8
+
+abbrev pub decreases-process : goal.decreases-process
+decreases-process l = l.depth * 8 + 2
+
+abbrev pub decreases-repeat : goal.decreases-repeat
+decreases-repeat l = l.depth * 8 + 3
+
+abbrev pub decreases-request : goal.decreases-request
+decreases-request l = l.depth * 8 + 3
+
+abbrev pub decreases-resting : goal.decreases-resting
+decreases-resting l = l.depth * 8 + 3
+
+abbrev pub decreases-scope : goal.decreases-scope
+decreases-scope l = l.depth * 8 + 5
+
+abbrev pub decreases-solicit : goal.decreases-solicit
+decreases-solicit l = l.depth * 8 + 4
+
+abbrev pub decreases-two : goal.decreases-two
+decreases-two l = l.depth * 8 + 3
+
+abbrev pub decreases-waiter : goal.decreases-waiter
+decreases-waiter l = l.depth * 8 + 4
+
+abbrev pub decreases-whole : goal.decreases-whole
+decreases-whole l = l.depth * 8 + 1
+
+abbrev pub choice-invariant-loop-left : goal.choice-invariant-loop-left
+choice-invariant-loop-left l =
+    branches_end (process_end l.depth l.ws l.bound) l.context l.left l.a ≡ branches_end (process_end l.depth l.ws l.bound) l.context l.initial.left l.initial.a
+
+abbrev pub choice-decreases-loop-left : goal.choice-decreases-loop-left
+choice-decreases-loop-left l = l.left
+
+abbrev pub list-invariant-loop-left : goal.list-invariant-loop-left
+list-invariant-loop-left l =
+    entries_end (process_end l.depth l.ws l.bound) l.ws l.context l.wanted l.left l.least l.met l.a
+    ≡ entries_end (process_end l.depth l.ws l.bound) l.ws l.context l.wanted l.initial.left l.initial.least l.initial.met l.initial.a
+
+abbrev pub list-decreases-loop-left : goal.list-decreases-loop-left
+list-decreases-loop-left l = l.left
+
+abbrev pub process-invariant-loop-a : goal.process-invariant-loop-a
+process-invariant-loop-a l =
+    Going l.ws l.bound (process_end l.depth l.ws l.bound l.context l.at) l.depth l.later l.n l.a l.d l.c
+
+abbrev pub process-decreases-loop-a : goal.process-decreases-loop-a
+process-decreases-loop-a l = length l.ws - l.a

@@ -1,0 +1,19 @@
+-- `writers::write::down`. The loop's invariant: the words before i have moved down by one. Its measure: the words left, upto - i.
+use Prim.Native.Nat.{◌-◌, ◌≤◌, ◌<◌, max}
+use native.Mathlib.Omega.{arith}
+use mathlib.Core.Path.{◌≡◌, refl, sym, ◌∙◌}
+use lib.ListN.{length, drop, length-set}
+use lib.Seq.{paste, paste-zero}
+use borrow.Author.Rules.{rules}
+use borrow.Author.Tests.{lt-ltb, le-ltb, eq-eqb, ne_eqb}
+use lib.Arith.{lt_of_le-ne}
+use Rattle.writers.specs.Writing.{lowered}
+use Rattle.writers.proofs.Copies.{down_turn}
+use Rattle.writers.proofs.write.down.Given as goal
+
+abbrev pub invariant-loop-i : goal.invariant-loop-i
+invariant-loop-i l =
+    (l.from ≤ l.i) × (l.out ≡ paste l.initial.out (l.from - 1) (drop l.from l.initial.out) (l.i - l.from)) × (length l.out ≡ length l.initial.out) × (l.i ≤ max l.from l.upto)
+
+abbrev pub decreases-loop-i : goal.decreases-loop-i
+decreases-loop-i l = l.upto - l.i
