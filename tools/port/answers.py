@@ -22,7 +22,8 @@ def norm(n):
 def bare(n):
     """A goal's name without what kind of overflow it speaks of, which old names did not have."""
     n = norm(n)
-    n = re.sub(r"^(overflow|nonzero)[-_]", "", n)
+    n = re.sub(r"^(overflow|nonzero)-", "", n)
+    n = re.sub(r"^slice-bounds-", "part-", n)
     return n
 
 
@@ -79,8 +80,15 @@ class Function:
 
 
 def turn_body(f, i, body, var="c"):
+    while True:
+        m = re.search(rf"let (\w+) = {var}(?:\.before)* in\s*", body)
+        if not m:
+            break
+        body = body.replace(m.group(0), "", 1)
+        body = re.sub(rf"(?<![\w.'-]){m.group(1)}(?=\.)", var, body)
     steps, arms = f.chain(i)
-    typed = {norm(s): v for v, s in f.typed[i]} if i < len(f.typed) else {}
+    typed = {norm(s): v for ts in f.typed for v, s in ts}
+    typed.update({norm(s): v for v, s in f.typed[i]} if i < len(f.typed) else {})
 
     def slices(m):
         step = norm(m.group(1))
@@ -95,8 +103,8 @@ def turn_body(f, i, body, var="c"):
         return v if v else m.group(0)
 
     path = rf"\b{var}(?:\.before)*\.(shared[-_]slice[-_]known[\w-]*)\.given"
-    body = re.sub(rf"\(λ (\w+)\. \({path} \1\)\.fits\)".replace(r"\.(shared", r"\.(?P<s>shared"), lambda m: (lambda v: v if v else m.group(0))(typed_of(typed, m.group("s"), var)), body)
-    body = re.sub(rf"\({path} ((?:[\w.'₀-]+|\([^()]*\)))\)\.fits".replace(r"\.(shared", r"\.(?P<s>shared"), lambda m: f"({typed_of(typed, m.group('s'), var)} {m.group(2)})", body)
+    body = re.sub(rf"\(λ (?P<i>\w+)\. \({path} (?P=i)\)\.fits\)".replace(r"\.(shared", r"\.(?P<s>shared"), lambda m: f"(λ {m.group('i')}. ({typed_of(typed, m.group('s'), var)} {m.group('i')}).fits)", body)
+    body = re.sub(rf"\({path} ((?:[\w.'₀-]+|\([^()]*\)))\)\.fits".replace(r"\.(shared", r"\.(?P<s>shared"), lambda m: f"({typed_of(typed, m.group('s'), var)} {m.group(2)}).fits", body)
 
     def step(m):
         name, rest = m.group(1), m.group(2) or ""
@@ -107,6 +115,9 @@ def turn_body(f, i, body, var="c"):
             if rest.startswith(".0"):
                 return f"{var}.decreases{rest[2:]}"
         if n in ("args", "requires", "well-formed", "ranges", "type-inv", "decreases"):
+            m2 = re.match(r"\.t(\d+)(?!\w)", rest)
+            if n == "args" and m2 and f"t{m2.group(1)}" not in f.parameters and int(m2.group(1)) <= len(f.parameters):
+                rest = "." + f.parameters[int(m2.group(1)) - 1] + rest[m2.end():]
             return f"{var}.{name.replace('-', '_')}{rest}"
         parts = rest.split(".")[1:]
         if re.match(r"match\d*$", n) and parts and parts[0] == "rest":
@@ -136,6 +147,36 @@ def turn_body(f, i, body, var="c"):
     return re.sub(rf"(?<![\w.'-]){var}(?:\.before)*\.([\w-]+)((?:\.[\w'-]+)*)", step, body)
 
 
+def helper(fs, aliases, block):
+    """A lemma over the record of a place that several goals share: its name, today's text, the place's name today."""
+    m = re.search(r"(\(t : ℕ\) )?\((\w+) : ([\w-]*lts)\.([\w-]+)[^()]*(?:\([^()]*\)[^()]*)*\)", block)
+    if not m:
+        return None
+    who = "" if m.group(3) == "lts" else aliases.get(m.group(3), norm(m.group(3)[:-4]))
+    f = fs.get(who)
+    if f is None:
+        return None
+    olds = list(f.places)
+    at = next((k for k, o in enumerate(olds) if norm(o) == norm(m.group(4))), None)
+    if at is None:
+        return None
+    place = f.names[at] if at < len(f.names) else None
+    order = [x[0] for x in f.data["places"]]
+    place = f.names[order.index(olds[at])]
+    if len(fs) > 1:
+        place = f"{who_name(f)}-{place}"
+    var = m.group(2)
+    f.asked_at.append([olds[at], place])
+    f.needs.append(["", "helper"])
+    f.typed.append(next((t for (o, _), t in zip(f.asked_at, f.typed) if o == olds[at]), []))
+    i = len(f.asked_at) - 1
+    text = block.replace(m.group(0), f"{m.group(1) or str()}({var} : {place}{chr(32) + chr(116) if m.group(1) else str()})")
+    text = turn_body(f, i, text, var)
+    f.asked_at.pop(), f.needs.pop(), f.typed.pop()
+    name = re.match(r"^(?:abbrev |pub )*(\S+) :", block).group(1)
+    return name, text, place, i
+
+
 def spec_arguments(text):
     """The arguments of `tie.spec`."""
     at = text.find("tie.spec")
@@ -160,7 +201,7 @@ def spec_arguments(text):
     return out
 
 
-def typed_of(typed, step, var):
+def typed_of(typed, step, var, f=None):
     v = typed.get(norm(step))
     if v is None:
         v = next(iter(typed.values()), None)
@@ -211,6 +252,8 @@ def convert(crate, name, rel, path, table):
     if not fs:
         LEFT.append(f"{rel}: no names in the table")
         return
+    for who, f in fs.items():
+        f.parameters = parameters(crate, rel, f.key.split(".Lts-")[1] if who else rel.split("/")[-1])
     lines = text.split("\n")
     k = 0
     while k < len(lines) and lines[k].startswith("--"):
@@ -229,10 +272,15 @@ def convert(crate, name, rel, path, table):
         m = re.match(r"use Rattle\.\S+\.Lts-(\S+) as (\S+)$", l)
         if m:
             aliases[m.group(2)] = norm(m.group(1))
-    answers, invariants, helpers = [], [], []
+    answers, invariants, helpers, shared, opened = [], [], [], {}, set()
     alone = "" in fs
     cycle = len(fs) > 1
     for b in blocks("\n".join(rest)):
+        said = []
+        while b.startswith("--") and "\n" in b:
+            line, b = b.split("\n", 1)
+            said.append(line)
+            b = b.lstrip("\n")
         first = b.split("\n")[0]
         m = re.match(r"^(?:abbrev |pub )*(\S+) :\s*(.*)$", first)
         if not m:
@@ -271,8 +319,10 @@ def convert(crate, name, rel, path, table):
             if body.strip() == "search rules":
                 continue
             var = args[-1] if args else "c"
-            body = turn_body(f, i, body, var)
             full = new if not cycle else f"{who_name(f)}-{new}"
+            for h, (place, _) in shared.items():
+                body = re.sub(rf"(?<![\w.-]){re.escape(h)}( t)? {var}(\.before)*(?![\w.])", lambda m: f"{h}{m.group(1) or ''} (goal.at.{full} {'t ' if '-' in full and cycle else ''}{var}).{place.split(who_name(f) + '-', 1)[-1] if cycle else place}", body)
+            body = turn_body(f, i, body, var)
             answers.append("\n".join([f"pub {full} : goal.{full}"] + unf + [" ".join([full] + args) + " =" + body]))
         elif inv:
             who = "" if inv.group(1) == "tie" else aliases.get(inv.group(1), norm(inv.group(1)[:-4]))
@@ -289,7 +339,7 @@ def convert(crate, name, rel, path, table):
                 LEFT.append(f"{rel}: {label}: no plain body")
                 continue
             args, body = m2.group(2).split(), m2.group(3)
-            full = f"{kind}-{loop}" if not cycle else f"{who_name(f)}-{kind}-{loop}"
+            full = f"{kind}-{loop}" if not cycle else f"{kind}-{who_name(f)}-{loop}"
             invariants.append(f"abbrev pub {full} : goal.{full}\n{full} l =" + loop_body(args, body, "l"))
         elif re.search(r"Measures|: ℕ → In |Claims|statement M|PlainCycle", first) or "→ In " in typ or typ.endswith("statement M"):
             if "Measures" in first:
@@ -311,9 +361,16 @@ def convert(crate, name, rel, path, table):
                             LEFT.append(f"{rel}: {new}: more than one variable")
                         answers.append("\n".join([f"pub {new} : goal.{new}"] + unf + [f"{new} {m3.group(1)} = {body}"]))
         else:
+            made = helper(fs, aliases, b)
+            if made:
+                lemma, text, place, need = made
+                shared[lemma] = (place, need)
+                helpers.append("\n".join(said + [text]))
+                opened.add(place)
+                continue
             if re.search(r"lts\.|\.before|tie\.", b):
                 LEFT.append(f"{rel}: helper {label} cites what is no longer made")
-            helpers.append(b)
+            helpers.append("\n".join(said + [b]))
     to = os.path.join(crate, "proofs", rel)
     os.makedirs(to, exist_ok=True)
     mod = f"Rattle.{name}.proofs.{rel.replace('/', '.')}"
@@ -322,7 +379,8 @@ def convert(crate, name, rel, path, table):
             out.write("\n".join(header + uses + [f"use {mod}.Given as goal", ""]) + "\n" + "\n\n".join(invariants) + "\n")
     if answers or helpers:
         with open(os.path.join(to, "Answers.antt"), "w", encoding="utf-8") as out:
-            out.write("\n".join(header + uses + [f"use {mod}.Goals as goal", ""]) + "\n" + "\n\n".join(helpers + answers) + "\n")
+            more = [f"use {mod}.Goals.{{{', '.join(sorted(opened))}}}"] if opened else []
+            out.write("\n".join(header + uses + [f"use {mod}.Goals as goal"] + more + [""]) + "\n" + "\n\n".join(helpers + answers) + "\n")
 
 
 def parameters(crate, rel, function):

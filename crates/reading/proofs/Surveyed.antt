@@ -97,7 +97,7 @@ at_end : (i n : ℕ) → i ≤ n → eqb i n ≡ eqb (n - i) 0
 at_end i n h = same_test (eqb i n) (eqb (n - i) 0) (λ t. omega tests) λ t. omega tests
 
 next_walked :
-    {r : Got (List Engine)} {t : Starts} (g : Engine) (n e i f k : ℕ) (starts : List ℕ) → f ≡ i + length (engine_words g) →
+    {r : Got (List Engine)} (g : Engine) (n e i f k : ℕ) (starts : List ℕ) {t : Starts} → f ≡ i + length (engine_words g) →
     Walked n (e + 1) f k (set starts e (i + 64)) r t →
     Walked n e i (suc k) starts (and_then r λ gs rest. got (g ∷ gs) rest) t
 unfolding noted and_then

@@ -4,7 +4,7 @@ use borrow.Author.Rules.{rules}
 use Rattle.reading.proofs.calls.readable_at.Goals as goal
 
 pub returns-then-s-eq0 : goal.returns-then-s-eq0
-returns-then-s-eq0 c = not_readable _ c.args.ws.now c.type_inv.ws c.survey-s.result c.survey-s.ensures c.if-s-eq0.true
+returns-then-s-eq0 c = not_readable _ c.args.ws.now (λ i. (c.type_inv.ws i).fits) c.survey-s.result c.survey-s.ensures c.if-s-eq0.true
 
 pub returns-else-s-eq0 : goal.returns-else-s-eq0
-returns-else-s-eq0 c = is_readable _ c.args.ws.now c.type_inv.ws c.survey-s.result c.survey-s.ensures c.if-s-eq0.false
+returns-else-s-eq0 c = is_readable _ c.args.ws.now (λ i. (c.type_inv.ws i).fits) c.survey-s.result c.survey-s.ensures c.if-s-eq0.false

@@ -15,17 +15,17 @@ loop-e-init c = (rw sub-zero refl, omega arith, omega arith, omega arith)
 
 pub overflow_add-waiters : goal.overflow_add-waiters
 overflow_add-waiters c =
-    let b = counts_below (rw (← c.tally-t.ensures) at (tally_bounded c.args.ws.now c.type_inv.ws c.args.serial c.args.bound c.args.depth (get_or c.args.t2 c.loop-e.e 0))) in
+    let b = counts_below (rw (← c.tally-t.ensures) at (tally_bounded c.args.ws.now (λ i. (c.type_inv.ws i).fits) c.args.serial c.args.bound c.args.depth (get_or c.args.starts c.loop-e.e 0))) in
     omega (arith, b)
 
 pub overflow_add-workers : goal.overflow_add-workers
 overflow_add-workers c =
-    let b = counts_below (rw (← c.tally-t.ensures) at (tally_bounded c.args.ws.now c.type_inv.ws c.args.serial c.args.bound c.args.depth (get_or c.args.t2 c.loop-e.e 0))) in
+    let b = counts_below (rw (← c.tally-t.ensures) at (tally_bounded c.args.ws.now (λ i. (c.type_inv.ws i).fits) c.args.serial c.args.bound c.args.depth (get_or c.args.starts c.loop-e.e 0))) in
     omega (arith, b)
 
 pub loop-e-preserved : goal.loop-e-preserved
 loop-e-preserved c =
-    let b = counts_below (rw (← c.tally-t.ensures) at (tally_bounded c.args.ws.now c.type_inv.ws c.args.serial c.args.bound c.args.depth (get_or c.args.t2 c.loop-e.e 0))) in
+    let b = counts_below (rw (← c.tally-t.ensures) at (tally_bounded c.args.ws.now (λ i. (c.type_inv.ws i).fits) c.args.serial c.args.bound c.args.depth (get_or c.args.starts c.loop-e.e 0))) in
     (total_turn _ _ _ _ _ _ _ c.loop-e-test.true c.tally-t.ensures ∙ c.loop-e.invariant.0, omega arith, omega (arith, b), omega (arith, b))
 
 pub returns : goal.returns

@@ -16,30 +16,31 @@ use Rattle.reading.specs.Tables.{shape_of}
 use Rattle.reading.specs.Walk.{expr_end, item_end, slot_of}
 use Rattle.reading.specs.Walk.{on, when, process_end, two_end, branch_end, repeat_end, branches_end, choice_end, request_end, entries_end, list_end, solicit_end, marked_end, resting_end, scope_end, executor_end, waiter_end, node_end}
 use Rattle.reading.proofs.reader.+branch_choice_executor_list_marked_node_process_repeat_request_resting_scope_solicit_two_waiter_whole.Goals as goal
+use Rattle.reading.proofs.reader.+branch_choice_executor_list_marked_node_process_repeat_request_resting_scope_solicit_two_waiter_whole.Goals.{node-After-rest_context-c, process-Then-ready}
 
 -- what is known where a node is read by its kind
 node_by_kind :
-    (t : ℕ) (k : node-lts.After-rest-context (node_claims t) (node_at t) node.Post) →
-    let a = k.before.before.before.before.before.before.before.before.args in
+    (t : ℕ) (k : node-After-rest_context-c t) →
+    let a = k.args in
     process_end a.depth a.ws.now a.bound a.context a.at
-    ≡ node_end (expr_end (a.depth - 1) a.ws.now) (process_end (a.depth - 1) a.ws.now a.bound) a.ws.now a.context a.bound k.before.before.before.wide.result a.at
+    ≡ node_end (expr_end (a.depth - 1) a.ws.now) (process_end (a.depth - 1) a.ws.now a.bound) a.ws.now a.context a.bound k.wide-h.result a.at
 node_by_kind t k =
-    let a = k.before.before.before.before.before.before.before.before.args in
-    process_node a.depth a.ws.now a.bound a.context a.at _ _ k.before.before.before.before.before.before.if1.false k.before.before.before.before.before.if2.false k.before.before.before.wide.ensures.0 k.before.before.head-mask.ensures k.before.if3.false
+    let a = k.args in
+    process_node a.depth a.ws.now a.bound a.context a.at _ _ k.if-depth-eq0.false k.if-ws-at.false k.wide-h.ensures.0 k.head_mask.ensures k.if-h-head_mask-ne0.false
 
 -- what is known where a node is read by its parts
 process_ready :
-    (t : ℕ) (k : process-lts.Then2 (process_claims t) (process_at t) process.Post process_Inv_loop process_μ_loop) →
-    let l = k.before.before.before.before.before.before.before.before.loop in
-    Ready k.before.before.before.before.before.before.before.before.before.before.args.ws.now l.n l.a l.d l.c k.before.before.shape.result
+    (t : ℕ) (k : process-Then-ready t) →
+    let l = k.loop-a in
+    Ready k.args.ws.now l.n l.a l.d l.c k.shape-t.result
 process_ready t k =
-    let l = k.before.before.before.before.before.before.before.before.loop in
-    let tests = three_tests _ l.d l.n _ k.before.ready.ensures k.if2.true in
+    let l = k.loop-a in
+    let tests = three_tests _ l.d l.n _ k.ready.ensures k.if-ready.true in
     record {
-      words = λ i. (k.before.before.before.before.before.before.before.before.before.shared-slice-known.given i).fits;
-      inside = k.before.before.before.before.before.before.before.loop-test.true;
-      deep = k.before.before.before.before.before.before.if1.false;
-      shape = k.before.before.shape.ensures ∙ ap shape_of k.before.before.before.slot.ensures ∙ ap (λ h. shape_of (slot_of l.c h)) k.before.before.before.before.wide.ensures.0;
+      words = λ i. (k.type_inv.ws i).fits;
+      inside = k.loop-a-test.true;
+      deep = k.if-d-eq0.false;
+      shape = k.shape-t.ensures ∙ ap shape_of k.slot.ensures ∙ ap (λ h. shape_of (slot_of l.c h)) k.wide.ensures.0;
       shallow = tests.0;
       room = tests.1;
       fit = tests.2;
@@ -241,103 +242,103 @@ node-returns-then-h-head_mask-ne0 t c =
 pub node-returns-in-0 : goal.node-returns-in-0
 unfolding node_end
 node-returns-in-0 t c =
-    rw (node_by_kind t c.before) (simp (c.in-0.is, ← c.rest_context-c.ensures.0))
+    rw (node_by_kind t (goal.at.node-returns-in-0 t c).After-rest_context-c) (simp (c.in-0.is, ← c.rest_context-c.ensures.0))
 
 pub node-returns-in-1 : goal.node-returns-in-1
 unfolding node_end
 node-returns-in-1 t c =
-    rw (node_by_kind t c.before) (simp (← c.expression.ensures, c.in-1.is, ← c.rest_context-c.ensures.0))
+    rw (node_by_kind t (goal.at.node-returns-in-1 t c).After-rest_context-c) (simp (← c.expression.ensures, c.in-1.is, ← c.rest_context-c.ensures.0))
 
 pub node-returns-in-2 : goal.node-returns-in-2
 unfolding node_end
 node-returns-in-2 t c =
-    rw (node_by_kind t c.before) (simp (← c.two.ensures, ← c.same_context.ensures, c.in-2.is, ← c.rest_context-c.ensures.0))
+    rw (node_by_kind t (goal.at.node-returns-in-2 t c).After-rest_context-c) (simp (← c.two.ensures, ← c.same_context.ensures, c.in-2.is, ← c.rest_context-c.ensures.0))
 
 pub node-returns-in-3 : goal.node-returns-in-3
 unfolding node_end
 node-returns-in-3 t c =
-    rw (node_by_kind t c.before) (c.two-in-3.ensures ∙ simp (c.same_context-in-3-2.ensures, c.same_context-in-3.ensures, c.in-3.is, ← c.rest_context-c.ensures.0))
+    rw (node_by_kind t (goal.at.node-returns-in-3 t c).After-rest_context-c) (c.two-in-3.ensures ∙ simp (c.same_context-in-3-2.ensures, c.same_context-in-3.ensures, c.in-3.is, ← c.rest_context-c.ensures.0))
 
 pub node-returns-in-4 : goal.node-returns-in-4
 unfolding node_end
 node-returns-in-4 t c =
-    rw (node_by_kind t c.before) (simp (← c.branch-ws.ensures, c.in-4.is, ← c.rest_context-c.ensures.0))
+    rw (node_by_kind t (goal.at.node-returns-in-4 t c).After-rest_context-c) (simp (← c.branch-ws.ensures, c.in-4.is, ← c.rest_context-c.ensures.0))
 
 pub node-returns-in-5 : goal.node-returns-in-5
 unfolding node_end
 node-returns-in-5 t c =
-    rw (node_by_kind t c.before) (simp (← c.repeat.ensures, c.in-5.is, ← c.rest_context-c.ensures.0))
+    rw (node_by_kind t (goal.at.node-returns-in-5 t c).After-rest_context-c) (simp (← c.repeat.ensures, c.in-5.is, ← c.rest_context-c.ensures.0))
 
 pub node-returns-in-6 : goal.node-returns-in-6
 unfolding node_end
 node-returns-in-6 t c =
-    rw (node_by_kind t c.before) (simp (← c.choice.ensures, c.in-6.is, ← c.rest_context-c.ensures.0))
+    rw (node_by_kind t (goal.at.node-returns-in-6 t c).After-rest_context-c) (simp (← c.choice.ensures, c.in-6.is, ← c.rest_context-c.ensures.0))
 
 pub node-returns-in-7 : goal.node-returns-in-7
 unfolding node_end
 node-returns-in-7 t c =
-    rw (node_by_kind t c.before) (simp (← c.one_way.ensures, c.in-7.is, ← c.rest_context-c.ensures.0))
+    rw (node_by_kind t (goal.at.node-returns-in-7 t c).After-rest_context-c) (simp (← c.one_way.ensures, c.in-7.is, ← c.rest_context-c.ensures.0))
 
 pub node-returns-in-8 : goal.node-returns-in-8
 unfolding node_end
 node-returns-in-8 t c =
-    rw (node_by_kind t c.before) (simp (← c.request.ensures, c.in-8.is, ← c.rest_context-c.ensures.0))
+    rw (node_by_kind t (goal.at.node-returns-in-8 t c).After-rest_context-c) (simp (← c.request.ensures, c.in-8.is, ← c.rest_context-c.ensures.0))
 
 pub node-returns-in-9 : goal.node-returns-in-9
 unfolding node_end
 node-returns-in-9 t c =
-    rw (node_by_kind t c.before) (simp (← c.notify.ensures, c.in-9.is, ← c.rest_context-c.ensures.0))
+    rw (node_by_kind t (goal.at.node-returns-in-9 t c).After-rest_context-c) (simp (← c.notify.ensures, c.in-9.is, ← c.rest_context-c.ensures.0))
 
 pub node-returns-in-10 : goal.node-returns-in-10
 unfolding node_end
 node-returns-in-10 t c =
-    rw (node_by_kind t c.before) (simp (← c.solicit.ensures, c.in-10.is, ← c.rest_context-c.ensures.0))
+    rw (node_by_kind t (goal.at.node-returns-in-10 t c).After-rest_context-c) (simp (← c.solicit.ensures, c.in-10.is, ← c.rest_context-c.ensures.0))
 
 pub node-returns-in-11 : goal.node-returns-in-11
 unfolding node_end
 node-returns-in-11 t c =
-    rw (node_by_kind t c.before) (simp (← c.scope.ensures, c.in-11.is, ← c.rest_context-c.ensures.0))
+    rw (node_by_kind t (goal.at.node-returns-in-11 t c).After-rest_context-c) (simp (← c.scope.ensures, c.in-11.is, ← c.rest_context-c.ensures.0))
 
 pub node-returns-in-12 : goal.node-returns-in-12
 unfolding node_end
 node-returns-in-12 t c =
-    rw (node_by_kind t c.before) (simp (← c.list.ensures, c.in-12.is, ← c.rest_context-c.ensures.0))
+    rw (node_by_kind t (goal.at.node-returns-in-12 t c).After-rest_context-c) (simp (← c.list.ensures, c.in-12.is, ← c.rest_context-c.ensures.0))
 
 pub node-returns-in-13 : goal.node-returns-in-13
 unfolding node_end
 node-returns-in-13 t c =
-    rw (node_by_kind t c.before) (simp (c.in-13.is, ← c.rest_context-c.ensures.0))
+    rw (node_by_kind t (goal.at.node-returns-in-13 t c).After-rest_context-c) (simp (c.in-13.is, ← c.rest_context-c.ensures.0))
 
 pub node-returns-in-14 : goal.node-returns-in-14
 unfolding node_end
 node-returns-in-14 t c =
-    rw (node_by_kind t c.before) (simp (c.in-14.is, ← c.rest_context-c.ensures.0))
+    rw (node_by_kind t (goal.at.node-returns-in-14 t c).After-rest_context-c) (simp (c.in-14.is, ← c.rest_context-c.ensures.0))
 
 pub node-returns-in-15 : goal.node-returns-in-15
 unfolding node_end
 node-returns-in-15 t c =
-    rw (node_by_kind t c.before) (simp (c.in-15.is, ← c.rest_context-c.ensures.0))
+    rw (node_by_kind t (goal.at.node-returns-in-15 t c).After-rest_context-c) (simp (c.in-15.is, ← c.rest_context-c.ensures.0))
 
 pub node-returns-in-16 : goal.node-returns-in-16
 unfolding node_end
 node-returns-in-16 t c =
-    rw (node_by_kind t c.before) (simp (← c.executor.ensures, c.in-16.is, ← c.rest_context-c.ensures.0))
+    rw (node_by_kind t (goal.at.node-returns-in-16 t c).After-rest_context-c) (simp (← c.executor.ensures, c.in-16.is, ← c.rest_context-c.ensures.0))
 
 pub node-returns-in-17 : goal.node-returns-in-17
 unfolding node_end
 node-returns-in-17 t c =
-    rw (node_by_kind t c.before) (simp (← c.waiter.ensures, c.in-17.is, ← c.rest_context-c.ensures.0))
+    rw (node_by_kind t (goal.at.node-returns-in-17 t c).After-rest_context-c) (simp (← c.waiter.ensures, c.in-17.is, ← c.rest_context-c.ensures.0))
 
 pub node-returns-in-18 : goal.node-returns-in-18
 unfolding node_end
 node-returns-in-18 t c =
-    rw (node_by_kind t c.before) (simp (← c.notice.ensures, c.in-18.is, ← c.rest_context-c.ensures.0))
+    rw (node_by_kind t (goal.at.node-returns-in-18 t c).After-rest_context-c) (simp (← c.notice.ensures, c.in-18.is, ← c.rest_context-c.ensures.0))
 
 pub node-returns-in_default : goal.node-returns-in_default
 unfolding node_end
 node-returns-in_default t c =
     let f0 = beyond 19 _ c.in_default.in_default-own.rest in
-    rw (node_by_kind t c.before) (simp (get_or-eq_default, f0, ← c.rest_context-c.ensures.0))
+    rw (node_by_kind t (goal.at.node-returns-in_default t c).After-rest_context-c) (simp (get_or-eq_default, f0, ← c.rest_context-c.ensures.0))
 
 pub process-loop-a-init : goal.process-loop-a-init
 process-loop-a-init t c = begins _ _ _ _ _ c.requires
@@ -349,31 +350,31 @@ pub process-ready-requires : goal.process-ready-requires
 process-ready-requires t c = (c.loop-a-test.true, (slot_small _ _ _ c.loop-a.invariant.3 c.wide.ensures.1 (c.shape-t.ensures ∙ ap shape_of c.slot.ensures)).2)
 
 pub process-returns-then-n-eq0 : goal.process-returns-then-n-eq0
-process-returns-then-n-eq0 t c = leaf_last _ _ _ _ _ _ _ _ _ c.loop-a.invariant _ (process_ready t c.before) c.if-p-eq0.true c.if-n-eq0.true
+process-returns-then-n-eq0 t c = leaf_last _ _ _ _ _ _ _ _ _ c.loop-a.invariant _ (process_ready t (goal.at.process-returns-then-n-eq0 t c).Then-ready) c.if-p-eq0.true c.if-n-eq0.true
 
 pub process-loop-a-smaller-then-p-eq0 : goal.process-loop-a-smaller-then-p-eq0
-process-loop-a-smaller-then-p-eq0 t c = past_node _ _ _ _ _ _ _ _ _ c.loop-a.invariant _ (process_ready t c.before)
+process-loop-a-smaller-then-p-eq0 t c = past_node _ _ _ _ _ _ _ _ _ c.loop-a.invariant _ (process_ready t (goal.at.process-loop-a-smaller-then-p-eq0 t c).Then-ready)
 
 pub process-loop-a-preserved-then-p-eq0 : goal.process-loop-a-preserved-then-p-eq0
-process-loop-a-preserved-then-p-eq0 t c = leaf_next _ _ _ _ _ _ _ _ _ c.loop-a.invariant _ (process_ready t c.before) c.if-p-eq0.true c.if-n-eq0.false
+process-loop-a-preserved-then-p-eq0 t c = leaf_next _ _ _ _ _ _ _ _ _ c.loop-a.invariant _ (process_ready t (goal.at.process-loop-a-preserved-then-p-eq0 t c).Then-ready) c.if-p-eq0.true c.if-n-eq0.false
 
 pub process-overflow_mul-last : goal.process-overflow_mul-last
-process-overflow_mul-last t c = let f0 = (process_ready t c.before).shallow in omega arith
+process-overflow_mul-last t c = let f0 = (process_ready t (goal.at.process-overflow_mul-last t c).Then-ready).shallow in omega arith
 
 pub process-overflow_add-last : goal.process-overflow_add-last
-process-overflow_add-last t c = let f0 = (process_ready t c.before).shallow in let f1 = (small _ _ _ _ _ _ _ _ _ c.loop-a.invariant _ (process_ready t c.before)).1 in let f2 = c.part.ensures in omega arith
+process-overflow_add-last t c = let f0 = (process_ready t (goal.at.process-overflow_add-last t c).Then-ready).shallow in let f1 = (small _ _ _ _ _ _ _ _ _ c.loop-a.invariant _ (process_ready t (goal.at.process-overflow_add-last t c).Then-ready)).1 in let f2 = c.part.ensures in omega arith
 
 pub process-bounds-later-n-else-p-eq0 : goal.process-bounds-later-n-else-p-eq0
-process-bounds-later-n-else-p-eq0 t c = let f0 = (process_ready t c.before).room in omega arith
+process-bounds-later-n-else-p-eq0 t c = let f0 = (process_ready t (goal.at.process-bounds-later-n-else-p-eq0 t c).Then-ready).room in omega arith
 
 pub process-bounds-later-n-else-p-eq0-2 : goal.process-bounds-later-n-else-p-eq0-2
-process-bounds-later-n-else-p-eq0-2 t c = let f0 = (process_ready t c.before).room in omega arith
+process-bounds-later-n-else-p-eq0-2 t c = let f0 = (process_ready t (goal.at.process-bounds-later-n-else-p-eq0-2 t c).Then-ready).room in omega arith
 
 pub process-loop-a-smaller-else-p-eq0 : goal.process-loop-a-smaller-else-p-eq0
-process-loop-a-smaller-else-p-eq0 t c = past_node _ _ _ _ _ _ _ _ _ c.loop-a.invariant _ (process_ready t c.before)
+process-loop-a-smaller-else-p-eq0 t c = past_node _ _ _ _ _ _ _ _ _ c.loop-a.invariant _ (process_ready t (goal.at.process-loop-a-smaller-else-p-eq0 t c).Then-ready)
 
 pub process-loop-a-preserved-else-p-eq0 : goal.process-loop-a-preserved-else-p-eq0
-process-loop-a-preserved-else-p-eq0 t c = part_next _ _ _ _ _ _ _ _ _ c.loop-a.invariant _ (process_ready t c.before) c.part-c.result c.part.result ((c.loop-a.d - 1) * 16 + c.part.result) c.if-p-eq0.false c.part-c.ensures c.part.ensures refl
+process-loop-a-preserved-else-p-eq0 t c = part_next _ _ _ _ _ _ _ _ _ c.loop-a.invariant _ (process_ready t (goal.at.process-loop-a-preserved-else-p-eq0 t c).Then-ready) c.part-c.result c.part.result ((c.loop-a.d - 1) * 16 + c.part.result) c.if-p-eq0.false c.part-c.ensures c.part.ensures refl
 
 pub process-returns-then-a-eq0 : goal.process-returns-then-a-eq0
 process-returns-then-a-eq0 t c = whole_fails _ _ _ _ _ _ _ _ _ c.loop-a.invariant _ c.whole-a.ensures c.if-a-eq0.true
@@ -382,7 +383,7 @@ pub process-returns-then-n-eq0-2 : goal.process-returns-then-n-eq0-2
 process-returns-then-n-eq0-2 t c = read_last _ _ _ _ _ _ _ _ _ c.loop-a.invariant _ c.whole-a.ensures c.if-a-eq0.false c.if-n-eq0-2.true
 
 pub process-loop-a-smaller : goal.process-loop-a-smaller
-process-loop-a-smaller t c = past_whole _ _ _ _ _ _ _ _ _ c.loop-a.invariant c.shared_slice_known-1.given c.loop-a-test.true _ c.whole-a.ensures c.if-a-eq0.false
+process-loop-a-smaller t c = past_whole _ _ _ _ _ _ _ _ _ c.loop-a.invariant (λ i. (c.type_inv.ws i).fits) c.loop-a-test.true _ c.whole-a.ensures c.if-a-eq0.false
 
 pub process-loop-a-preserved : goal.process-loop-a-preserved
 process-loop-a-preserved t c = read_next _ _ _ _ _ _ _ _ _ c.loop-a.invariant _ c.whole-a.ensures c.if-a-eq0.false c.if-n-eq0-2.false

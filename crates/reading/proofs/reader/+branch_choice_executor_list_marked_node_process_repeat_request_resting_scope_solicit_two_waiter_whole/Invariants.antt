@@ -62,24 +62,24 @@ decreases-waiter l = l.depth * 8 + 4
 abbrev pub decreases-whole : goal.decreases-whole
 decreases-whole l = l.depth * 8 + 1
 
-abbrev pub choice-invariant-loop-left : goal.choice-invariant-loop-left
-choice-invariant-loop-left l =
+abbrev pub invariant-choice-loop-left : goal.invariant-choice-loop-left
+invariant-choice-loop-left l =
     branches_end (process_end l.depth l.ws l.bound) l.context l.left l.a ≡ branches_end (process_end l.depth l.ws l.bound) l.context l.initial.left l.initial.a
 
-abbrev pub choice-decreases-loop-left : goal.choice-decreases-loop-left
-choice-decreases-loop-left l = l.left
+abbrev pub decreases-choice-loop-left : goal.decreases-choice-loop-left
+decreases-choice-loop-left l = l.left
 
-abbrev pub list-invariant-loop-left : goal.list-invariant-loop-left
-list-invariant-loop-left l =
+abbrev pub invariant-list-loop-left : goal.invariant-list-loop-left
+invariant-list-loop-left l =
     entries_end (process_end l.depth l.ws l.bound) l.ws l.context l.wanted l.left l.least l.met l.a
     ≡ entries_end (process_end l.depth l.ws l.bound) l.ws l.context l.wanted l.initial.left l.initial.least l.initial.met l.initial.a
 
-abbrev pub list-decreases-loop-left : goal.list-decreases-loop-left
-list-decreases-loop-left l = l.left
+abbrev pub decreases-list-loop-left : goal.decreases-list-loop-left
+decreases-list-loop-left l = l.left
 
-abbrev pub process-invariant-loop-a : goal.process-invariant-loop-a
-process-invariant-loop-a l =
+abbrev pub invariant-process-loop-a : goal.invariant-process-loop-a
+invariant-process-loop-a l =
     Going l.ws l.bound (process_end l.depth l.ws l.bound l.context l.at) l.depth l.later l.n l.a l.d l.c
 
-abbrev pub process-decreases-loop-a : goal.process-decreases-loop-a
-process-decreases-loop-a l = length l.ws - l.a
+abbrev pub decreases-process-loop-a : goal.decreases-process-loop-a
+decreases-process-loop-a l = length l.ws - l.a

@@ -22,7 +22,7 @@ returns-then-at-eq0 c = no_process _ _ _ _ _ _ _ (c.loop-e.invariant.0) _ _ c.lo
 
 pub loop-e-preserved : goal.loop-e-preserved
 loop-e-preserved c =
-    let inside : c.read-at.result ≤ length c.args.ws.now = rw c.read-at.ensures (read_inside _ c.type_inv.ws _ _ _ _) in
+    let inside : c.read-at.result ≤ length c.args.ws.now = rw c.read-at.ensures (read_inside _ (λ i. (c.type_inv.ws i).fits) _ _ _ _) in
     (next_engine _ _ _ _ _ _ _ (c.loop-e.invariant.0) _ c.loop-e-test.true c.if-ws-at-lt-VALUES.false c.read-at.ensures c.if-at-eq0.false, inside, omega arith)
 
 pub returns-then-at-ws : goal.returns-then-at-ws

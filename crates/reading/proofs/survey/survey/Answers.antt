@@ -8,33 +8,28 @@ use Rattle.reading.proofs.survey.survey.Goals as goal
 
 pub bounds-ws-0 : goal.bounds-ws-0
 bounds-ws-0 c =
-    let t = c.before in
-    let a = t.before.before.before.args in
-    let o = is_open (figures a.limits) a.ws.now _ t.before.opened.ensures t.if1.true in
+    let a = c.args in
+    let o = is_open (figures a.limits) a.ws.now _ c.opened.ensures c.if-opened.true in
     omega (arith, o.long)
 
 pub bounds-ws-1 : goal.bounds-ws-1
 bounds-ws-1 c =
-    let t = c.before in
-    let a = t.before.before.before.args in
-    let o = is_open (figures a.limits) a.ws.now _ t.before.opened.ensures t.if1.true in
+    let a = c.args in
+    let o = is_open (figures a.limits) a.ws.now _ c.opened.ensures c.if-opened.true in
     omega (arith, o.long)
 
 pub engines-requires : goal.engines-requires
 engines-requires c =
-    let t = c.before in
-    let a = t.before.before.before.args in
-    let o = is_open (figures a.limits) a.ws.now _ t.before.opened.ensures t.if1.true in
+    let a = c.args in
+    let o = is_open (figures a.limits) a.ws.now _ c.opened.ensures c.if-opened.true in
     (o.long, omega (arith, o.few, c.wide-n.ensures.0))
 
 pub returns-then-opened : goal.returns-then-opened
 returns-then-opened c =
-    let t = c.before in
-    let a = t.before.before.before.args in
-    c.engines.ensures ∙ surveyed_all (figures a.limits) a.ws.now _ t.before.opened.ensures a.context _ _ t.if1.true c.wide-n.ensures.0 c.wide.ensures.0
+    let a = c.args in
+    c.engines.ensures ∙ surveyed_all (figures a.limits) a.ws.now _ c.opened.ensures a.context _ _ c.if-opened.true c.wide-n.ensures.0 c.wide.ensures.0
 
 pub returns : goal.returns
 returns c =
-    let t = c.before in
-    let a = t.before.before.before.args in
-    c.unreadable.ensures ∙ surveyed_none (figures a.limits) a.ws.now _ t.before.opened.ensures a.context t.if1.false
+    let a = c.args in
+    c.unreadable.ensures ∙ surveyed_none (figures a.limits) a.ws.now _ c.opened.ensures a.context c.if-opened.false
