@@ -62,6 +62,18 @@ class Function:
                     return i
         return None
 
+    def clauses_of(self, i, step):
+        """The names of the clauses of the call that made a step."""
+        at = self.asked_at[i][0]
+        order = [x[0] for x in self.data["places"]]
+        while at is not None and at in self.places:
+            parent, (old, new), callee = self.places[at]
+            if old and norm(old) == step:
+                k = self.data["clauses"][order.index(at)]
+                return k["fields"] if k else None
+            at = parent
+        return None
+
     def chain(self, i):
         """The steps in scope at a goal: normalised old name to new name and callee; and arms by old step and field."""
         steps, arms = {}, {}
@@ -131,20 +143,26 @@ def turn_body(f, i, body, var="c"):
             if key in arms and (k or n in ("match",)):
                 arm, field = arms[key]
                 return ".".join([var, arm, field] + parts[k:])
+        if n not in steps and re.sub(r"\d+$", "", n) in steps:
+            n = re.sub(r"\d+$", "", n)
         if n in steps:
             new, callee = steps[n]
+            fields = f.clauses_of(i, n)
+            if fields and len(parts) > 1 and parts[0] == "ensures" and parts[1].isdigit() and int(parts[1]) < len(fields):
+                parts[1] = fields[int(parts[1])]
             if parts and parts[0] == "new" and callee in f.params and len(parts) > 1 and parts[1].isdigit():
                 ps = f.params[callee]
                 k = int(parts[1])
                 if k < len(ps):
                     parts[1] = ps[k]
             return ".".join([var, new] + parts)
-        if re.sub(r"\d+$", "", n) in steps:
-            return ".".join([var, steps[re.sub(r"\d+$", "", n)][0]] + parts)
         LEFT.append(f"{f.key.split('-proofs.')[1]}: {f.needs[i][1]}: no step {name}")
         return f"{var}.{name}{rest}"
 
-    return re.sub(rf"(?<![\w.'-]){var}(?:\.before)*\.([\w-]+)((?:\.[\w'-]+)*)", step, body)
+    body = re.sub(rf"(?<![\w.'-]){var}(?:\.before)*\.([\w-]+)((?:\.[\w'-]+)*)", step, body)
+    atom = r"(?:[\w.'-]+|\([^()]*\)|_)"
+    body = re.sub(rf"\(not-(?:true|false) {atom} ({atom})\)", lambda m: m.group(1), body)
+    return body
 
 
 def helper(fs, aliases, block):
@@ -175,6 +193,75 @@ def helper(fs, aliases, block):
     f.asked_at.pop(), f.needs.pop(), f.typed.pop()
     name = re.match(r"^(?:abbrev |pub )*(\S+) :", block).group(1)
     return name, text, place, i
+
+
+def last_expression(body):
+    """Where the last expression of a sequence of lets begins."""
+    at = 0
+    while True:
+        m = re.compile(r"\s*let\b").match(body, at)
+        if not m:
+            return at
+        k, depth, lets = m.end(), 0, 1
+        while k < len(body):
+            if body[k] in "([{":
+                depth += 1
+            elif body[k] in ")]}":
+                depth -= 1
+            elif depth == 0:
+                w = re.compile(r"(?<![\w.'-])(let|in)(?![\w'-])").match(body, k)
+                if w:
+                    lets += 1 if w.group(1) == "let" else -1
+                    k = w.end() - 1
+                    if lets == 0:
+                        break
+            k += 1
+        if k >= len(body):
+            return at
+        at = k + 1
+
+
+def parts_of(text):
+    """The parts of a tuple, or None."""
+    t = text.strip()
+    if not t.startswith("("):
+        return None
+    depth, now, out = 0, "", []
+    for k, ch in enumerate(t):
+        if ch in "([{":
+            depth += 1
+            if depth == 1:
+                continue
+        if ch in ")]}":
+            depth -= 1
+            if depth == 0:
+                if k != len(t) - 1:
+                    return None
+                break
+        if ch == "," and depth == 1:
+            out.append(now)
+            now = ""
+        else:
+            now += ch
+    if now.strip():
+        out.append(now)
+    return out if len(out) > 1 else None
+
+
+def by_clause(name, body, fields):
+    """Answers for a goal of several clauses, which is a record today."""
+    if not fields:
+        return [(name, body)]
+    at = last_expression(body)
+    lets, last = body[:at], body[at:]
+    parts = parts_of(last)
+    if parts and len(parts) >= len(fields):
+        parts = parts[:len(fields) - 1] + ([parts[-1]] if len(parts) == len(fields) else ["(" + ", ".join(p.strip() for p in parts[len(fields) - 1:]) + ")"])
+        return [(name, lets + " record { " + "; ".join(f"{x} = {' '.join(p.split())}" for x, p in zip(fields, parts)) + " }")]
+    if re.match(r"\s*(search|omega|simp|rw|grind|cc|elim)\b", last):
+        return [(f"{name}-clause-{x}", body) for x in fields]
+    one = " ".join(last.split())
+    return [(name, lets + " record { " + "; ".join(f"{x} = ({one}).{k}" for k, x in enumerate(fields)) + " }")]
 
 
 def spec_arguments(text):
@@ -323,7 +410,8 @@ def convert(crate, name, rel, path, table):
             for h, (place, _) in shared.items():
                 body = re.sub(rf"(?<![\w.-]){re.escape(h)}( t)? {var}(\.before)*(?![\w.])", lambda m: f"{h}{m.group(1) or ''} (goal.at.{full} {'t ' if '-' in full and cycle else ''}{var}).{place.split(who_name(f) + '-', 1)[-1] if cycle else place}", body)
             body = turn_body(f, i, body, var)
-            answers.append("\n".join([f"pub {full} : goal.{full}"] + unf + [" ".join([full] + args) + " =" + body]))
+            for goal, text in by_clause(full, body, f.data["asked"].get(f.needs[i][0])):
+                answers.append("\n".join([f"pub {goal} : goal.{goal}"] + unf + [" ".join([goal] + args) + " =" + text]))
         elif inv:
             who = "" if inv.group(1) == "tie" else aliases.get(inv.group(1), norm(inv.group(1)[:-4]))
             f = fs[who]
@@ -359,7 +447,8 @@ def convert(crate, name, rel, path, table):
                         extra = [a for a in m3.group(2).split() if a != "κs"]
                         if m3.group(2).strip() and "κs" not in m3.group(2):
                             LEFT.append(f"{rel}: {new}: more than one variable")
-                        answers.append("\n".join([f"pub {new} : goal.{new}"] + unf + [f"{new} {m3.group(1)} = {body}"]))
+                        for goal, text in by_clause(new, " " + body, f.data["asked"].get(f.needs[i][0])):
+                            answers.append("\n".join([f"pub {goal} : goal.{goal}"] + unf + [f"{goal} {m3.group(1)} ={text}"]))
         else:
             made = helper(fs, aliases, b)
             if made:
