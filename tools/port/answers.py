@@ -12,11 +12,12 @@ import re
 import sys
 
 LEFT = []
+PAIRS = set()
 
 
 def norm(n):
     n = re.sub(r"_lem$", "", n)
-    return n.replace("_", "-")
+    return n.replace("_", "-").lower()
 
 
 def bare(n):
@@ -260,8 +261,17 @@ def by_clause(name, body, fields):
         return [(name, lets + " record { " + "; ".join(f"{x} = {' '.join(p.split())}" for x, p in zip(fields, parts)) + " }")]
     if re.match(r"\s*(search|omega|simp|rw|grind|cc|elim)\b", last):
         return [(f"{name}-clause-{x}", body) for x in fields]
-    one = " ".join(last.split())
-    return [(name, lets + " record { " + "; ".join(f"{x} = ({one}).{k}" for k, x in enumerate(fields)) + " }")]
+    PAIRS.add(tuple(fields))
+    return [(name, f"{lets} as_{'_'.join(fields)} ({last.strip()})")]
+
+
+def pair(fields):
+    """A lemma that takes a tuple of several clauses for the record of them."""
+    n = "as_" + "_".join(fields)
+    types = [chr(ord("A") + k) for k in range(len(fields))]
+    record = "record { " + "; ".join(f"{x} : {t}" for x, t in zip(fields, types)) + " }"
+    value = "record { " + "; ".join(f"{x} = p.{k}" for k, x in enumerate(fields)) + " }"
+    return f"{n} : {{{' '.join(types)} : Type 0}} → {' × '.join(types)} → {record}\n{n} p = {value}"
 
 
 def spec_arguments(text):
@@ -466,6 +476,8 @@ def convert(crate, name, rel, path, table):
     if invariants:
         with open(os.path.join(to, "Invariants.antt"), "w", encoding="utf-8") as out:
             out.write("\n".join(header + uses + [f"use {mod}.Given as goal", ""]) + "\n" + "\n\n".join(invariants) + "\n")
+    helpers = [pair(fields) for fields in sorted(PAIRS)] + helpers
+    PAIRS.clear()
     if answers or helpers:
         with open(os.path.join(to, "Answers.antt"), "w", encoding="utf-8") as out:
             more = [f"use {mod}.Goals.{{{', '.join(sorted(opened))}}}"] if opened else []

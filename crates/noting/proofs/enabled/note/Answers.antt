@@ -1,0 +1,18 @@
+-- `note` of `noting::enabled` meets its contract: behind the notes nothing is noted.
+use mathlib.Core.Path.{refl, sym}
+use lib.Seq.{set_out}
+use Rattle.noting.specs.Noting.{note_w}
+use Rattle.noting.proofs.Notes.{note_behind}
+use borrow.Author.Rules.{rules}
+use Rattle.noting.proofs.enabled.note.Goals as goal
+
+pub returns-then-notes-at : goal.returns-then-notes-at
+returns-then-notes-at c = record { ended = refl; written = note_behind _ _ _ c.if-notes-at.true }
+
+pub returns-then-notes-place : goal.returns-then-notes-place
+unfolding note_w
+returns-then-notes-place c = record { ended = refl; written = sym (set_out _ _ _ c.if-notes-place.true) }
+
+pub returns : goal.returns
+unfolding note_w
+returns c = record { ended = refl; written = refl }

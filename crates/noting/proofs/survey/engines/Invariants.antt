@@ -1,0 +1,25 @@
+-- `engines` of `noting::survey` meets its contract. The loop's invariant: the walk and the notes from here give what they give from the start.
+-- The measure is the engines left.
+use Prim.Native.Nat.{◌-◌, ◌≤◌}
+use native.Mathlib.Omega.{arith}
+use native.Mathlib.Nat.{sub-zero}
+use mathlib.Core.Path.{◌≡◌, refl}
+use lib.ListN.{length, replicate}
+use Rattle.reading.specs.Walk.{process_end}
+use Rattle.reading.specs.Survey.{engines_from}
+use Rattle.reading.proofs.Surveys.{process_inside, no_values, no_process, next_engine, more_words, all_read}
+use Rattle.noting.specs.Noting.{engines_notes}
+use Rattle.noting.proofs.Notes.{notes_short, notes_all, notes_none, notes_next}
+use borrow.Author.Rules.{rules}
+use Rattle.noting.proofs.survey.engines.Given as goal
+
+abbrev pub invariant-loop-e : goal.invariant-loop-e
+invariant-loop-e l =
+    (engines_from (process_end l.deepest l.ws l.bound 11) l.ws l.n (l.n - l.e) l.e l.at l.starts ≡ engines_from (process_end l.deepest l.ws l.bound 11) l.ws l.n l.n 0 2 (replicate 9 0))
+    × (engines_notes l.deepest l.ws l.bound (l.n - l.e) l.at l.notes ≡ engines_notes l.deepest l.ws l.bound l.n 2 l.initial.notes)
+    × (l.at ≤ length l.ws)
+    × (l.e ≤ l.n)
+    × (length l.notes ≡ length l.initial.notes)
+
+abbrev pub decreases-loop-e : goal.decreases-loop-e
+decreases-loop-e l = l.n - l.e
