@@ -1,0 +1,38 @@
+-- `handling::measure::code_levels`, `expressed`, `list_levels` and `parts`. The measure is the depth left, times 3. Both loops' invariant: what is
+-- left, from here and with the depth so far, measures as the whole does from its start; their measure: the parts left.
+use Rattle.layout.proofs.Others.{beyond}
+use lib.ListN.{get_or-eq_default}
+use mathlib.Core.Path.{◌≡◌, refl}
+use borrow.Author.Rules.{rules}
+use Rattle.handling.specs.Measuring.{code_levels, node_levels, expressed_levels, parts_levels, list_levels, entries_levels}
+use Rattle.handling.proofs.Levels.{code_levels_step, parts_levels_step, parts_levels_end, entries_levels_step, entries_levels_end}
+use Rattle.sock.proofs.Tests.{tests}
+use Prim.Native.Nat.{ℕ, ◌+◌, ◌*◌, ◌<◌}
+use Prim.Native.Nat.{ℕ, ◌<◌}
+use Rattle.handling.proofs.measure.+code_levels_expressed_list_levels_parts.Given as goal
+
+abbrev pub decreases-code_levels : goal.decreases-code_levels
+decreases-code_levels l = l.depth * 3
+
+abbrev pub decreases-expressed : goal.decreases-expressed
+decreases-expressed l = l.depth * 3 + 2
+
+abbrev pub decreases-list_levels : goal.decreases-list_levels
+decreases-list_levels l = l.depth * 3 + 1
+
+abbrev pub decreases-parts : goal.decreases-parts
+decreases-parts l = l.depth * 3 + 1
+
+abbrev pub invariant-list_levels-loop-left : goal.invariant-list_levels-loop-left
+invariant-list_levels-loop-left l =
+    entries_levels (code_levels l.depth l.ws) l.left l.deepest l.a ≡ entries_levels (code_levels l.depth l.ws) l.initial.left l.initial.deepest l.initial.a
+
+abbrev pub decreases-list_levels-loop-left : goal.decreases-list_levels-loop-left
+decreases-list_levels-loop-left l = l.left
+
+abbrev pub invariant-parts-loop-left : goal.invariant-parts-loop-left
+invariant-parts-loop-left l =
+    parts_levels (code_levels l.depth l.ws) l.left l.deepest l.a ≡ parts_levels (code_levels l.depth l.ws) l.initial.left l.initial.deepest l.initial.a
+
+abbrev pub decreases-parts-loop-left : goal.decreases-parts-loop-left
+decreases-parts-loop-left l = l.left

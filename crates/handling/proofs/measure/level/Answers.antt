@@ -1,0 +1,7 @@
+-- `handling::measure::level`: one level.
+use borrow.Author.Rules.{rules}
+use Rattle.handling.proofs.measure.level.Goals as goal
+
+pub returns : goal.returns
+returns c =
+    simp c.further.ensures

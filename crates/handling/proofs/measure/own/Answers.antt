@@ -1,0 +1,7 @@
+-- `handling::measure::own`: one level.
+use borrow.Author.Rules.{rules}
+use Rattle.handling.proofs.measure.own.Goals as goal
+
+pub returns : goal.returns
+returns c =
+    simp c.own_end.ensures

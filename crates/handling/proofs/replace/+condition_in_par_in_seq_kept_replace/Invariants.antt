@@ -1,0 +1,35 @@
+-- `handling::replace::replace` and the functions for single kinds that it goes round with. The measure is the depth left, times 3. The invariant
+-- of the loop in `kept`: the parts left, written from here on, give what all give from the start, and the output keeps its length; its
+-- measure: the parts left.
+use Prim.Native.Nat.{ℕ, ◌+◌, ◌*◌, ◌<◌}
+use mathlib.Core.Path.{◌≡◌, refl, sym, ◌∙◌}
+use borrow.Author.Rules.{rules}
+use lib.ListN.{length, get_or-eq_default}
+use Rattle.layout.proofs.Others.{beyond}
+use Rattle.sock.proofs.Tests.{tests}
+use Rattle.handling.proofs.Replacements.{replace_step, parts_step, parts_end, par_both, par_first, parts_turn}
+use Rattle.handling.specs.Replacing.{replace_w, node_w, seq_w, after_first, par_w, par_after, close_par, condition_w, kept_w, parts_w, nil_w}
+use Prim.Native.Nat.{ℕ, ◌<◌}
+use Rattle.handling.proofs.replace.+condition_in_par_in_seq_kept_replace.Given as goal
+
+abbrev pub decreases-condition : goal.decreases-condition
+decreases-condition l = l.depth * 3 + 2
+
+abbrev pub decreases-in_par : goal.decreases-in_par
+decreases-in_par l = l.depth * 3 + 1
+
+abbrev pub decreases-in_seq : goal.decreases-in_seq
+decreases-in_seq l = l.depth * 3 + 1
+
+abbrev pub decreases-kept : goal.decreases-kept
+decreases-kept l = l.depth * 3 + 1
+
+abbrev pub decreases-replace : goal.decreases-replace
+decreases-replace l = l.depth * 3
+
+abbrev pub invariant-kept-loop-left : goal.invariant-kept-loop-left
+invariant-kept-loop-left l =
+    (parts_w (replace_w l.depth l.ws l.old) l.left l.deepest l.a l.out l.t ≡ parts_w (replace_w l.depth l.ws l.old) l.initial.left l.initial.deepest l.initial.a l.initial.out l.initial.t) × (length l.out ≡ length l.initial.out)
+
+abbrev pub decreases-kept-loop-left : goal.decreases-kept-loop-left
+decreases-kept-loop-left l = l.left
