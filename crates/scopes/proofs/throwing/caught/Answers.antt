@@ -1,0 +1,13 @@
+-- `caught` of `scopes::throwing` meets its contract: the code is its mirror in specs/.
+use Rattle.scopes.specs.Throwing.{caught_w, cleared_by}
+use Rattle.sock.proofs.Tests.{tests}
+use borrow.Author.Rules.{rules}
+use Rattle.scopes.proofs.throwing.caught.Goals as goal
+
+pub returns-then-any_pending : goal.returns-then-any_pending
+unfolding caught_w
+returns-then-any_pending c = record { edited = simp (← c.body_at-body.ensures, ← c.any_pending.ensures, c.if-any_pending.true, ← c.refuse.ensures); fresh = simp (← c.body_at-body.ensures, ← c.any_pending.ensures, c.if-any_pending.true) }
+
+pub returns : goal.returns
+unfolding caught_w cleared_by
+returns c = record { edited = simp (tests, ← c.body_at-body.ensures, ← c.any_pending.ensures, c.if-any_pending.false, ← c.cleared.ensures, ← c.kill-k.ensures.0, ← c.kill-k.ensures.1, ← c.opened-t.ensures.place, ← c.opened-t.ensures.fresh); fresh = simp (tests, ← c.body_at-body.ensures, ← c.any_pending.ensures, c.if-any_pending.false, ← c.cleared.ensures, ← c.kill-k.ensures.0, ← c.kill-k.ensures.1, ← c.opened-t.ensures.place, ← c.opened-t.ensures.fresh) }
