@@ -149,8 +149,14 @@ def turn_body(f, i, body, var="c"):
         if n in steps:
             new, callee = steps[n]
             fields = f.clauses_of(i, n)
-            if fields and len(parts) > 1 and parts[0] == "ensures" and parts[1].isdigit() and int(parts[1]) < len(fields):
-                parts[1] = fields[int(parts[1])]
+            if fields and len(parts) > 1 and parts[0] == "ensures" and parts[1].isdigit():
+                k = 0
+                while k < len(fields) - 1 and len(parts) > 1 + k and parts[1 + k] == "1":
+                    k += 1
+                if k == len(fields) - 1:
+                    parts[1:1 + k] = [fields[k]]
+                elif len(parts) > 1 + k and parts[1 + k] == "0":
+                    parts[1:2 + k] = [fields[k]]
             if parts and parts[0] == "new" and callee in f.params and len(parts) > 1 and parts[1].isdigit():
                 ps = f.params[callee]
                 k = int(parts[1])
@@ -161,9 +167,36 @@ def turn_body(f, i, body, var="c"):
         return f"{var}.{name}{rest}"
 
     body = re.sub(rf"(?<![\w.'-]){var}(?:\.before)*\.([\w-]+)((?:\.[\w'-]+)*)", step, body)
-    atom = r"(?:[\w.'-]+|\([^()]*\)|_)"
-    body = re.sub(rf"\(not-(?:true|false) {atom} ({atom})\)", lambda m: m.group(1), body)
-    return body
+    return unnegated(body)
+
+
+def argument(text, at):
+    """Where the argument that begins at a place begins and ends."""
+    while at < len(text) and text[at].isspace():
+        at += 1
+    start, depth = at, 0
+    while at < len(text):
+        if text[at] in "([{":
+            depth += 1
+        elif text[at] in ")]}":
+            if depth == 0:
+                break
+            depth -= 1
+        elif depth == 0 and (text[at].isspace() or text[at] in ",;"):
+            break
+        at += 1
+    return start, at
+
+
+def unnegated(body):
+    """A negated test says today what it says of what is negated, so the lemmas that said so go."""
+    while True:
+        m = re.search(r"(?<![\w-])not-(?:true|false)(?![\w-])", body)
+        if not m:
+            return body
+        _, first = argument(body, m.end())
+        start, end = argument(body, first)
+        body = body[:m.start()] + body[start:end] + body[end:]
 
 
 def helper(fs, aliases, block):
@@ -256,6 +289,8 @@ def by_clause(name, body, fields):
     at = last_expression(body)
     lets, last = body[:at], body[at:]
     parts = parts_of(last)
+    while parts and len(parts) < len(fields) and parts_of(parts[-1]):
+        parts[-1:] = parts_of(parts[-1])
     if parts and len(parts) >= len(fields):
         parts = parts[:len(fields) - 1] + ([parts[-1]] if len(parts) == len(fields) else ["(" + ", ".join(p.strip() for p in parts[len(fields) - 1:]) + ")"])
         return [(name, lets + " record { " + "; ".join(f"{x} = {' '.join(p.split())}" for x, p in zip(fields, parts)) + " }")]
@@ -269,9 +304,10 @@ def pair(fields):
     """A lemma that takes a tuple of several clauses for the record of them."""
     n = "as_" + "_".join(fields)
     types = [chr(ord("A") + k) for k in range(len(fields))]
+    nested = lambda ts: ts[0] if len(ts) == 1 else f"{ts[0]} × " + (nested(ts[1:]) if len(ts) == 2 else f"({nested(ts[1:])})")
     record = "record { " + "; ".join(f"{x} : {t}" for x, t in zip(fields, types)) + " }"
-    value = "record { " + "; ".join(f"{x} = p.{k}" for k, x in enumerate(fields)) + " }"
-    return f"{n} : {{{' '.join(types)} : Type 0}} → {' × '.join(types)} → {record}\n{n} p = {value}"
+    value = "record { " + "; ".join(f"{x} = p" + ".1" * k + (".0" if k < len(fields) - 1 else "") for k, x in enumerate(fields)) + " }"
+    return f"{n} : {{{' '.join(types)} : Type 0}} → {nested(types)} → {record}\n{n} p = {value}"
 
 
 def spec_arguments(text):

@@ -1,0 +1,43 @@
+-- `compare` of `journal::steps` meets its contract.
+use native.Mathlib.Omega.{arith}
+use mathlib.Core.Path.{sym, ap, ◌∙◌}
+use lib.Seq.{length-take-le}
+use Rattle.stepping.specs.declared.answer.Answer.{Answer}
+use Rattle.journal.proofs.Stepping.{Took, did, compared_refused, alike_in, compared_short, compared_done}
+use borrow.Author.Rules.{rules}
+use Rattle.journal.proofs.steps.compare.Goals as goal
+
+pub step_at-a-requires : goal.step_at-a-requires
+step_at-a-requires c = c.requires
+
+pub returns-then-a-ne0 : goal.returns-then-a-ne0
+returns-then-a-ne0 c =
+    let t : Took _ c.requires.0.few c.args.ws.now _ c.args.res.now _ _ = record { answered = c.step_at-a.ensures.answered; written = c.step_at-a.ensures.written } in
+    (compared_refused _ c.requires.0.few _ _ _ _ _ t c.args.room c.if-a-ne0.true, c.step_at-a.ensures.written)
+
+pub slice_bounds-both-end : goal.slice_bounds-both-end
+slice_bounds-both-end c =
+    let t : Took _ c.requires.0.few c.args.ws.now _ c.args.res.now _ _ = record { answered = c.step_at-a.ensures.answered; written = c.step_at-a.ensures.written } in
+    let d = did _ c.requires.0.few _ _ _ _ _ t c.if-a-ne0.false in
+    omega (arith, d.long, d.fits, d.keeps)
+
+pub slice_bounds-both-end-2 : goal.slice_bounds-both-end-2
+slice_bounds-both-end-2 c =
+    let t : Took _ c.requires.0.few c.args.ws.now _ c.args.res.now _ _ = record { answered = c.step_at-a.ensures.answered; written = c.step_at-a.ensures.written } in
+    let d = did _ c.requires.0.few _ _ _ _ _ t c.if-a-ne0.false in
+    sym (length-take-le _ _ (omega (arith, d.long, d.fits, d.keeps)))
+
+pub needed-requires : goal.needed-requires
+needed-requires c =
+    let t : Took _ c.requires.0.few c.args.ws.now _ c.args.res.now _ _ = record { answered = c.step_at-a.ensures.answered; written = c.step_at-a.ensures.written } in
+    alike_in _ c.requires.0.few _ _ _ _ _ t (did _ c.requires.0.few _ _ _ _ _ t c.if-a-ne0.false) _ _ c.args.room c.both-alike.ensures
+
+pub returns-then-room-needed : goal.returns-then-room-needed
+returns-then-room-needed c =
+    let t : Took _ c.requires.0.few c.args.ws.now _ c.args.res.now _ _ = record { answered = c.step_at-a.ensures.answered; written = c.step_at-a.ensures.written } in
+    (ap (λ (b : Answer). record { answer = b; first = 0; last = 0 }) c.refuse.ensures ∙ compared_short _ c.requires.0.few _ _ _ _ _ t (did _ c.requires.0.few _ _ _ _ _ t c.if-a-ne0.false) _ _ c.args.room c.both-alike.ensures (omega (arith, c.if-room-needed.true, c.needed.ensures)), c.step_at-a.ensures.written)
+
+pub returns : goal.returns
+returns c =
+    let t : Took _ c.requires.0.few c.args.ws.now _ c.args.res.now _ _ = record { answered = c.step_at-a.ensures.answered; written = c.step_at-a.ensures.written } in
+    (compared_done _ c.requires.0.few _ _ _ _ _ t (did _ c.requires.0.few _ _ _ _ _ t c.if-a-ne0.false) _ _ c.args.room c.both-alike.ensures (omega (arith, c.if-room-needed.false, c.needed.ensures)), c.step_at-a.ensures.written)
