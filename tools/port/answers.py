@@ -99,6 +99,10 @@ def turn_body(f, i, body, var="c"):
             break
         body = body.replace(m.group(0), "", 1)
         body = re.sub(rf"(?<![\w.'-]){m.group(1)}(?=\.)", var, body)
+    for m in re.finditer(rf"let (\w+) = ({var}(?:\.before)*\.([\w-]+)) in[ \n]*", body):
+        uses = re.findall(rf"(?<![\w.'-]){m.group(1)}\.(ensures|new|auto)(?![\w-])", body)
+        if uses and m.group(3) not in ("args", "loop") and not re.search(rf"(?<![\w.'-]){m.group(1)}(?![\w.'-])(?! = )", body.replace(m.group(0), "")):
+            body = re.sub(rf"(?<![\w.'-]){m.group(1)}(?=\.)", m.group(2), body.replace(m.group(0), "", 1))
     steps, arms = f.chain(i)
     typed = {norm(s): v for ts in f.typed for v, s in ts}
     typed.update({norm(s): v for v, s in f.typed[i]} if i < len(f.typed) else {})
@@ -157,11 +161,17 @@ def turn_body(f, i, body, var="c"):
                     parts[1:1 + k] = [fields[k]]
                 elif len(parts) > 1 + k and parts[1 + k] == "0":
                     parts[1:2 + k] = [fields[k]]
-            if parts and parts[0] == "new" and callee in f.params and len(parts) > 1 and parts[1].isdigit():
-                ps = f.params[callee]
-                k = int(parts[1])
-                if k < len(ps):
-                    parts[1] = ps[k]
+            if parts and parts[0] in ("new", "auto") and callee in f.params:
+                ps, k = f.params[callee], 0
+                while len(parts) > 1 + k and parts[1 + k] == "1":
+                    k += 1
+                if len(parts) > 1 + k and parts[1 + k] == "0" and k < len(ps):
+                    parts[1:2 + k] = [ps[k]]
+            if fields and parts == ["ensures"]:
+                text = f"{var}.{new}.ensures.{fields[-1]}"
+                for x in reversed(fields[:-1]):
+                    text = f"({var}.{new}.ensures.{x}, {text})"
+                return text
             return ".".join([var, new] + parts)
         LEFT.append(f"{f.key.split('-proofs.')[1]}: {f.needs[i][1]}: no step {name}")
         return f"{var}.{name}{rest}"
