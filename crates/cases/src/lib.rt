@@ -1,9 +1,14 @@
-// What the programs over vectors share: a word of two bytes, a sum over words, and input and output. The kit's contracts of reading and
-// writing do not tell which bytes move, so no contract here can.
+// What the programs over vectors share: a word of two bytes, a sum over words, and input and output over any reader and writer. The
+// contracts name the bytes that move where the reader or the writer tells them; standard input and output tell none.
 #![tactic(auto)]
 
-ghost use Rattle.std.specs.Prelude.{◌≡◌, ◌+◌, ◌*◌, ◌≤◌, true, length};
+ghost use Rattle.std.specs.Prelude.{◌≡◌, ◌+◌, ◌*◌, ◌≤◌, ◌<◌, true, false, length, take, IfOk, OnOk};
+ghost use Rattle.std.specs.Io.KnownBytes.{Appends, Consumes, IsAtEnd};
 ghost use Rattle.cases.specs.Sums.{summed};
+ghost use Rattle.cases.specs.Printed.{printed};
+
+use std::io;
+use std::io::{Read, Write};
 
 pub fn word(high: u8, low: u8) -> u16
     ensures { result ≡ high * 256 + low }
@@ -28,21 +33,42 @@ pub fn sum(ws: &[u16]) -> u16
 }
 
 // A number, and a space or the end of the line behind it.
-pub fn print(n: u64, last: bool) {
-    io::print_decimal(1, n);
+pub fn print<W: Write>(output: &mut W, n: u64, last: bool) -> io::Result<()>
+    ensures { OnOk result (Appends (W.contents output.old) (W.contents output.new) (printed n last)) }
+{
     if last {
-        io::write_all(1, b"\n");
+        write!(output, "{n}\n")
     } else {
-        io::write_all(1, b" ");
+        write!(output, "{n} ")
     }
 }
 
+// Reads until `bytes` is full or the input ends; how many there were.
+pub fn read_full<R: Read>(input: &mut R, bytes: &mut [u8]) -> io::Result<usize>
+    ensures count { IfOk result (λ n. n ≤ length bytes.old) }
+    ensures same_length { length bytes.new ≡ length bytes.old }
+    ensures consumed { IfOk result (λ n. Consumes (R.remaining input.old) (R.remaining input.new) (take n bytes.new)) }
+    ensures ended { IfOk result (λ n. n < length bytes.old → IsAtEnd (R.remaining input.new)) }
+{
+    let mut done = 0;
+    while done < bytes.len() {
+        let n = input.read(&mut bytes[done..])?;
+        if n == 0 {
+            break;
+        }
+        done += n;
+    }
+    Ok(done)
+}
+
 // Whether there were `count` bytes to read.
-pub fn take(bytes: &mut [u8], count: usize) -> bool
-    ensures { result ≡ true → count ≤ length bytes.old }
+pub fn take<R: Read>(input: &mut R, bytes: &mut [u8], count: usize) -> io::Result<bool>
+    ensures room { IfOk result (λ is. is ≡ true → count ≤ length bytes.old) }
+    ensures consumed { IfOk result (λ is. is ≡ true → Consumes (R.remaining input.old) (R.remaining input.new) (take count bytes.new)) }
+    ensures ended { IfOk result (λ is. is ≡ false → count ≤ length bytes.old → IsAtEnd (R.remaining input.new)) }
 {
     if bytes.len() < count {
-        return false;
+        return Ok(false);
     }
-    count <= io::read_full(0, &mut bytes[..count])
+    Ok(count <= read_full(input, &mut bytes[..count])?)
 }

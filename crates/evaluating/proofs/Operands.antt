@@ -1,10 +1,9 @@
 -- What is known of two operands once both were seen to be decimal, or not.
 -- Assumes nothing.
-use Rattle.std.proofs.Common.{◌≡◌, ℕ, ◌+◌, ◌-◌, ◌%◌, ◌<◌, Bool, true, false, ◌&&◌, T, sym, refl, ap, ◌∙◌, subst}
-use mathlib.Core.Option.{some}
+use Rattle.std.proofs.Common.{◌≡◌, ℕ, ◌<◌, Bool, true, false, ◌&&◌, T, sym, refl, ap, ◌∙◌, subst}
 use lib.Ieee.Fits.{and_l, and_r}
 use Rattle.sock.specs.Configuration.{guarded}
-use Rattle.sock.specs.Digits.{decimal, number_of, packed_of, power}
+use Rattle.sock.specs.Digits.{decimal, number_of, power}
 use Rattle.sock.specs.Evaluation.{of_digits}
 use Rattle.sock.proofs.Decimals.{number_below}
 use Rattle.evaluating.specs.declared.digits.Value.{Value}

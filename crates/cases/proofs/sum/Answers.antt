@@ -1,5 +1,5 @@
 -- `sum` meets its contract. The loop's invariant: what is left adds to the sum so far what all add to 0.
-use Rattle.std.proofs.Common.{◌≡◌, ℕ, suc, ◌+◌, ◌-◌, ◌<◌, ◌≤◌, List, [], ◌∷◌, length, get_or, drop, sym, refl, ap, ◌∙◌, arith, drop-cons, rules}
+use Rattle.std.proofs.Common.{◌≡◌, ℕ, suc, ◌+◌, ◌<◌, List, ◌∷◌, length, get_or, drop, sym, refl, ap, ◌∙◌, arith, drop-cons}
 use lib.Seq.{drop-length}
 use Rattle.cases.specs.Sums.{round, summed}
 use Rattle.cases.proofs.sum.Goals as goal
@@ -24,7 +24,7 @@ loop-i-init c = (omega arith, refl)
 pub loop-i-preserved : goal.loop-i-preserved
 loop-i-preserved c =
     let l = c.loop-i in
-    (omega arith, sum_turn _ _ _ _ _ _ c.wrapping_add_u16.ensures c.wrapping_add_u16-in-loop-i.ensures c.wrapping_add_u16-s.ensures c.loop-i-test.true l.invariant.1)
+    (omega arith, sum_turn _ _ _ _ _ _ c.wrapping_add_u16.ensures.value c.wrapping_add_u16-in-loop-i.ensures.value c.wrapping_add_u16-s.ensures.value c.loop-i-test.true l.invariant.1)
 
 pub returns : goal.returns
 returns c =

@@ -1,7 +1,6 @@
 -- `sum` meets its contract. The loop's invariant: what is left adds to the sum so far what all add to 0.
-use Rattle.std.proofs.Common.{◌≡◌, ℕ, suc, ◌+◌, ◌-◌, ◌<◌, ◌≤◌, List, [], ◌∷◌, length, get_or, drop, sym, refl, ap, ◌∙◌, arith, drop-cons, rules}
-use lib.Seq.{drop-length}
-use Rattle.cases.specs.Sums.{round, summed}
+use Rattle.std.proofs.Common.{◌≡◌, ◌-◌, ◌≤◌, length, drop}
+use Rattle.cases.specs.Sums.{summed}
 use Rattle.cases.proofs.sum.Given as goal
 
 abbrev pub invariant-loop-i : goal.invariant-loop-i

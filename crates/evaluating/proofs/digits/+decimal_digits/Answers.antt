@@ -1,5 +1,5 @@
 -- `decimal_digits`: one digit fewer in each call, the count of digits is the measure.
-use Rattle.std.proofs.Common.{ℕ, ◌-◌, ◌/◌, ◌<◌, Bool, ◌&&◌, sym, ap, ◌∙◌, rules, le-ltb, lt-ltb}
+use Rattle.std.proofs.Common.{◌-◌, ◌/◌, Bool, ◌&&◌, sym, ap, ◌∙◌, le-ltb, lt-ltb}
 use Rattle.sock.specs.Digits.{decimal}
 use Rattle.sock.proofs.Decimals.{decimal_none, decimal_more}
 use Rattle.evaluating.proofs.digits.+decimal_digits.Goals as goal

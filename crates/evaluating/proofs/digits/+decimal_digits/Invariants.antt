@@ -1,7 +1,4 @@
 -- `decimal_digits`: one digit fewer in each call, the count of digits is the measure.
-use Rattle.std.proofs.Common.{ℕ, ◌-◌, ◌/◌, ◌<◌, Bool, ◌&&◌, sym, ap, ◌∙◌, rules, le-ltb, lt-ltb}
-use Rattle.sock.specs.Digits.{decimal}
-use Rattle.sock.proofs.Decimals.{decimal_none, decimal_more}
 use Rattle.evaluating.proofs.digits.+decimal_digits.Given as goal
 
 abbrev pub decreases-decimal_digits : goal.decreases-decimal_digits

@@ -1,5 +1,5 @@
 -- `number_of`: one digit fewer in each call, the count of digits is the measure. The number is at most the word, so nothing runs over.
-use Rattle.std.proofs.Common.{ℕ, ◌+◌, ◌-◌, ◌*◌, ◌/◌, ◌%◌, ◌<◌, sym, ap, ◌∙◌, arith, rules}
+use Rattle.std.proofs.Common.{ℕ, ◌+◌, ◌*◌, ◌%◌, sym, ap, ◌∙◌, arith}
 use Rattle.sock.proofs.Decimals.{number_none, number_more}
 use Rattle.evaluating.proofs.digits.+number_of.Goals as goal
 

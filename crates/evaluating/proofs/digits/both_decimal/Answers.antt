@@ -1,5 +1,5 @@
 -- `both_decimal`: the conjunction of two tests.
-use Rattle.std.proofs.Common.{◌≡◌, Bool, ◌&&◌, sym, ap, ◌∙◌, rules}
+use Rattle.std.proofs.Common.{Bool, ◌&&◌, sym, ap, ◌∙◌}
 use Rattle.sock.specs.Digits.{decimal}
 use Rattle.evaluating.proofs.digits.both_decimal.Goals as goal
 

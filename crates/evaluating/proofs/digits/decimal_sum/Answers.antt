@@ -1,6 +1,6 @@
 -- `decimal_sum`: both numbers are below 100,000,000 once their digits were seen to be decimal.
-use Rattle.std.proofs.Common.{◌≡◌, ℕ, ◌+◌, ◌-◌, ◌%◌, sym, ap, ◌∙◌, ap₂, arith, rules}
-use Rattle.sock.specs.Digits.{number_of, packed_of, power, digit_sum, digit_difference}
+use Rattle.std.proofs.Common.{ℕ, ◌+◌, ◌%◌, ◌∙◌, ap₂, arith}
+use Rattle.sock.specs.Digits.{packed_of, power}
 use Rattle.evaluating.proofs.Operands.{first_low, second_low, given, missing}
 use Rattle.evaluating.proofs.digits.decimal_sum.Goals as goal
 

@@ -1,7 +1,5 @@
 -- `combine` of `evaluating::evaluate` meets its contract: the code is its mirror in specs/.
 use Rattle.evaluating.specs.Evaluating.{combined}
-use Rattle.sock.proofs.Tests.{tests}
-use Rattle.std.proofs.Common.{rules}
 use Rattle.evaluating.proofs.evaluate.combine.Goals as goal
 
 pub returns-then-b : goal.returns-then-b

@@ -1,7 +1,6 @@
 -- `evaluating::evaluate::constant`: a constant cut off by the end of the words is nowhere.
 use Rattle.evaluating.specs.Evaluating.{constant_at}
 use Rattle.sock.proofs.Tests.{tests}
-use Rattle.std.proofs.Common.{rules}
 use Rattle.evaluating.proofs.evaluate.constant.Goals as goal
 
 pub returns-then-ws-at-lt3 : goal.returns-then-ws-at-lt3

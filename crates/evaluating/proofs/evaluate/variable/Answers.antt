@@ -1,5 +1,5 @@
 -- `evaluating::evaluate::variable`: past the values both words count as 0.
-use Rattle.std.proofs.Common.{◌≡◌, ℕ, ◌+◌, ◌*◌, ◌≤◌, List, length, arith, rules}
+use Rattle.std.proofs.Common.{◌≡◌, ℕ, ◌+◌, ◌*◌, ◌≤◌, List, length, arith}
 use lib.ListN.{get_or-eq_default}
 use Rattle.evaluating.specs.Evaluating.{value_in}
 use Rattle.evaluating.proofs.evaluate.variable.Goals as goal

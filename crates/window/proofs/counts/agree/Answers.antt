@@ -1,11 +1,7 @@
 -- `agree` of `window::counts` meets its contract. The loop's invariant: the first i counts agree.
-use Prim.Native.Nat.{◌-◌, ◌≤◌}
 use native.Mathlib.Omega.{arith}
-use mathlib.Core.Path.{◌≡◌, refl}
-use lib.ListN.{take, drop}
-use Rattle.window.specs.Window.{same}
+use mathlib.Core.Path.{refl}
 use Rattle.window.proofs.Loops.{count_passes, count_stops, counts_end}
-use borrow.Author.Rules.{rules}
 use Rattle.window.proofs.counts.agree.Goals as goal
 
 pub loop-i-init : goal.loop-i-init

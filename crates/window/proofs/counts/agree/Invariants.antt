@@ -1,11 +1,8 @@
 -- `agree` of `window::counts` meets its contract. The loop's invariant: the first i counts agree.
 use Prim.Native.Nat.{◌-◌, ◌≤◌}
-use native.Mathlib.Omega.{arith}
-use mathlib.Core.Path.{◌≡◌, refl}
+use mathlib.Core.Path.{◌≡◌}
 use lib.ListN.{take, drop}
 use Rattle.window.specs.Window.{same}
-use Rattle.window.proofs.Loops.{count_passes, count_stops, counts_end}
-use borrow.Author.Rules.{rules}
 use Rattle.window.proofs.counts.agree.Given as goal
 
 abbrev pub invariant-loop-i : goal.invariant-loop-i

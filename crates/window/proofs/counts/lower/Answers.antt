@@ -4,7 +4,6 @@ use mathlib.Core.Path.{ap}
 use lib.ListN.{get_or}
 use Prim.Native.Nat.{ℕ}
 use Rattle.window.proofs.Counting.{is_lowered, not_lowered}
-use borrow.Author.Rules.{rules}
 use Rattle.window.proofs.counts.lower.Goals as goal
 
 pub overflow_sub-window : goal.overflow_sub-window

@@ -4,7 +4,6 @@ use mathlib.Core.Path.{ap}
 use lib.ListN.{get_or}
 use Prim.Native.Nat.{ℕ}
 use Rattle.window.proofs.Counting.{is_raised, not_raised}
-use borrow.Author.Rules.{rules}
 use Rattle.window.proofs.counts.raise.Goals as goal
 
 pub overflow_add-window : goal.overflow_add-window

@@ -1,12 +1,9 @@
 -- `tally` of `window::counts` meets its contract. The loop's invariant: the first i entries are counted, and none is above 64.
-use Prim.Native.Nat.{◌-◌, ◌≤◌}
 use native.Mathlib.Omega.{arith}
-use mathlib.Core.Path.{◌≡◌, refl}
-use lib.ListN.{take, drop}
-use Rattle.window.specs.Window.{times, counts_from, none_above}
+use mathlib.Core.Path.{refl}
+use Rattle.window.specs.Window.{times, counts_from}
 use Rattle.window.proofs.Tests.{not_both}
 use Rattle.window.proofs.Loops.{tally_room, tally_end, tally_turn, tally_passes, tally_stops, tally_passed}
-use borrow.Author.Rules.{rules}
 use Rattle.window.proofs.counts.tally.Goals as goal
 
 pub loop-i-init : goal.loop-i-init

@@ -1,12 +1,8 @@
 -- `tally` of `window::counts` meets its contract. The loop's invariant: the first i entries are counted, and none is above 64.
 use Prim.Native.Nat.{◌-◌, ◌≤◌}
-use native.Mathlib.Omega.{arith}
-use mathlib.Core.Path.{◌≡◌, refl}
+use mathlib.Core.Path.{◌≡◌}
 use lib.ListN.{take, drop}
-use Rattle.window.specs.Window.{times, counts_from, none_above}
-use Rattle.window.proofs.Tests.{not_both}
-use Rattle.window.proofs.Loops.{tally_room, tally_end, tally_turn, tally_passes, tally_stops, tally_passed}
-use borrow.Author.Rules.{rules}
+use Rattle.window.specs.Window.{counts_from, none_above}
 use Rattle.window.proofs.counts.tally.Given as goal
 
 abbrev pub invariant-loop-i : goal.invariant-loop-i

@@ -2,7 +2,6 @@
 use native.Mathlib.Omega.{arith}
 use lib.ListN.{length-set}
 use Rattle.window.proofs.Changing.{formed_room, append_ready, is_appended}
-use borrow.Author.Rules.{rules}
 use Rattle.window.proofs.entries.append.Goals as goal
 
 pub bounds-window-held : goal.bounds-window-held

@@ -3,7 +3,6 @@ use native.Mathlib.Omega.{arith}
 use mathlib.Core.Path.{◌∙◌}
 use Rattle.window.proofs.Words.{given_room, given_formed}
 use Rattle.window.proofs.Changing.{with_room, when_full}
-use borrow.Author.Rules.{rules}
 use Rattle.window.proofs.entries.enter.Goals as goal
 
 pub bounds-window-64 : goal.bounds-window-64

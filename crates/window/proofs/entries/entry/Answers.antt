@@ -1,7 +1,6 @@
 -- `entry` of `window::entries` meets its contract.
 use native.Mathlib.Omega.{arith}
 use Rattle.window.proofs.Entering.{with_fault, without_fault}
-use borrow.Author.Rules.{rules}
 use Rattle.window.proofs.entries.entry.Goals as goal
 
 pub returns-then-fault-eq1 : goal.returns-then-fault-eq1

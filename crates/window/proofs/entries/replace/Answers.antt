@@ -1,9 +1,6 @@
 -- `replace` of `window::entries` meets its contract.
 use native.Mathlib.Omega.{arith}
-use mathlib.Core.Path.{◌∙◌}
-use lib.ListN.{length-set}
 use Rattle.window.proofs.Changing.{formed_room, oldest_ready, shift_ready, write_ready, replace_ready, is_replaced}
-use borrow.Author.Rules.{rules}
 use Rattle.window.proofs.entries.replace.Goals as goal
 
 pub bounds-window-65 : goal.bounds-window-65

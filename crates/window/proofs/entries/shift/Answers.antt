@@ -1,11 +1,9 @@
 -- `shift` of `window::entries` meets its contract. The loop's invariant: the first i words are moved.
-use Prim.Native.Nat.{◌-◌, ◌≤◌}
 use native.Mathlib.Omega.{arith}
-use mathlib.Core.Path.{◌≡◌, refl}
-use lib.ListN.{length, drop, length-set}
-use lib.Seq.{paste, paste-zero}
+use mathlib.Core.Path.{refl}
+use lib.ListN.{drop, length-set}
+use lib.Seq.{paste-zero}
 use Rattle.window.proofs.Loops.{shift_turn, shift_end}
-use borrow.Author.Rules.{rules}
 use Rattle.window.proofs.entries.shift.Goals as goal
 
 pub loop-i-init : goal.loop-i-init

@@ -1,11 +1,8 @@
 -- `shift` of `window::entries` meets its contract. The loop's invariant: the first i words are moved.
 use Prim.Native.Nat.{◌-◌, ◌≤◌}
-use native.Mathlib.Omega.{arith}
-use mathlib.Core.Path.{◌≡◌, refl}
-use lib.ListN.{length, drop, length-set}
-use lib.Seq.{paste, paste-zero}
-use Rattle.window.proofs.Loops.{shift_turn, shift_end}
-use borrow.Author.Rules.{rules}
+use mathlib.Core.Path.{◌≡◌}
+use lib.ListN.{length, drop}
+use lib.Seq.{paste}
 use Rattle.window.proofs.entries.shift.Given as goal
 
 abbrev pub invariant-loop-i : goal.invariant-loop-i

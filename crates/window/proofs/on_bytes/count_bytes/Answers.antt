@@ -3,7 +3,6 @@ use mathlib.Core.Path.{ap, ◌∙◌}
 use Rattle.window.specs.Window.{count_of}
 use Rattle.window.specs.Bytes.{packed, byte_count}
 use Rattle.window.proofs.Answering.{count_few}
-use borrow.Author.Rules.{rules}
 use Rattle.window.proofs.on_bytes.count_bytes.Goals as goal
 
 pub returns-then-window-lt2178 : goal.returns-then-window-lt2178

@@ -1,7 +1,6 @@
 -- `next_bytes` of `window::on_bytes` meets its contract.
 use native.Mathlib.Omega.{arith}
 use Rattle.window.proofs.Answering.{bytes_few, bytes_refused, bytes_stay, bytes_entered}
-use borrow.Author.Rules.{rules}
 use Rattle.window.proofs.on_bytes.next_bytes.Goals as goal
 
 pub returns-then-window-lt2178 : goal.returns-then-window-lt2178

@@ -1,7 +1,6 @@
 -- `pack` of `window::on_bytes` meets its contract.
 use mathlib.Core.Path.{refl}
 use Rattle.window.specs.Bytes.{packed}
-use borrow.Author.Rules.{rules}
 use Rattle.window.proofs.on_bytes.pack.Goals as goal
 
 pub returns : goal.returns

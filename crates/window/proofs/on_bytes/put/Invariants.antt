@@ -1,12 +1,9 @@
 -- `put` of `window::on_bytes` meets its contract. The loop's invariant: the bytes of the first i words are over the output.
 use Prim.Native.Nat.{◌*◌, ◌-◌, ◌≤◌}
-use native.Mathlib.Omega.{arith}
-use mathlib.Core.Path.{◌≡◌, refl}
+use mathlib.Core.Path.{◌≡◌}
 use mathlib.Core.List.{◌++◌}
-use lib.ListN.{length, take, drop, length-set}
+use lib.ListN.{length, take, drop}
 use Rattle.window.specs.Bytes.{bytes_of}
-use Rattle.window.proofs.Spelling.{byte_turn, bytes_end}
-use borrow.Author.Rules.{rules}
 use Rattle.window.proofs.on_bytes.put.Given as goal
 
 abbrev pub invariant-loop-i : goal.invariant-loop-i

@@ -1,12 +1,8 @@
 -- `words_in` of `window::on_bytes` meets its contract. The loop's invariant: the first i words are taken.
-use Prim.Native.Nat.{◌*◌, ◌-◌, ◌≤◌}
 use native.Mathlib.Omega.{arith}
-use mathlib.Core.Path.{◌≡◌, refl}
-use mathlib.Core.List.{◌++◌}
-use lib.ListN.{length, take, drop, length-set}
-use Rattle.window.specs.Bytes.{words_of}
+use mathlib.Core.Path.{refl}
+use lib.ListN.{length-set}
 use Rattle.window.proofs.Spelling.{word_turn, words_end}
-use borrow.Author.Rules.{rules}
 use Rattle.window.proofs.on_bytes.words_in.Goals as goal
 
 pub loop-i-init : goal.loop-i-init

@@ -1,12 +1,9 @@
 -- `words_in` of `window::on_bytes` meets its contract. The loop's invariant: the first i words are taken.
 use Prim.Native.Nat.{◌*◌, ◌-◌, ◌≤◌}
-use native.Mathlib.Omega.{arith}
-use mathlib.Core.Path.{◌≡◌, refl}
+use mathlib.Core.Path.{◌≡◌}
 use mathlib.Core.List.{◌++◌}
-use lib.ListN.{length, take, drop, length-set}
+use lib.ListN.{length, take, drop}
 use Rattle.window.specs.Bytes.{words_of}
-use Rattle.window.proofs.Spelling.{word_turn, words_end}
-use borrow.Author.Rules.{rules}
 use Rattle.window.proofs.on_bytes.words_in.Given as goal
 
 abbrev pub invariant-loop-i : goal.invariant-loop-i

@@ -1,11 +1,7 @@
 -- `zeros` of `window::testing` meets its contract. The loop's invariant: the words before i are 0.
-use Prim.Native.Nat.{◌-◌, ◌≤◌}
 use native.Mathlib.Omega.{arith}
-use mathlib.Core.Path.{◌≡◌, refl}
-use lib.ListN.{take, drop}
-use Rattle.window.specs.Window.{none_above}
+use mathlib.Core.Path.{refl}
 use Rattle.window.proofs.Loops.{zero_passes, zero_stops, zeros_end}
-use borrow.Author.Rules.{rules}
 use Rattle.window.proofs.testing.zeros.Goals as goal
 
 pub loop-i-init : goal.loop-i-init

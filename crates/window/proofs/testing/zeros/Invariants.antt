@@ -1,11 +1,8 @@
 -- `zeros` of `window::testing` meets its contract. The loop's invariant: the words before i are 0.
 use Prim.Native.Nat.{◌-◌, ◌≤◌}
-use native.Mathlib.Omega.{arith}
-use mathlib.Core.Path.{◌≡◌, refl}
+use mathlib.Core.Path.{◌≡◌}
 use lib.ListN.{take, drop}
 use Rattle.window.specs.Window.{none_above}
-use Rattle.window.proofs.Loops.{zero_passes, zero_stops, zeros_end}
-use borrow.Author.Rules.{rules}
 use Rattle.window.proofs.testing.zeros.Given as goal
 
 abbrev pub invariant-loop-i : goal.invariant-loop-i

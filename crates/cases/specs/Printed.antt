@@ -1,0 +1,6 @@
+-- What is printed of a number: its decimal digits, and the end of the line or a space behind it.
+use Rattle.std.specs.Prelude.{ℕ, Bool, cond, List, [], ◌∷◌, ◌++◌}
+use Rattle.std.specs.Fmt.{decimal}
+
+abbrev pub printed : ℕ → Bool → List ℕ
+printed n last = decimal n ++ (cond last 10 32 ∷ [])
