@@ -31,8 +31,7 @@ fn held_index(index: &[u8], serials: &mut [u16]) -> bool
 }
 
 // An index begun with a start: 17 if it is short, 1 or 11 as the start check; else 0, and its 2,049 words are zeros.
-#[unsafe(no_mangle)]
-pub extern "C" fn sock_begin_index(config: &[u8], index: &mut [u8]) -> u8
+pub fn sock_begin_index(config: &[u8], index: &mut [u8]) -> u8
     ensures answered { result ≡ byte_begin_answer config.now index.old }
     ensures begun { index.new ≡ byte_begin_index config.now index.old }
 {
@@ -49,8 +48,7 @@ pub extern "C" fn sock_begin_index(config: &[u8], index: &mut [u8]) -> u8
 }
 
 // Step with a journal and an index: 17 before all others.
-#[unsafe(no_mangle)]
-pub extern "C" fn sock_step_indexed(
+pub fn sock_step_indexed(
     engine: u16,
     position: u16,
     second: u16,
@@ -93,8 +91,7 @@ fn pack_taken(t: Taken) -> u64
 }
 
 // Taking back with an index: 17 before all others; the serials of the waiters in what was restored are listed anew.
-#[unsafe(no_mangle)]
-pub extern "C" fn sock_take_back_indexed(
+pub fn sock_take_back_indexed(
     config: &[u8],
     journal: &[u8],
     out: &mut [u8],
@@ -128,8 +125,7 @@ fn pack_told(t: Told) -> u64
 }
 
 // How many serials are open: from the top, the number in 8 bits, 40 zero, the count in 16.
-#[unsafe(no_mangle)]
-pub extern "C" fn sock_open_count(index: &[u8]) -> u64
+pub fn sock_open_count(index: &[u8]) -> u64
     ensures { result ≡ byte_open_count index.now }
 {
     let mut serials = [0u16; WORDS];
@@ -138,8 +134,7 @@ pub extern "C" fn sock_open_count(index: &[u8]) -> u64
 }
 
 // The oldest open serial, packed as the count; 0 if none is open.
-#[unsafe(no_mangle)]
-pub extern "C" fn sock_oldest(index: &[u8]) -> u64
+pub fn sock_oldest(index: &[u8]) -> u64
     ensures { result ≡ byte_oldest index.now }
 {
     let mut serials = [0u16; WORDS];

@@ -122,8 +122,7 @@ pub(crate) fn step_journal(k: Numbers, config: &[u8], out: &mut [u8], journal: &
 }
 
 // Step with a journal, packed as the step is: a refusal changes no byte of output and journal.
-#[unsafe(no_mangle)]
-pub extern "C" fn sock_step_journal(
+pub fn sock_step_journal(
     engine: u16,
     position: u16,
     second: u16,
@@ -184,8 +183,7 @@ pub(crate) fn take_back_bytes(
 }
 
 // Taking back: from the top, the number in 8 bits, 40 zero, the length in 16. A refusal changes no byte.
-#[unsafe(no_mangle)]
-pub extern "C" fn sock_take_back(config: &[u8], journal: &[u8], out: &mut [u8]) -> u64
+pub fn sock_take_back(config: &[u8], journal: &[u8], out: &mut [u8]) -> u64
     ensures answered { result ≡ byte_taken config.now journal.now out.old }
     ensures wrote { out.new ≡ byte_restored config.now journal.now out.old }
 {

@@ -1,4 +1,4 @@
-// The calls on bytes, exported for C. Words are two bytes, high first; an odd length is unreadable.
+// The calls on bytes. Words are two bytes, high first; an odd length is unreadable. `cabinet_c` exports them for C.
 #![tactic(auto)]
 
 pub mod billing_bytes;

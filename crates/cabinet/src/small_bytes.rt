@@ -17,8 +17,7 @@ const NOTES: usize = 4096;
 const JOURNAL: usize = 4100;
 
 // Readable check.
-#[unsafe(no_mangle)]
-pub extern "C" fn sock_check_readable_small(config: &[u8]) -> u8
+pub fn sock_check_readable_small(config: &[u8]) -> u8
     ensures { result ≡ byte_check_readable small config.now }
 {
     let mut scratch = [0u16; SMALL_LONGEST];
@@ -27,8 +26,7 @@ pub extern "C" fn sock_check_readable_small(config: &[u8]) -> u8
 }
 
 // Start check.
-#[unsafe(no_mangle)]
-pub extern "C" fn sock_check_start_small(config: &[u8]) -> u8
+pub fn sock_check_start_small(config: &[u8]) -> u8
     ensures { result ≡ byte_check_start small config.now }
 {
     let mut scratch = [0u16; SMALL_LONGEST];
@@ -37,8 +35,7 @@ pub extern "C" fn sock_check_start_small(config: &[u8]) -> u8
 }
 
 // Step, packed as the large cabinet's.
-#[unsafe(no_mangle)]
-pub extern "C" fn sock_step_small(
+pub fn sock_step_small(
     engine: u16,
     position: u16,
     second: u16,
@@ -72,8 +69,7 @@ pub extern "C" fn sock_step_small(
 }
 
 // Step with a journal.
-#[unsafe(no_mangle)]
-pub extern "C" fn sock_step_journal_small(
+pub fn sock_step_journal_small(
     engine: u16,
     position: u16,
     second: u16,

@@ -5,8 +5,7 @@ ghost use Rattle.sock.specs.Bytes.{byte_answer, byte_output};
 ghost use Rattle.stepping.specs.Answers.{numbers};
 
 // Step: from the top, the number, kind and fault in 8 bits each, 8 zero, serial and length in 16 each. A refusal changes no byte.
-#[unsafe(no_mangle)]
-pub extern "C" fn sock_step(
+pub fn sock_step(
     engine: u16,
     position: u16,
     second: u16,

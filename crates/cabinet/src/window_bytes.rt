@@ -6,8 +6,7 @@ ghost use Rattle.window.specs.Bytes.{byte_number, byte_window, byte_count};
 use window::on_bytes::{count_bytes, next_bytes};
 
 // Hands an answer on to the window in the first 2,178 bytes: 0; or 18, and no byte changed.
-#[unsafe(no_mangle)]
-pub extern "C" fn sock_window_next(
+pub fn sock_window_next(
     width: u16,
     number: u8,
     fault: u8,
@@ -20,8 +19,7 @@ pub extern "C" fn sock_window_next(
 }
 
 // The faults of an operation: from the top, the number in 8 bits, 40 zero, the count in 16.
-#[unsafe(no_mangle)]
-pub extern "C" fn sock_window_count(operation: u16, window: &[u8]) -> u64
+pub fn sock_window_count(operation: u16, window: &[u8]) -> u64
     ensures { result ≡ byte_count operation window.now }
 {
     count_bytes(operation, window)

@@ -1,0 +1,12 @@
+-- `let_in` of `cabinet::engines_bytes` meets its contract.
+use mathlib.Core.Path.{◌∙◌}
+use Rattle.cabinet.proofs.Engines.{let_in_fits, let_in_answer, let_in_output}
+use borrow.Author.Rules.{rules}
+use Rattle.cabinet.proofs.engines_bytes.let_in.Goals as goal
+
+pub hand_out-requires : goal.hand_out-requires
+hand_out-requires c =
+    let_in_fits (c.args.ws.now) (c.args.engine.now) (c.args.res.now) _ (c.args.out.now) (c.join-w.result) (c.join-w.ensures.answered) (c.join-w.ensures.wrote) (c.requires)
+
+pub returns : goal.returns
+returns c = record { answered = c.hand_out.ensures.answered ∙ let_in_answer (c.args.ws.now) (c.args.engine.now) (c.args.res.now) _ (c.args.out.now) (c.join-w.result) (c.join-w.ensures.answered) (c.join-w.ensures.wrote) (c.requires); wrote = c.hand_out.ensures.wrote ∙ let_in_output (c.args.ws.now) (c.args.engine.now) (c.args.res.now) _ (c.args.out.now) (c.join-w.result) (c.join-w.ensures.answered) (c.join-w.ensures.wrote) (c.requires) }

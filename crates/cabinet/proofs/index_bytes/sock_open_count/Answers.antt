@@ -1,0 +1,15 @@
+-- `sock_open_count` of `cabinet::index_bytes` meets its contract.
+use mathlib.Core.Path.{sym, ◌∙◌}
+use lib.Seq.{length-take-le}
+use Rattle.bytewise.proofs.Parts.{first_part}
+use Rattle.cabinet.proofs.Indexing.{count_packed}
+use borrow.Author.Rules.{rules}
+use Rattle.cabinet.proofs.index_bytes.sock_open_count.Goals as goal
+
+pub slice_bounds-open_count-end : goal.slice_bounds-open_count-end
+slice_bounds-open_count-end c = sym (length-take-le _ _ (search rules))
+
+pub returns : goal.returns
+returns c =
+    let h = c.hold_part-n.ensures in
+    c.pack_told.ensures ∙ count_packed c.args.index.now _ _ (first_part _ 2049 _ _ _ _ (search rules) h.0 h.1) c.open_count.ensures

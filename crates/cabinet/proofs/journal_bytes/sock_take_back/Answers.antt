@@ -1,0 +1,7 @@
+-- `sock_take_back` of `cabinet::journal_bytes` meets its contract.
+use Rattle.cabinet.proofs.TakingBack.{back_packed}
+use borrow.Author.Rules.{rules}
+use Rattle.cabinet.proofs.journal_bytes.sock_take_back.Goals as goal
+
+pub returns : goal.returns
+returns c = record { answered = back_packed c.args.config.now c.args.journal.now c.args.out.now _ c.take_back_bytes-t.ensures.answered; wrote = c.take_back_bytes-t.ensures.wrote }

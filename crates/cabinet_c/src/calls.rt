@@ -1,0 +1,46 @@
+// The calls on bytes.
+ghost use Rattle.std.specs.Prelude.{◌≡◌};
+ghost use Rattle.sock.specs.Bytes.{byte_check_readable, byte_check_start, byte_ends, byte_process};
+ghost use Rattle.sock.specs.Configuration.{standard};
+ghost use Rattle.sock.specs.Pending.{byte_pending};
+
+// Readable check: 0, or 1 if the configuration is not readable.
+#[unsafe(no_mangle)]
+pub extern "C" fn sock_check_readable(config: &[u8]) -> u8
+    ensures { result ≡ byte_check_readable standard config.now }
+{
+    cabinet::calls::sock_check_readable(config)
+}
+
+// Start check: 1 if the configuration is not readable, 11 if it is not fresh, else 0.
+#[unsafe(no_mangle)]
+pub extern "C" fn sock_check_start(config: &[u8]) -> u8
+    ensures { result ≡ byte_check_start standard config.now }
+{
+    cabinet::calls::sock_check_start(config)
+}
+
+// Ends: from the top, the number in 8 bits, 24 zero, the waiters and the workers in 16 each.
+#[unsafe(no_mangle)]
+pub extern "C" fn sock_ends(config: &[u8], serial: u16) -> u64
+    ensures { result ≡ byte_ends config.now serial }
+{
+    cabinet::calls::sock_ends(config, serial)
+}
+
+// Process of an engine: its first word in the upper 32 bits, the count of its words in the lower, both counted from the configuration's
+// start; 0 if unreadable or no such engine.
+#[unsafe(no_mangle)]
+pub extern "C" fn sock_process(config: &[u8], engine: u16) -> u64
+    ensures { result ≡ byte_process config.now engine }
+{
+    cabinet::calls::sock_process(config, engine)
+}
+
+// Pending: from the top, the number in 8 bits, whether a pending process was found in 8, 16 zero, the count in 32.
+#[unsafe(no_mangle)]
+pub extern "C" fn sock_pending(engine: u16, position: u16, config: &[u8]) -> u64
+    ensures { result ≡ byte_pending config.now engine position }
+{
+    cabinet::calls::sock_pending(engine, position, config)
+}

@@ -1,0 +1,26 @@
+// The window of faults on bytes. Words are two bytes, high first.
+ghost use Rattle.std.specs.Prelude.{◌≡◌};
+ghost use Rattle.window.specs.Window.{answer};
+ghost use Rattle.window.specs.Bytes.{byte_number, byte_window, byte_count};
+
+// Hands an answer on to the window in the first 2,178 bytes: 0; or 18, and no byte changed.
+#[unsafe(no_mangle)]
+pub extern "C" fn sock_window_next(
+    width: u16,
+    number: u8,
+    fault: u8,
+    operation: u16,
+    window: &mut [u8],
+) -> u8
+    ensures { (result ≡ byte_number width (answer number fault operation) window.old) × (window.new ≡ byte_window width (answer number fault operation) window.old) }
+{
+    cabinet::window_bytes::sock_window_next(width, number, fault, operation, window)
+}
+
+// The faults of an operation: from the top, the number in 8 bits, 40 zero, the count in 16.
+#[unsafe(no_mangle)]
+pub extern "C" fn sock_window_count(operation: u16, window: &[u8]) -> u64
+    ensures { result ≡ byte_count operation window.now }
+{
+    cabinet::window_bytes::sock_window_count(operation, window)
+}
