@@ -1,4 +1,4 @@
-//! Links the proved libraries that `rt staticlib` writes, each to the program that times it. Paths are taken from this crate's folder, so that
+//! Links the proved libraries that `tools/build-library` writes, each to the program that times it. Paths are taken from this crate's folder, so that
 //! a copy of the repository links its own.
 
 fn main() {

@@ -11,7 +11,7 @@
  * accessors that take it apart. The inline calls (sock_take_step, sock_count_ends, ..) make the same calls and answer a struct of their
  * own, so that the compiler tells one answer from another.
  *
- * Platform. x86-64 Linux, with its usual calling convention. Link with libcabinet.a, which `rt staticlib cabinet` writes to
+ * Platform. x86-64 Linux, with its usual calling convention. Link with libcabinet.a, which `tools/build-library` writes to
  * target/staticlib. It is position-independent and needs three functions from outside: memcpy, memmove and memset.
  *
  * Memory. No call allocates, keeps a pointer or reads or writes outside what it is lent, and the library has no variables of its own. A

@@ -258,25 +258,25 @@ printf 'sock:\nhandover: sock io\n' >"$copy/crates.txt"
 cat >"$scratch/path/rt" <<'EOF'
 #!/bin/sh
 echo "$*" >>"$scratch/asked"
+echo "rt: chose --jobs 2 for sock"
+echo "fn sock::table: proved"
+echo "logic=proved functions=1"
+echo "rt: chose --jobs 4 for handover"
 if [ -e "$scratch/unproved" ]; then
-    echo "rt: sock proved (unchanged since it was last proved)"
-    echo "rt: handover NOT PROVED (exit 1, 4 s)"
+    echo "logic=not-proved"
     exit 1
 fi
-echo "fn sock::table: proved"
-echo "rt: sock proved (3 s)"
-echo "rt: handover proved (17 s)"
-mkdir -p target/bin
-cp "$built" target/bin/handover
+mkdir -p out
+cp "$built" out/handover
 EOF
 chmod +x "$scratch/path/rt"
 built=$PWD/target/bin/handover
 export built
-printf '1 of 2: sock, 3 s\n2 of 2: handover, 17 s\n' >"$scratch/progress"
+printf '1 of 2: sock\n2 of 2: handover\n' >"$scratch/progress"
 build='cd "$scratch/copy" && PATH=$scratch/path:$PATH bin/handover --example 2>"$scratch/told"'
 
 # asked COUNT: so many times rt was asked to prove.
-asked() { [ "$(grep -c '^check handover$' "$scratch/asked")" = "$1" ] || wrong "rt was asked $(cat "$scratch/asked"), not $1 times"; }
+asked() { [ "$(grep -c '^run$' "$scratch/asked")" = "$1" ] || wrong "rt was asked $(cat "$scratch/asked"), not $1 times"; }
 ends 0 $worked "$build" && asked 1
 sed 1d "$scratch/told" | same "progress" "$scratch/progress"
 grep -q '^fn sock::table: proved$' "$copy/target/handover.log" || wrong "the log has not what rt said"
@@ -287,16 +287,15 @@ sleep 0.1
 touch "$copy/crates/sock/new" && ends 0 $worked "$build" && asked 2
 sleep 0.1
 rm "$copy/crates/sock/new" && ends 0 $worked "$build" && asked 3
-mkdir -p "$copy/target/stamp" && touch "$copy/target/stamp/handover" && rm "$copy/target/bin/handover"
+rm "$copy/target/bin/handover"
 ends 0 $worked "$build" && asked 4
-[ ! -e "$copy/target/stamp/handover" ] || wrong "rt would not build what it has a stamp of"
 # What is not proved is not run, though an older program is there; nor is it without rt.
 sleep 0.1
 touch "$scratch/unproved" "$copy/crates.txt"
 ends 2 $none 'cd "$scratch/copy" && PATH=$scratch/path:$PATH bin/handover --example'
 says '2 of 2: handover, NOT PROVED' && says 'log says why'
 mkdir "$scratch/few"
-for tool in awk cat dirname find head mktemp od readlink rm sed sh tail tee touch; do ln -s "$(command -v $tool)" "$scratch/few/$tool"; done
+for tool in awk cat cp dirname find head mktemp od readlink rm sed sh tail tee touch; do ln -s "$(command -v $tool)" "$scratch/few/$tool"; done
 ends 2 $none 'cd "$scratch/copy" && PATH=$scratch/few bin/handover --example' && says 'no rt'
 
 echo "examples: as their files say (compiled by ${used#, })"

@@ -1,4 +1,4 @@
-//! Links the static library that `rt staticlib cabinet` writes. Paths are taken from this crate's
+//! Links the static library that `tools/build-library` writes. Paths are taken from this crate's
 //! folder, so that a copy of the repository links its own.
 
 const FOLDER: &str = "../../target/staticlib";

@@ -1,6 +1,6 @@
 -- The body of an executor or a scope: nil in it is closed there, and a scope may be the nearest one or the one that catches.
 -- Assumes nothing.
-use Prim.Native.Nat.{ℕ, ◌+◌, ◌*◌, ◌≤◌, ◌<◌}
+use Prim.Native.Nat.{ℕ, ◌+◌, ◌≤◌, ◌<◌}
 use native.Mathlib.Omega.{arith}
 use mathlib.Core.Path.{◌≡◌, refl, ap, ◌∙◌}
 use mathlib.Core.Bool.{Bool, true, false, not, cond}
@@ -9,8 +9,6 @@ use mathlib.Core.List.{List, [], ◌∷◌, ◌++◌}
 use borrow.Author.Tests.{ne_eqb}
 use lib.Dec.{T, eqb}
 use lib.ListN.{length, length-append}
-use Rattle.sock.specs.Kind
-use Rattle.sock.specs.Words.{head_of, name_fields}
 use Rattle.sock.specs.Term.{Entries}
 use Rattle.sock.specs.Layout.{entries_words}
 use Rattle.sock.specs.Variables.{variable_words}

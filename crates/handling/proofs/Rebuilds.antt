@@ -1,6 +1,6 @@
 -- cH replaced on words, in pieces: parts one after the other, words kept before them, nodes kept whole, nil, and cH itself.
 -- Assumes nothing.
-use Prim.Native.Nat.{ℕ, suc, ◌+◌, ◌-◌, ◌*◌, ◌%◌, ◌≤◌, ◌<◌, max}
+use Prim.Native.Nat.{ℕ, suc, ◌+◌, ◌-◌, ◌*◌, ◌≤◌, ◌<◌, max}
 use native.Mathlib.Omega.{arith}
 use mathlib.Core.Path.{◌≡◌, refl, sym, ap, ◌∙◌}
 use mathlib.Core.Bool.{Bool, true, false}
@@ -8,7 +8,6 @@ use mathlib.Core.List.{List, [], ◌∷◌, ◌++◌, append_assoc}
 use lib.Dec.{T, eqb, eqb→eq}
 use lib.ListN.{length, drop, length-append, length-drop, length-set}
 use borrow.Author.Tests.{eqb-true}
-use Rattle.sock.specs.Kind
 use Rattle.sock.specs.Kind.{rows, row_of}
 use Rattle.sock.specs.Words.{kind_of, count_of}
 use Rattle.sock.specs.Term.{Expr, Node, node, Block, Nodes, is_nil, processes_of}

@@ -10,7 +10,7 @@ use lib.Dec.{T, eqb, leb, ltb, ltb→lt}
 use lib.ListN.{length, length-append}
 use Rattle.sock.specs.Kind.{row_of, rows}
 use Rattle.sock.specs.Words.{kind_of}
-use Rattle.sock.specs.Term.{Expr, Node, node, Block, Entries, no_entries, entry, Nodes, ◌&◌, is_nil, nil_node, part_at, processes_of}
+use Rattle.sock.specs.Term.{Expr, Node, node, Block, Entries, no_entries, entry, Nodes, is_nil, nil_node, part_at, processes_of}
 use Rattle.sock.specs.Layout.{words, entries_words, depth, entries_depth}
 use Rattle.sock.specs.Reading.{Stratum, code, Place, anywhere, not_nil, allowed, placed, head_fits, part_stratum, part_place}
 use Rattle.sock.specs.Handlers.{handler, without, put, rebuilt, replaced, all_replaced, installed, update}

@@ -1,28 +1,28 @@
 -- Killing on words, with notes that are right, is the definitions' killing, of what does not hold the position; and from a throw at the
 -- position it is the climb.
 -- Assumes nothing.
-use Prim.Native.Nat.{ℕ, zero, suc, ◌+◌, ◌*◌, ◌/◌, ◌≤◌, ◌<◌}
+use Prim.Native.Nat.{ℕ, zero, suc, ◌+◌, ◌*◌, ◌≤◌, ◌<◌}
 use native.Mathlib.Omega.{arith}
 use mathlib.Core.Path.{◌≡◌, refl, sym, ap, ◌∙◌}
 use mathlib.Core.Bool.{Bool, true, false, not, cond}
 use mathlib.Core.Option.{some}
-use mathlib.Core.List.{List, [], ◌∷◌, ◌++◌, append_assoc}
+use mathlib.Core.List.{List, [], ◌++◌}
 use lib.Dec.{T, eqb}
 use lib.ListN.{length, get_or, drop}
 use borrow.Author.Tests.{lt-leb, ne_eqb}
 use Rattle.sock.specs.Words.{kind_of}
 use Rattle.sock.specs.Variables.{variable_words}
-use Rattle.sock.specs.Term.{Node, node, Entries, head_word, kind}
-use Rattle.sock.specs.Layout.{count, words, entries_words, depth, entries_depth}
-use Rattle.sock.specs.Running.{Mark, Run, nil, seq, par, scope, executor, waiter, notice, act, as_node, run_words, size, run_depth}
+use Rattle.sock.specs.Term.{Node, kind}
+use Rattle.sock.specs.Layout.{words, entries_words}
+use Rattle.sock.specs.Running.{Run, nil, seq, par, scope, executor, waiter, notice, act, as_node, run_words, size, run_depth}
 use Rattle.sock.specs.Configuration.{guarded}
 use Rattle.sock.specs.Frames.{Located, locate, is_done}
 use Rattle.sock.specs.Rules.{climb}
-use Rattle.sock.proofs.Fits.{FitsEntries, Sound, nil_sound, seq_sound, par_sound, scope_sound, executor_sound, waiter_sound, notice_sound, act_sound}
+use Rattle.sock.proofs.Fits.{Sound, nil_sound, seq_sound, par_sound, scope_sound, executor_sound, waiter_sound, notice_sound, act_sound}
 use Rattle.sock.proofs.Fields.{plain_kind, end_tests}
-use Rattle.sock.proofs.ByKind.{run_kind, kind_as_node, done_kind, code_kind}
+use Rattle.sock.proofs.ByKind.{run_kind, code_kind}
 use Rattle.sock.proofs.Measures.{size_seq, depth_seq, depth_par, depth_scope, depth_executor}
-use Rattle.skipping.specs.Pass.{pass_end, pass_list}
+use Rattle.skipping.specs.Pass.{pass_end}
 use Rattle.skipping.proofs.Notes.{Right, pass_code, pass_run, pass_scope}
 use Rattle.killing.specs.Killing.{gone_kind, gone_w, stuck_w, vanished_w, kind_w, kill_w}
 use Rattle.sock.proofs.Variables.{laid}

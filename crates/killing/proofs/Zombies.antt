@@ -8,7 +8,7 @@ use mathlib.Core.Option.{Option, some}
 use mathlib.Core.List.{List, [], ◌∷◌, ◌++◌, append_assoc}
 use lib.Dec.{leb, eqb}
 use lib.ListN.{length, get_or, set, drop}
-use borrow.Author.Tests.{eqb-true, eqb-false, lt-leb, ne_eqb}
+use borrow.Author.Tests.{eqb-true, lt-leb, ne_eqb}
 use Rattle.sock.specs.Term.{Entries, no_entries, entry}
 use Rattle.sock.specs.Layout.{count, entries_words}
 use Rattle.sock.specs.Running.{Mark, unmarked, own_name, marked_fault, scope_head, Run, nil, scope, run_words, size}

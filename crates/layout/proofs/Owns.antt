@@ -1,9 +1,9 @@
 -- The own words of a process that fits end where the fixed table says: behind its head, its fixed words and its lists of variables.
 -- Assumes nothing.
-use Prim.Native.Nat.{ℕ, zero, suc, ◌+◌, ◌-◌, ◌*◌, ◌/◌, ◌%◌, ◌≤◌, ◌<◌}
+use Prim.Native.Nat.{ℕ, suc, ◌+◌, ◌-◌, ◌*◌, ◌/◌, ◌%◌, ◌≤◌, ◌<◌}
 use native.Mathlib.Omega.{arith}
 use mathlib.Core.Path.{◌≡◌, refl, sym, ap, ◌∙◌}
-use mathlib.Core.Bool.{Bool, true, false, ◌&&◌, cond}
+use mathlib.Core.Bool.{Bool, true, false, ◌&&◌}
 use mathlib.Core.List.{List, [], ◌∷◌, ◌++◌, append_assoc, append-nil}
 use borrow.Author.Tests.{lt-leb, ltb-true, ltb-false}
 use lib.Dec.{T, leb, ltb}
@@ -20,7 +20,7 @@ use Rattle.sock.proofs.Fields.{From, end, ◌then◌, fact_at}
 use Rattle.sock.proofs.Fits.{FitsFurther, no_further, one_further, FitsFixed, no_fixed, one_fixed, some_variables, Fits, fits, Sound}
 use Rattle.sock.proofs.ByKind.{kind_as_node}
 use Rattle.sock.proofs.Measures.{words_executor}
-use Rattle.sock.proofs.Positions.{At, at_head, at_past}
+use Rattle.sock.proofs.Positions.{at_head, at_past}
 use Rattle.sock.proofs.Reading.{split, tests}
 use Rattle.sock.proofs.Running.{as_node_fits}
 use Rattle.layout.specs.Own.{variables_end, lists_end, own_form, own_end}

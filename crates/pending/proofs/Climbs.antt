@@ -5,7 +5,7 @@ use Prim.Native.Nat.{ℕ, zero, suc, ◌+◌, ◌-◌, ◌≤◌, ◌<◌}
 use native.Mathlib.Omega.{arith}
 use mathlib.Core.Path.{◌≡◌, refl, sym, ap, ◌∙◌}
 use mathlib.Core.Bool.{Bool, true, false, not, ◌&&◌, ◌||◌, cond}
-use mathlib.Core.Option.{Option, none, some}
+use mathlib.Core.Option.{Option, some}
 use mathlib.Core.List.{List, [], ◌∷◌, ◌++◌}
 use borrow.Author.Tests.{lt-ltb, le-ltb, lt-leb, ne_eqb}
 use lib.Dec.{T, ltb, eqb, ltb→lt, nltb→le}
@@ -14,7 +14,7 @@ use Rattle.sock.specs.Words.{kind_of, fault_key}
 use Rattle.sock.specs.Variables.{variable_words}
 use Rattle.sock.specs.Layout.{words, entries_words}
 use Rattle.sock.specs.Reading.{holds}
-use Rattle.sock.specs.Running.{Run, nil, seq, par, scope, executor, waiter, notice, act, as_node, run_words, size, run_depth}
+use Rattle.sock.specs.Running.{Run, nil, seq, par, scope, executor, as_node, run_words, size, run_depth}
 use Rattle.sock.specs.Frames.{Frame, seq_frame, left_frame, right_frame, scope_frame, executor_frame, Located, here_or, locate}
 use Rattle.sock.specs.Rules.{climb}
 use Rattle.sock.specs.Pending.{pending, sides_met, any_pending}
@@ -22,10 +22,9 @@ use Rattle.sock.proofs.Logic.{and_left, and_right, test_false, cond-case, All, a
 use Rattle.sock.proofs.Fits.{Sound, nil_sound, seq_sound, par_sound, scope_sound, executor_sound, waiter_sound, notice_sound, act_sound}
 use Rattle.sock.proofs.Around.{free, past_from}
 use Rattle.sock.proofs.Located.{size_positive}
-use Rattle.sock.proofs.Measures.{size_seq, size_par, size_scope, size_executor, depth_seq, depth_par, depth_scope, depth_executor}
+use Rattle.sock.proofs.Measures.{depth_seq, depth_par, depth_scope, depth_executor}
 use Rattle.sock.proofs.Heads.{depth_positive, run_inside, run_behind, run_kind_lem, seq_parts, par_parts, scope_parts, executor_parts}
 use Rattle.sock.proofs.Pending.{is_none, climb_refused}
-use Rattle.skipping.specs.Pass.{pass_end}
 use Rattle.layout.proofs.Owns.{executor_own}
 use Rattle.skipping.proofs.Notes.{Right, pass_run, pass_scope}
 use Rattle.pending.specs.Looking.{found_w, beside_w, across_w, sides_w}

@@ -6,12 +6,12 @@ use native.Mathlib.Omega.{arith}
 use mathlib.Core.Path.{◌≡◌, refl, sym, ap, ◌∙◌}
 use mathlib.Core.Bool.{Bool, true, false, not, ◌&&◌, cond}
 use mathlib.Core.List.{List, [], ◌∷◌, ◌++◌, append_assoc, append-nil}
-use borrow.Author.Tests.{lt-ltb, le-ltb, lt-leb, ne_eqb}
+use borrow.Author.Tests.{lt-ltb, lt-leb, ne_eqb}
 use lib.Dec.{eqb}
 use lib.ListN.{length, get_or, drop, length-append}
-use Rattle.sock.specs.Words.{kind_of, zombie_of, bit}
+use Rattle.sock.specs.Words.{kind_of, bit}
 use Rattle.sock.specs.Variables.{variable_words}
-use Rattle.sock.specs.Term.{Node, Entries, head_word, kind}
+use Rattle.sock.specs.Term.{Node, Entries, kind}
 use Rattle.sock.specs.Layout.{words, entries_words}
 use Rattle.sock.specs.Running.{Mark, scope_head, Run, nil, seq, par, scope, executor, waiter, notice, act, as_node, run_words, size, run_depth}
 use Rattle.sock.specs.Frames.{is_done}

@@ -1,5 +1,5 @@
 -- The search for pending processes on words, as the code goes. The proofs show that it is the definitions' search; no contract of a call names it.
-use Rattle.std.specs.Prelude.{ℕ, zero, suc, ◌+◌, Bool, true, false, ◌||◌, cond, List, ltb, leb, eqb, length, get_or}
+use Rattle.std.specs.Prelude.{ℕ, zero, suc, ◌+◌, Bool, false, ◌||◌, cond, List, ltb, leb, eqb, length, get_or}
 use Rattle.sock.specs.Kind
 use Rattle.sock.specs.Words.{kind_of, zombie_of}
 use Rattle.skipping.specs.Pass.{pass_end, pass_list}

@@ -1,20 +1,20 @@
 -- Where the body of an executor that fits begins: behind its own words, which the walk finds right.
 -- Assumes nothing.
-use Prim.Native.Nat.{ℕ, suc, ◌+◌, ◌-◌, ◌*◌, ◌/◌, ◌%◌, ◌≤◌, ◌<◌}
+use Prim.Native.Nat.{ℕ, ◌+◌, ◌-◌, ◌*◌, ◌/◌, ◌%◌, ◌≤◌, ◌<◌}
 use native.Mathlib.Omega.{arith}
 use mathlib.Core.Path.{◌≡◌, refl, sym, ap, ◌∙◌}
-use mathlib.Core.Bool.{Bool, true, false, ◌&&◌}
+use mathlib.Core.Bool.{Bool, true, false}
 use mathlib.Core.List.{List, [], ◌∷◌, ◌++◌}
-use lib.Dec.{T, leb, eqb}
+use lib.Dec.{T}
 use lib.ListN.{length, drop}
 use borrow.Author.Tests.{lt-ltb, le-leb, eq-eqb}
 use Rattle.sock.specs.Kind
 use Rattle.sock.specs.Kind.{variables}
-use Rattle.sock.specs.Words.{clear, head_of, name_fields}
+use Rattle.sock.specs.Words.{head_of, name_fields}
 use Rattle.sock.specs.Variables.{first_of, variable_words}
-use Rattle.sock.specs.Reading.{Got, fail, got, check, end_fits, fixed_words}
+use Rattle.sock.specs.Reading.{Got, got, check, end_fits, fixed_words}
 use Rattle.sock.proofs.Logic.{test_true}
-use Rattle.sock.proofs.Fits.{FitsFixed, FitsVariables}
+use Rattle.sock.proofs.Fits.{FitsVariables}
 use Rattle.sock.proofs.Positions.{at_head, at_past, stands_within, word_at}
 use Rattle.sock.proofs.Reading.{fixed_finds}
 use Rattle.sock.proofs.Variables.{laid, list_fits}

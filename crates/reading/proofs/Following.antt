@@ -17,11 +17,11 @@ use Rattle.sock.specs.Reading.{Got, got, and_then, check, Stratum, running, code
 use Rattle.sock.proofs.Logic.{test_true}
 use Rattle.sock.proofs.Nodes.{receives, receives_none, node_fits_lem}
 use Rattle.sock.proofs.Reading.{split}
-use Rattle.reading.specs.Walk.{on, when, at, expr_end, branch_end, repeat_end, branches_end, fixed_after, variables_end, receiving_end, one_way_end, request_end, notify_end, list_end, solicit_end, node_end, process_end}
+use Rattle.reading.specs.Walk.{when, at, expr_end, branch_end, repeat_end, branches_end, fixed_after, one_way_end, request_end, notify_end, list_end, solicit_end, node_end, process_end}
 use Rattle.layout.specs.Contexts.{handlers}
 use Rattle.layout.specs.Keys.{no_key}
 use Rattle.reading.proofs.Contexts.{number_of, code_of, next_context, rest_context}
-use Rattle.reading.proofs.Combining.{check_and, then_check, on_past, on_when, when_and, Words}
+use Rattle.reading.proofs.Combining.{check_and, then_check, when_and, Words}
 use Rattle.reading.proofs.Ending.{Ends, reads, ends_then, ends_last, ends_check, ends_passed, ends_late, ends_at}
 use Rattle.reading.proofs.Lists.{list_any}
 use Rattle.reading.proofs.Owned.{one_list_lem, word_list, word_lists}

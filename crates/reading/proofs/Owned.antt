@@ -1,6 +1,6 @@
 -- The own words of processes with lists of variables, at their positions: what the definitions read there, with the walk's tests.
 -- Assumes nothing.
-use Prim.Native.Nat.{ℕ, ◌+◌, ◌-◌, ◌≤◌, ◌<◌}
+use Prim.Native.Nat.{ℕ, ◌+◌, ◌-◌}
 use mathlib.Core.Path.{◌≡◌, refl, ap, ◌∙◌}
 use mathlib.Core.Bool.{Bool, true, false, ◌&&◌}
 use mathlib.Core.List.{List, [], ◌∷◌, ◌++◌}
@@ -8,9 +8,9 @@ use lib.Dec.{leb}
 use lib.ListN.{length, drop}
 use Rattle.sock.specs.Kind.{word, variables}
 use Rattle.sock.specs.Words.{clear}
-use Rattle.sock.specs.Reading.{Got, got, and_then, check, fixed_words}
+use Rattle.sock.specs.Reading.{got, and_then, check, fixed_words}
 use Rattle.reading.specs.Walk.{at, fixed_after}
-use Rattle.reading.proofs.Combining.{check_and, then_check, Words}
+use Rattle.reading.proofs.Combining.{check_and, Words}
 use Rattle.reading.proofs.Parts.{word_then, words_then}
 use Rattle.reading.proofs.Variables.{list_test, further_at, fixed_list}
 

@@ -3,10 +3,10 @@
 use Prim.Native.Nat.{ℕ, zero, suc, ◌+◌, ◌-◌, ◌≤◌, ◌<◌}
 use native.Mathlib.Omega.{arith}
 use mathlib.Core.Path.{◌≡◌, refl, sym, ap, ◌∙◌}
-use mathlib.Core.Bool.{Bool, true, false, not, ◌&&◌, ◌||◌}
+use mathlib.Core.Bool.{Bool, true, false, ◌&&◌}
 use mathlib.Core.List.{List, [], ◌∷◌, ◌++◌}
-use lib.Dec.{T, leb, ltb, eqb}
-use lib.ListN.{length, take, drop}
+use lib.Dec.{T, leb, ltb}
+use lib.ListN.{length, drop}
 use lib.Seq.{take_at, drop_at}
 use Rattle.sock.specs.Kind.{Own, variables}
 use Rattle.sock.specs.Words.{is_word, clear, first_variable}

@@ -1,7 +1,7 @@
 -- Contexts as numbers, and what the reader's tables hold, packed from the fixed table of kinds and the definitions' tests. A stratum is a
 -- number (0 code, 1 code that may hold cH, 2 running) and so is a place (0 anywhere, 1 not nil, 2 a branch's guard, 3 a root); a context is 4
 -- times the stratum plus the place.
-use Rattle.std.specs.Prelude.{ℕ, zero, suc, ◌+◌, ◌*◌, ◌-◌, ◌/◌, ◌%◌, Bool, not, false, true, ◌&&◌, ◌||◌, cond, [], ◌∷◌, leb, ltb, eqb, length, get_or}
+use Rattle.std.specs.Prelude.{ℕ, zero, suc, ◌+◌, ◌*◌, ◌-◌, ◌/◌, ◌%◌, Bool, not, false, true, ◌&&◌, ◌||◌, cond, [], ◌∷◌, leb, ltb, eqb, get_or}
 use Rattle.std.specs.Int.Bits.{bit_and}
 use Rattle.sock.specs.Kind
 use Rattle.sock.specs.Kind.{row_of}

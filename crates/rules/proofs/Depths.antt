@@ -9,7 +9,7 @@ use lib.ListN.{length}
 use lib.Dec.{T}
 use Rattle.sock.specs.Layout.{depth, entries_depth}
 use Rattle.sock.specs.Term.{Node, node}
-use Rattle.sock.specs.Running.{Run, nil, seq, par, scope, executor, as_node, run_depth}
+use Rattle.sock.specs.Running.{Run, seq, par, scope, executor, as_node, run_depth}
 use Rattle.sock.specs.Frames.{Frame, seq_frame, left_frame, right_frame, scope_frame, executor_frame, is_done, seq_of, par_of, plug}
 use Rattle.sock.proofs.Fits.{seq_frame_sound, left_frame_sound, right_frame_sound, scope_frame_sound, executor_frame_sound, SoundFrames, no_frames, one_frame}
 use Rattle.sock.proofs.Located.{wrap}

@@ -8,7 +8,7 @@ use mathlib.Core.Option.{Option, none, some}
 use mathlib.Core.List.{List, [], ◌∷◌, ◌++◌, append_assoc, append-nil}
 use borrow.Author.Tests.{eq-eqb, eqb-true}
 use lib.Dec.{eqb}
-use lib.ListN.{length, get_or, drop, length-append}
+use lib.ListN.{length, get_or, drop}
 use Rattle.sock.specs.Words.{kind_of, name_of, second_of, first_variable, first_name}
 use Rattle.sock.specs.Variables.{first_of, variable_words, values_at, set_all}
 use Rattle.sock.specs.Term.{Node, node, absent, Entries, no_parts, ◌&◌}
@@ -18,7 +18,7 @@ use Rattle.sock.specs.Configuration.{guarded}
 use Rattle.sock.specs.Rules.{Receiver, offer, followed, Exchange, notified, solicited, replied, faulting, awaited, inst_of}
 use Rattle.sock.proofs.Fits.{Sound}
 use Rattle.sock.proofs.Fields.{turned_round}
-use Rattle.sock.proofs.Positions.{at_head, at_past, stands_within}
+use Rattle.sock.proofs.Positions.{at_past, stands_within}
 use Rattle.layout.specs.Own.{variables_end}
 use Rattle.layout.specs.Positions.{onward}
 use Rattle.writers.proofs.Laid.{Near, onward_near}
@@ -33,7 +33,7 @@ use Rattle.rules.specs.Offering.{offer_w, receives_w, fits_w, hear_w, serve_w, a
 use Rattle.rules.proofs.Rewrites.{after}
 use Rattle.rules.proofs.Stores.{stored}
 use Rattle.rules.proofs.Shapes.{Headed}
-use Rattle.rules.proofs.Messages.{Listed, words_counted, ends_at, inside, alike_counts, carried_stored}
+use Rattle.rules.proofs.Messages.{Listed, words_counted, ends_at, alike_counts, carried_stored}
 use Rattle.rules.proofs.Offers.{Stands, bare_stands, branch_stands, Offers, silent, hearing, serving, not_kind, offers}
 use Rattle.rules.proofs.Exchanges.{Takes, hear_rewrites, serve_rewrites}
 use Rattle.rules.proofs.Waiters.{Awaits, awaiting, elsewhere, awaits, waits_first, waits_list, answer_rewrites, fail_rewrites}

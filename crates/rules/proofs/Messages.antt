@@ -12,7 +12,7 @@ use Rattle.sock.specs.Words.{second_of, first_variable}
 use Rattle.sock.specs.Variables.{first_of, further_words, variable_words, values_at, set_all}
 use Rattle.sock.proofs.Fits.{AllBelow, none_below, one_below, FitsVariables}
 use Rattle.sock.proofs.Positions.{at_head, stands_within, word_at}
-use Rattle.sock.proofs.Variables.{Laid, laid}
+use Rattle.sock.proofs.Variables.{laid}
 use Rattle.layout.specs.Own.{variables_end}
 use Rattle.layout.specs.Positions.{onward}
 use Rattle.layout.proofs.Owns.{list_end_lem}

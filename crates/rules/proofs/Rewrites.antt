@@ -5,19 +5,18 @@ use native.Mathlib.Omega.{arith}
 use mathlib.Core.Path.{◌≡◌, refl, sym, ap, ◌∙◌}
 use mathlib.Core.Bool.{Bool, true, false, not, cond}
 use mathlib.Core.List.{List, [], ◌∷◌, ◌++◌, append-nil, append_assoc}
-use borrow.Author.Tests.{ne_eqb, leb-true, leb-false, ltb-false}
-use lib.Dec.{eqb, leb, ltb}
+use borrow.Author.Tests.{ne_eqb, leb-true, leb-false}
+use lib.Dec.{eqb, leb}
 use lib.ListN.{length, get_or, take, drop, set, length-append, length-set}
 use lib.Seq.{drop_at, get_or-drop}
 use Rattle.sock.specs.Words.{kind_of, variable_of, bit}
-use Rattle.sock.specs.Term.{Expr, Node, node, absent, Nodes, no_parts, ◌&◌, head_word, kind, is_nil}
+use Rattle.sock.specs.Term.{Expr, Node, node, absent, Nodes, no_parts, ◌&◌, head_word, is_nil}
 use Rattle.sock.specs.Layout.{expr_words, exprs_words, exprs_depth, words, nodes_words, depth}
 use Rattle.sock.specs.Reading.{code, anywhere}
 use Rattle.sock.specs.Running.{Run, nil, seq, act, as_node, run_words, size, run_depth, forms, in_form, opened, enable}
 use Rattle.sock.specs.Configuration.{values_words}
 use Rattle.sock.specs.Evaluation.{evaluate, is_true}
 use Rattle.sock.specs.Frames.{is_done, seq_of}
-use Rattle.sock.specs.Rules.{assign}
 use Rattle.sock.proofs.Fits.{Fits, FitsExpr, AllBelow}
 use Rattle.sock.proofs.Running.{enable_as_node, enable_done}
 use Rattle.sock.proofs.Measures.{words_act, words_seq, depth_nil, depth_seq, depth_act}

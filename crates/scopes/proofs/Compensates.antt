@@ -6,8 +6,8 @@ use mathlib.Core.Path.{◌≡◌, refl, sym, ap, ◌∙◌}
 use mathlib.Core.Bool.{Bool, true, false, not, cond}
 use mathlib.Core.Option.{some}
 use mathlib.Core.List.{List, [], ◌∷◌, ◌++◌, append-nil}
-use borrow.Author.Tests.{eq-eqb, ne_eqb, leb-true, leb-false, ltb-false}
-use lib.Dec.{T, eqb, leb, ltb, lit<}
+use borrow.Author.Tests.{eq-eqb, ne_eqb, leb-true, leb-false}
+use lib.Dec.{T, eqb, leb, lit<}
 use lib.ListN.{length, get_or, take, drop, length-append, length-drop}
 use Rattle.sock.specs.Words.{name_of, scope_key}
 use Rattle.sock.specs.Term.{Node, node, absent, Entries, no_parts, is_nil, nil_node}
@@ -38,7 +38,7 @@ use Rattle.rules.specs.Editing.{Edited, refused_edit, nil_w}
 use Rattle.rules.specs.Editing.{edited as editing}
 use Rattle.rules.proofs.Rewrites.{first_at, enable_words}
 use Rattle.rules.proofs.Deep.{code_fits}
-use Rattle.rules.proofs.Depths.{spread, plug_depth, plug_too_deep, Shallow, shallow}
+use Rattle.rules.proofs.Depths.{spread, plug_depth, plug_too_deep, Shallow}
 use Rattle.rules.proofs.Edits.{Edits, edits_of, done_nil}
 use Rattle.rules.proofs.Outcomes.{Ruled, too_deep, ruled}
 use Rattle.layout.specs.declared.limit.Limits.{Limits}

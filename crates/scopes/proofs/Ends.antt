@@ -11,7 +11,7 @@ use lib.Dec.{T, eqb}
 use lib.ListN.{length, drop}
 use Rattle.sock.specs.Words.{scope_key}
 use Rattle.sock.specs.Term.{Entries, no_entries, entry}
-use Rattle.sock.specs.Running.{Mark, unmarked, faulted, own_name, Run, nil, scope, run_words, size, run_depth}
+use Rattle.sock.specs.Running.{Mark, unmarked, faulted, own_name, Run, nil, scope, run_words, size}
 use Rattle.sock.specs.Handlers.{handler, update}
 use Rattle.sock.specs.Frames.{Located, plug, on_nearest}
 use Rattle.sock.specs.Rules.{ending}
@@ -25,7 +25,7 @@ use Rattle.writers.proofs.Laid.{Near}
 use Rattle.rules.specs.Storing.{unchanged}
 use Rattle.rules.specs.Editing.{nil_w}
 use Rattle.rules.proofs.Outcomes.{Ruled}
-use Rattle.rules.proofs.Depths.{Shallow, shallow}
+use Rattle.rules.proofs.Depths.{Shallow}
 use Rattle.scopes.specs.Ending.{ending_w, ended_w}
 use Rattle.scopes.proofs.ScopeLists.{nil_ruled, list_first}
 use Rattle.scopes.proofs.ScopeWords.{inner_sound, scope_fits_lem, head_mark, head_zombie, head_at, own_key}

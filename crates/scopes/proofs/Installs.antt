@@ -1,6 +1,6 @@
 -- The law of inst: the nearest scope's list is updated by its own, which may make it too deep.
 -- Assumes nothing.
-use Prim.Native.Nat.{ℕ, zero, suc, ◌+◌, ◌-◌, ◌*◌, ◌≤◌, ◌<◌}
+use Prim.Native.Nat.{ℕ, zero, suc, ◌+◌, ◌*◌, ◌≤◌, ◌<◌}
 use native.Mathlib.Omega.{arith}
 use native.Mathlib.Nat.{le_trans, mul-le-mul_left, mul-le-mul_right}
 use mathlib.Core.Path.{◌≡◌, refl, sym, ap, ◌∙◌}
@@ -36,7 +36,7 @@ use Rattle.handling.proofs.Sizes.{update_small}
 use Rattle.handling.proofs.Updates.{Updates, updates}
 use Rattle.rules.specs.Storing.{unchanged}
 use Rattle.rules.specs.Editing.{Edited, edited, refused_edit, nil_w}
-use Rattle.rules.proofs.Depths.{wrap_depth, depth_some, Shallow, shallow}
+use Rattle.rules.proofs.Depths.{wrap_depth, depth_some, Shallow}
 use Rattle.rules.proofs.Outcomes.{Ruled, too_deep, ruled}
 use Rattle.layout.specs.declared.limit.Limits.{Limits}
 use Rattle.scopes.specs.Installing.{too_deep_w, updated_w, installed_w}

@@ -4,13 +4,13 @@ use Prim.Native.Nat.{ℕ, ◌+◌, ◌-◌, ◌≤◌, ◌<◌}
 use native.Mathlib.Omega.{arith}
 use mathlib.Core.Path.{◌≡◌, refl, sym, ap, ◌∙◌}
 use mathlib.Core.Bool.{Bool, true, false}
-use mathlib.Core.List.{List, [], ◌++◌}
+use mathlib.Core.List.{List, ◌++◌}
 use lib.Dec.{T}
 use lib.ListN.{length, take, drop, length-append}
 use lib.Seq.{drop_at, take-add}
 use Rattle.sock.specs.Term.{Entries}
 use Rattle.sock.specs.Layout.{entries_words}
-use Rattle.sock.specs.Running.{Run, nil, run_words, size, run_depth}
+use Rattle.sock.specs.Running.{Run, nil, run_words, size}
 use Rattle.sock.specs.Frames.{Located, plug, nearest, on_nearest}
 use Rattle.sock.proofs.Fits.{SoundFrames}
 use Rattle.finding.specs.declared.find.Site.{Site}
@@ -23,7 +23,7 @@ use Rattle.rules.specs.Storing.{takes}
 use Rattle.rules.specs.declared.edit.Edit.{Edit}
 use Rattle.rules.specs.Editing.{hollow_w, nil_w}
 use Rattle.rules.proofs.Edits.{Ordered, Edits, edited_words}
-use Rattle.rules.proofs.Depths.{Shallow, shallow}
+use Rattle.rules.proofs.Depths.{Shallow}
 use Rattle.scopes.proofs.ScopeLists.{whole_inside}
 
 -- words laid behind others

@@ -39,7 +39,7 @@ use Rattle.handling.proofs.Updates.{Updates, updates_by}
 use Rattle.handling.proofs.Stays.{one_shallow, one_short, update_nil, without_short}
 use Rattle.rules.specs.Storing.{unchanged}
 use Rattle.rules.specs.Editing.{Edited, nil_w}
-use Rattle.rules.proofs.Depths.{wrap_depth, depth_some, Shallow, shallow}
+use Rattle.rules.proofs.Depths.{wrap_depth, depth_some, Shallow}
 use Rattle.rules.proofs.Outcomes.{Ruled, ruled}
 use Rattle.scopes.specs.Installing.{updated_w}
 use Rattle.scopes.specs.Ending.{promoted_to, promoted_w, ending_w}

@@ -30,7 +30,7 @@ use Rattle.handling.proofs.Takes.{Takes, takes, Stands}
 use Rattle.handling.proofs.Stays.{without_shallow, without_short}
 use Rattle.rules.specs.Storing.{unchanged}
 use Rattle.rules.proofs.Rewrites.{enable_words}
-use Rattle.rules.proofs.Depths.{plug_fits, Shallow, shallow}
+use Rattle.rules.proofs.Depths.{plug_fits, Shallow}
 use Rattle.rules.proofs.Edits.{Edits, edits_of, part_first}
 use Rattle.rules.proofs.Outcomes.{Ruled, ruled}
 use Rattle.scopes.specs.Ending.{took, take_behind_w, taken_to, taken_w, resumed_w}

@@ -1,6 +1,6 @@
 -- The nearest scope's list of a process that was found: where its words stand and end, and how deep it is.
 -- Assumes nothing.
-use Prim.Native.Nat.{ℕ, suc, ◌+◌, ◌-◌, ◌≤◌, ◌<◌, max}
+use Prim.Native.Nat.{ℕ, suc, ◌+◌, ◌≤◌, ◌<◌, max}
 use native.Mathlib.Omega.{arith}
 use mathlib.Core.Path.{◌≡◌, refl, sym, ap, ◌∙◌}
 use mathlib.Core.Option.{some}
@@ -27,7 +27,7 @@ use Rattle.rules.specs.Storing.{unchanged}
 use Rattle.rules.specs.Rewriting.{vanishing}
 use Rattle.rules.specs.Editing.{nil_w, plain_w}
 use Rattle.rules.proofs.Rewrites.{becomes_nil}
-use Rattle.rules.proofs.Depths.{spread, wrap_depth, depth_some, Shallow, shallow}
+use Rattle.rules.proofs.Depths.{spread, wrap_depth, depth_some, Shallow}
 use Rattle.rules.proofs.Outcomes.{Ruled, becomes_ruled}
 use Rattle.scopes.proofs.NearestLists.{nearest_within}
 

@@ -1,6 +1,6 @@
 -- A scope with nil body that was found: its words, its list, its head's fields, and how deep it is.
 -- Assumes nothing.
-use Prim.Native.Nat.{ℕ, zero, suc, ◌+◌, ◌-◌, ◌*◌, ◌/◌, ◌%◌, ◌≤◌, ◌<◌, max}
+use Prim.Native.Nat.{ℕ, zero, suc, ◌+◌, ◌*◌, ◌/◌, ◌%◌, ◌≤◌, ◌<◌, max}
 use native.Mathlib.Omega.{arith}
 use mathlib.Core.Path.{◌≡◌, refl, ap, ◌∙◌}
 use mathlib.Core.Bool.{Bool, true, false, cond}
@@ -25,7 +25,7 @@ use Rattle.finding.proofs.Spots.{Spotted}
 use Rattle.finding.proofs.Edits.{process_at}
 use Rattle.layout.specs.Positions.{onward}
 use Rattle.writers.proofs.Laid.{Near, onward_near}
-use Rattle.rules.proofs.Depths.{Shallow, shallow}
+use Rattle.rules.proofs.Depths.{Shallow}
 use Rattle.scopes.specs.Ending.{resumed_head, key_at_w}
 use Rattle.scopes.proofs.ScopeLists.{whole_inside, frames_deep, process_inside}
 

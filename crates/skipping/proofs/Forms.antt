@@ -6,7 +6,7 @@ use native.Mathlib.Nat.{zero-add, mul-zero}
 use mathlib.Core.Path.{◌≡◌, refl}
 use mathlib.Core.Bool.{Bool, true, false, cond}
 use lib.Dec.{T, eqb}
-use lib.ListN.{length, get_or-eq_default}
+use lib.ListN.{get_or-eq_default}
 use borrow.Author.Tests.{ne_eqb}
 use Rattle.sock.specs.Kind
 use Rattle.sock.specs.Kind.{row_of, rows, no_row}

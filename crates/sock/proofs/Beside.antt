@@ -18,9 +18,8 @@ use Rattle.sock.specs.Variables.{member}
 use Rattle.sock.specs.Running.{run_words, size}
 use Rattle.sock.specs.Configuration.{Limits, Config, values_words, engines_words, encode, engines_depth, read_config}
 use Rattle.sock.specs.Rules.{also}
-use Rattle.sock.specs.Calls.{serials_spent, deep, long, short, done, ◌>>◌, ◌unless◌, Numbers, engine_at, Stepped, step, Answer, answer_of, step_answer, part_in, process_part, process_of}
-use Rattle.sock.specs.Journal.{lent_step}
-use Rattle.sock.specs.Runs.{call_answer, outcome, accepted, next_words, named}
+use Rattle.sock.specs.Calls.{serials_spent, deep, long, short, done, ◌>>◌, ◌unless◌, Numbers, engine_at, Stepped, Answer, answer_of, step_answer, part_in, process_part, process_of}
+use Rattle.sock.specs.Runs.{accepted, next_words, named}
 use Rattle.sock.specs.Beside.{call, step_engines, solicits, Beside, between, after, InOrder, SaysAlike, OrderDoesNotMatter, OneMaySolicit, lengths_alone, LengthsDecide, OtherOrder, values_of, SameEngine, OthersStay}
 use Rattle.sock.proofs.Logic.{true_test, false_test}
 use Rattle.sock.proofs.Fits.{FitsEngine, FitsConfig}

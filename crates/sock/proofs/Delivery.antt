@@ -1,29 +1,28 @@
 -- A working end with nothing left to run is delivered: the step that names it and the end that awaits it is accepted.
 -- Assumes nothing.
-use Prim.Native.Nat.{ℕ, zero, suc, ◌+◌, ◌-◌, ◌≤◌, ◌<◌}
+use Prim.Native.Nat.{ℕ, suc, ◌≤◌}
 use native.Mathlib.Omega.{arith}
 use mathlib.Core.Path.{◌≡◌, refl, ap, ◌∙◌}
-use mathlib.Core.Bool.{Bool, true, false, not, ◌&&◌, cond}
-use mathlib.Core.Option.{Option, none, some}
+use mathlib.Core.Bool.{Bool, true, false, not, ◌&&◌}
+use mathlib.Core.Option.{Option, some}
 use mathlib.Core.List.{List, [], ◌∷◌, append-nil}
-use lib.Dec.{T, leb, ltb, eqb, eqb_refl, eqb→eq, not_T, ltb→lt, lt→ltb, le→leb}
+use lib.Dec.{T, leb, eqb, eqb_refl, eqb→eq, not_T, le→leb}
 use lib.ListN.{length, set, length-set}
 use borrow.Author.Tests.{eq-eqb}
-use Rattle.sock.specs.Words.{bit}
 use Rattle.sock.specs.Variables.{values_at, set_all}
 use Rattle.sock.specs.Term.{Entries, kind}
 use Rattle.sock.specs.Layout.{exprs_words, words, entries_words, exprs_depth, depth}
-use Rattle.sock.specs.Running.{Run, nil, seq, par, scope, executor, waiter, notice, act, as_node, size}
+use Rattle.sock.specs.Running.{Run, nil, executor, waiter, notice, act, as_node}
 use Rattle.sock.specs.Configuration.{Limits, Engine, Config, encode, engines_depth, read_config}
-use Rattle.sock.specs.Frames.{Frame, seq_frame, left_frame, right_frame, scope_frame, executor_frame, Located, here_or, past, locate, is_done, plug}
+use Rattle.sock.specs.Frames.{Frame, is_done, plug}
 use Rattle.sock.specs.Rules.{also, Message, reply, failure, Move, sends, once_done, move_of, Exchange, inst_of, throw_of, replied, faulting, awaited, exchange}
-use Rattle.sock.specs.Calls.{Refusal, Result, done, ◌>>=◌, ◌>>◌, ◌!◌, ◌unless◌, Numbers, Spot, engine_at, enabled_at, movable, partner, Effect, between, effect, Stepped, with_engine, carried_out, step, tally, waits}
-use Rattle.sock.specs.Runs.{awaits, delivery}
-use Rattle.sock.proofs.Logic.{and_both, true_test, test_true, test_false, cond-case, all_some_lem}
+use Rattle.sock.specs.Calls.{Refusal, Result, done, ◌>>=◌, ◌>>◌, ◌!◌, ◌unless◌, Numbers, Spot, engine_at, enabled_at, movable, partner, Effect, between, effect, Stepped, with_engine, carried_out, step}
+use Rattle.sock.specs.Runs.{delivery}
+use Rattle.sock.proofs.Logic.{and_both, true_test, cond-case, all_some_lem}
 use Rattle.sock.proofs.Fits.{FitsConfig, Readable}
 use Rattle.sock.proofs.Measures.{size_nil, size_executor, size_waiter, size_notice, size_act, depth_nil, depth_executor, depth_waiter, depth_notice, depth_act}
 use Rattle.sock.proofs.Configuration.{passed, config_finds}
-use Rattle.sock.proofs.Located.{size_positive, located_before, Enabled, enabled_stands}
+use Rattle.sock.proofs.Located.{Enabled, enabled_stands}
 use Rattle.sock.proofs.Steps.{FitsSpot, enabled_fits}
 use Rattle.sock.proofs.Shrinking.{NoLarger, plug_shrinks, Lighter, NoLargerAll, both_shrink}
 

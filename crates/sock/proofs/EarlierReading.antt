@@ -1,10 +1,10 @@
 -- The earlier reader: what it reads fits, has one variable in each list and is laid out so; and what is laid out so is read back.
 -- Assumes nothing.
-use Prim.Native.Nat.{ℕ, zero, suc, ◌+◌, ◌≤◌, ◌<◌}
+use Prim.Native.Nat.{ℕ, zero, suc, ◌≤◌, ◌<◌}
 use native.Mathlib.Omega.{arith}
 use mathlib.Core.Path.{◌≡◌, refl, sym, subst, ap, ◌∙◌}
 use mathlib.Core.Bool.{Bool, ◌&&◌}
-use mathlib.Core.Option.{none, some}
+use mathlib.Core.Option.{some}
 use mathlib.Core.List.{List, [], ◌∷◌, ◌++◌, append_assoc, append-nil}
 use lib.Dec.{leb, eqb}
 use lib.ListN.{length, get_or, drop}
@@ -12,7 +12,7 @@ use Rattle.sock.specs.Kind
 use Rattle.sock.specs.Kind.{Own, word, variables, row_of}
 use Rattle.sock.specs.Words.{is_word, clear, kind_of, key_of, key_word}
 use Rattle.sock.specs.Variables.{first_of}
-use Rattle.sock.specs.Term.{Node, node, Block, Entries, Nodes, ◌&◌, processes_of}
+use Rattle.sock.specs.Term.{Node, node, Block, Entries, Nodes, processes_of}
 use Rattle.sock.specs.Layout.{exprs_words, count, depth, block_depth, entries_depth, nodes_depth}
 use Rattle.sock.specs.Reading.{Got, got, and_then, Stratum, running, Place, anywhere, root, head_fits, node_fits, entry_fits, entry_stratum, part_stratum, part_place, expr, entries, block, parts, part_by}
 use Rattle.sock.specs.Running.{as_node, run_depth, awake}

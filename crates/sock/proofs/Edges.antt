@@ -6,7 +6,7 @@ use mathlib.Core.Path.{◌≡◌, refl}
 use mathlib.Core.List.{List, [], ◌∷◌, ◌++◌}
 use lib.ListN.{length, replicate}
 use Rattle.sock.specs.Configuration.{standard}
-use Rattle.sock.specs.Calls.{Numbers, Answer, answer_of, step, check_readable}
+use Rattle.sock.specs.Calls.{Answer, answer_of, step, check_readable}
 use Rattle.sock.proofs.Computed.{computed}
 use Rattle.sock.proofs.Examples.{Every, to}
 

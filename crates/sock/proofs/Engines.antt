@@ -5,19 +5,19 @@ use Prim.Native.Nat.{ℕ, zero, suc, ◌+◌, ◌-◌, ◌≤◌, ◌<◌, max}
 use native.Mathlib.Omega.{arith}
 use native.Mathlib.Nat.{le_refl}
 use mathlib.Core.Path.{◌≡◌, refl, subst, sym, ap, ◌∙◌}
-use mathlib.Core.Bool.{Bool, true, false, ◌&&◌}
-use mathlib.Core.Option.{Option, none, some}
+use mathlib.Core.Bool.{Bool, false, ◌&&◌}
+use mathlib.Core.Option.{some}
 use mathlib.Core.List.{List, [], ◌∷◌, ◌++◌, append-nil}
 use lib.Dec.{T, leb, ltb, eqb, ltb→lt, leb→le, eqb→eq}
 use lib.ListN.{length, get_or, take, length-append}
 use lib.Seq.{take-suc, take-length, length-take-le}
 use borrow.Author.Tests.{eq-eqb, ne_eqb}
 use Rattle.sock.specs.Words.{bit}
-use Rattle.sock.specs.Reading.{Got, fail, got, running, end_fits}
-use Rattle.sock.specs.Running.{Run, nil, seq, par, scope, executor, waiter, notice, act, run_depth}
-use Rattle.sock.specs.Configuration.{Limits, Engine, Config, engine_words, engines_words, encode, engines_depth, read_engine, read_config, fresh_run, is_scope}
+use Rattle.sock.specs.Reading.{Got, end_fits}
+use Rattle.sock.specs.Running.{Run, nil, run_depth}
+use Rattle.sock.specs.Configuration.{Limits, Engine, Config, engine_words, engines_words, encode, engines_depth, read_config, fresh_run, is_scope}
 use Rattle.sock.specs.Frames.{is_done}
-use Rattle.sock.specs.Calls.{unreadable, long, short, not_fresh, house_full, still_at_work, engine_at, End, waiting, working, is_end, tally, tally_all}
+use Rattle.sock.specs.Calls.{unreadable, long, short, not_fresh, house_full, still_at_work, engine_at, End, waiting, working, tally, tally_all}
 use Rattle.sock.specs.Engines.{nothing_behind, newcomer, with_next, admitting, join, last_of, without_last, engine_of, points_to, may_leave, leave}
 use Rattle.sock.proofs.Logic.{and_left, and_right, All, all_none, all_some, all_also, all_guarded}
 use Rattle.sock.proofs.Fits.{Sound, nil_sound, seq_sound, par_sound, scope_sound, executor_sound, waiter_sound, notice_sound, act_sound, FitsEngine, FitsEngines, no_engines, one_engine, FitsConfig, Readable}

@@ -1,7 +1,7 @@
 -- Takings back: straight after, several in reverse, and demand 3 over lists of events. What stands is a chain of accepted calls from the start
 -- to the words read now; a taking back by the last one's own journal goes back along it by one.
 -- Assumes nothing.
-use Prim.Native.Nat.{ℕ, ◌+◌, ◌≤◌}
+use Prim.Native.Nat.{ℕ, ◌≤◌}
 use native.Mathlib.Omega.{arith}
 use native.Mathlib.Nat.{le_refl}
 use mathlib.Core.Path.{◌≡◌, refl, sym, ap, subst, ◌∙◌}
@@ -14,7 +14,7 @@ use lib.Seq.{take-append_seam}
 use Rattle.sock.specs.Configuration.{Limits, Config, encode, read_config, engines_depth}
 use Rattle.sock.specs.Running.{Run}
 use Rattle.sock.specs.Frames.{plug}
-use Rattle.sock.specs.Calls.{unreadable, nobody_there, no_move, no_partner, no_fit, installing, serials_spent, deep, long, short, number, Result, refused, done, Numbers, Spot, Effect, lone, between, Stepped, with_engine, carried_out, enabled_at, movable, partner, effect, step, answer_of, output_of, over}
+use Rattle.sock.specs.Calls.{unreadable, nobody_there, no_move, no_partner, no_fit, installing, serials_spent, deep, long, short, Result, refused, done, Numbers, Spot, Effect, lone, between, Stepped, with_engine, carried_out, enabled_at, movable, partner, effect, step, answer_of, output_of, over}
 use Rattle.sock.specs.Rules.{move_of}
 use Rattle.sock.specs.Journal.{alike, journal_of, journal_enough, journal_step, journal_after, journal_answer, journal_output, journal_written, restored, take_back, taken_of, restored_over, take_back_answer, take_back_output}
 use Rattle.sock.specs.Runs.{Call, accepted, next_words, run, counts, total, last_serial}

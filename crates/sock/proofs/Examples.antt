@@ -1,17 +1,17 @@
 -- M1 to M10, document 01's marked examples, as one conjunction over a table of cases: each starts from a configuration, takes steps on
 -- its words, and ends with the last answer's number and a configuration.
 -- Assumes nothing.
-use Prim.Native.Nat.{ℕ, zero, suc, ◌+◌, ◌*◌}
+use Prim.Native.Nat.{ℕ, ◌+◌, ◌*◌}
 use mathlib.Core.Path.{◌≡◌, refl}
 use mathlib.Core.Bool.{Bool, true, false}
-use mathlib.Core.List.{List, [], ◌∷◌, ◌++◌}
+use mathlib.Core.List.{List, [], ◌∷◌}
 use lib.ListN.{replicate, set}
 use Rattle.sock.specs.Kind
 use Rattle.sock.specs.Words.{head_of, scope_key}
-use Rattle.sock.specs.Term.{Operator, sum, difference, less, equal, decimal_sum, decimal_difference, Expr, constant, apply, Node, node, absent, list, Entries, no_entries, entry, no_parts, ◌&◌, nil_node}
-use Rattle.sock.specs.Running.{Mark, unmarked, own_name, Run, nil, seq, par, scope, executor, waiter, notice, act}
+use Rattle.sock.specs.Term.{sum, difference, less, equal, decimal_sum, decimal_difference, Expr, constant, apply, Node, node, absent, Entries, no_entries, entry, no_parts, ◌&◌, nil_node}
+use Rattle.sock.specs.Running.{unmarked, Run, nil, par, scope, executor, waiter, notice, act}
 use Rattle.sock.specs.Configuration.{Engine, Config, encode, standard}
-use Rattle.sock.specs.Rules.{inst_of, throw_of}
+use Rattle.sock.specs.Rules.{inst_of}
 use Rattle.sock.specs.Calls.{Numbers, Result, refused, done, Stepped, number, step}
 use Rattle.sock.proofs.Computed.{computed}
 

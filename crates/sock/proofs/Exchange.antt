@@ -1,12 +1,12 @@
 -- Each rule for two keeps both processes sound among the serials then issued.
 -- Assumes nothing.
-use Prim.Native.Nat.{ℕ, zero, suc, ◌+◌, ◌-◌, ◌*◌, ◌/◌, ◌%◌, ◌≤◌, ◌<◌}
+use Prim.Native.Nat.{ℕ, zero, suc, ◌+◌, ◌*◌, ◌/◌, ◌%◌, ◌≤◌, ◌<◌}
 use native.Mathlib.Omega.{arith}
 use native.Mathlib.Nat.{mod-lt, le_refl, le_trans}
-use mathlib.Core.Path.{◌≡◌, refl, subst, sym, ap, ◌∙◌}
-use mathlib.Core.Bool.{Bool, true, false, not, ◌&&◌, ◌||◌, cond}
-use mathlib.Core.Option.{Option, none, some}
-use mathlib.Core.List.{List, [], ◌∷◌}
+use mathlib.Core.Path.{◌≡◌, subst, sym}
+use mathlib.Core.Bool.{Bool, false, not, ◌&&◌, ◌||◌, cond}
+use mathlib.Core.Option.{Option}
+use mathlib.Core.List.{List, []}
 use lib.Dec.{T, leb, ltb, eqb, eqb→eq, lit<}
 use Rattle.sock.specs.Kind
 use Rattle.sock.specs.Kind.{row_of, rows}
@@ -14,11 +14,10 @@ use Rattle.sock.specs.Words.{kind_of, count_of, name_of, mark_of, zombie_of, fir
 use Rattle.sock.specs.Variables.{head_variables, later_variables, distinct}
 use Rattle.sock.specs.Term.{Node, node, absent, Entries, no_entries, Nodes, no_parts, part_at, processes_of}
 use Rattle.sock.specs.Reading.{code, anywhere, allowed, placed, branched, head_fits, fields_fit, receives_in, node_fits, end_fits, resting_fits, fixed_at, ◌⇒◌}
-use Rattle.sock.specs.Running.{Run, nil, seq, par, scope, executor, waiter, notice, act, enable}
-use Rattle.sock.specs.Configuration.{guarded}
-use Rattle.sock.specs.Frames.{Frame, seq_of}
-use Rattle.sock.specs.Rules.{Message, notification, solicitation, reply, failure, Receiver, deaf, hears, serves, receiver, Offer, chosen, bare, offered, offer, followed, Exchange, notified, solicited, inst_of, throw_of, replied, faulting, awaited, exchange}
-use Rattle.sock.proofs.Logic.{and_left, and_right, cond-case, All, all_none, all_some, all_guarded}
+use Rattle.sock.specs.Running.{Run, act}
+use Rattle.sock.specs.Frames.{Frame}
+use Rattle.sock.specs.Rules.{Message, Receiver, deaf, hears, serves, receiver, Offer, chosen, bare, offered, offer, followed, Exchange, notified, solicited, inst_of, throw_of, replied, faulting, awaited, exchange}
+use Rattle.sock.proofs.Logic.{cond-case, All, all_none, all_some, all_guarded}
 use Rattle.sock.proofs.Fits.{FitsFixed, FitsExprs, FitsBlock, FitsParts, AllBelow, FitsVariables, FitsDistinct, is_plain, Fits, fits, no_fixed, no_exprs, no_list, a_list, no_part, FitsEntries, Sound, nil_sound, seq_sound, par_sound, scope_sound, executor_sound, waiter_sound, notice_sound, act_sound, SoundFrame, seq_frame_sound, left_frame_sound, right_frame_sound, scope_frame_sound, executor_frame_sound, SoundFrames, no_frames, one_frame}
 use Rattle.sock.proofs.Fields.{end_tests, end_fits_lem}
 use Rattle.sock.proofs.Nodes.{head_fits_lem, distinct_test, receives_none, node_fits_lem, part_fits, fixed_word}

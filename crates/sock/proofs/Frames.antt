@@ -1,22 +1,21 @@
 -- Rebuilding keeps what is enabled sound, and so does taking a process out of its frames and putting another in.
 -- Assumes nothing.
-use Prim.Native.Nat.{ℕ, zero, suc, ◌+◌, ◌-◌, ◌≤◌, ◌<◌}
-use native.Mathlib.Omega.{arith}
-use mathlib.Core.Path.{◌≡◌, refl, subst, sym, ap, ◌∙◌}
-use mathlib.Core.Bool.{Bool, true, false, not, ◌&&◌, ◌||◌, cond}
-use mathlib.Core.Option.{Option, none, some}
+use Prim.Native.Nat.{ℕ, zero, suc, ◌+◌, ◌-◌, ◌<◌}
+use mathlib.Core.Path.{◌≡◌, refl}
+use mathlib.Core.Bool.{Bool, true, false}
+use mathlib.Core.Option.{Option}
 use mathlib.Core.List.{List, [], ◌∷◌}
-use lib.Dec.{T, leb, ltb, eqb, ltb→lt, lt→ltb, leb→le, le→leb}
+use lib.Dec.{T, ltb}
 use lib.ListN.{length}
 use Rattle.sock.specs.Term.{Node, Entries}
-use Rattle.sock.specs.Variables.{first_of, variable_words}
+use Rattle.sock.specs.Variables.{variable_words}
 use Rattle.sock.specs.Layout.{entries_words}
-use Rattle.sock.specs.Reading.{code, anywhere, end_fits, holds}
-use Rattle.sock.specs.Running.{Mark, unmarked, faulted, own_name, Run, nil, seq, par, scope, executor, waiter, notice, act, size, enable}
+use Rattle.sock.specs.Reading.{code, anywhere, holds}
+use Rattle.sock.specs.Running.{Mark, unmarked, faulted, own_name, Run, nil, seq, par, scope, executor, waiter, notice, act, size}
 use Rattle.sock.specs.Configuration.{is_scope}
 use Rattle.sock.specs.Frames.{Frame, seq_frame, left_frame, right_frame, scope_frame, executor_frame, Located, here_or, past, locate, is_done, seq_of, par_of, plug, nearest, on_nearest}
-use Rattle.sock.proofs.Logic.{and_left, and_right, and_both, cond-case, All, all_none, all_some, all_some_lem}
-use Rattle.sock.proofs.Fits.{Fits, FitsEntries, empty_fits, MarkFits, Sound, nil_sound, seq_sound, par_sound, scope_sound, executor_sound, waiter_sound, notice_sound, act_sound, rootable, SoundFrame, seq_frame_sound, left_frame_sound, right_frame_sound, scope_frame_sound, executor_frame_sound, SoundFrames, no_frames, one_frame}
+use Rattle.sock.proofs.Logic.{cond-case, All, all_none, all_some}
+use Rattle.sock.proofs.Fits.{Fits, FitsEntries, empty_fits, MarkFits, Sound, nil_sound, seq_sound, par_sound, scope_sound, executor_sound, waiter_sound, notice_sound, act_sound, rootable, seq_frame_sound, left_frame_sound, right_frame_sound, scope_frame_sound, executor_frame_sound, SoundFrames, no_frames, one_frame}
 use Rattle.sock.proofs.Running.{enable_sound}
 
 -- ---- a term rebuilt

@@ -1,24 +1,23 @@
 -- A scope's list stays one: cH replaced, handlers installed, looked up and dropped.
 -- Assumes nothing.
-use Prim.Native.Nat.{ℕ, zero, suc, ◌+◌, ◌%◌, ◌≤◌, ◌<◌}
+use Prim.Native.Nat.{ℕ, zero, suc, ◌%◌, ◌≤◌, ◌<◌}
 use native.Mathlib.Omega.{arith}
-use native.Mathlib.Nat.{le_trans, le_refl}
 use mathlib.Core.Path.{◌≡◌, refl, subst, subst₂, sym, ap, ◌∙◌}
 use mathlib.Core.Bool.{Bool, true, false, not, ◌&&◌, ◌||◌, cond}
 use mathlib.Core.Logic.{◌⊎◌, inl, inr}
-use mathlib.Core.List.{List, [], ◌∷◌}
+use mathlib.Core.List.{List}
 use lib.Arith.{lt_of_le-ne}
-use lib.Dec.{T, leb, ltb, eqb, lit<, lit≤, ltb→lt, lt→ltb, leb→le, le→leb, eqb→eq, eqb_refl, nltb→le}
-use borrow.Author.Tests.{eqb-true, eqb-false, eq-eqb, ne_eqb}
+use lib.Dec.{T, leb, ltb, eqb, ltb→lt, lt→ltb, leb→le, eqb→eq, nltb→le}
+use borrow.Author.Tests.{eqb-false}
 use Rattle.sock.specs.Kind
 use Rattle.sock.specs.Kind.{row_of, rows}
-use Rattle.sock.specs.Words.{kind_of, count_of, scope_key, fault_key}
-use Rattle.sock.specs.Term.{Expr, Node, node, Block, Entries, no_entries, entry, Nodes, no_parts, ◌&◌, is_nil, nil_node, part_at, processes_of}
+use Rattle.sock.specs.Words.{kind_of}
+use Rattle.sock.specs.Term.{Expr, Node, Block, Entries, no_entries, entry, Nodes, no_parts, ◌&◌, is_nil, part_at, processes_of}
 use Rattle.sock.specs.Reading.{Stratum, code, Place, anywhere, not_nil, guard, root, allowed, placed, head_fits, node_fits, entry_fits, entry_stratum, part_stratum, part_place, holds}
 use Rattle.sock.specs.Handlers.{handler, without, put, rebuilt, replaced, all_replaced, installed, update}
-use Rattle.sock.proofs.Logic.{and_left, and_right, and_both, or_case, or_right, cond-case, true_test, false_test, test_false}
+use Rattle.sock.proofs.Logic.{and_left, or_case, or_right, cond-case, true_test, false_test, test_false}
 use Rattle.sock.proofs.Fits.{FitsExprs, FitsFixed, Fits, fits, FitsBlock, FitsEntries, empty_fits, entry_fits_on, FitsParts, no_part, one_part}
-use Rattle.sock.proofs.Nodes.{code_fields, Head, head_tests, head_moves, loosen, nil_fits, code_more, entries_lower}
+use Rattle.sock.proofs.Nodes.{code_fields, Head, head_tests, head_moves, loosen, nil_fits, entries_lower}
 
 -- ---- looking up and dropping
 

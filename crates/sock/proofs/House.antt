@@ -1,7 +1,7 @@
 -- The house over time: every act keeps a ledger of the configuration read, a joining and a leaving the very same one. What no end said at a
 -- leaving of the number given up is not said later by an end of a serial issued before. What stands after takings back is a chain of accepted acts.
 -- Assumes nothing.
-use Prim.Native.Nat.{ℕ, zero, suc, ◌+◌, ◌-◌, ◌≤◌, ◌<◌}
+use Prim.Native.Nat.{ℕ, zero, suc, ◌-◌, ◌≤◌, ◌<◌}
 use native.Mathlib.Omega.{arith}
 use native.Mathlib.Nat.{le_refl}
 use native.Mathlib.Decide.{dec_le}
@@ -9,7 +9,7 @@ use mathlib.Core.Path.{◌≡◌, refl, subst, sym, ap, ◌∙◌}
 use mathlib.Core.Bool.{Bool, true, false, cond}
 use mathlib.Core.Option.{Option, none, some}
 use mathlib.Core.List.{List, [], ◌∷◌, ◌++◌, map, map-append, reverse, reverse-cons}
-use lib.Dec.{T, eqb, eqb→eq}
+use lib.Dec.{T, eqb→eq}
 use lib.ListN.{length, get_or}
 use borrow.Author.Tests.{eq-eqb}
 use Rattle.sock.specs.Words.{bit}
@@ -17,10 +17,9 @@ use Rattle.sock.specs.Running.{Run, nil, seq, par, scope, executor, waiter, noti
 use Rattle.sock.specs.Configuration.{Limits, Engine, Config, encode, read_config}
 use Rattle.sock.specs.Calls.{Spot, engine_at, enabled_at, check_start, End, waiting, working, is_end, end_of, of_end, tally, tally_all, waits, works}
 use Rattle.sock.specs.Everywhere.{everywhere}
-use Rattle.sock.specs.Journal.{taken_of, restored_over}
 use Rattle.sock.specs.Engines.{with_next, join, join_answer, join_output, leave, leave_answer, leave_output, last_of, without_last, serial_of, engine_of, points_to}
 use Rattle.sock.specs.Rules.{also}
-use Rattle.sock.specs.Runs.{Call, of_spot, same, names, end_at, Course}
+use Rattle.sock.specs.Runs.{of_spot, same, names, end_at, Course}
 use Rattle.sock.specs.Events.{takes, words_before}
 use Rattle.sock.specs.House.{Act, stepping, joining, leaving, accepts, words_after, further, throughout, from, EveryRequestHasOneReplyInTheHouse, NoneNamesWhoLeft, NoneNamesWhoIsDone, Event, acting, taking_back, Standing, State, begun, all_but_last, next, after, struck_out, UndoesLast, Undoes, Proper, AllProper, EveryStandingRequestHasOneReplyInTheHouse}
 use Rattle.sock.proofs.Logic.{true_test, test_true}
@@ -28,7 +27,7 @@ use Rattle.sock.proofs.Fits.{Readable}
 use Rattle.sock.proofs.Configuration.{config_found, config_finds}
 use Rattle.sock.proofs.Steps.{sure_done_lem}
 use Rattle.sock.proofs.Turns.{here_same, ends_in, ends_at, Turn, quietly, begins, ended}
-use Rattle.sock.proofs.Ledger.{pending, Only, Ledger, share_other}
+use Rattle.sock.proofs.Ledger.{Only, Ledger, share_other}
 use Rattle.sock.proofs.Accounts.{stands, all_none, by_waiting, by_working, client_waits, server_works, fresh_ledger}
 use Rattle.sock.proofs.Agreement.{fresh_agreed}
 use Rattle.sock.proofs.Placed.{end_only, named_somewhere, everywhere_all}

@@ -16,7 +16,7 @@ use Rattle.sock.specs.Calls.{Refusal, index_short, number, Result, refused, done
 use Rattle.sock.specs.Journal.{journal_step, take_back, taken_of, restored_over, take_back_answer, take_back_output, lent_step}
 use Rattle.sock.specs.Runs.{Call, call, outcome, accepted, next_words}
 use Rattle.sock.specs.Events.{takes, words_before}
-use Rattle.sock.specs.House.{Act, stepping, joining, leaving, accepts, words_after, Event, acting, taking_back, State, begun, next, after, struck_out, Proper, AllProper}
+use Rattle.sock.specs.House.{Act, stepping, joining, leaving, accepts, words_after, acting, taking_back, State, begun, next, after, struck_out, Proper, AllProper}
 use Rattle.sock.specs.Index.{rising, index_of, listed, up_to, has_waiter, open_serials, open_of, open_after, beginning, index_after, begin_answer, begin_index, mapped, indexed_index, indexed_relisted, open_count, oldest, IndexedEvent, step_indexed, take_back_indexed, comes, goes, bare, Follow, follow, follow_all, TheIndexFollows}
 use Rattle.sock.proofs.Configuration.{config_found, config_finds}
 use Rattle.sock.proofs.Steps.{Sure, sure_refused, sure_done, sure_then, sure_unless, sure_done_lem, step_readable}

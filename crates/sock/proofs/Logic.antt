@@ -1,6 +1,5 @@
 -- Tests taken apart and put together, and what holds of an answer if there is one.
 -- Assumes nothing.
-use Prim.Native.Nat.{ℕ}
 use mathlib.Core.Path.{◌≡◌, refl, subst, sym}
 use mathlib.Core.Bool.{Bool, true, false, not, ◌&&◌, ◌||◌, cond}
 use mathlib.Core.Option.{Option, none, some}

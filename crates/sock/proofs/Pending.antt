@@ -4,16 +4,16 @@
 use Prim.Native.Nat.{ℕ, suc, ◌+◌, ◌≤◌}
 use native.Mathlib.Omega.{arith}
 use mathlib.Core.Path.{◌≡◌, refl, sym, ap, ◌∙◌}
-use mathlib.Core.Bool.{Bool, true, false, not, ◌&&◌, ◌||◌, cond}
+use mathlib.Core.Bool.{Bool, true, false, not, ◌||◌, cond}
 use mathlib.Core.Option.{Option, none, some}
 use mathlib.Core.List.{List, [], ◌∷◌, ◌++◌}
 use lib.Dec.{eqb}
 use lib.ListN.{length, length-append}
 use Rattle.sock.specs.Kind
 use Rattle.sock.specs.Words.{fault_key}
-use Rattle.sock.specs.Term.{Node, Entries, kind}
+use Rattle.sock.specs.Term.{kind}
 use Rattle.sock.specs.Reading.{holds}
-use Rattle.sock.specs.Running.{Mark, unmarked, own_name, Run, nil, seq, par, scope, executor, waiter, notice, act, size}
+use Rattle.sock.specs.Running.{unmarked, own_name, Run, nil, seq, par, scope, executor, waiter, notice, act, size}
 use Rattle.sock.specs.Configuration.{guarded}
 use Rattle.sock.specs.Frames.{Frame, seq_frame, left_frame, right_frame, scope_frame, executor_frame, is_done, par_of}
 use Rattle.sock.specs.Rules.{also, kill, climb}

@@ -1,25 +1,25 @@
 -- Ends stand only enabled: counted wherever they stand they are as many as among what is enabled, and each is named by an engine and a
 -- position.
 -- Assumes nothing.
-use Prim.Native.Nat.{ℕ, suc, ◌+◌, ◌≤◌, ◌<◌}
+use Prim.Native.Nat.{ℕ, suc, ◌≤◌, ◌<◌}
 use native.Mathlib.Omega.{arith}
 use mathlib.Core.Path.{◌≡◌, refl, subst, ap, ◌∙◌}
 use mathlib.Core.Bool.{Bool, true, false, not}
 use mathlib.Core.Option.{none, some}
-use mathlib.Core.List.{List, [], ◌∷◌}
+use mathlib.Core.List.{List, []}
 use lib.Dec.{T, ltb, leb→le, ltb→lt, lt→ltb}
 use lib.ListN.{length, get_or}
 use Rattle.sock.specs.Words.{bit, kind_of}
-use Rattle.sock.specs.Term.{Expr, Node, node, Block, Entries, Nodes}
+use Rattle.sock.specs.Term.{Expr, Node, Block, Entries, Nodes}
 use Rattle.sock.specs.Reading.{Stratum, code, Place, allowed, part_stratum}
-use Rattle.sock.specs.Running.{Run, nil, seq, par, scope, executor, waiter, notice, act, as_node, size, Form, nil_form, seq_form, par_form, scope_form, executor_form, waiter_form, notice_form, plain, forms, in_form, opened, all_opened, awake}
+use Rattle.sock.specs.Running.{Run, nil, seq, par, scope, executor, waiter, notice, act, as_node, Form, nil_form, seq_form, par_form, scope_form, executor_form, waiter_form, notice_form, plain, forms, in_form, opened, all_opened, awake}
 use Rattle.sock.specs.Configuration.{Engine, Config}
 use Rattle.sock.specs.Rules.{also}
-use Rattle.sock.specs.Calls.{Spot, engine_at, enabled_at, End, end_of, is_end, tally, tally_all}
+use Rattle.sock.specs.Calls.{engine_at, enabled_at, End, end_of, is_end, tally, tally_all}
 use Rattle.sock.specs.Everywhere.{occurs, occurs_in, occurs_each, occurs_all, occurs_engines, everywhere}
 use Rattle.sock.specs.Runs.{of_spot, names}
 use Rattle.sock.proofs.Fits.{Fits, fits, FitsBlock, no_list, a_list, FitsEntries, empty_fits, entry_fits_on, FitsParts, no_part, one_part, Sound, nil_sound, seq_sound, par_sound, scope_sound, executor_sound, waiter_sound, notice_sound, act_sound, FitsEngines, no_engines, one_engine, FitsConfig}
-use Rattle.sock.proofs.Fields.{From, end, ◌then◌, fact_at}
+use Rattle.sock.proofs.Fields.{end, ◌then◌, fact_at}
 use Rattle.sock.proofs.ByKind.{head_tests}
 use Rattle.sock.proofs.Running.{as_node_awake}
 use Rattle.sock.proofs.Tallies.{endless}

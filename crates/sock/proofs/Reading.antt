@@ -10,7 +10,7 @@ use lib.Dec.{T, eqb, leb, eqb→eq, leb→le, ltb→lt, le→leb, lt→ltb, eqb_
 use Rattle.sock.specs.Kind
 use Rattle.sock.specs.Kind.{Own, word, variables, row_of}
 use Rattle.sock.specs.Words.{is_word, clear, kind_of, key_of, key_word, tag_of, read_variable, value_of, high_word, low_word}
-use Rattle.sock.specs.Term.{Operator, sum, difference, less, equal, decimal_sum, decimal_difference, Expr, constant, variable, apply, Node, node, Block, absent, list, Entries, no_entries, entry, Nodes, no_parts, ◌&◌, processes_of}
+use Rattle.sock.specs.Term.{Operator, sum, difference, less, equal, decimal_sum, decimal_difference, Expr, constant, variable, apply, Node, node, Block, list, Entries, Nodes, processes_of}
 use Rattle.sock.specs.Layout.{operator_tag, expr_words, exprs_words, count, words, block_words, entries_words, nodes_words, expr_depth, exprs_depth, depth, block_depth, entries_depth, nodes_depth}
 use Rattle.sock.specs.Reading.{Got, fail, got, and_then, check, Stratum, Place, anywhere, head_fits, node_fits, entry_fits, entry_stratum, part_stratum, part_place, further, fixed_words, wide, operands, expr_by, expr, exprs, entries, block, parts, part_by, node_by, process}
 use Rattle.sock.proofs.Fits.{FitsExpr, constant_fits, variable_fits, apply_fits, FitsExprs, no_exprs, one_expr, FitsFurther, no_further, one_further, FitsFixed, no_fixed, one_fixed, some_variables, Fits, fits, FitsBlock, no_list, a_list, FitsEntries, empty_fits, entry_fits_on, FitsParts, no_part, one_part}

@@ -10,7 +10,6 @@ use mathlib.Core.List.{List, [], ◌∷◌, ◌++◌}
 use lib.Dec.{T, leb, ltb, eqb, ltb→lt, lt→ltb, leb→le, le→leb, nltb→le}
 use lib.ListN.{length, get_or, length-append}
 use borrow.Author.Tests.{ne_eqb}
-use Rattle.sock.specs.Kind
 use Rattle.sock.specs.Kind.{Own, word, variables, rows, row_of}
 use Rattle.sock.specs.Words.{kind_of}
 use Rattle.sock.specs.Variables.{variable_words}
@@ -20,7 +19,7 @@ use Rattle.sock.specs.Running.{Mark, Run, nil, seq, par, scope, executor, waiter
 use Rattle.sock.specs.Configuration.{Limits, Engine, Config, encode, engines_depth, read_config}
 use Rattle.sock.specs.Frames.{Frame, seq_frame, left_frame, right_frame, scope_frame, executor_frame, Located, here_or, past, locate}
 use Rattle.sock.specs.Rules.{Move, stuck, alone, unvalued, sends}
-use Rattle.sock.specs.Calls.{Refusal, unreadable, nobody_there, no_move, no_partner, no_fit, not_decimal, installing, serials_spent, deep, long, short, number, Result, refused, done, ◌>>=◌, ◌>>◌, ◌!◌, ◌unless◌, Numbers, Spot, engine_at, enabled_at, movable, partner, effect, Stepped, step, answer_of, output_of, step_answer, step_output, over}
+use Rattle.sock.specs.Calls.{Refusal, unreadable, nobody_there, no_move, no_partner, no_fit, not_decimal, installing, serials_spent, deep, long, short, Result, refused, done, ◌>>=◌, ◌>>◌, ◌!◌, ◌unless◌, Numbers, Spot, engine_at, enabled_at, movable, partner, effect, Stepped, step, answer_of, output_of, step_answer, step_output, over}
 use Rattle.sock.specs.Earlier.{earlier_config, uncounted, earlier_words, earlier_block, earlier_entries, earlier_nodes, earlier_size, earlier_encode, earlier_locate, earlier_at, earlier_partner, earlier_step, relaid, rewritten, beyond_own, moved, moved_numbers, RewritingFollows, of_length, RewritingRefuses}
 use Rattle.sock.proofs.Logic.{All, all_none, all_some, cond-case, test_true}
 use Rattle.sock.proofs.Received.{not_both}

@@ -1,30 +1,30 @@
 -- Each rule keeps what is enabled sound: killing, the climb, the moves alone.
 -- Assumes nothing.
-use Prim.Native.Nat.{ℕ, zero, suc, ◌+◌, ◌-◌, ◌*◌, ◌/◌, ◌%◌, ◌≤◌, ◌<◌}
+use Prim.Native.Nat.{ℕ, zero, suc, ◌/◌, ◌≤◌, ◌<◌}
 use native.Mathlib.Omega.{arith}
 use native.Mathlib.Nat.{mod-lt}
 use mathlib.Core.Path.{◌≡◌, refl, subst, sym, ap, ◌∙◌}
-use mathlib.Core.Bool.{Bool, true, false, not, ◌&&◌, ◌||◌, cond}
-use mathlib.Core.Option.{Option, none, some}
+use mathlib.Core.Bool.{Bool, true, false, not, ◌&&◌, cond}
+use mathlib.Core.Option.{Option, some}
 use mathlib.Core.List.{List, [], ◌∷◌}
-use lib.Dec.{T, leb, ltb, eqb, ltb→lt, lt→ltb, leb→le, le→leb, lit<}
+use lib.Dec.{T, eqb, lit<}
 use lib.ListN.{length, get_or, set, length-set}
 use lib.Signed.{lt_z}
 use Rattle.sock.specs.Kind
-use Rattle.sock.specs.Words.{kind_of, variable_of, name_of, second_of, fault_key, first_variable, next_variable, scope_key, bit}
+use Rattle.sock.specs.Words.{kind_of, variable_of, name_of, fault_key, first_variable, next_variable, scope_key, bit}
 use Rattle.sock.specs.Variables.{head_variables, later_variables, values_at, set_all}
-use Rattle.sock.specs.Term.{Operator, sum, difference, less, equal, decimal_sum, decimal_difference, Expr, constant, variable, apply, Node, node, Entries, no_entries, entry, kind, part_at, first_expr, entries_of}
-use Rattle.sock.specs.Reading.{code, anywhere, allowed, end_fits, entry_fits, fixed_at, holds}
-use Rattle.sock.specs.Running.{Mark, unmarked, faulted, own_name, Run, nil, seq, par, scope, executor, waiter, notice, act, enable}
-use Rattle.sock.specs.Configuration.{guarded, is_scope}
+use Rattle.sock.specs.Term.{Operator, sum, difference, less, equal, decimal_sum, decimal_difference, Expr, Node, Entries, no_entries, entry, kind, part_at, first_expr, entries_of}
+use Rattle.sock.specs.Reading.{code, anywhere, entry_fits, fixed_at, holds}
+use Rattle.sock.specs.Running.{Mark, unmarked, faulted, own_name, Run, nil, scope, notice, enable}
+use Rattle.sock.specs.Configuration.{is_scope}
 use Rattle.sock.specs.Evaluation.{value_at, signed, of_digits, operate, evaluate, is_true}
 use Rattle.sock.specs.Digits.{decimal, packed_of, power}
 use Rattle.sock.proofs.Decimals.{packed_below}
 use Rattle.sock.specs.Handlers.{handler, without, update}
 use Rattle.sock.specs.Frames.{Frame, seq_frame, left_frame, right_frame, scope_frame, executor_frame, is_done, seq_of, par_of, plug, nearest, on_nearest}
-use Rattle.sock.specs.Rules.{also, kill, climb, Action, still, assign, branch, repeat, notify, solicit, install, throw, compensate, action, Message, notification, solicitation, reply, failure, Move, stuck, alone, unvalued, sends, valued, ending, acting, once_done, move_of}
-use Rattle.sock.proofs.Logic.{and_left, and_right, and_both, cond-case, All, all_none, all_some, all_also, all_any, all_guarded, all_map}
-use Rattle.sock.proofs.Fits.{FitsExpr, constant_fits, variable_fits, apply_fits, Fits, fits, FitsEntries, empty_fits, entry_fits_on, FitsFixed, FitsDistinct, MarkFits, Sound, nil_sound, seq_sound, par_sound, scope_sound, executor_sound, waiter_sound, notice_sound, act_sound, rootable, SoundFrame, seq_frame_sound, left_frame_sound, right_frame_sound, scope_frame_sound, executor_frame_sound, SoundFrames, no_frames, one_frame, AllBelow, none_below, one_below}
+use Rattle.sock.specs.Rules.{kill, climb, Action, still, assign, branch, repeat, notify, solicit, install, throw, compensate, action, Message, notification, solicitation, reply, failure, Move, stuck, alone, unvalued, sends, valued, ending, acting, once_done, move_of}
+use Rattle.sock.proofs.Logic.{cond-case, All, all_none, all_some, all_also, all_any, all_guarded}
+use Rattle.sock.proofs.Fits.{FitsExpr, constant_fits, variable_fits, apply_fits, Fits, fits, FitsEntries, empty_fits, entry_fits_on, FitsDistinct, Sound, nil_sound, seq_sound, par_sound, scope_sound, executor_sound, waiter_sound, notice_sound, act_sound, rootable, seq_frame_sound, left_frame_sound, right_frame_sound, scope_frame_sound, executor_frame_sound, SoundFrames, no_frames, one_frame, AllBelow, none_below, one_below}
 use Rattle.sock.proofs.Nodes.{distinct_test, part_fits, expr_fits, entries_fit, code_more}
 use Rattle.sock.proofs.Variables.{solicit_list}
 use Rattle.sock.proofs.Handlers.{handler_fits, without_fits, update_fits, holds_without, holds_update}

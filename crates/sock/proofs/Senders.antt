@@ -16,7 +16,7 @@ use Rattle.sock.specs.Configuration.{Config}
 use Rattle.sock.specs.Evaluation.{evaluate}
 use Rattle.sock.specs.Frames.{Frame, is_done}
 use Rattle.sock.specs.Rules.{Action, still, assign, branch, repeat, notify, solicit, install, throw, compensate, action, Message, Move, stuck, alone, unvalued, sends, valued, acting, once_done, move_of}
-use Rattle.sock.specs.Calls.{Numbers, Spot, enabled_at, Stepped, step, answer_of}
+use Rattle.sock.specs.Calls.{Numbers, Spot, enabled_at, Stepped, answer_of}
 use Rattle.sock.specs.Beside.{sending_kind, KindTellsEngines}
 use Rattle.sock.proofs.Logic.{cond-case, all_some_lem}
 use Rattle.sock.proofs.Fields.{head_kind, fields_below, scope_kind}

@@ -14,7 +14,7 @@ use Rattle.sock.specs.Words.{kind_of, head_of, name_fields, first_variable, next
 use Rattle.sock.specs.Variables.{first_of, further_words, variable_words, further_of, variables_of, behind_variables, later_variables}
 use Rattle.sock.specs.Term.{Expr, Node, node, Block, absent, list, Entries, no_entries, entry, Nodes, no_parts, ◌&◌, is_nil, nil_node, part_at, entries_of}
 use Rattle.sock.specs.Reading.{fixed_at}
-use Rattle.sock.specs.Running.{Run, seq, par, executor, waiter, as_node}
+use Rattle.sock.specs.Running.{Run, executor, waiter, as_node}
 use Rattle.sock.specs.Configuration.{Limits, Config, read_config}
 use Rattle.sock.specs.Handlers.{handler, without, put, rebuilt, replaced, all_replaced, installed, update}
 use Rattle.sock.specs.Calls.{Numbers, step}

@@ -1,7 +1,7 @@
 -- A solicit never lengthens or deepens a configuration: a waiter has 1 - count of y words more than its solicit, an executor 1 - count of x
 -- words more than its request, and neither is deeper. So a step that solicits is never refused with 8 or 9.
 -- Assumes nothing.
-use Prim.Native.Nat.{ℕ, zero, suc, ◌+◌, ◌-◌, ◌*◌, ◌≤◌, ◌<◌}
+use Prim.Native.Nat.{ℕ, zero, suc, ◌+◌, ◌*◌, ◌≤◌, ◌<◌}
 use native.Mathlib.Omega.{arith}
 use mathlib.Core.Path.{◌≡◌, refl, sym, subst, ap, ◌∙◌}
 use mathlib.Core.Bool.{Bool, true, false, not, ◌||◌}
@@ -17,11 +17,11 @@ use Rattle.sock.specs.Variables.{variable_words, variables_of, behind_variables,
 use Rattle.sock.specs.Term.{Expr, Node, node, Block, list, Entries, Nodes, no_parts, ◌&◌, kind, processes_of, part_at, entries_of}
 use Rattle.sock.specs.Layout.{exprs_words, words, block_words, nodes_words, depth, nodes_depth}
 use Rattle.sock.specs.Reading.{code, anywhere, fixed_at}
-use Rattle.sock.specs.Running.{Run, scope, executor, waiter, act, as_node, enable}
+use Rattle.sock.specs.Running.{Run, executor, waiter, act, as_node, enable}
 use Rattle.sock.specs.Configuration.{Limits, Engine, Config, encode, engines_depth, read_config}
 use Rattle.sock.specs.Evaluation.{value_at}
 use Rattle.sock.specs.Frames.{Frame, is_done, seq_of, plug}
-use Rattle.sock.specs.Rules.{action, solicit, solicitation, Move, sends, acting, move_of, Receiver, deaf, hears, serves, receiver, Offer, chosen, bare, offered, offer, followed, Exchange, solicited, exchange}
+use Rattle.sock.specs.Rules.{action, solicitation, Move, sends, acting, move_of, Receiver, deaf, hears, serves, receiver, Offer, chosen, bare, offered, offer, followed, Exchange, solicited, exchange}
 use Rattle.sock.specs.Calls.{Refusal, unreadable, nobody_there, no_move, no_partner, no_fit, not_decimal, installing, serials_spent, deep, long, short, number, Result, refused, done, ◌>>=◌, ◌>>◌, ◌!◌, ◌unless◌, Numbers, Spot, enabled_at, movable, partner, Effect, between, effect, Stepped, with_engine, carried_out, step, answer_of, step_answer}
 use Rattle.sock.specs.Runs.{is_solicit}
 use Rattle.sock.proofs.Logic.{cond-case, All, all_none, all_some, all_also, all_guarded, all_some_lem}

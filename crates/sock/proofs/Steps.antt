@@ -3,21 +3,21 @@
 use Prim.Native.Nat.{ℕ, zero, suc, ◌≤◌, ◌<◌}
 use native.Mathlib.Omega.{arith}
 use native.Mathlib.Nat.{le_refl}
-use mathlib.Core.Path.{◌≡◌, refl, subst, sym, ap, ◌∙◌}
-use mathlib.Core.Bool.{Bool, true, false, not, ◌&&◌, cond}
+use mathlib.Core.Path.{◌≡◌, refl, subst, sym, ◌∙◌}
+use mathlib.Core.Bool.{Bool, true, false, not, ◌&&◌}
 use mathlib.Core.Option.{Option, none, some}
-use mathlib.Core.List.{List, [], ◌∷◌}
+use mathlib.Core.List.{List, []}
 use lib.Dec.{T, leb, ltb, eqb, ltb→lt, leb→le}
 use lib.ListN.{length, get_or, set, length-set}
 use Rattle.sock.specs.Running.{Run, nil, seq, par, scope, executor, waiter, notice, act}
-use Rattle.sock.specs.Configuration.{Limits, Engine, Config, encode, engines_depth, guarded, is_scope, read_config}
-use Rattle.sock.specs.Frames.{Frame, Located, locate, is_done, plug}
-use Rattle.sock.specs.Rules.{also, Message, notification, solicitation, reply, failure, Move, stuck, alone, unvalued, sends, move_of, acting, still, assign, branch, repeat, notify, solicit, install, throw, compensate, Action, action, once_done, Exchange, exchange, notified, solicited, awaited, offer, offered}
+use Rattle.sock.specs.Configuration.{Limits, Engine, Config, encode, engines_depth, is_scope, read_config}
+use Rattle.sock.specs.Frames.{Frame, is_done, plug}
+use Rattle.sock.specs.Rules.{Message, notification, solicitation, reply, failure, Move, stuck, alone, unvalued, sends, move_of, acting, action, once_done, Exchange, exchange, notified, solicited, awaited, offer}
 use Rattle.sock.specs.Calls.{Refusal, unreadable, nobody_there, no_move, no_partner, no_fit, installing, serials_spent, deep, long, short, Result, refused, done, ◌>>=◌, ◌>>◌, ◌!◌, ◌unless◌, Numbers, Spot, engine_at, enabled_at, movable, partner, Effect, lone, between, effect, Stepped, with_engine, carried_out, step}
-use Rattle.sock.proofs.Logic.{cond-case, test_false, All, all_none, all_some, all_also, all_any, all_guarded, all_map, all_some_lem}
-use Rattle.sock.proofs.Fits.{Sound, SoundFrames, no_frames, rootable, AllBelow, FitsEngine, FitsEngines, no_engines, one_engine, FitsConfig, Readable}
-use Rattle.sock.proofs.Frames.{Stands, locate_sound, based, based_any, Based, locate_based, plug_sound, plug_rootable}
-use Rattle.sock.proofs.Rules.{Rootable, FitValues, FitsMessage, FitsMove, stuck_fits, unvalued_fits, alone_fits, sends_fits, move_fits}
+use Rattle.sock.proofs.Logic.{cond-case, test_false, All, all_none, all_some, all_also, all_guarded}
+use Rattle.sock.proofs.Fits.{Sound, SoundFrames, no_frames, rootable, FitsEngine, FitsEngines, no_engines, one_engine, FitsConfig, Readable}
+use Rattle.sock.proofs.Frames.{locate_sound, based, based_any, locate_based, plug_sound, plug_rootable}
+use Rattle.sock.proofs.Rules.{Rootable, FitValues, FitsMove, stuck_fits, unvalued_fits, alone_fits, sends_fits, move_fits}
 use Rattle.sock.proofs.Configuration.{config_found, config_finds}
 use Rattle.sock.proofs.Exchange.{sound_later, frames_later, FitsExchange, exchange_fits}
 

@@ -9,7 +9,7 @@ use lib.Dec.{T, ltb}
 use lib.ListN.{length, get_or, take}
 use Rattle.sock.specs.Words.{bit, kind_of}
 use Rattle.sock.specs.Term.{Expr, Node, node, Block, Entries, Nodes, no_parts, ◌&◌}
-use Rattle.sock.specs.Variables.{first_of, variable_words}
+use Rattle.sock.specs.Variables.{variable_words}
 use Rattle.sock.specs.Layout.{entries_words}
 use Rattle.sock.specs.Running.{Run, nil, seq, par, scope, executor, waiter, notice, act, size, Form, nil_form, seq_form, par_form, scope_form, executor_form, waiter_form, notice_form, plain, forms, in_form, opened, all_opened, enable}
 use Rattle.sock.specs.Frames.{Frame, seq_frame, left_frame, right_frame, scope_frame, executor_frame, Located, locate, is_done, seq_of, par_of, plug, on_nearest}

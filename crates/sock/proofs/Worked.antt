@@ -1,12 +1,12 @@
 -- The worked case of document 01's "Program handover", by computation at word level: the five answers with their lengths, a refusal for
 -- want of room, and the program's text.
 -- Assumes nothing.
-use Prim.Native.Nat.{ℕ, ◌+◌, ◌*◌}
+use Prim.Native.Nat.{ℕ}
 use mathlib.Core.Path.{◌≡◌, refl}
 use mathlib.Core.List.{List, [], ◌∷◌, ◌++◌}
 use lib.ListN.{length, replicate}
 use Rattle.sock.specs.Configuration.{standard}
-use Rattle.sock.specs.Calls.{Numbers, Answer, Stepped, Result, step, answer_of, check_start}
+use Rattle.sock.specs.Calls.{Numbers, Answer, step, answer_of, check_start}
 use Rattle.sock.specs.Bytes.{bytes_of, words_after, handover}
 use Rattle.sock.proofs.Computed.{computed}
 

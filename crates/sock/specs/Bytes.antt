@@ -1,9 +1,9 @@
 -- The calls on bytes, high first, for the cabinet's C program, at the figures of either cabinet where both have the call (document 02, i), and the text of the program handover (document 01, "Calls", "Program handover").
-use Rattle.std.specs.Prelude.{ℕ, zero, suc, ◌+◌, ◌*◌, ◌/◌, ◌%◌, ◌^◌, Bool, true, false, ◌||◌, cond, List, [], ◌∷◌, ◌++◌, ltb, length, get_or, take, drop, replicate}
+use Rattle.std.specs.Prelude.{ℕ, zero, suc, ◌+◌, ◌*◌, ◌/◌, ◌%◌, ◌^◌, true, false, ◌||◌, List, [], ◌∷◌, ◌++◌, ltb, length, get_or, take, drop}
 use Rattle.std.proofs.Math.Option.{Option, none, some}
-use Rattle.sock.specs.Configuration.{Limits, standard, encode, read_config}
+use Rattle.sock.specs.Configuration.{Limits, standard, encode}
 use Rattle.sock.specs.Rules.{also}
-use Rattle.sock.specs.Calls.{Refusal, unreadable, Result, refused, done, ◌>>=◌, ◌!◌, number, Numbers, Stepped, step, Answer, answer_of, over, check_start, check_readable, Ends, ends, Part, process_part}
+use Rattle.sock.specs.Calls.{unreadable, Result, refused, done, ◌>>=◌, ◌!◌, Numbers, Stepped, step, Answer, answer_of, over, check_start, check_readable, Ends, ends, Part, process_part}
 use Rattle.sock.specs.Journal.{journal_of, journal_step, take_back, Taken, taken_of}
 
 unfoldable pub words_of : List ℕ → Option (List ℕ)

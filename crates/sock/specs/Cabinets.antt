@@ -3,7 +3,7 @@
 use Rattle.std.specs.Prelude.{ℕ, ◌≤◌, ◌≡◌, Bool, true, false, ◌&&◌, List, [], ◌∷◌, T, leb, length}
 use Rattle.std.proofs.Math.Option.{Option, none, some}
 use Rattle.sock.specs.Configuration.{Limits, Config, encode, engines_depth, guarded, also, read_config}
-use Rattle.sock.specs.Calls.{Refusal, unreadable, nobody_there, no_move, no_partner, no_fit, not_decimal, installing, serials_spent, deep, long, short, not_fresh, unknown_serial, unmatched, journal_short, index_short, house_full, still_at_work, Result, refused, done, Numbers, Stepped, check_start}
+use Rattle.sock.specs.Calls.{Refusal, unreadable, nobody_there, no_move, no_partner, no_fit, not_decimal, installing, serials_spent, deep, long, short, not_fresh, unknown_serial, unmatched, journal_short, index_short, house_full, still_at_work, refused, done, Numbers, Stepped, check_start}
 use Rattle.sock.specs.Journal.{journal_of, lent_step}
 use Rattle.sock.specs.Runs.{call, call_answer, next_words, run, Matched, room_for, names, ready, awaits, delivery}
 use Rattle.sock.specs.Events.{Event, stepping, taking_back, takes, State, begun, next, struck_out, Undoes, AllAccepted}

@@ -1,12 +1,12 @@
 -- The calls on words (document 01, "Calls"): from words, numbers and the output lent to the answer's every field and the output's every word.
-use Rattle.std.specs.Prelude.{ℕ, zero, suc, ◌+◌, Bool, true, false, not, ◌&&◌, cond, List, [], ◌∷◌, ◌++◌, leb, ltb, eqb, length, get_or, set, take, drop}
+use Rattle.std.specs.Prelude.{ℕ, ◌+◌, Bool, true, false, not, ◌&&◌, cond, List, [], ◌∷◌, ◌++◌, leb, ltb, eqb, length, get_or, set, take, drop}
 use Rattle.std.proofs.Math.Option.{Option, none, some}
 use Rattle.sock.specs.Words.{bit}
 use Rattle.sock.specs.Term.{kind}
 use Rattle.sock.specs.Running.{Run, nil, seq, par, scope, executor, waiter, notice, act, as_node, size}
 use Rattle.sock.specs.Configuration.{Limits, Engine, Config, encode, engines_words, engines_depth, guarded, read_config, fresh}
-use Rattle.sock.specs.Frames.{Frame, Located, locate, plug}
-use Rattle.sock.specs.Rules.{also, Message, Move, stuck, alone, unvalued, sends, move_of, Exchange, exchange}
+use Rattle.sock.specs.Frames.{Frame, locate, plug}
+use Rattle.sock.specs.Rules.{also, Move, stuck, alone, unvalued, sends, move_of, Exchange, exchange}
 
 -- The refusals, with the word that document 01 gives each
 pub data Refusal : Type 0 where

@@ -1,9 +1,8 @@
 -- A configuration: word n, word issued, then for each engine 32 values and its process (document 01, "Words"). Readable and fresh.
-use Rattle.std.specs.Prelude.{ℕ, zero, suc, ◌+◌, ◌*◌, max, Bool, true, false, not, ◌&&◌, cond, List, [], ◌∷◌, ◌++◌, leb, ltb, eqb, length, get_or, set}
+use Rattle.std.specs.Prelude.{ℕ, zero, suc, max, Bool, true, false, not, ◌&&◌, List, [], ◌∷◌, ◌++◌, leb, ltb, eqb, length}
 use Rattle.std.proofs.Math.Option.{Option, none, some}
 use Rattle.sock.specs.Words.{is_word, high_word, low_word}
-use Rattle.sock.specs.Term.{Node, Entries}
-use Rattle.sock.specs.Reading.{Got, fail, got, and_then, check, Stratum, running, root, process, wide, is_empty}
+use Rattle.sock.specs.Reading.{Got, fail, got, and_then, Stratum, running, root, process, wide, is_empty}
 use Rattle.sock.specs.Running.{Mark, unmarked, faulted, own_name, Run, nil, seq, par, scope, executor, waiter, notice, act, run_words, run_depth, awake}
 
 -- the figures that bound a configuration

@@ -1,5 +1,5 @@
 -- A scope's list of handlers, document 01's H: looking up, installing with cH replaced, dropping.
-use Rattle.std.specs.Prelude.{ℕ, zero, suc, Bool, true, false, ◌&&◌, ◌||◌, cond, List, leb, ltb, eqb}
+use Rattle.std.specs.Prelude.{ℕ, ◌&&◌, ◌||◌, cond, List, leb, ltb, eqb}
 use Rattle.sock.specs.Kind
 use Rattle.sock.specs.Words.{kind_of}
 use Rattle.sock.specs.Term.{Expr, Node, node, Block, Entries, no_entries, entry, Nodes, no_parts, ◌&◌, is_nil, nil_node, part_at}

@@ -1,6 +1,6 @@
 -- The house over time (document 02, k): lists of steps, joinings and leavings, refused ones included, and of takings back among them. Demand 3
 -- over these, and that no open serial names an engine that has left since it was issued.
-use Rattle.std.specs.Prelude.{ℕ, ◌+◌, ◌-◌, ◌<◌, ◌≡◌, Bool, ◌&&◌, cond, List, [], ◌∷◌, ◌++◌, map, reverse, T, eqb, length, get_or, take}
+use Rattle.std.specs.Prelude.{ℕ, ◌+◌, ◌-◌, ◌<◌, ◌≡◌, Bool, ◌&&◌, cond, List, [], ◌∷◌, ◌++◌, map, reverse, T, eqb, get_or, take}
 use Rattle.std.proofs.Math.Option.{some}
 use Rattle.sock.specs.Configuration.{Limits, Config, read_config}
 use Rattle.sock.specs.Frames.{is_done}

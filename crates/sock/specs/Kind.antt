@@ -1,5 +1,5 @@
 -- The nineteen kinds of process by their numbers, and the fixed table of what follows each one's head (document 01, "Words").
-use Rattle.std.specs.Prelude.{ℕ, ◌+◌, ◌*◌, List, [], ◌∷◌, get_or}
+use Rattle.std.specs.Prelude.{ℕ, List, [], ◌∷◌, get_or}
 
 abbrev pub nil : ℕ
 nil = 0

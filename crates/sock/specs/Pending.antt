@@ -8,7 +8,7 @@ use Rattle.sock.specs.Reading.{holds}
 use Rattle.sock.specs.Running.{Run, nil, seq, par, scope, executor, waiter, notice, act}
 use Rattle.sock.specs.Configuration.{Limits, standard, read_config}
 use Rattle.sock.specs.Frames.{Frame, seq_frame, left_frame, right_frame, scope_frame, executor_frame, is_done}
-use Rattle.sock.specs.Calls.{Refusal, unreadable, nobody_there, number, Result, refused, done, ◌>>=◌, ◌!◌, Spot, enabled_at}
+use Rattle.sock.specs.Calls.{unreadable, nobody_there, number, Result, refused, done, ◌>>=◌, ◌!◌, Spot, enabled_at}
 use Rattle.sock.specs.Bytes.{words_of, words_or_none}
 
 -- the enabled processes of a side in word order, its own head first: both sides of an enabled par, the first of an enabled seq, the body of an

@@ -1,10 +1,10 @@
 -- The rules of document 01, each alone and each for two: what an enabled process does, and what its engine is then.
-use Rattle.std.specs.Prelude.{ℕ, zero, suc, ◌+◌, ◌*◌, Bool, true, false, not, ◌&&◌, cond, List, [], ◌∷◌, leb, ltb, eqb, length, get_or, set}
+use Rattle.std.specs.Prelude.{ℕ, zero, suc, ◌+◌, ◌*◌, Bool, true, false, not, ◌&&◌, cond, List, [], ◌∷◌, ltb, eqb, length, get_or, set}
 use Rattle.std.proofs.Math.Option.{Option, none, some}
 use Rattle.sock.specs.Kind
-use Rattle.sock.specs.Words.{kind_of, count_of, variable_of, name_of, second_of, first_variable, next_variable, fault_key, scope_key, head_of}
+use Rattle.sock.specs.Words.{kind_of, count_of, variable_of, name_of, first_variable, next_variable, fault_key, scope_key, head_of}
 use Rattle.sock.specs.Variables.{head_variables, later_variables, values_at, set_all}
-use Rattle.sock.specs.Term.{Expr, Node, node, Block, absent, list, Entries, no_entries, entry, Nodes, no_parts, kind, part_at, first_expr, entries_of}
+use Rattle.sock.specs.Term.{Expr, Node, node, absent, list, Entries, no_entries, entry, Nodes, no_parts, kind, part_at, first_expr, entries_of}
 use Rattle.sock.specs.Reading.{holds, fixed_at}
 use Rattle.sock.specs.Running.{Mark, unmarked, faulted, own_name, Run, nil, seq, par, scope, executor, waiter, notice, act, enable}
 use Rattle.sock.specs.Configuration.{guarded}

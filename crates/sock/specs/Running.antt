@@ -1,9 +1,9 @@
 -- What is enabled, as a tree of its own: the only part of a configuration that the rules look into. A node that is not enabled stays a node.
-use Rattle.std.specs.Prelude.{ℕ, zero, suc, ◌+◌, ◌*◌, Bool, true, false, List, [], ◌∷◌, ◌++◌, length, get_or, take}
+use Rattle.std.specs.Prelude.{ℕ, zero, suc, ◌+◌, ◌*◌, Bool, List, [], ◌∷◌, length, get_or, take}
 use Rattle.sock.specs.Kind
-use Rattle.sock.specs.Words.{kind_of, name_of, second_of, mark_of, zombie_of, first_name, executors_client, dead_of, waiters_server, notices_client, bit, is_one, head_of, name_fields}
+use Rattle.sock.specs.Words.{kind_of, name_of, mark_of, zombie_of, first_name, executors_client, dead_of, waiters_server, notices_client, bit, is_one, head_of, name_fields}
 use Rattle.sock.specs.Variables.{first_of, variable_words, head_variables}
-use Rattle.sock.specs.Term.{Expr, Node, node, Block, absent, list, Entries, no_entries, entry, Nodes, no_parts, ◌&◌, nil_node, part_at, entries_of}
+use Rattle.sock.specs.Term.{Expr, Node, node, Block, absent, list, Entries, Nodes, no_parts, ◌&◌, nil_node, part_at, entries_of}
 use Rattle.sock.specs.Layout.{words, depth}
 use Rattle.sock.specs.Reading.{fixed_at}
 

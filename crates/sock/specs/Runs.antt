@@ -1,7 +1,7 @@
 -- Runs: what demand 3 speaks of. A run is a start and a list of calls of the step, refused ones included. Every request has one reply:
 -- one claim about the whole list (document 01, "Calls", on demand 3). A call may be lent a journal (document 02, f), and is accepted then only
 -- if that is long enough.
-use Rattle.std.specs.Prelude.{ℕ, zero, suc, ◌+◌, ◌≤◌, ◌<◌, ◌≡◌, Bool, true, false, ◌&&◌, cond, List, [], ◌∷◌, T, eqb, length, get_or, take}
+use Rattle.std.specs.Prelude.{ℕ, ◌+◌, ◌≤◌, ◌<◌, ◌≡◌, Bool, true, false, ◌&&◌, cond, List, [], ◌∷◌, T, eqb, length, get_or, take}
 use Rattle.std.proofs.Math.Option.{Option, none, some}
 use Rattle.sock.specs.Kind
 use Rattle.sock.specs.Words.{bit}

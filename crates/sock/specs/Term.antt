@@ -1,5 +1,5 @@
 -- Processes as trees: one generic node, so that reading, writing, size and depth have one clause for all nineteen kinds.
-use Rattle.std.specs.Prelude.{ℕ, zero, suc, ◌+◌, ◌*◌, Bool, cond, List, [], ◌∷◌, eqb}
+use Rattle.std.specs.Prelude.{ℕ, zero, suc, ◌*◌, Bool, cond, List, [], ◌∷◌, eqb}
 use Rattle.sock.specs.Kind
 use Rattle.sock.specs.Kind.{row_of}
 use Rattle.sock.specs.Words.{kind_of, count_of, head_of}

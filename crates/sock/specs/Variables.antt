@@ -1,6 +1,6 @@
 -- The variables of a message: 1 to 4. The first stands in a head or a fixed word; behind the fixed words stand a count and a word for each
 -- further one (change c).
-use Rattle.std.specs.Prelude.{ℕ, zero, suc, ◌-◌, ◌*◌, Bool, true, false, not, ◌&&◌, ◌||◌, List, [], ◌∷◌, eqb, length, get_or, set, take, drop}
+use Rattle.std.specs.Prelude.{ℕ, suc, ◌-◌, ◌*◌, Bool, true, false, not, ◌&&◌, ◌||◌, List, [], ◌∷◌, eqb, length, get_or, set, take, drop}
 use Rattle.sock.specs.Words.{second_of, first_variable}
 
 abbrev pub first_of : List ℕ → ℕ

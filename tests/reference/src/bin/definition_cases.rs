@@ -26,18 +26,18 @@ const FILL: u16 = 42_405;
 const HEAD: &str = "\
 -- Cases of the second implementation, computed by the definitions.
 use Prim.Native.Nat.{ℕ}
-use mathlib.Core.Path.{_≡_, refl}
+use mathlib.Core.Path.{◌≡◌, refl}
 use mathlib.Core.Bool.{Bool, true, false}
-use mathlib.Core.List.{List, [], _∷_, _++_}
+use mathlib.Core.List.{List, [], ◌∷◌, ◌++◌}
 use lib.ListN.{replicate}
-use Rattle·sock·specs.specs.Configuration.{standard}
-use Rattle·sock·specs.specs.Cabinets.{small}
-use Rattle·sock·specs.specs.Calls.{Numbers, Answer, Ends, Part, stepAnswer, stepOutput, checkReadable, checkStart, ends, processPart}
-use Rattle·sock·specs.specs.Pending.{Pending, enabledIn, isPending, counted, searchOf, pending, sideAt, searched, pendingAt}
-use Rattle·sock·proofs.proofs.Computed.{computed}
+use Rattle.sock.specs.Configuration.{standard}
+use Rattle.sock.specs.Cabinets.{small}
+use Rattle.sock.specs.Calls.{Numbers, Answer, Ends, Part, step_answer, step_output, check_readable, check_start, ends, process_part}
+use Rattle.sock.specs.Pending.{Pending, enabled_in, is_pending, counted, search_of, pending, side_at, searched, pending_at}
+use Rattle.sock.proofs.Computed.{computed}
 
 abbrev numbers : ℕ → ℕ → ℕ → ℕ → ℕ → Numbers
-numbers e p f q b = record { engine = e; position = p; second = f; secondPosition = q; branch = b }
+numbers e p f q b = record { engine = e; position = p; second = f; second_position = q; branch = b }
 
 abbrev answer : ℕ → ℕ → ℕ → ℕ → ℕ → Answer
 answer n k s f l = record { number = n; kind = k; serial = s; fault = f; length = l }
@@ -100,14 +100,14 @@ numbers{0} : Numbers
 numbers{0} = numbers {numbers}
 
 case{0} :
-    (stepAnswer {call} ≡ answer {answer})
-    × (stepOutput {call} ≡ {output})
-    × (checkReadable {figures} words{0} ≡ {readable})
-    × (checkStart {figures} words{0} ≡ {start})
+    (step_answer {call} ≡ answer {answer})
+    × (step_output {call} ≡ {output})
+    × (check_readable {figures} words{0} ≡ {readable})
+    × (check_start {figures} words{0} ≡ {start})
     × (ends standard words{0} {serial} ≡ counts {ends})
-    × (processPart standard words{0} {engine} ≡ part {first} {length})
-    × (pendingAt standard words{0} {searched} {position} ≡ finding {search})
-unfolding computed enabledIn isPending counted searchOf pending sideAt searched pendingAt words{0} numbers{0}
+    × (process_part standard words{0} {engine} ≡ part {first} {length})
+    × (pending_at standard words{0} {searched} {position} ≡ finding {search})
+unfolding computed enabled_in is_pending counted search_of pending side_at searched pending_at words{0} numbers{0}
 case{0} = (refl, refl, refl, refl, refl, refl, refl)
 ",
             self.count,

@@ -1,7 +1,6 @@
 -- `at_most` of `finding::find` meets its contract.
 use native.Mathlib.Omega.{arith}
 use Rattle.sock.proofs.Tests.{tests}
-use borrow.Author.Rules.{rules}
 use Rattle.finding.proofs.find.at_most.Goals as goal
 
 pub returns-then-levels-lt-LEVELS : goal.returns-then-levels-lt-LEVELS

@@ -1,6 +1,5 @@
 -- `beside` of `finding::find` meets its contract: the right side of a par.
 use Rattle.finding.specs.Find.{beside_w}
-use borrow.Author.Rules.{rules}
 use Rattle.finding.proofs.find.beside.Goals as goal
 
 pub returns-then-s : goal.returns-then-s

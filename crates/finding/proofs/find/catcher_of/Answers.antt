@@ -1,7 +1,6 @@
 -- `finding::find::catcher_of` meets its contract: the scope that catches.
 use Rattle.finding.specs.Find.{catcher_of}
 use Rattle.sock.proofs.Tests.{tests}
-use borrow.Author.Rules.{rules}
 use Rattle.finding.proofs.find.catcher_of.Goals as goal
 
 pub returns-then-fault-ge-SCOPE_KEYS : goal.returns-then-fault-ge-SCOPE_KEYS

@@ -1,7 +1,6 @@
 -- `finding::find::catches` meets its contract: whether a scope stops a fault.
 use Rattle.finding.specs.Find.{catches_w}
 use Rattle.sock.proofs.Tests.{tests}
-use borrow.Author.Rules.{rules}
 use Rattle.finding.proofs.find.catches.Goals as goal
 
 pub returns-then-zombie_of-eq1 : goal.returns-then-zombie_of-eq1

@@ -2,7 +2,6 @@
 use lib.ListN.{get_or-eq_default}
 use Rattle.finding.specs.Find.{fault_at}
 use Rattle.sock.proofs.Tests.{tests}
-use borrow.Author.Rules.{rules}
 use Rattle.finding.proofs.find.fault_at.Goals as goal
 
 pub returns-then-ws-target : goal.returns-then-ws-target

@@ -1,6 +1,5 @@
 -- `finding::find::here` meets its contract: the process itself.
 use Rattle.finding.specs.Find.{here_w}
-use borrow.Author.Rules.{rules}
 use Rattle.finding.proofs.find.here.Goals as goal
 
 pub returns : goal.returns

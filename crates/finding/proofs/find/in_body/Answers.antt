@@ -1,6 +1,5 @@
 -- `in_body` of `finding::find` meets its contract: a body.
 use Rattle.finding.specs.Find.{in_body_w}
-use borrow.Author.Rules.{rules}
 use Rattle.finding.proofs.find.in_body.Goals as goal
 
 pub returns-in-Past : goal.returns-in-Past

@@ -1,6 +1,5 @@
 -- `in_scope` of `finding::find` meets its contract: the body of a scope.
 use Rattle.finding.specs.Find.{in_scope_w}
-use borrow.Author.Rules.{rules}
 use Rattle.finding.proofs.find.in_scope.Goals as goal
 
 pub returns-in-Past : goal.returns-in-Past

@@ -4,7 +4,6 @@ use Rattle.finding.specs.declared.find.Found.TheVariants.{Hit}
 use Rattle.finding.specs.Find.{in_seq_w, seq_spot}
 use Rattle.sock.proofs.Tests.{tests}
 use Rattle.finding.proofs.Finding.{seq_hollow, seq_shut}
-use borrow.Author.Rules.{rules}
 use Rattle.finding.proofs.find.in_seq.Goals as goal
 
 pub returns-then-s : goal.returns-then-s

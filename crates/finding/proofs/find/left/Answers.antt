@@ -1,6 +1,5 @@
 -- `left` of `finding::find` meets its contract: the left side of a par.
 use Rattle.finding.specs.Find.{left_w}
-use borrow.Author.Rules.{rules}
 use Rattle.finding.proofs.find.left.Goals as goal
 
 pub returns-then-s : goal.returns-then-s

@@ -1,5 +1,4 @@
 -- `locate` of `finding::find` meets its contract: the search, with levels that it can count.
-use borrow.Author.Rules.{rules}
 use Rattle.finding.proofs.find.locate.Goals as goal
 
 pub returns : goal.returns

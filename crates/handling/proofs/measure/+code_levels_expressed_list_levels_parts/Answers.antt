@@ -2,13 +2,10 @@
 -- left, from here and with the depth so far, measures as the whole does from its start; their measure: the parts left.
 use Rattle.layout.proofs.Others.{beyond}
 use lib.ListN.{get_or-eq_default}
-use mathlib.Core.Path.{◌≡◌, refl}
-use borrow.Author.Rules.{rules}
-use Rattle.handling.specs.Measuring.{code_levels, node_levels, expressed_levels, parts_levels, list_levels, entries_levels}
+use mathlib.Core.Path.{refl}
+use Rattle.handling.specs.Measuring.{code_levels, node_levels, expressed_levels, list_levels}
 use Rattle.handling.proofs.Levels.{code_levels_step, parts_levels_step, parts_levels_end, entries_levels_step, entries_levels_end}
 use Rattle.sock.proofs.Tests.{tests}
-use Prim.Native.Nat.{ℕ, ◌+◌, ◌*◌, ◌<◌}
-use Prim.Native.Nat.{ℕ, ◌<◌}
 use Rattle.handling.proofs.measure.+code_levels_expressed_list_levels_parts.Goals as goal
 
 pub code_levels-returns-then-depth-eq0 : goal.code_levels-returns-then-depth-eq0

@@ -1,5 +1,4 @@
 -- `handling::measure::level`: one level.
-use borrow.Author.Rules.{rules}
 use Rattle.handling.proofs.measure.level.Goals as goal
 
 pub returns : goal.returns

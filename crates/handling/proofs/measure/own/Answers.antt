@@ -1,5 +1,4 @@
 -- `handling::measure::own`: one level.
-use borrow.Author.Rules.{rules}
 use Rattle.handling.proofs.measure.own.Goals as goal
 
 pub returns : goal.returns

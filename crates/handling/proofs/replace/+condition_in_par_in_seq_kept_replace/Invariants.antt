@@ -1,15 +1,10 @@
 -- `handling::replace::replace` and the functions for single kinds that it goes round with. The measure is the depth left, times 3. The invariant
 -- of the loop in `kept`: the parts left, written from here on, give what all give from the start, and the output keeps its length; its
 -- measure: the parts left.
-use Prim.Native.Nat.{ℕ, ◌+◌, ◌*◌, ◌<◌}
-use mathlib.Core.Path.{◌≡◌, refl, sym, ◌∙◌}
-use borrow.Author.Rules.{rules}
-use lib.ListN.{length, get_or-eq_default}
-use Rattle.layout.proofs.Others.{beyond}
-use Rattle.sock.proofs.Tests.{tests}
-use Rattle.handling.proofs.Replacements.{replace_step, parts_step, parts_end, par_both, par_first, parts_turn}
-use Rattle.handling.specs.Replacing.{replace_w, node_w, seq_w, after_first, par_w, par_after, close_par, condition_w, kept_w, parts_w, nil_w}
-use Prim.Native.Nat.{ℕ, ◌<◌}
+use Prim.Native.Nat.{◌+◌, ◌*◌}
+use mathlib.Core.Path.{◌≡◌}
+use lib.ListN.{length}
+use Rattle.handling.specs.Replacing.{replace_w, parts_w}
 use Rattle.handling.proofs.replace.+condition_in_par_in_seq_kept_replace.Given as goal
 
 abbrev pub decreases-condition : goal.decreases-condition

@@ -1,7 +1,5 @@
 -- `handling::replace::in_place`: the old process stands for cH.
 use Rattle.handling.specs.Replacing.{c_hw}
-use Rattle.sock.proofs.Tests.{tests}
-use borrow.Author.Rules.{rules}
 use Rattle.handling.proofs.replace.in_place.Goals as goal
 
 pub returns : goal.returns

@@ -1,5 +1,4 @@
 -- `handling::replace::nil`: one word.
-use borrow.Author.Rules.{rules}
 use Rattle.handling.specs.Replacing.{nil_w}
 use Rattle.handling.proofs.replace.nil.Goals as goal
 

@@ -1,7 +1,5 @@
 -- `handling::replace::other`: a process without cH is copied.
 use Rattle.handling.specs.Replacing.{other_w}
-use Rattle.sock.proofs.Tests.{tests}
-use borrow.Author.Rules.{rules}
 use Rattle.handling.proofs.replace.other.Goals as goal
 
 pub returns : goal.returns

@@ -1,7 +1,5 @@
 -- `handling::replace::put_old`: nil, or a copy.
 use Rattle.handling.specs.Replacing.{old_end, old_out}
-use Rattle.sock.proofs.Tests.{tests}
-use borrow.Author.Rules.{rules}
 use Rattle.handling.proofs.replace.put_old.Goals as goal
 
 pub returns-then-old : goal.returns-then-old

@@ -1,7 +1,6 @@
 -- `handling::take::less_if`: one less where an entry was taken.
 use Rattle.handling.specs.Taking.{less_if}
 use Rattle.sock.proofs.Tests.{tests}
-use borrow.Author.Rules.{rules}
 use Rattle.handling.proofs.take.less_if.Goals as goal
 
 pub returns-then-upto-eq0 : goal.returns-then-upto-eq0

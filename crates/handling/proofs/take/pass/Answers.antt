@@ -1,7 +1,6 @@
 -- `handling::take::pass`: an entry is taken out, or copied.
 use Rattle.handling.specs.Taking.{pass_w}
 use Rattle.sock.proofs.Tests.{tests}
-use borrow.Author.Rules.{rules}
 use Rattle.handling.proofs.take.pass.Goals as goal
 
 pub returns-then-key_of-key : goal.returns-then-key_of-key

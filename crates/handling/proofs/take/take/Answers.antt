@@ -1,8 +1,7 @@
 -- `handling::take::take`. The loop's invariant: the entries left, passed from here on, give what all give from the start, and the output keeps
 -- its length. Its measure: the entries left.
-use mathlib.Core.Path.{◌≡◌, refl, sym, ap, ◌∙◌}
-use lib.ListN.{length}
-use Rattle.handling.specs.Taking.{passes_w, less_if, took_w, take_w}
+use mathlib.Core.Path.{refl, sym, ap, ◌∙◌}
+use Rattle.handling.specs.Taking.{less_if, took_w, take_w}
 use Rattle.handling.proofs.Turns.{passes_turn, passes_end}
 use borrow.Author.Rules.{rules}
 use Rattle.handling.proofs.take.take.Goals as goal

@@ -1,10 +1,8 @@
 -- `handling::take::take`. The loop's invariant: the entries left, passed from here on, give what all give from the start, and the output keeps
 -- its length. Its measure: the entries left.
-use mathlib.Core.Path.{◌≡◌, refl, sym, ap, ◌∙◌}
+use mathlib.Core.Path.{◌≡◌}
 use lib.ListN.{length}
-use Rattle.handling.specs.Taking.{passes_w, less_if, took_w, take_w}
-use Rattle.handling.proofs.Turns.{passes_turn, passes_end}
-use borrow.Author.Rules.{rules}
+use Rattle.handling.specs.Taking.{passes_w}
 use Rattle.handling.proofs.take.take.Given as goal
 
 abbrev pub invariant-loop-left : goal.invariant-loop-left

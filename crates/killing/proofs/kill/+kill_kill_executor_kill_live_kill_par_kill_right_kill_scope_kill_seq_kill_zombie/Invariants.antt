@@ -1,14 +1,6 @@
 -- `killing::kill::kill` and the functions for single kinds that it goes round with. The measure is the depth left, times 4: `kill` goes to a
 -- kind's function with one level less, and that back to `kill` with the same; a par and a scope go through one more function.
-use borrow.Author.Rules.{rules}
-use Rattle.killing.specs.Killing.{Killed, goes, kind_w, kill_w, seq_on, seq_w, right_on, right_w, left_on, par_w, zombie_on, zombie_w, live_on, live_w, scope_at, scope_w, executor_on, executor_w}
-use mathlib.Core.Path.{sym, ap, ◌∙◌}
-use mathlib.Core.List.{List}
-use Rattle.killing.proofs.Kills.{kill_step, executor_alone, executor_beside, live_made, par_gone, par_right, par_both, right_gone, right_nil, right_stays, scope_stuck}
-use Rattle.killing.specs.declared.kill.Moved.{Moved}
-use Rattle.sock.proofs.Tests.{tests}
-use Prim.Native.Nat.{ℕ, ◌+◌, ◌*◌, ◌<◌}
-use Prim.Native.Nat.{ℕ, ◌<◌}
+use Prim.Native.Nat.{◌+◌, ◌*◌}
 use Rattle.killing.proofs.kill.+kill_kill_executor_kill_live_kill_par_kill_right_kill_scope_kill_seq_kill_zombie.Given as goal
 
 abbrev pub decreases-kill : goal.decreases-kill

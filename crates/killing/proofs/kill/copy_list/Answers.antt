@@ -1,7 +1,6 @@
 -- `copy_list` of `killing::kill` meets its contract.
 use Rattle.killing.specs.Killing.{list_w, list_end_w}
 use Rattle.sock.proofs.Tests.{tests}
-use borrow.Author.Rules.{rules}
 use Rattle.killing.proofs.kill.copy_list.Goals as goal
 
 pub returns-then-ws-at : goal.returns-then-ws-at

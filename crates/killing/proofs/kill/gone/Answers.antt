@@ -1,6 +1,5 @@
 -- `killing::kill::gone`: by kind, an arm a line; the last arm has none of the seven kinds.
 use mathlib.Core.Path.{sym, ap, ◌∙◌}
-use borrow.Author.Rules.{rules}
 use Rattle.sock.proofs.Tests.{tests}
 use Rattle.killing.specs.Killing.{gone_kind, gone_w}
 use Rattle.killing.proofs.Kills.{gone_at}

@@ -1,7 +1,6 @@
 -- `killing::kill::keep`: a notice is copied.
 use Rattle.killing.specs.Killing.{kept_w}
 use Rattle.sock.proofs.Tests.{tests}
-use borrow.Author.Rules.{rules}
 use Rattle.killing.proofs.kill.keep.Goals as goal
 
 pub returns-then-ws-at : goal.returns-then-ws-at

@@ -1,7 +1,6 @@
 -- `killing::kill::kill_waiter`: its words are copied, then the second of them is set.
 use Rattle.killing.specs.Killing.{waiter_w}
 use Rattle.sock.proofs.Tests.{tests}
-use borrow.Author.Rules.{rules}
 use Rattle.killing.proofs.kill.kill_waiter.Goals as goal
 
 pub returns-then-ws-at : goal.returns-then-ws-at

@@ -3,7 +3,6 @@ use mathlib.Core.Path.{ap}
 use Rattle.killing.proofs.Kills.{notice_made}
 use Rattle.killing.specs.Killing.{Killed, notice_w}
 use Rattle.sock.proofs.Tests.{tests}
-use borrow.Author.Rules.{rules}
 use Rattle.killing.proofs.kill.notice.Goals as goal
 
 pub returns-then-ws-at : goal.returns-then-ws-at

@@ -3,7 +3,6 @@ use mathlib.Core.Path.{ap}
 use Rattle.killing.specs.Killing.{turned_w}
 use Rattle.killing.proofs.Kills.{turned_made}
 use Rattle.sock.proofs.Tests.{tests}
-use borrow.Author.Rules.{rules}
 use Rattle.killing.proofs.kill.turn_zombie.Goals as goal
 
 pub returns-then-ws-at : goal.returns-then-ws-at

@@ -1,7 +1,5 @@
 -- `killing::kill::vanish`: one word, nil.
 use Rattle.killing.specs.Killing.{vanished_w}
-use Rattle.sock.proofs.Tests.{tests}
-use borrow.Author.Rules.{rules}
 use Rattle.killing.proofs.kill.vanish.Goals as goal
 
 pub returns : goal.returns

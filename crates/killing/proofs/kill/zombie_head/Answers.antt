@@ -1,7 +1,6 @@
 -- `killing::kill::zombie_head`: around the hole mark 0, else mark 2.
 use Rattle.killing.specs.Killing.{head_for}
 use Rattle.sock.proofs.Tests.{tests}
-use borrow.Author.Rules.{rules}
 use Rattle.killing.proofs.kill.zombie_head.Goals as goal
 
 pub returns-then-ws-at : goal.returns-then-ws-at

@@ -1,7 +1,6 @@
 -- `further` of `layout::number` meets its contract: neither summand is beyond the figure, so the sum does not run over.
 use borrow.Author.Tests.{le-leb, lt-leb}
 use Rattle.layout.specs.Positions.{onward}
-use borrow.Author.Rules.{rules}
 use Rattle.layout.proofs.number.further.Goals as goal
 
 pub returns-then-to-ge1152921504606846976 : goal.returns-then-to-ge1152921504606846976

@@ -1,6 +1,5 @@
 -- `word` of `layout::number` meets its contract: behind the last word there is none.
 use lib.ListN.{get_or-eq_default}
-use borrow.Author.Rules.{rules}
 use Rattle.layout.proofs.number.word.Goals as goal
 
 pub returns-then-ws-at : goal.returns-then-ws-at

@@ -1,7 +1,6 @@
 -- `lists_end` of `layout::own` meets its contract.
 use Rattle.layout.specs.Own.{lists_end}
 use Rattle.sock.proofs.Tests.{tests}
-use borrow.Author.Rules.{rules}
 use Rattle.layout.proofs.own.lists_end.Goals as goal
 
 pub returns-then-lists-eq0 : goal.returns-then-lists-eq0

@@ -4,7 +4,6 @@ use mathlib.Core.Path.{◌∙◌}
 use Rattle.sock.proofs.Tests.{tests}
 use Rattle.layout.specs.Own.{own_end}
 use Rattle.layout.proofs.Owns.{end_by}
-use borrow.Author.Rules.{rules}
 use Rattle.layout.proofs.own.own_end.Goals as goal
 
 pub returns-then-ws-at : goal.returns-then-ws-at

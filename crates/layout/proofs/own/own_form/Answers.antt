@@ -5,7 +5,6 @@ use mathlib.Core.Path.{sym, ap}
 use Rattle.sock.specs.Kind.{rows, row_of}
 use Rattle.sock.specs.Counts.{word_count, list_count, counted, counts_of}
 use Rattle.layout.specs.Own.{own_form}
-use Rattle.layout.proofs.Others.{beyond}
 use Rattle.layout.proofs.Owns.{form_beyond}
 use Rattle.layout.proofs.own.own_form.Goals as goal
 

@@ -1,7 +1,6 @@
 -- `variables_end` of `layout::own` meets its contract.
 use Rattle.layout.specs.Own.{variables_end}
 use Rattle.sock.proofs.Tests.{tests}
-use borrow.Author.Rules.{rules}
 use Rattle.layout.proofs.own.variables_end.Goals as goal
 
 pub returns-then-ws-at : goal.returns-then-ws-at

@@ -1,12 +1,6 @@
 -- `enabled`, `executor`, `noted`, `par`, `scope` and `seq` of `noting::enabled` meet their contracts. The measure is three times
 -- the depth that is left, and for the same depth who calls whom.
-use Prim.Native.Nat.{ℕ, ◌+◌, ◌*◌, ◌<◌}
-use native.Mathlib.Omega.{arith}
-use mathlib.Core.Path.{refl, sym, ◌∙◌}
-use borrow.Author.Rules.{rules}
-use Rattle.reading.specs.Walk.{node_end}
-use Rattle.noting.specs.Noting.{noting, notes_w}
-use Rattle.noting.proofs.Notes.{Headed, none_deep, none_left, refused, others, one_word, a_seq, a_par, a_scope, an_executor, par_ends, leaf_ends, two_none, two_next, seq_none, seq_next, par_none, par_next, scope_short, scope_none, scope_next, executor_none, executor_next, same_note}
+use Prim.Native.Nat.{◌+◌, ◌*◌}
 use Rattle.noting.proofs.enabled.+enabled_executor_noted_par_scope_seq.Given as goal
 
 abbrev pub decreases-enabled : goal.decreases-enabled

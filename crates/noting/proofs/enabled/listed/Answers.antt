@@ -3,7 +3,6 @@ use Prim.Native.Nat.{◌+◌}
 use mathlib.Core.Path.{ap, ◌∙◌}
 use Rattle.reading.specs.Walk.{process_end, marked_end}
 use Rattle.noting.proofs.Notes.{bare_list}
-use borrow.Author.Rules.{rules}
 use Rattle.noting.proofs.enabled.listed.Goals as goal
 
 pub returns-then-h-fault-eq0 : goal.returns-then-h-fault-eq0

@@ -3,7 +3,6 @@ use mathlib.Core.Path.{refl, sym}
 use lib.Seq.{set_out}
 use Rattle.noting.specs.Noting.{note_w}
 use Rattle.noting.proofs.Notes.{note_behind}
-use borrow.Author.Rules.{rules}
 use Rattle.noting.proofs.enabled.note.Goals as goal
 
 pub returns-then-notes-at : goal.returns-then-notes-at

@@ -3,7 +3,6 @@ use mathlib.Core.Path.{refl, sym}
 use lib.Seq.{set_out}
 use Rattle.noting.specs.Noting.{note_list_w}
 use Rattle.noting.proofs.Notes.{note_list_behind}
-use borrow.Author.Rules.{rules}
 use Rattle.noting.proofs.enabled.note_list.Goals as goal
 
 pub returns-then-notes-at : goal.returns-then-notes-at

@@ -1,6 +1,5 @@
 -- `plain_leaf` of `noting::enabled` meets its contract: the context first, then the bits below the name, then the kind.
 use Rattle.sock.proofs.Tests.{tests}
-use borrow.Author.Rules.{rules}
 use Rattle.noting.specs.Noting.{plain_leaf}
 use Rattle.noting.proofs.enabled.plain_leaf.Goals as goal
 

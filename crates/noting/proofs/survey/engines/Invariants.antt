@@ -1,16 +1,11 @@
 -- `engines` of `noting::survey` meets its contract. The loop's invariant: the walk and the notes from here give what they give from the start.
 -- The measure is the engines left.
 use Prim.Native.Nat.{◌-◌, ◌≤◌}
-use native.Mathlib.Omega.{arith}
-use native.Mathlib.Nat.{sub-zero}
-use mathlib.Core.Path.{◌≡◌, refl}
+use mathlib.Core.Path.{◌≡◌}
 use lib.ListN.{length, replicate}
 use Rattle.reading.specs.Walk.{process_end}
 use Rattle.reading.specs.Survey.{engines_from}
-use Rattle.reading.proofs.Surveys.{process_inside, no_values, no_process, next_engine, more_words, all_read}
 use Rattle.noting.specs.Noting.{engines_notes}
-use Rattle.noting.proofs.Notes.{notes_short, notes_all, notes_none, notes_next}
-use borrow.Author.Rules.{rules}
 use Rattle.noting.proofs.survey.engines.Given as goal
 
 abbrev pub invariant-loop-e : goal.invariant-loop-e

@@ -4,7 +4,6 @@ use mathlib.Core.Path.{◌∙◌}
 use Rattle.layout.specs.Limits.{figures}
 use Rattle.reading.proofs.Surveys.{is_open, surveyed_all, surveyed_none}
 use Rattle.noting.proofs.Notes.{survey_notes_lem, survey_none}
-use borrow.Author.Rules.{rules}
 use Rattle.noting.proofs.survey.survey.Goals as goal
 
 pub bounds-ws-0 : goal.bounds-ws-0

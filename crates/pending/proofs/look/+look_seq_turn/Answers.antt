@@ -1,12 +1,10 @@
 -- `look`, `seq` and `turn` of `pending::look` meet their contracts. The invariant: the mirror's loop from here on gives what it gives from the start;
 -- its measure is the turns left. The measure of the calls is three times the depth, which falls from a process to the first of a seq in it, and
 -- for the same depth who calls whom.
-use mathlib.Core.Path.{◌≡◌, ◌∙◌}
-use borrow.Author.Rules.{rules}
+use mathlib.Core.Path.{◌∙◌}
 use Rattle.sock.proofs.Tests.{tests}
-use Rattle.pending.specs.Looking.{seq_on, seq_w, kind_w, turn_w, loop_w, look_w}
+use Rattle.pending.specs.Looking.{seq_on, seq_w, kind_w, turn_w}
 use Rattle.pending.proofs.Turns.{no_depth, look_start, loop_done, loop_out, loop_ends, loop_turn}
-use Prim.Native.Nat.{ℕ, ◌+◌, ◌-◌, ◌*◌, ◌<◌}
 use Rattle.pending.proofs.look.+look_seq_turn.Goals as goal
 
 pub look-returns-then-depth-eq0 : goal.look-returns-then-depth-eq0

@@ -1,5 +1,4 @@
 -- `pending::look::behind`: by whether the kind is par.
-use borrow.Author.Rules.{rules}
 use Rattle.sock.proofs.Tests.{tests}
 use Rattle.pending.specs.Looking.{behind_w}
 use Rattle.pending.proofs.look.behind.Goals as goal

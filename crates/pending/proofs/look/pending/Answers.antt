@@ -1,5 +1,4 @@
 -- `pending::look::pending`: the search up to the process's end.
-use borrow.Author.Rules.{rules}
 use Rattle.pending.specs.Looking.{pending_w}
 use Rattle.pending.proofs.look.pending.Goals as goal
 

@@ -1,5 +1,4 @@
 -- `pending::look::scope`: a zombie's body, a live one's that is not nil, or the end of the search.
-use borrow.Author.Rules.{rules}
 use Rattle.sock.proofs.Tests.{tests}
 use Rattle.pending.specs.Looking.{scope_w}
 use Rattle.pending.proofs.look.scope.Goals as goal

@@ -1,9 +1,7 @@
 -- `any_pending` and `beside` of `pending::sides` meet their contracts. The measure is the depth left, times 2: a par goes through one more function.
-use borrow.Author.Rules.{rules}
 use Rattle.sock.proofs.Tests.{tests}
 use Rattle.pending.specs.Looking.{beside_w, across_w, sides_w}
 use Rattle.pending.proofs.Turns.{sides_step, sides_here}
-use Prim.Native.Nat.{ℕ, ◌+◌, ◌*◌, ◌<◌}
 use Rattle.pending.proofs.sides.+any_pending_beside.Goals as goal
 
 pub any_pending-returns-then-depth-eq0 : goal.any_pending-returns-then-depth-eq0

@@ -1,5 +1,4 @@
 -- `pending::sides::found`: whether the search ended at a pending process.
-use borrow.Author.Rules.{rules}
 use Rattle.pending.specs.Looking.{found_w}
 use Rattle.pending.proofs.sides.found.Goals as goal
 

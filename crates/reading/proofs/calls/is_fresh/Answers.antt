@@ -3,7 +3,6 @@ use Rattle.reading.proofs.Known.{Known, code_known, known_length, few_engines, s
 use Rattle.reading.proofs.Checks.{not_code, some_issued, none_issued}
 use Rattle.layout.specs.Limits.{figures}
 use native.Mathlib.Omega.{arith}
-use borrow.Author.Rules.{rules}
 use Rattle.reading.proofs.calls.is_fresh.Goals as goal
 use Rattle.reading.proofs.calls.is_fresh.Goals.{Else-n-eq0}
 

@@ -1,10 +1,7 @@
 -- `calls::none_nil` meets its contract. The loop's invariant: the walk from here gives what it gives from the start. The measure is the engines left.
-use Prim.Native.Nat.{◌-◌, ◌≤◌}
 use native.Mathlib.Omega.{arith}
 use native.Mathlib.Nat.{sub-zero}
-use mathlib.Core.Path.{◌≡◌, refl, ◌∙◌}
-use borrow.Author.Rules.{rules}
-use Rattle.reading.specs.Tally.{none_nil}
+use mathlib.Core.Path.{refl, ◌∙◌}
 use Rattle.reading.proofs.Freshness.{nil_met, nil_passed, nil_none}
 use Rattle.reading.proofs.calls.none_nil.Goals as goal
 

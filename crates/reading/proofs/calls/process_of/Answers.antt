@@ -4,7 +4,6 @@ use mathlib.Core.Path.{ap, ◌∙◌}
 use Rattle.reading.proofs.Lent.{Lent, is_lent, none_lent}
 use native.Mathlib.Omega.{arith}
 use Rattle.sock.specs.Configuration.{standard}
-use borrow.Author.Rules.{rules}
 use Rattle.reading.proofs.calls.process_of.Goals as goal
 use Rattle.reading.proofs.calls.process_of.Goals.{Else-n-e}
 

@@ -1,6 +1,5 @@
 -- `readable_at` of `reading::calls` meets its contract: the survey has an engine exactly where the definitions read a configuration.
 use Rattle.reading.proofs.Checks.{not_readable, is_readable}
-use borrow.Author.Rules.{rules}
 use Rattle.reading.proofs.calls.readable_at.Goals as goal
 
 pub returns-then-s-eq0 : goal.returns-then-s-eq0

@@ -1,6 +1,5 @@
 -- `start_at` of `reading::calls` meets its contract: fresh is asked first, then whether it is readable at all.
 use Rattle.reading.proofs.Checks.{start_fresh, start_stale, start_unread}
-use borrow.Author.Rules.{rules}
 use Rattle.reading.proofs.calls.start_at.Goals as goal
 
 pub returns-then-is_fresh : goal.returns-then-is_fresh

@@ -1,15 +1,6 @@
 -- `tally`, `tally_executor`, `tally_par`, `tally_scope` and `tally_seq` of `reading::ends` meet their contracts. The measure is twice the depth, and
 -- one more for a seq, par, scope or executor, which counts one level down. Counts do not run over: there are no more ends than words.
-use mathlib.Core.Path.{◌≡◌, ◌∙◌}
-use borrow.Author.Rules.{rules}
-use native.Mathlib.Omega.{arith}
-use Rattle.reading.proofs.Counting.{tally_step, tally_node, tally_bounded, own_below, sums_below}
-use Rattle.sock.specs.Words.{kind_of}
-use Rattle.layout.specs.Contexts.{running}
-use Rattle.reading.specs.Walk.{process_end}
-use Rattle.reading.specs.Tally.{after, seq_tally, par_tally, scope_tally, executor_tally, node_tally, tally_at}
-use Rattle.sock.proofs.Tests.{tests}
-use Prim.Native.Nat.{ℕ, ◌+◌, ◌-◌, ◌*◌, ◌<◌}
+use Prim.Native.Nat.{◌+◌, ◌*◌}
 use Rattle.reading.proofs.ends.+tally_tally_executor_tally_par_tally_scope_tally_seq.Given as goal
 
 abbrev pub decreases-tally : goal.decreases-tally

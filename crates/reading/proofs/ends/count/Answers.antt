@@ -1,7 +1,6 @@
 -- `count` of `reading::ends` meets its contract: nothing is counted where there is no end.
 use Rattle.reading.specs.Tally.{counted}
 use Rattle.sock.proofs.Tests.{tests}
-use borrow.Author.Rules.{rules}
 use Rattle.reading.proofs.ends.count.Goals as goal
 
 pub returns-then-end-eq0 : goal.returns-then-end-eq0

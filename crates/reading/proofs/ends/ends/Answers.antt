@@ -4,7 +4,6 @@ use Rattle.reading.proofs.Known.{Known, survey_known, known_length, few_engines}
 use mathlib.Core.Path.{refl, ◌∙◌}
 use native.Mathlib.Omega.{arith}
 use Rattle.sock.specs.Configuration.{standard}
-use borrow.Author.Rules.{rules}
 use Rattle.reading.proofs.ends.ends.Goals as goal
 use Rattle.reading.proofs.ends.ends.Goals.{Else-n-eq0}
 

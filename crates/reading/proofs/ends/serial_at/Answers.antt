@@ -2,7 +2,6 @@
 use native.Mathlib.Omega.{arith}
 use Rattle.reading.specs.Tally.{serial_at}
 use Rattle.sock.proofs.Tests.{tests}
-use borrow.Author.Rules.{rules}
 use Rattle.reading.proofs.ends.serial_at.Goals as goal
 
 pub returns-then-ws-at-lt3 : goal.returns-then-ws-at-lt3

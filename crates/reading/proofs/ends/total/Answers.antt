@@ -1,12 +1,9 @@
 -- `ends::total` meets its contract. The loop's invariant: the walk from here gives what it gives from the start, and no engine has more
 -- ends than words. The measure is the engines left.
-use Prim.Native.Nat.{◌-◌, ◌*◌, ◌≤◌}
 use native.Mathlib.Omega.{arith}
 use native.Mathlib.Nat.{sub-zero}
-use mathlib.Core.Path.{◌≡◌, refl, ◌∙◌}
+use mathlib.Core.Path.{refl, ◌∙◌}
 use lib.ListN.{get_or}
-use borrow.Author.Rules.{rules}
-use Rattle.reading.specs.Tally.{tally_at, total_from}
 use Rattle.reading.proofs.Counting.{tally_bounded, counts_below, total_turn, total_end}
 use Rattle.reading.proofs.ends.total.Goals as goal
 

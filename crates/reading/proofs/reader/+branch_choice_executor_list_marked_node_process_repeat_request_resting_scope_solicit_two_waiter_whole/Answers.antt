@@ -2,13 +2,12 @@
 -- for who calls whom: scope, then solicit, waiter, marked, branch and choice, then `list` and those that call `process` alone, then `process`,
 -- `whole` and `node`. Invariants: in `process`, what is read from here on, and then what is kept for later, ends where the whole does (`Later.Going`);
 -- in `list` and `choice`, the entries or branches that are left end where all of them do. Each loop's measure is what is left to read.
-use Prim.Native.Nat.{ℕ, ◌+◌, ◌*◌, ◌-◌, ◌<◌}
+use Prim.Native.Nat.{ℕ, ◌+◌, ◌*◌, ◌-◌}
 use native.Mathlib.Omega.{arith}
 use mathlib.Core.Path.{◌≡◌, refl, ap, ◌∙◌}
-use borrow.Author.Rules.{rules}
-use lib.ListN.{length, get_or-eq_default}
+use lib.ListN.{get_or-eq_default}
 use Rattle.reading.proofs.Fitting.{slot_small}
-use Rattle.reading.proofs.Later.{Going, begins, Ready, small, three_tests, too_deep_lem, no_words, whole_fails, read_last, read_next, leaf_last, leaf_next, part_next, past_node, past_whole}
+use Rattle.reading.proofs.Later.{begins, Ready, small, three_tests, too_deep_lem, no_words, whole_fails, read_last, read_next, leaf_last, leaf_next, part_next, past_node, past_whole}
 use Rattle.layout.proofs.Others.{beyond}
 use Rattle.sock.proofs.Tests.{tests}
 use Rattle.reading.proofs.Walks.{process_step, branches_step, branches_end_lem, entries_step, entries_end_lem, process_node, process_refused, key_inside, entries_turn}

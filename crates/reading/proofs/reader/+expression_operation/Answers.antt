@@ -2,11 +2,9 @@
 -- reads its operands one level down.
 use lib.ListN.{get_or-eq_default}
 use Rattle.layout.proofs.Others.{beyond}
-use borrow.Author.Rules.{rules}
 use Rattle.reading.specs.Walk.{expr_end, expr_at, operation_end, on, when}
 use Rattle.reading.proofs.Walks.{expr_step}
 use Rattle.sock.proofs.Tests.{tests}
-use Prim.Native.Nat.{ℕ, ◌+◌, ◌*◌, ◌<◌}
 use Rattle.reading.proofs.reader.+expression_operation.Goals as goal
 
 pub expression-returns-then-depth-eq0 : goal.expression-returns-then-depth-eq0

@@ -1,7 +1,6 @@
 -- `constant` of `reading::reader` meets its contract: no bit behind the first three, and two words follow.
 use Rattle.reading.specs.Walk.{constant_end, when}
 use Rattle.sock.proofs.Tests.{tests}
-use borrow.Author.Rules.{rules}
 use Rattle.reading.proofs.reader.constant.Goals as goal
 
 pub returns-then-w-ne0 : goal.returns-then-w-ne0

@@ -1,9 +1,6 @@
 -- `distinct` of `reading::reader` meets its contract. The invariant: those left are all different if all are. The measure is how many are left.
-use mathlib.Core.Path.{◌≡◌, refl}
-use borrow.Author.Rules.{rules}
-use borrow.Author.Tests.{lt-ltb, le-ltb}
+use mathlib.Core.Path.{◌≡◌}
 use Rattle.reading.specs.Walk.{distinct_from}
-use Rattle.reading.proofs.VariableWalks.{distinct_step, distinct_end}
 use Rattle.reading.proofs.reader.distinct.Given as goal
 
 abbrev pub invariant-loop-n : goal.invariant-loop-n

@@ -1,7 +1,6 @@
 -- `end` of `reading::reader` meets its contract: the five tests in order, each passed where the next is made.
 use Rattle.reading.specs.Walk.{end_after}
 use Rattle.sock.proofs.Tests.{tests}
-use borrow.Author.Rules.{rules}
 use Rattle.reading.proofs.reader.end.Goals as goal
 
 pub returns-then-ws-at-lt3 : goal.returns-then-ws-at-lt3

@@ -1,7 +1,6 @@
 -- `executor_own` of `reading::reader` meets its contract.
 use Rattle.reading.specs.Walk.{when, executor_own}
 use Rattle.sock.proofs.Tests.{tests}
-use borrow.Author.Rules.{rules}
 use Rattle.reading.proofs.reader.executor_own.Goals as goal
 
 pub returns-then-ws-at : goal.returns-then-ws-at

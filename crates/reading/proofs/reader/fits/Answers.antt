@@ -5,7 +5,6 @@ use lib.Bits.{and_le_r}
 use Rattle.reading.specs.Walk.{fits_at}
 use Rattle.reading.proofs.Fitting.{fits_not, fits_last}
 use Rattle.sock.proofs.Tests.{tests}
-use borrow.Author.Rules.{rules}
 use Rattle.reading.proofs.reader.fits.Goals as goal
 
 pub returns-then-ws-at : goal.returns-then-ws-at

@@ -1,7 +1,6 @@
 -- `fixed` of `reading::reader` meets its contract: the word stands, and its bits below the unit are 0.
 use Rattle.reading.specs.Walk.{fixed_after}
 use Rattle.sock.proofs.Tests.{tests}
-use borrow.Author.Rules.{rules}
 use Rattle.reading.proofs.reader.fixed.Goals as goal
 
 pub returns-then-ws-at-lt2 : goal.returns-then-ws-at-lt2

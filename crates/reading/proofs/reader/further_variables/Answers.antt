@@ -1,9 +1,8 @@
 -- `further_variables` of `reading::reader` meets its contract. The invariant: the variables that are left end where all do. The measure is how many are left.
-use mathlib.Core.Path.{◌≡◌, refl}
-use borrow.Author.Rules.{rules}
+use mathlib.Core.Path.{refl}
 use borrow.Author.Tests.{lt-ltb, le-ltb}
 use Rattle.sock.proofs.Tests.{tests}
-use Rattle.reading.specs.Walk.{when, further_end}
+use Rattle.reading.specs.Walk.{when}
 use Rattle.reading.proofs.VariableWalks.{further_step, further_end_lem}
 use Rattle.reading.proofs.reader.further_variables.Goals as goal
 

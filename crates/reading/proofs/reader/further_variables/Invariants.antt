@@ -1,10 +1,6 @@
 -- `further_variables` of `reading::reader` meets its contract. The invariant: the variables that are left end where all do. The measure is how many are left.
-use mathlib.Core.Path.{◌≡◌, refl}
-use borrow.Author.Rules.{rules}
-use borrow.Author.Tests.{lt-ltb, le-ltb}
-use Rattle.sock.proofs.Tests.{tests}
-use Rattle.reading.specs.Walk.{when, further_end}
-use Rattle.reading.proofs.VariableWalks.{further_step, further_end_lem}
+use mathlib.Core.Path.{◌≡◌}
+use Rattle.reading.specs.Walk.{further_end}
 use Rattle.reading.proofs.reader.further_variables.Given as goal
 
 abbrev pub invariant-loop-n : goal.invariant-loop-n

@@ -1,10 +1,8 @@
 -- `is_among` of `reading::reader` meets its contract. The invariant: x is among those left if it is among all. The measure is how many are left.
 use Prim.Native.Nat.{◌/◌}
-use mathlib.Core.Path.{◌≡◌, refl}
-use borrow.Author.Rules.{rules}
+use mathlib.Core.Path.{refl}
 use borrow.Author.Tests.{lt-ltb, le-ltb, eq-eqb}
 use Rattle.sock.proofs.Tests.{tests}
-use Rattle.reading.specs.Walk.{among}
 use Rattle.reading.proofs.VariableWalks.{among_step, among_end}
 use Rattle.reading.proofs.reader.is_among.Goals as goal
 

@@ -1,11 +1,6 @@
 -- `is_among` of `reading::reader` meets its contract. The invariant: x is among those left if it is among all. The measure is how many are left.
-use Prim.Native.Nat.{◌/◌}
-use mathlib.Core.Path.{◌≡◌, refl}
-use borrow.Author.Rules.{rules}
-use borrow.Author.Tests.{lt-ltb, le-ltb, eq-eqb}
-use Rattle.sock.proofs.Tests.{tests}
+use mathlib.Core.Path.{◌≡◌}
 use Rattle.reading.specs.Walk.{among}
-use Rattle.reading.proofs.VariableWalks.{among_step, among_end}
 use Rattle.reading.proofs.reader.is_among.Given as goal
 
 abbrev pub invariant-loop-n : goal.invariant-loop-n

@@ -1,6 +1,5 @@
 -- `met_by` of `reading::reader` meets its contract: a test without `||`.
 use Rattle.sock.proofs.Tests.{tests}
-use borrow.Author.Rules.{rules}
 use Rattle.reading.proofs.reader.met_by.Goals as goal
 
 pub returns : goal.returns

@@ -1,7 +1,6 @@
 -- `notice` of `reading::reader` meets its contract: where its two words stand and fit, it ends three words on.
 use Rattle.reading.specs.Walk.{notice_end, when}
 use Rattle.sock.proofs.Tests.{tests}
-use borrow.Author.Rules.{rules}
 use Rattle.reading.proofs.reader.notice.Goals as goal
 
 pub returns-then-end : goal.returns-then-end

@@ -1,7 +1,6 @@
 -- `notify` of `reading::reader` meets its contract.
 use Rattle.reading.specs.Walk.{when, notify_end}
 use Rattle.sock.proofs.Tests.{tests}
-use borrow.Author.Rules.{rules}
 use Rattle.reading.proofs.reader.notify.Goals as goal
 
 pub returns-then-fixed : goal.returns-then-fixed

@@ -1,7 +1,6 @@
 -- `one_way` of `reading::reader` meets its contract.
 use Rattle.reading.specs.Walk.{one_way_end}
 use Rattle.sock.proofs.Tests.{tests}
-use borrow.Author.Rules.{rules}
 use Rattle.reading.proofs.reader.one_way.Goals as goal
 
 pub returns : goal.returns

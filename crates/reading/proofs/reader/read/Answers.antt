@@ -1,5 +1,4 @@
 -- `read` of `reading::reader` meets its contract: nothing is read in what is no context.
-use borrow.Author.Rules.{rules}
 use Rattle.reading.proofs.Beyond.{read_beyond}
 use Rattle.reading.proofs.reader.read.Goals as goal
 

@@ -1,6 +1,5 @@
 -- `ready` of `reading::reader` meets its contract: room to keep parts is tested first, then what stands there.
 use Rattle.sock.proofs.Tests.{tests}
-use borrow.Author.Rules.{rules}
 use Rattle.reading.proofs.reader.ready.Goals as goal
 
 pub returns-then-depth-gt-DEEP : goal.returns-then-depth-gt-DEEP

@@ -1,7 +1,6 @@
 -- `receiving` of `reading::reader` meets its contract.
 use Rattle.reading.specs.Walk.{on, when, variables_end, receiving_end}
 use Rattle.sock.proofs.Tests.{tests}
-use borrow.Author.Rules.{rules}
 use Rattle.reading.proofs.reader.receiving.Goals as goal
 
 pub returns-then-ws-at : goal.returns-then-ws-at

@@ -1,7 +1,6 @@
 -- `slot` of `reading::reader` meets its contract: by kind, or behind all kinds by the first three bits of an expression.
 use Rattle.reading.specs.Walk.{slot_of}
 use Rattle.sock.proofs.Tests.{tests}
-use borrow.Author.Rules.{rules}
 use Rattle.reading.proofs.reader.slot.Goals as goal
 
 pub returns-then-context-eq-EXPRESSION : goal.returns-then-context-eq-EXPRESSION

@@ -1,7 +1,6 @@
 -- `variables` of `reading::reader` meets its contract.
 use Rattle.reading.specs.Walk.{when, variables_end}
 use Rattle.sock.proofs.Tests.{tests}
-use borrow.Author.Rules.{rules}
 use Rattle.reading.proofs.reader.variables.Goals as goal
 
 pub returns-then-ws-at : goal.returns-then-ws-at

@@ -1,12 +1,7 @@
 -- `survey::engines` meets its contract. The loop's invariant: the walk from here gives what it gives from the start. The measure is the engines left.
 use Prim.Native.Nat.{◌-◌, ◌≤◌}
-use mathlib.Core.Path.{◌≡◌, refl}
+use mathlib.Core.Path.{◌≡◌}
 use lib.ListN.{length, replicate}
-use borrow.Author.Rules.{rules}
-use native.Mathlib.Omega.{arith}
-use native.Mathlib.Nat.{sub-zero}
-use Rattle.reading.proofs.Beyond.{read_inside}
-use Rattle.reading.proofs.Surveys.{no_values, no_process, next_engine, more_words, all_read}
 use Rattle.reading.specs.Walk.{process_end}
 use Rattle.reading.specs.Survey.{engines_from}
 use Rattle.reading.proofs.survey.engines.Given as goal

@@ -1,7 +1,6 @@
 -- `opened` of `reading::survey` meets its contract: the four tests in order, each passed where the next is made.
 use Rattle.reading.specs.Survey.{opens}
 use Rattle.sock.proofs.Tests.{tests}
-use borrow.Author.Rules.{rules}
 use Rattle.reading.proofs.survey.opened.Goals as goal
 
 pub returns-then-ws-lt-HEADER : goal.returns-then-ws-lt-HEADER

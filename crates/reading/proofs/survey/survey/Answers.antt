@@ -3,7 +3,6 @@ use native.Mathlib.Omega.{arith}
 use mathlib.Core.Path.{◌∙◌}
 use Rattle.layout.specs.Limits.{figures}
 use Rattle.reading.proofs.Surveys.{is_open, surveyed_all, surveyed_none}
-use borrow.Author.Rules.{rules}
 use Rattle.reading.proofs.survey.survey.Goals as goal
 
 pub bounds-ws-0 : goal.bounds-ws-0

@@ -1,5 +1,4 @@
 -- `tables::head_mask` meets its contract: what is looked up is what the definitions' tests say.
-use borrow.Author.Rules.{rules}
 use Rattle.reading.proofs.Masks.{no_kind, mask_none, mask_kind}
 use Rattle.reading.proofs.tables.head_mask.Goals as goal
 

@@ -1,7 +1,6 @@
 -- `assign` of `rules::alone` meets its contract: the code is its mirror in specs/.
 use Rattle.rules.specs.Rewriting.{assign_w}
 use Rattle.sock.proofs.Tests.{tests}
-use borrow.Author.Rules.{rules}
 use Rattle.rules.proofs.alone.assign.Goals as goal
 
 pub returns : goal.returns

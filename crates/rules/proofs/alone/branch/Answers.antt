@@ -1,7 +1,6 @@
 -- `branch` of `rules::alone` meets its contract: the code is its mirror in specs/.
 use Rattle.rules.specs.Rewriting.{branch_w}
 use Rattle.sock.proofs.Tests.{tests}
-use borrow.Author.Rules.{rules}
 use Rattle.rules.proofs.alone.branch.Goals as goal
 
 pub returns-then-e-eq0 : goal.returns-then-e-eq0

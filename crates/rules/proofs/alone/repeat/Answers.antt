@@ -1,7 +1,6 @@
 -- `repeat` of `rules::alone` meets its contract: the code is its mirror in specs/.
 use Rattle.rules.specs.Rewriting.{repeat_w}
 use Rattle.sock.proofs.Tests.{tests}
-use borrow.Author.Rules.{rules}
 use Rattle.rules.proofs.alone.repeat.Goals as goal
 
 pub returns-then-e-eq0 : goal.returns-then-e-eq0

@@ -1,7 +1,6 @@
 -- `unroll` of `rules::alone` meets its contract: the code is its mirror in specs/.
 use Rattle.rules.specs.Rewriting.{unroll_w}
 use Rattle.sock.proofs.Tests.{tests}
-use borrow.Author.Rules.{rules}
 use Rattle.rules.proofs.alone.unroll.Goals as goal
 
 pub returns : goal.returns

@@ -1,7 +1,6 @@
 -- `become_nil` of `rules::edit` meets its contract: the code is its mirror in specs/.
 use Rattle.rules.specs.Editing.{nil_w}
 use Rattle.sock.proofs.Tests.{tests}
-use borrow.Author.Rules.{rules}
 use Rattle.rules.proofs.edit.become_nil.Goals as goal
 
 pub returns : goal.returns

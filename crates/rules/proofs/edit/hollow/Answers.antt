@@ -1,7 +1,6 @@
 -- `hollow` of `rules::edit` meets its contract: the code is its mirror in specs/.
 use Rattle.rules.specs.Editing.{hollow_w}
 use Rattle.sock.proofs.Tests.{tests}
-use borrow.Author.Rules.{rules}
 use Rattle.rules.proofs.edit.hollow.Goals as goal
 
 pub returns-then-hollow : goal.returns-then-hollow

@@ -1,7 +1,6 @@
 -- `plain` of `rules::edit` meets its contract: the code is its mirror in specs/.
 use Rattle.rules.specs.Editing.{plain_w}
 use Rattle.sock.proofs.Tests.{tests}
-use borrow.Author.Rules.{rules}
 use Rattle.rules.proofs.edit.plain.Goals as goal
 
 pub returns-then-t : goal.returns-then-t

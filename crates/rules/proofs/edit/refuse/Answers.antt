@@ -1,6 +1,5 @@
 -- `refuse` of `rules::edit` meets its contract: the code is its mirror in specs/.
 use Rattle.sock.proofs.Tests.{tests}
-use borrow.Author.Rules.{rules}
 use Rattle.rules.proofs.edit.refuse.Goals as goal
 
 pub returns : goal.returns

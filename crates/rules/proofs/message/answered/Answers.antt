@@ -1,7 +1,6 @@
 -- `answered` of `rules::message` meets its contract: the code is its mirror in specs/.
 use Rattle.rules.specs.Messages.{answered_w}
 use Rattle.sock.proofs.Tests.{tests}
-use borrow.Author.Rules.{rules}
 use Rattle.rules.proofs.message.answered.Goals as goal
 
 pub returns : goal.returns

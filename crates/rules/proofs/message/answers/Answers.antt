@@ -1,7 +1,6 @@
 -- `answers` of `rules::message` meets its contract: the code is its mirror in specs/.
 use Rattle.rules.specs.Messages.{answers_w}
 use Rattle.sock.proofs.Tests.{tests}
-use borrow.Author.Rules.{rules}
 use Rattle.rules.proofs.message.answers.Goals as goal
 
 pub returns : goal.returns

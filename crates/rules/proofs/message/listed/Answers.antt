@@ -1,7 +1,6 @@
 -- `listed` of `rules::message` meets its contract: the code is its mirror in specs/.
 use Rattle.rules.specs.Messages.{listed_w}
 use Rattle.sock.proofs.Tests.{tests}
-use borrow.Author.Rules.{rules}
 use Rattle.rules.proofs.message.listed.Goals as goal
 
 pub returns-then-i-eq0 : goal.returns-then-i-eq0

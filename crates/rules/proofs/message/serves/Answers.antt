@@ -1,7 +1,6 @@
 -- `serves` of `rules::message` meets its contract: the code is its mirror in specs/.
 use Rattle.rules.specs.Messages.{serves_w}
 use Rattle.sock.proofs.Tests.{tests}
-use borrow.Author.Rules.{rules}
 use Rattle.rules.proofs.message.serves.Goals as goal
 
 pub returns-then-alike : goal.returns-then-alike

@@ -1,7 +1,6 @@
 -- `answer` of `rules::pair` meets its contract: the code is its mirror in specs/.
 use Rattle.rules.specs.Offering.{answer_w}
 use Rattle.sock.proofs.Tests.{tests}
-use borrow.Author.Rules.{rules}
 use Rattle.rules.proofs.pair.answer.Goals as goal
 
 pub returns : goal.returns

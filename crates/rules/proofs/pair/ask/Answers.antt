@@ -1,7 +1,6 @@
 -- `ask` of `rules::pair` meets its contract: the code is its mirror in specs/.
 use Rattle.rules.specs.Offering.{ask_w}
 use Rattle.sock.proofs.Tests.{tests}
-use borrow.Author.Rules.{rules}
 use Rattle.rules.proofs.pair.ask.Goals as goal
 
 pub returns : goal.returns

@@ -1,7 +1,6 @@
 -- `awaits` of `rules::pair` meets its contract: the code is its mirror in specs/.
 use Rattle.rules.specs.Offering.{awaits_w}
 use Rattle.sock.proofs.Tests.{tests}
-use borrow.Author.Rules.{rules}
 use Rattle.rules.proofs.pair.awaits.Goals as goal
 
 pub returns-then-client-receiver : goal.returns-then-client-receiver

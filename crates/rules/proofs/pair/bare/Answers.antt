@@ -1,7 +1,6 @@
 -- `bare` of `rules::pair` meets its contract: the code is its mirror in specs/.
 use Rattle.rules.specs.Offering.{bare_w}
 use Rattle.sock.proofs.Tests.{tests}
-use borrow.Author.Rules.{rules}
 use Rattle.rules.proofs.pair.bare.Goals as goal
 
 pub returns-then-branch-ne0 : goal.returns-then-branch-ne0

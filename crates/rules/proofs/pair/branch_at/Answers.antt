@@ -1,8 +1,7 @@
 -- `branch_at` of `rules::pair` meets its contract: the branch sought is that of what is left to pass. The measure is how many are left.
-use Prim.Native.Nat.{◌-◌, ◌<◌}
+use Prim.Native.Nat.{◌-◌}
 use native.Mathlib.Omega.{arith}
 use mathlib.Core.Path.{◌≡◌, refl, sym, ap, ◌∙◌}
-use borrow.Author.Rules.{rules}
 use Rattle.rules.specs.Rewriting.{part_end}
 use Rattle.rules.specs.Offering.{branch_at}
 use Rattle.rules.proofs.Branches.{branch_step}

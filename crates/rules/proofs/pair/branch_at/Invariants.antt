@@ -1,11 +1,6 @@
 -- `branch_at` of `rules::pair` meets its contract: the branch sought is that of what is left to pass. The measure is how many are left.
-use Prim.Native.Nat.{◌-◌, ◌<◌}
-use native.Mathlib.Omega.{arith}
-use mathlib.Core.Path.{◌≡◌, refl, sym, ap, ◌∙◌}
-use borrow.Author.Rules.{rules}
-use Rattle.rules.specs.Rewriting.{part_end}
+use mathlib.Core.Path.{◌≡◌}
 use Rattle.rules.specs.Offering.{branch_at}
-use Rattle.rules.proofs.Branches.{branch_step}
 use Rattle.rules.proofs.pair.branch_at.Given as goal
 
 abbrev pub invariant-loop-left : goal.invariant-loop-left

@@ -1,7 +1,6 @@
 -- `chosen` of `rules::pair` meets its contract: the code is its mirror in specs/.
 use Rattle.rules.specs.Offering.{chosen_w, choice_w}
 use Rattle.sock.proofs.Tests.{tests}
-use borrow.Author.Rules.{rules}
 use Rattle.rules.proofs.pair.chosen.Goals as goal
 
 pub returns-then-branch-eq0 : goal.returns-then-branch-eq0

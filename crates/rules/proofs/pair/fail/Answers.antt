@@ -1,7 +1,6 @@
 -- `fail` of `rules::pair` meets its contract: the code is its mirror in specs/.
 use Rattle.rules.specs.Offering.{fail_w}
 use Rattle.sock.proofs.Tests.{tests}
-use borrow.Author.Rules.{rules}
 use Rattle.rules.proofs.pair.fail.Goals as goal
 
 pub returns-then-dead_of-eq1 : goal.returns-then-dead_of-eq1

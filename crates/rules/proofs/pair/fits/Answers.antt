@@ -1,7 +1,6 @@
 -- `fits` of `rules::pair` meets its contract: the code is its mirror in specs/.
 use Rattle.rules.specs.Offering.{fits_w}
 use Rattle.sock.proofs.Tests.{tests}
-use borrow.Author.Rules.{rules}
 use Rattle.rules.proofs.pair.fits.Goals as goal
 
 pub returns-then-o : goal.returns-then-o

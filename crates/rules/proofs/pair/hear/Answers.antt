@@ -1,7 +1,6 @@
 -- `hear` of `rules::pair` meets its contract: the code is its mirror in specs/.
 use Rattle.rules.specs.Offering.{hear_w}
 use Rattle.sock.proofs.Tests.{tests}
-use borrow.Author.Rules.{rules}
 use Rattle.rules.proofs.pair.hear.Goals as goal
 
 pub returns-then-o-eq0 : goal.returns-then-o-eq0

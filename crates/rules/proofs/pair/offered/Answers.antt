@@ -1,7 +1,6 @@
 -- `offered` of `rules::pair` meets its contract: the code is its mirror in specs/.
 use Rattle.rules.specs.Offering.{offer_w}
 use Rattle.sock.proofs.Tests.{tests}
-use borrow.Author.Rules.{rules}
 use Rattle.rules.proofs.pair.offered.Goals as goal
 
 pub returns-then-kind_of-eq-CHOICE : goal.returns-then-kind_of-eq-CHOICE

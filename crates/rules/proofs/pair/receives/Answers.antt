@@ -1,7 +1,6 @@
 -- `receives` of `rules::pair` meets its contract: the code is its mirror in specs/.
 use Rattle.rules.specs.Offering.{receives_w}
 use Rattle.sock.proofs.Tests.{tests}
-use borrow.Author.Rules.{rules}
 use Rattle.rules.proofs.pair.receives.Goals as goal
 
 pub returns-then-kind_of-kind : goal.returns-then-kind_of-kind

@@ -1,7 +1,6 @@
 -- `seq_first` of `rules::pair` meets its contract: the code is its mirror in specs/.
 use Rattle.rules.specs.Offering.{seq_first}
 use Rattle.sock.proofs.Tests.{tests}
-use borrow.Author.Rules.{rules}
 use Rattle.rules.proofs.pair.seq_first.Goals as goal
 
 pub returns-then-next-eq0 : goal.returns-then-next-eq0

@@ -1,7 +1,6 @@
 -- `serve` of `rules::pair` meets its contract: the code is its mirror in specs/.
 use Rattle.rules.specs.Offering.{serve_w}
 use Rattle.sock.proofs.Tests.{tests}
-use borrow.Author.Rules.{rules}
 use Rattle.rules.proofs.pair.serve.Goals as goal
 
 pub returns : goal.returns

@@ -1,7 +1,6 @@
 -- `three` of `rules::pair` meets its contract: the code is its mirror in specs/.
 use Rattle.rules.specs.Offering.{three_to, three_w}
 use Rattle.sock.proofs.Tests.{tests}
-use borrow.Author.Rules.{rules}
 use Rattle.rules.proofs.pair.three.Goals as goal
 
 pub returns : goal.returns

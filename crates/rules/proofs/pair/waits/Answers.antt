@@ -1,7 +1,6 @@
 -- `waits` of `rules::pair` meets its contract: the code is its mirror in specs/.
 use Rattle.rules.specs.Offering.{waits_w}
 use Rattle.sock.proofs.Tests.{tests}
-use borrow.Author.Rules.{rules}
 use Rattle.rules.proofs.pair.waits.Goals as goal
 
 pub returns-then-receives : goal.returns-then-receives

@@ -1,6 +1,5 @@
 -- `refusal` of `rules::rewriting` meets its contract: the code is its mirror in specs/.
 use Rattle.sock.proofs.Tests.{tests}
-use borrow.Author.Rules.{rules}
 use Rattle.rules.proofs.rewriting.refusal.Goals as goal
 
 pub returns : goal.returns

@@ -1,7 +1,6 @@
 -- `to_part` of `rules::rewriting` meets its contract: the code is its mirror in specs/.
 use Rattle.rules.specs.Rewriting.{part_w}
 use Rattle.sock.proofs.Tests.{tests}
-use borrow.Author.Rules.{rules}
 use Rattle.rules.proofs.rewriting.to_part.Goals as goal
 
 pub returns-then-word-eq0 : goal.returns-then-word-eq0

@@ -1,5 +1,4 @@
 -- `one` of `rules::store` meets its contract: the code is its mirror in specs/.
-use borrow.Author.Rules.{rules}
 use Rattle.rules.proofs.store.one.Goals as goal
 
 pub returns : goal.returns

@@ -1,7 +1,6 @@
 -- `compensated` of `scopes::compensating` meets its contract: the code is its mirror in specs/.
 use Rattle.scopes.specs.Compensating.{compensated_w}
 use Rattle.sock.proofs.Tests.{tests}
-use borrow.Author.Rules.{rules}
 use Rattle.scopes.proofs.compensating.compensated.Goals as goal
 
 pub returns-then-s-eq0 : goal.returns-then-s-eq0

@@ -1,7 +1,6 @@
 -- `moved` of `scopes::compensating` meets its contract: the code is its mirror in specs/.
 use Rattle.scopes.specs.Compensating.{moved_w}
 use Rattle.sock.proofs.Tests.{tests}
-use borrow.Author.Rules.{rules}
 use Rattle.scopes.proofs.compensating.moved.Goals as goal
 
 pub returns : goal.returns

@@ -1,7 +1,6 @@
 -- `ended` of `scopes::ending` meets its contract: the code is its mirror in specs/.
 use Rattle.sock.proofs.Tests.{tests}
 use Rattle.scopes.specs.Ending.{ended_w}
-use borrow.Author.Rules.{rules}
 use borrow.Author.Tests.{le-ltb}
 use Rattle.scopes.proofs.ending.ended.Goals as goal
 

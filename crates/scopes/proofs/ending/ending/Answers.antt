@@ -1,9 +1,7 @@
 -- `ending` of `scopes::ending` meets its contract: the code is its mirror in specs/.
-use Rattle.sock.proofs.Tests.{tests}
 use mathlib.Core.Path.{ap, ◌∙◌}
 use Rattle.rules.specs.Editing.{Edited}
 use Rattle.scopes.proofs.Endings.{ending_made}
-use borrow.Author.Rules.{rules}
 use Rattle.scopes.proofs.ending.ending.Goals as goal
 
 pub returns : goal.returns

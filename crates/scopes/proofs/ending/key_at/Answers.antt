@@ -1,7 +1,6 @@
 -- `key_at` of `scopes::ending` meets its contract: the code is its mirror in specs/.
 use Rattle.scopes.specs.Ending.{key_at_w}
 use Rattle.sock.proofs.Tests.{tests}
-use borrow.Author.Rules.{rules}
 use Rattle.scopes.proofs.ending.key_at.Goals as goal
 
 pub returns-then-mark_of-eq1 : goal.returns-then-mark_of-eq1

@@ -1,7 +1,6 @@
 -- `promoted` of `scopes::ending` meets its contract: the code is its mirror in specs/.
 use Rattle.scopes.specs.Ending.{promoted_to, promoted_w}
 use Rattle.sock.proofs.Tests.{tests}
-use borrow.Author.Rules.{rules}
 use Rattle.scopes.proofs.ending.promoted.Goals as goal
 
 pub returns-then-t-eq0 : goal.returns-then-t-eq0

@@ -1,7 +1,6 @@
 -- `put_taken` of `scopes::ending` meets its contract: the code is its mirror in specs/.
 use Rattle.scopes.specs.Ending.{taken_to, taken_w}
 use Rattle.sock.proofs.Tests.{tests}
-use borrow.Author.Rules.{rules}
 use Rattle.scopes.proofs.ending.put_taken.Goals as goal
 
 pub returns-then-upto-eq0 : goal.returns-then-upto-eq0

@@ -1,9 +1,7 @@
 -- `resumed` of `scopes::ending` meets its contract: the code is its mirror in specs/.
-use Rattle.sock.proofs.Tests.{tests}
-use mathlib.Core.Path.{ap, sym, ◌∙◌}
+use mathlib.Core.Path.{ap, sym}
 use Rattle.rules.specs.Editing.{Edited}
 use Rattle.scopes.proofs.Endings.{resumed_made}
-use borrow.Author.Rules.{rules}
 use Rattle.scopes.proofs.ending.resumed.Goals as goal
 
 pub returns : goal.returns

@@ -1,7 +1,6 @@
 -- `take_behind` of `scopes::ending` meets its contract: the code is its mirror in specs/.
 use Rattle.scopes.specs.Ending.{take_behind_w}
 use Rattle.sock.proofs.Tests.{tests}
-use borrow.Author.Rules.{rules}
 use Rattle.scopes.proofs.ending.take_behind.Goals as goal
 
 pub returns-then-fresh-lt2 : goal.returns-then-fresh-lt2

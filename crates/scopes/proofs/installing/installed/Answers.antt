@@ -1,7 +1,6 @@
 -- `installed` of `scopes::installing` meets its contract: the code is its mirror in specs/.
 use Rattle.scopes.specs.Installing.{installed_w}
 use Rattle.sock.proofs.Tests.{tests}
-use borrow.Author.Rules.{rules}
 use Rattle.scopes.proofs.installing.installed.Goals as goal
 
 pub returns-then-s-eq0 : goal.returns-then-s-eq0

@@ -1,7 +1,6 @@
 -- `too_deep` of `scopes::installing` meets its contract: the code is its mirror in specs/.
 use Rattle.scopes.specs.Installing.{too_deep_w}
 use Rattle.sock.proofs.Tests.{tests}
-use borrow.Author.Rules.{rules}
 use Rattle.scopes.proofs.installing.too_deep.Goals as goal
 
 pub returns-then-limits-levels : goal.returns-then-limits-levels

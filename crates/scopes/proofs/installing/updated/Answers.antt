@@ -1,7 +1,6 @@
 -- `updated` of `scopes::installing` meets its contract: the code is its mirror in specs/.
 use Rattle.scopes.specs.Installing.{updated_w}
 use Rattle.sock.proofs.Tests.{tests}
-use borrow.Author.Rules.{rules}
 use Rattle.scopes.proofs.installing.updated.Goals as goal
 
 pub returns : goal.returns

@@ -1,7 +1,6 @@
 -- `caught` of `scopes::throwing` meets its contract: the code is its mirror in specs/.
 use Rattle.scopes.specs.Throwing.{caught_w, cleared_by}
 use Rattle.sock.proofs.Tests.{tests}
-use borrow.Author.Rules.{rules}
 use Rattle.scopes.proofs.throwing.caught.Goals as goal
 
 pub returns-then-any_pending : goal.returns-then-any_pending

@@ -1,7 +1,6 @@
 -- `cleared` of `scopes::throwing` meets its contract: the code is its mirror in specs/.
 use Rattle.scopes.specs.Throwing.{cleared_w}
 use Rattle.sock.proofs.Tests.{tests}
-use borrow.Author.Rules.{rules}
 use Rattle.scopes.proofs.throwing.cleared.Goals as goal
 
 pub returns-then-k-eq0 : goal.returns-then-k-eq0

@@ -1,7 +1,6 @@
 -- `fault_at` of `scopes::throwing` meets its contract: the code is its mirror in specs/.
 use Rattle.scopes.specs.Throwing.{fault_w}
 use Rattle.sock.proofs.Tests.{tests}
-use borrow.Author.Rules.{rules}
 use Rattle.scopes.proofs.throwing.fault_at.Goals as goal
 
 pub returns : goal.returns

@@ -1,7 +1,6 @@
 -- `listed` of `scopes::throwing` meets its contract: the code is its mirror in specs/.
 use Rattle.scopes.specs.Throwing.{listed_w}
 use Rattle.sock.proofs.Tests.{tests}
-use borrow.Author.Rules.{rules}
 use Rattle.scopes.proofs.throwing.listed.Goals as goal
 
 pub returns-then-skip_list-eq0 : goal.returns-then-skip_list-eq0

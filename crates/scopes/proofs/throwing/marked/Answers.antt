@@ -3,7 +3,6 @@ use Rattle.scopes.specs.Throwing.{marked_w}
 use Rattle.scopes.proofs.Marks.{unmarked_words}
 use mathlib.Core.Path.{refl}
 use Rattle.sock.proofs.Tests.{tests}
-use borrow.Author.Rules.{rules}
 use Rattle.scopes.proofs.throwing.marked.Goals as goal
 
 pub returns-then-listed : goal.returns-then-listed

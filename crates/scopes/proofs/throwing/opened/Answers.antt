@@ -1,7 +1,6 @@
 -- `opened` of `scopes::throwing` meets its contract: the code is its mirror in specs/.
 use Rattle.scopes.specs.Throwing.{opened_to, opened_w}
 use Rattle.sock.proofs.Tests.{tests}
-use borrow.Author.Rules.{rules}
 use Rattle.scopes.proofs.throwing.opened.Goals as goal
 
 pub returns : goal.returns

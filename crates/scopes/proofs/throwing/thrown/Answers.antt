@@ -1,7 +1,6 @@
 -- `thrown` of `scopes::throwing` meets its contract: the code is its mirror in specs/.
 use Rattle.scopes.specs.Throwing.{thrown_w}
 use Rattle.sock.proofs.Tests.{tests}
-use borrow.Author.Rules.{rules}
 use Rattle.scopes.proofs.throwing.thrown.Goals as goal
 
 pub returns-then-s-eq0 : goal.returns-then-s-eq0

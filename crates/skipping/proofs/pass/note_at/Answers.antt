@@ -2,7 +2,6 @@
 use mathlib.Core.Path.{sym}
 use Rattle.skipping.specs.Pass.{note_at}
 use Rattle.skipping.proofs.Passes.{mark_behind}
-use borrow.Author.Rules.{rules}
 use Rattle.skipping.proofs.pass.note_at.Goals as goal
 
 pub returns-then-notes-at : goal.returns-then-notes-at

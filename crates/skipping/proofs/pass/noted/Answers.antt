@@ -1,6 +1,5 @@
 -- `noted` of `skipping::pass` meets its contract: behind the notes there is none.
 use lib.ListN.{get_or-eq_default}
-use borrow.Author.Rules.{rules}
 use Rattle.skipping.proofs.pass.noted.Goals as goal
 
 pub returns-then-notes-place : goal.returns-then-notes-place

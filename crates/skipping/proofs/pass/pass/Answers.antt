@@ -1,7 +1,6 @@
 -- `pass` of `skipping::pass` meets its contract: where 0 is noted, the process is passed over.
 use mathlib.Core.Path.{sym, ◌∙◌}
 use Rattle.skipping.proofs.Passes.{unmarked, marked}
-use borrow.Author.Rules.{rules}
 use Rattle.skipping.proofs.pass.pass.Goals as goal
 
 pub returns-then-e-eq0 : goal.returns-then-e-eq0

@@ -2,7 +2,6 @@
 use mathlib.Core.Path.{sym, ◌∙◌}
 use Rattle.skipping.specs.Pass.{list_note_at}
 use Rattle.skipping.proofs.Passes.{list_mark_behind, list_unmarked, list_marked}
-use borrow.Author.Rules.{rules}
 use Rattle.skipping.proofs.pass.pass_entries.Goals as goal
 
 pub returns-then-notes-at : goal.returns-then-notes-at

@@ -1,7 +1,6 @@
 -- `pass_list` of `skipping::pass` meets its contract.
 use Rattle.skipping.specs.Pass.{pass_list}
 use Rattle.sock.proofs.Tests.{tests}
-use borrow.Author.Rules.{rules}
 use Rattle.skipping.proofs.pass.pass_list.Goals as goal
 
 pub returns-then-ws-at : goal.returns-then-ws-at

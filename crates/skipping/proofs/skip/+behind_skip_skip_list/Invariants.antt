@@ -1,16 +1,10 @@
 -- `behind`, `skip` and `skip_list` of `skipping::skip` meet their contracts. The invariants: the mirror's loop from here on gives the same end; the
 -- loops' measures are the turns and the entries that are left. The measure of the calls is three times the depth, which falls from a process to
 -- what its lists hold, and for the same depth who calls whom.
-use native.Mathlib.Omega.{arith}
-use mathlib.Core.Path.{◌≡◌, sym, ap, ◌∙◌}
-use mathlib.Core.Bool.{cond}
-use borrow.Author.Rules.{rules}
+use mathlib.Core.Path.{◌≡◌}
 use lib.ListN.{length}
-use Rattle.sock.proofs.Tests.{tests}
-use Rattle.layout.specs.Own.{lists_end}
-use Rattle.skipping.specs.Skip.{entries_skip, list_by, after_by, behind_by, skip_loop, skip_end, skip_list}
-use Rattle.skipping.proofs.Turns.{entries_end_lem, entries_out, entries_turn, no_depth, skip_start, skip_last, skip_over, skip_out, skip_turn, branches_small, empty_behind}
-use Prim.Native.Nat.{ℕ, ◌+◌, ◌*◌, ◌-◌, ◌<◌, ◌≤◌}
+use Rattle.skipping.specs.Skip.{entries_skip, skip_loop, skip_end, skip_list}
+use Prim.Native.Nat.{◌+◌, ◌*◌, ◌-◌, ◌≤◌}
 use Rattle.skipping.proofs.skip.+behind_skip_skip_list.Given as goal
 
 abbrev pub decreases-behind : goal.decreases-behind

@@ -1,10 +1,9 @@
 -- `skip_expression` of `skipping::skip` meets its contract. The invariant: the mirror's loop from here on gives
 -- the same end. The measure is the turns that are left.
-use Prim.Native.Nat.{◌≤◌, ◌/◌}
-use mathlib.Core.Path.{◌≡◌, refl, sym, ap, ◌∙◌}
+use Prim.Native.Nat.{◌/◌}
+use mathlib.Core.Path.{refl, sym, ap, ◌∙◌}
 use borrow.Author.Rules.{rules}
-use lib.ListN.{length}
-use Rattle.skipping.specs.Skip.{expr_form, expr_loop, expr_skip}
+use Rattle.skipping.specs.Skip.{expr_form, expr_skip}
 use Rattle.skipping.proofs.Turns.{expr_last, expr_over, expr_out, expr_turn}
 use Rattle.skipping.proofs.skip.skip_expression.Goals as goal
 

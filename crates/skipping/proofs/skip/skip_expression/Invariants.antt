@@ -1,11 +1,9 @@
 -- `skip_expression` of `skipping::skip` meets its contract. The invariant: the mirror's loop from here on gives
 -- the same end. The measure is the turns that are left.
-use Prim.Native.Nat.{◌≤◌, ◌/◌}
-use mathlib.Core.Path.{◌≡◌, refl, sym, ap, ◌∙◌}
-use borrow.Author.Rules.{rules}
+use Prim.Native.Nat.{◌≤◌}
+use mathlib.Core.Path.{◌≡◌}
 use lib.ListN.{length}
-use Rattle.skipping.specs.Skip.{expr_form, expr_loop, expr_skip}
-use Rattle.skipping.proofs.Turns.{expr_last, expr_over, expr_out, expr_turn}
+use Rattle.skipping.specs.Skip.{expr_loop, expr_skip}
 use Rattle.skipping.proofs.skip.skip_expression.Given as goal
 
 abbrev pub invariant-loop-left : goal.invariant-loop-left

@@ -1,7 +1,6 @@
 -- `writers::write::copy`: where words or room are missing the output stays, else it is what `copy_all` leaves.
 use borrow.Author.Tests.{lt-ltb, le-ltb}
 use Rattle.writers.specs.Writing.{pasted, pasted_end}
-use borrow.Author.Rules.{rules}
 use Rattle.writers.proofs.write.copy.Goals as goal
 
 pub returns-then-ws-upto : goal.returns-then-ws-upto

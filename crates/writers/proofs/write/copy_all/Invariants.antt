@@ -1,11 +1,8 @@
 -- `writers::write::copy_all`. The loop's invariant: the first i words are over the output. Its measure: the words left, n - i.
-use Prim.Native.Nat.{◌+◌, ◌-◌, ◌≤◌, ◌<◌}
-use native.Mathlib.Omega.{arith}
-use mathlib.Core.Path.{◌≡◌, refl, ◌∙◌}
-use lib.ListN.{length, drop, length-set}
-use lib.Seq.{paste, paste-zero}
-use borrow.Author.Rules.{rules}
-use Rattle.writers.proofs.Copies.{copy_turn}
+use Prim.Native.Nat.{◌-◌, ◌≤◌}
+use mathlib.Core.Path.{◌≡◌}
+use lib.ListN.{length, drop}
+use lib.Seq.{paste}
 use Rattle.writers.proofs.write.copy_all.Given as goal
 
 abbrev pub invariant-loop-i : goal.invariant-loop-i

@@ -1,9 +1,9 @@
 -- `writers::write::down`. The loop's invariant: the words before i have moved down by one. Its measure: the words left, upto - i.
-use Prim.Native.Nat.{◌-◌, ◌≤◌, ◌<◌, max}
+use Prim.Native.Nat.{◌-◌, ◌≤◌, ◌<◌}
 use native.Mathlib.Omega.{arith}
 use mathlib.Core.Path.{◌≡◌, refl, sym, ◌∙◌}
 use lib.ListN.{length, drop, length-set}
-use lib.Seq.{paste, paste-zero}
+use lib.Seq.{paste-zero}
 use borrow.Author.Rules.{rules}
 use borrow.Author.Tests.{lt-ltb, le-ltb, eq-eqb, ne_eqb}
 use lib.Arith.{lt_of_le-ne}

@@ -1,14 +1,8 @@
 -- `writers::write::down`. The loop's invariant: the words before i have moved down by one. Its measure: the words left, upto - i.
-use Prim.Native.Nat.{◌-◌, ◌≤◌, ◌<◌, max}
-use native.Mathlib.Omega.{arith}
-use mathlib.Core.Path.{◌≡◌, refl, sym, ◌∙◌}
-use lib.ListN.{length, drop, length-set}
-use lib.Seq.{paste, paste-zero}
-use borrow.Author.Rules.{rules}
-use borrow.Author.Tests.{lt-ltb, le-ltb, eq-eqb, ne_eqb}
-use lib.Arith.{lt_of_le-ne}
-use Rattle.writers.specs.Writing.{lowered}
-use Rattle.writers.proofs.Copies.{down_turn}
+use Prim.Native.Nat.{◌-◌, ◌≤◌, max}
+use mathlib.Core.Path.{◌≡◌}
+use lib.ListN.{length, drop}
+use lib.Seq.{paste}
 use Rattle.writers.proofs.write.down.Given as goal
 
 abbrev pub invariant-loop-i : goal.invariant-loop-i

@@ -1,7 +1,6 @@
 -- `writers::write::put`: past the end nothing is set.
 use mathlib.Core.Path.{sym}
 use lib.Seq.{set_out}
-use borrow.Author.Rules.{rules}
 use Rattle.writers.proofs.write.put.Goals as goal
 
 pub returns-then-out-to : goal.returns-then-out-to
