@@ -1,20 +1,15 @@
--- The digits that the library `io` writes are the definitions' decimal.
+-- The digits that `decimal` of `text` puts before one another are the definitions' decimal.
 -- Assumes nothing.
 use Prim.Native.Nat.{ℕ, zero, suc, ◌+◌, ◌-◌, ◌*◌, ◌/◌, ◌%◌, ◌^◌, ◌≤◌, ◌<◌}
 use native.Mathlib.Omega.{arith}
 use native.Mathlib.Decide.{dec_le}
-use native.Mathlib.Nat.{pow-suc, mod-eq_of_lt, one-le-pow, pow-le-pow_right}
-use mathlib.Core.Path.{◌≡◌, refl, sym, ap, ◌∙◌}
-use mathlib.Core.Bool.{Bool, true, false, cond}
-use mathlib.Core.List.{List, [], ◌∷◌, ◌++◌, append_assoc, append-nil}
-use lib.Dec.{ltb}
+use native.Mathlib.Nat.{pow-suc}
+use mathlib.Core.Path.{◌≡◌, refl, sym, ap, ◌∙◌, subst}
+use mathlib.Core.List.{List, [], ◌∷◌}
+use lib.ListN.{length, set, drop}
 use borrow.Author.Tests.{lt-ltb, le-ltb}
-use Rattle.io.specs.Digits.{hex_digit_ascii, IsDigitCount}
-use Rattle.io.specs.Digits as io
+use Rattle.std.proofs.lemmas.List.{drop-set, drop_all}
 use Rattle.sock.specs.Bytes.{digits, decimal}
-
-below_ten : (d : ℕ) → d < 10 → hex_digit_ascii d ≡ 48 + d
-below_ten d h = ap (λ (b : Bool). cond b (48 + d) (87 + d)) (lt-ltb d 10 h)
 
 last_digit : (fuel n : ℕ) (text : List ℕ) → n < 10 → digits (suc fuel) n text ≡ (48 + n) ∷ text
 unfolding digits
@@ -24,40 +19,52 @@ next_digit : (fuel n : ℕ) (text : List ℕ) → 10 ≤ n → digits (suc fuel)
 unfolding digits
 next_digit fuel n text h = rw (le-ltb n 10 h, digits) refl
 
-written :
-    (k fuel n : ℕ) (text : List ℕ) → n < 10 ^ suc k → (0 < k → 10 ^ k ≤ n) → n < fuel → digits fuel n text ≡ io.last_digits 10 (suc k) n ++ text
-written k zero n text b l f = absurd (omega (arith, f))
-written zero (suc fuel) n text b l f =
-    let h : n < 10 = omega (arith, b, pow-suc 10 0) in
-    last_digit fuel n text h
-    ∙ ap (λ (d : ℕ). d ∷ text) (sym (below_ten n h) ∙ ap hex_digit_ascii (sym (mod-eq_of_lt h)))
-written (suc k) (suc fuel) n text b l f =
-    let p : 10 ^ suc k ≡ 10 ^ k * 10 = pow-suc 10 k in
-    let q : 10 ^ suc (suc k) ≡ 10 ^ suc k * 10 = pow-suc 10 (suc k) in
-    let one : 1 ≤ 10 ^ k = one-le-pow k 10 (omega arith) in
-    let low : 10 ^ suc k ≤ n = l (omega arith) in
-    let d : n % 10 < 10 = omega arith in
-    next_digit fuel n text (omega (arith, p, one, low))
-    ∙ written k fuel (n / 10) ((48 + n % 10) ∷ text) (omega (arith, b, q)) (λ h. omega (arith, low, p)) (omega (arith, f, p, one, low))
-    ∙ ap (λ (g : ℕ). io.last_digits 10 (suc k) (n / 10) ++ g ∷ text) (sym (below_ten (n % 10) d))
-    ∙ sym (append_assoc (io.last_digits 10 (suc k) (n / 10)) (hex_digit_ascii (n % 10) ∷ []) text)
-
-pub decimal_is : (k n : ℕ) → IsDigitCount 10 1 n k → io.last_digits 10 k n ≡ decimal n
-unfolding decimal
-decimal_is zero n (a, b, l) = absurd (omega (arith, a))
-decimal_is (suc k) n (a, b, l) =
-    let s : suc k - 1 ≡ k = omega arith in
-    sym (append-nil (io.last_digits 10 (suc k) n))
-    ∙ sym (written k (suc n) n [] b (λ h. rw s at (l (omega (arith, h)))) (omega arith))
-
--- 64 bits have at most twenty digits
-pub twenty : (n k : ℕ) → n < 2 ^ 64 → IsDigitCount 10 1 n k → k ≤ 20
-twenty n k b (a, u, l) = by (dec_le k 20)
+-- fuel above the number is enough
+enough : (f g n : ℕ) (text : List ℕ) → n < f → n < g → digits f n text ≡ digits g n text
+enough zero g n text a b = absurd (omega (arith, a))
+enough (suc f) zero n text a b = absurd (omega (arith, b))
+enough (suc f) (suc g) n text a b =
+    by (dec_le 10 n) (λ h. enough f g (n / 10) ((48 + n % 10) ∷ text) (omega (arith, a, h)) (omega (arith, b, h)))
   where
-    by : Dec (k ≤ 20) → k ≤ 20
-    by (yes h) = h
-    by (no h) =
-        let m : 20 ≤ k - 1 = omega (arith, h) in
-        let p : 10 ^ 20 ≤ 10 ^ (k - 1) = pow-le-pow_right (omega arith) m in
-        let q : 10 ^ (k - 1) ≤ n = l (omega (arith, h)) in
-        absurd (omega (arith, p, q, b))
+    by : Dec (10 ≤ n) → (10 ≤ n → digits f (n / 10) ((48 + n % 10) ∷ text) ≡ digits g (n / 10) ((48 + n % 10) ∷ text)) → digits (suc f) n text ≡ digits (suc g) n text
+    by (yes h) rest = next_digit f n text h ∙ rest h ∙ sym (next_digit g n text h)
+    by (no h) rest = let l : n < 10 = omega (arith, h) in last_digit f n text l ∙ sym (last_digit g n text l)
+
+-- one place less is left for what is left
+pub place_turn : (n at : ℕ) → 9 < n → n < 10 ^ (at + 1) → (0 < at) × (n / 10 < 10 ^ (at - 1 + 1))
+place_turn n zero h b = absurd (omega (arith, h, b, pow-suc 10 0))
+place_turn n (suc at) h b =
+    let p : 10 ^ suc (suc at) ≡ 10 ^ suc at * 10 = pow-suc 10 (suc at) in
+    let s : suc at + 1 ≡ suc (suc at) = omega arith in
+    let t : suc at - 1 + 1 ≡ suc at = omega arith in
+    let q : n < 10 ^ suc at * 10 = subst (λ (m : ℕ). n < m) (ap (λ (m : ℕ). 10 ^ m) s ∙ p) b in
+    (omega arith, subst (λ (m : ℕ). n / 10 < 10 ^ m) (sym t) (omega (arith, q)))
+
+-- one more digit is written
+pub digit_turn :
+    (n at : ℕ) (text all : List ℕ) → 9 < n → at < length text → digits (n + 1) n (drop (at + 1) text) ≡ all →
+    digits (n / 10 + 1) (n / 10) (drop at (set text at (48 + n % 10))) ≡ all
+digit_turn n at text all h inside e =
+    let one : n + 1 ≡ suc n = omega arith in
+    ap (λ (l : List ℕ). digits (n / 10 + 1) (n / 10) l) (drop-set text at (48 + n % 10) inside)
+    ∙ enough (n / 10 + 1) n (n / 10) ((48 + n % 10) ∷ drop (at + 1) text) (omega arith) (omega arith)
+    ∙ sym (next_digit n n (drop (at + 1) text) (omega arith))
+    ∙ ap (λ (f : ℕ). digits f n (drop (at + 1) text)) (sym one)
+    ∙ e
+
+-- the first digit is written
+pub digit_last :
+    (n at : ℕ) (text all : List ℕ) → n ≤ 9 → at < length text → digits (n + 1) n (drop (at + 1) text) ≡ all → drop at (set text at (48 + n)) ≡ all
+digit_last n at text all h inside e =
+    let one : n + 1 ≡ suc n = omega arith in
+    drop-set text at (48 + n) inside
+    ∙ sym (last_digit n n (drop (at + 1) text) (omega arith))
+    ∙ ap (λ (f : ℕ). digits f n (drop (at + 1) text)) (sym one)
+    ∙ e
+
+-- nothing is written
+pub digit_none : (n at : ℕ) (text : List ℕ) → length text ≤ at → digits (n + 1) n (drop at text) ≡ decimal n
+unfolding decimal
+digit_none n at text h =
+    let one : n + 1 ≡ suc n = omega arith in
+    ap (λ (l : List ℕ). digits (n + 1) n l) (drop_all at text h) ∙ ap (λ (f : ℕ). digits f n []) one

@@ -1,5 +1,5 @@
 // The lines that are printed.
-ghost use Rattle.std.specs.Prelude.{◌≡◌, ◌+◌, ◌≤◌, ◌++◌, length, take};
+ghost use Rattle.std.specs.Prelude.{◌≡◌, ◌+◌, ◌≤◌, ◌++◌, length, take, drop};
 ghost use Rattle.sock.specs.Bytes.{decimal, start_line, end_line, cut_line, step_line};
 ghost use Rattle.handover.specs.Printed.{defined_as, answered};
 
@@ -18,14 +18,29 @@ fn put(text: &[u8], line: &mut [u8], at: usize) -> usize
     at + i
 }
 
+// The digits of `n` at the end of `text`; where they begin.
+fn decimal(n: u64, text: &mut [u8; 20]) -> usize
+    ensures { (result ≤ 20) × (drop result text.new ≡ decimal n) }
+{
+    let mut rest = n;
+    let mut at = 19;
+    while 9 < rest {
+        text[at] = (48 + rest % 10) as u8;
+        rest = rest / 10;
+        at = at - 1;
+    }
+    text[at] = 48 + rest as u8;
+    at
+}
+
 // The digits of `n` behind the first `at` of the line.
 fn put_number(n: u64, line: &mut [u8], at: usize) -> usize
     requires { at + 20 ≤ length line.old }
     ensures { (result ≤ at + 20) × (take result line.new ≡ take at line.old ++ decimal n) }
 {
     let mut digits = [0u8; 20];
-    let k = io::decimal(n, &mut digits);
-    put(&digits[..k], line, at)
+    let from = decimal(n, &mut digits);
+    put(&digits[from..], line, at)
 }
 
 // "start" and the check's number.

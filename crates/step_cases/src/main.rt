@@ -10,11 +10,14 @@ ghost use Rattle.step_cases.specs.Lent.{numbers_of, lent_output};
 
 use bytewise::words::hold;
 use cases::{print, sum, take, word};
+use std::io;
+use std::io::{Read, Write};
 
 const MOST: usize = 8200;
 
 // What the step answers on these words, and the sum over its output.
-fn answer(ws: &[u16], head: [u8; 14], out: &mut [u16])
+#[tactic(auto, unfolding(crate::specs::Lent::numbers_of))]
+fn answer<W: Write>(output: &mut W, ws: &[u16], head: [u8; 14], out: &mut [u16]) -> io::Result<()>
     ensures { out.new ≡ step_output standard ws.now (numbers_of head) out.old }
 {
     let a = stepping::steps::step(
@@ -26,52 +29,66 @@ fn answer(ws: &[u16], head: [u8; 14], out: &mut [u16])
         word(head[10], head[11]),
         out,
     );
-    print(a.number as u64, false);
-    print(a.kind as u64, false);
-    print(a.serial as u64, false);
-    print(a.fault as u64, false);
-    print(a.length as u64, false);
-    print(sum(out) as u64, true);
+    print(output, a.number as u64, false)?;
+    print(output, a.kind as u64, false)?;
+    print(output, a.serial as u64, false)?;
+    print(output, a.fault as u64, false)?;
+    print(output, a.length as u64, false)?;
+    print(output, sum(out) as u64, true)
 }
 
 // The step with an output of `room` words; none, where there is no such room.
-fn lend(ws: &[u16], head: [u8; 14], out: &mut [u16], room: usize)
+#[tactic(auto, unfolding(crate::specs::Lent::lent_output))]
+fn lend<W: Write>(
+    output: &mut W,
+    ws: &[u16],
+    head: [u8; 14],
+    out: &mut [u16],
+    room: usize,
+) -> io::Result<()>
     ensures { out.new ≡ lent_output ws.now head room out.old }
 {
     if out.len() < room {
-        return;
+        return Ok(());
     }
-    answer(ws, head, &mut out[..room]);
+    answer(output, ws, head, &mut out[..room])
 }
 
 // One case; whether there was one.
-fn case() -> bool {
+fn case<R: Read, W: Write>(input: &mut R, output: &mut W) -> io::Result<bool> {
     let mut head = [0u8; 14];
-    if !take(&mut head, 14) {
-        return false;
+    if !take(input, &mut head, 14)? {
+        return Ok(false);
     }
     let count = word(head[0], head[1]) as usize;
     if MOST < count {
-        return false;
+        return Ok(false);
     }
     let mut bytes = [0u8; 16400];
     let size = count * 2;
-    if !take(&mut bytes, size) {
-        return false;
+    if !take(input, &mut bytes, size)? {
+        return Ok(false);
     }
     let mut ws = [0u16; 8200];
     let n = hold(&bytes[..size], &mut ws);
     let mut out = [42405u16; 8200];
-    lend(&ws[..n], head, &mut out, word(head[12], head[13]) as usize);
-    true
+    lend(
+        output,
+        &ws[..n],
+        head,
+        &mut out,
+        word(head[12], head[13]) as usize,
+    )?;
+    Ok(true)
 }
 
-fn main() {
-    let mut turns = u64::MAX;
-    while 0 < turns {
-        if !case() {
-            return;
+fn main(rt: HostRuntime) -> io::Result<()> {
+    let mut input = rt.stdin();
+    let mut output = rt.stdout();
+    for _ in 0..u64::MAX {
+        if !case(&mut input, &mut output)? {
+            break;
         }
-        turns = turns - 1;
     }
+    Ok(())
 }

@@ -21,8 +21,8 @@ loop-k-preserved c =
     let f : x.i + l.k < length x.a.now = omega arith in
     let g : x.j + l.k < length x.b.now = omega arith in
     elim c.if-a-i.branch [
-      then-a-i w ↦ (omega arith, w.same-is ∙ turn_differs x.a.now x.b.now x.i x.j l.k f g w.if-a-i.true)
-    | else-a-i w ↦ (omega arith, w.same-is ∙ turn_same x.a.now x.b.now x.i x.j l.k f g l.invariant.1 w.if-a-i.false)
+      | then-a-i w ↦ (omega arith, w.same-is ∙ turn_differs x.a.now x.b.now x.i x.j l.k f g w.if-a-i.true)
+      | else-a-i w ↦ (omega arith, w.same-is ∙ turn_same x.a.now x.b.now x.i x.j l.k f g l.invariant.1 w.if-a-i.false)
     ]
 
 pub returns : goal.returns
