@@ -10,7 +10,7 @@ use lib.ListN.{length, take}
 use lib.Seq.{length-take-le}
 use borrow.Author.Tests.{lt-ltb, le-ltb, ltb-true}
 use Rattle.sock.specs.Configuration.{Limits, standard, encode, read_config}
-use Rattle.sock.specs.Calls.{unreadable, short, number, Result, ◌!◌, Numbers, Stepped, step, answer_of, over, step_answer, step_output}
+use Rattle.sock.specs.Calls.{unreadable, Result, ◌!◌, Numbers, Stepped, step, answer_of, over, step_answer, step_output}
 use Rattle.sock.specs.Bytes.{bytes_of, words_of, words_or_none, byte_step, packed, byte_answer, bytes_after, byte_output}
 use Rattle.sock.proofs.Rooms.{Agree, both_refuse, both_do, one_short, bind_agrees, step_agrees, fits_room, bytes_refused, bytes_done, small_same, step_words}
 use Rattle.stepping.specs.declared.answer.Answer.{Answer}

@@ -2,16 +2,16 @@
 -- Assumes nothing.
 use Prim.Native.Nat.{ℕ, suc, ◌+◌, ◌*◌, ◌/◌, ◌≤◌, ◌<◌}
 use native.Mathlib.Omega.{arith}
-use mathlib.Core.Path.{◌≡◌, refl, sym, ap, subst, ◌∙◌}
+use mathlib.Core.Path.{◌≡◌, refl, sym, ap, ◌∙◌}
 use mathlib.Core.Bool.{Bool, true, false}
 use mathlib.Core.Option.{Option, none, some}
-use mathlib.Core.List.{List, [], ◌∷◌}
-use lib.Dec.{leb, ltb, leb→le}
+use mathlib.Core.List.{List, []}
+use lib.Dec.{leb, leb→le}
 use lib.ListN.{length, take, drop, length-append}
 use lib.Seq.{take_at}
 use borrow.Author.Tests.{leb-true, le-leb, lt-leb, eq-eqb, ne_eqb}
 use Rattle.sock.specs.Configuration.{standard, Engine, Config, encode, read_config}
-use Rattle.sock.specs.Calls.{Refusal, unreadable, house_full, not_fresh, long, short, still_at_work, number, Result, refused, done, ◌>>=◌, ◌>>◌, ◌!◌, ◌unless◌, over, passed}
+use Rattle.sock.specs.Calls.{unreadable, not_fresh, long, short, still_at_work, number, Result, refused, done, ◌>>=◌, ◌>>◌, ◌!◌, ◌unless◌, over, passed}
 use Rattle.sock.specs.Journal.{taken_of, restored_over}
 use Rattle.sock.specs.Bytes.{bytes_of, words_of, words_or_none, packed_taken, restored_bytes}
 use Rattle.sock.specs.Engines.{newcomer, with_next, admitting, join, join_answer, join_output, without_last, may_leave, leave, leave_answer, leave_output}

@@ -6,16 +6,15 @@ use mathlib.Core.Path.{◌≡◌, refl, sym, ap, ◌∙◌}
 use mathlib.Core.Bool.{Bool, true, false, ◌||◌, cond}
 use mathlib.Core.Option.{Option, none, some}
 use mathlib.Core.List.{List, [], ◌∷◌, ◌++◌, append-nil}
-use lib.Dec.{T, leb, eqb}
+use lib.Dec.{eqb}
 use lib.ListN.{length, get_or, take, drop, replicate, take-append-drop, drop_of_length-le}
 use lib.Seq.{take_all, take_at, get_or-take}
-use borrow.Author.Tests.{lt-leb, le-leb}
 use Rattle.sock.specs.Kind
 use Rattle.sock.specs.Configuration.{Config, standard, read_config}
-use Rattle.sock.specs.Calls.{Refusal, index_short, Result, refused, done, ◌>>=◌, ◌!◌, ◌>>◌, ◌unless◌, passed, Numbers, Stepped, answer_of, over, start, check_start}
+use Rattle.sock.specs.Calls.{index_short, Result, refused, done, ◌>>=◌, ◌!◌, passed, Numbers, Stepped, answer_of, over, start, check_start}
 use Rattle.sock.specs.Journal.{taken_of, restored_over}
 use Rattle.sock.specs.Bytes.{bytes_of, words_of, words_or_none, words_in, packed, bytes_after, byte_journal_step, byte_journal_output, byte_journal_written, journal_bytes_after, byte_check_start, byte_take_back, byte_restored, restored_bytes, packed_taken}
-use Rattle.sock.specs.Index.{rising, index_of, listed, open_of, put_in, take_out, open_after, mapped, beginning, begin_answer, IndexedStep, step_of, open_in, IndexedBack, restored_in, reopened, Told, told_of, asked, open_count, oldest}
+use Rattle.sock.specs.Index.{index_of, listed, open_of, put_in, take_out, open_after, mapped, beginning, IndexedStep, step_of, IndexedBack, restored_in, Told, asked, open_count, oldest}
 use Rattle.sock.specs.IndexBytes.{index_bytes_after, byte_begin_answer, byte_begin_index, byte_indexed_step, byte_indexed_answer, byte_indexed_output, byte_indexed_journal, byte_indexed_index, byte_indexed_back, byte_indexed_taken, byte_indexed_restored, byte_indexed_relisted, packed_told, byte_open_count, byte_oldest}
 use Rattle.sock.proofs.Configuration.{config_found}
 use Rattle.sock.proofs.Rooms.{refusal_number}

@@ -8,21 +8,20 @@ use mathlib.Core.Option.{Option, none, some}
 use mathlib.Core.List.{List, [], ◌∷◌, ◌++◌, append_assoc}
 use lib.Dec.{leb, ltb}
 use lib.ListN.{length, take, drop, length-append, take-append-drop}
-use lib.Seq.{length-take-le, take_all, take_at, take-append-add}
+use lib.Seq.{length-take-le, take_at, take-append-add}
 use borrow.Author.Tests.{leb-true, ltb-true, ltb-false}
 use Rattle.sock.specs.Configuration.{Config, standard, read_config}
-use Rattle.sock.specs.Calls.{Refusal, unreadable, unmatched, short, Result, refused, done, ◌>>=◌, ◌>>◌, ◌!◌, ◌unless◌, over}
-use Rattle.sock.specs.Journal.{alike, between, journal_by, restored, take_back, Taken as Defined, taken_of, restored_over, take_back_answer, take_back_output}
+use Rattle.sock.specs.Calls.{unreadable, unmatched, short, Result, refused, done, ◌>>=◌, ◌>>◌, ◌!◌, ◌unless◌, over}
+use Rattle.sock.specs.Journal.{between, journal_by, restored, take_back, taken_of, restored_over, take_back_answer, take_back_output}
 use Rattle.sock.specs.Bytes.{bytes_of, words_of, words_or_none, words_in, byte_take_back, packed_taken, byte_taken, restored_bytes, byte_restored}
-use Rattle.sock.proofs.ByteWords.{words_next, words_length, no_words, no_config}
+use Rattle.sock.proofs.ByteWords.{no_words, no_config}
 use Rattle.sock.proofs.Rooms.{refusal_number}
 use Rattle.sock.proofs.Configuration.{config_found}
-use Rattle.sock.proofs.Journal.{Alike, between_length, JournalFor, restored_only, restored_by, refused_done, some_same, taken_readable}
+use Rattle.sock.proofs.Journal.{Alike, between_length, JournalFor, restored_only, restored_by, refused_done, taken_readable}
 use Rattle.journal.specs.declared.back.Taken.{Taken}
 use Rattle.journal.specs.Back.{taken_as}
 use Rattle.bytewise.specs.Held.{held, held_part, room_of}
 use Rattle.bytewise.proofs.Holding.{read_as}
-use Rattle.bytewise.proofs.Stepping.{room_is}
 use Rattle.cabinet.proofs.Journaling.{leb_room, none_some, readable_held}
 
 -- ---- part of longer scratch

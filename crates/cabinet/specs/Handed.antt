@@ -1,6 +1,6 @@
 -- What joining and leaving on words left in scratch, as bytes over the output; and a newcomer that is not read. No contract of an exported call
 -- names it.
-use Rattle.std.specs.Prelude.{ℕ, cond, List, eqb, length, take}
+use Rattle.std.specs.Prelude.{ℕ, cond, List, eqb, take}
 use Rattle.sock.specs.Configuration.{Limits}
 use Rattle.sock.specs.Calls.{long, Result, refused, ◌>>=◌, over}
 use Rattle.sock.specs.Bytes.{bytes_of}

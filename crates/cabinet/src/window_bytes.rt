@@ -6,13 +6,7 @@ ghost use Rattle.window.specs.Bytes.{byte_number, byte_window, byte_count};
 use window::on_bytes::{count_bytes, next_bytes};
 
 // Hands an answer on to the window in the first 2,178 bytes: 0; or 18, and no byte changed.
-pub fn sock_window_next(
-    width: u16,
-    number: u8,
-    fault: u8,
-    operation: u16,
-    window: &mut [u8],
-) -> u8
+pub fn sock_window_next(width: u16, number: u8, fault: u8, operation: u16, window: &mut [u8]) -> u8
     ensures { (result ≡ byte_number width (answer number fault operation) window.old) × (window.new ≡ byte_window width (answer number fault operation) window.old) }
 {
     next_bytes(width, number, fault, operation, window)

@@ -1,6 +1,6 @@
 -- A newcomer's words: what the code reads as code that has not begun, with a head that is not 0 and nothing behind it, is the definitions' newcomer.
 -- Assumes nothing.
-use Prim.Native.Nat.{ℕ, ◌+◌, ◌-◌, ◌*◌, ◌≤◌, ◌<◌}
+use Prim.Native.Nat.{ℕ, ◌+◌, ◌*◌, ◌≤◌, ◌<◌}
 use native.Mathlib.Omega.{arith}
 use native.Mathlib.Nat.{add-zero}
 use mathlib.Core.Path.{◌≡◌, refl, sym, ap, subst, ◌∙◌}
@@ -9,22 +9,20 @@ use mathlib.Core.Option.{Option, none, some}
 use mathlib.Core.List.{List, [], ◌∷◌, ◌++◌, append_assoc}
 use lib.Dec.{T, eqb}
 use lib.ListN.{length, get_or, drop, length-drop}
-use lib.Seq.{drop-length, drop-cons, get_or-append-add}
+use lib.Seq.{drop-length, get_or-append-add}
 use borrow.Author.Tests.{eq-eqb, ne_eqb, eqb-true, eqb-false}
-use Rattle.sock.specs.Reading.{Got, fail, got, running, code, root, process}
-use Rattle.sock.specs.Running.{as_node, run_words, awake}
-use Rattle.sock.specs.Term.{Node, head_word}
+use Rattle.sock.specs.Reading.{Got, fail, got, running, code}
+use Rattle.sock.specs.Running.{as_node, run_words}
+use Rattle.sock.specs.Term.{head_word}
 use Rattle.sock.specs.Configuration.{standard, Engine, values_words, engine_words, read_engine, guarded, also, fresh_run, is_scope}
 use Rattle.sock.specs.Engines.{nothing_behind, newcomer}
 use Rattle.sock.proofs.Logic.{and_right, test_true}
-use Rattle.sock.proofs.Fits.{Fits}
 use Rattle.sock.proofs.Reading.{Holds, nothing, something}
 use Rattle.sock.proofs.Running.{awake_as_node'}
 use Rattle.sock.proofs.Located.{values_length}
 use Rattle.sock.proofs.Configuration.{EngineFound, engine_found}
 use Rattle.reading.specs.Walk.{at, process_end}
 use Rattle.reading.proofs.Combining.{Words}
-use Rattle.reading.proofs.Ending.{Ends}
 use Rattle.reading.proofs.Processes.{process_ends}
 use Rattle.reading.proofs.Standing.{first_word, root_head}
 use Rattle.reading.proofs.Surveyed.{EngineAt, no_values, no_process, an_engine, engine_at}

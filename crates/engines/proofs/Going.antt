@@ -2,12 +2,11 @@
 -- Assumes nothing.
 use Prim.Native.Nat.{ℕ, zero, suc, ◌+◌, ◌-◌, ◌*◌, ◌≤◌, ◌<◌}
 use native.Mathlib.Omega.{arith}
-use native.Mathlib.Nat.{add-zero, le_refl}
+use native.Mathlib.Nat.{le_refl}
 use native.Mathlib.Numerals.{add-one}
 use mathlib.Core.Path.{◌≡◌, refl, sym, ap, subst, ◌∙◌}
 use mathlib.Core.Bool.{Bool, true, false, not, ◌&&◌, cond}
-use mathlib.Core.Option.{Option, none, some}
-use mathlib.Core.List.{List, [], ◌∷◌, ◌++◌, append-nil}
+use mathlib.Core.List.{List, [], ◌∷◌, ◌++◌}
 use lib.Dec.{T, leb, ltb, eqb}
 use lib.ListN.{length, get_or, set, take, drop, length-append, get_or-append}
 use lib.Seq.{drop-cons, drop-length, take_at}
@@ -16,9 +15,9 @@ use Rattle.sock.specs.Reading.{Got, fail, got, running, root, process}
 use Rattle.sock.specs.Layout.{words, depth, exprs_words}
 use Rattle.sock.specs.Running.{Run, nil, seq, par, scope, executor, waiter, notice, act, as_node, awake, run_words, run_depth}
 use Rattle.sock.specs.Term.{Node, head_word}
-use Rattle.sock.specs.Configuration.{standard, Engine, Config, values_words, engine_words, engines_words, encode, is_scope, read_config}
+use Rattle.sock.specs.Configuration.{standard, Engine, Config, values_words, engine_words, engines_words, encode, is_scope}
 use Rattle.sock.specs.Frames.{is_done}
-use Rattle.sock.specs.Calls.{unreadable, still_at_work, short, Result, refused, done, ◌>>=◌, ◌>>◌, ◌!◌, ◌unless◌, over, engine_at, tally, tally_all}
+use Rattle.sock.specs.Calls.{unreadable, still_at_work, short, done, ◌>>=◌, ◌>>◌, ◌!◌, ◌unless◌, over, engine_at, tally, tally_all}
 use Rattle.sock.specs.Engines.{with_next, last_of, without_last, points_to, may_leave, leave, leave_answer, leave_output}
 use Rattle.sock.proofs.Logic.{true_test}
 use Rattle.sock.proofs.Fits.{Sound, rootable, FitsEngine, FitsConfig}

@@ -5,17 +5,17 @@ use Prim.Native.Nat.{ℕ, zero, suc, ◌+◌, ◌-◌, ◌*◌, ◌≤◌, ◌<�
 use native.Mathlib.Omega.{arith}
 use native.Mathlib.Decide.{dec_le}
 use mathlib.Core.Path.{◌≡◌, refl, sym, ap, ◌∙◌}
-use mathlib.Core.Bool.{Bool, true, false, cond, ◌||◌}
+use mathlib.Core.Bool.{Bool, true, false, ◌||◌}
 use mathlib.Core.List.{List, [], ◌∷◌, ◌++◌, append-nil}
 use lib.Dec.{ltb}
 use lib.ListN.{length, get_or, take, drop, length-drop}
 use lib.Seq.{take_all, take-take, length-take-le, get_or-take}
-use borrow.Author.Tests.{lt-ltb, le-ltb, ltb-true, ltb-false}
+use borrow.Author.Tests.{lt-ltb, le-ltb}
 use Rattle.sock.specs.Configuration.{standard, read_config}
-use Rattle.sock.specs.Calls.{Numbers, step, answer_of, check_start, start, passed, unreadable, ◌!◌, ◌>>=◌}
-use Rattle.sock.specs.Bytes.{words_of, words_or_none, numbers_in, words_after, start_line, end_line, cut_line, step_line, step_lines, started, configured, handover}
+use Rattle.sock.specs.Calls.{step, answer_of, check_start, start, passed, ◌!◌, ◌>>=◌}
+use Rattle.sock.specs.Bytes.{words_of, words_or_none, numbers_in, words_after, start_line, step_line, step_lines, started, configured, handover}
 use Rattle.handover.specs.Printed.{count_in, wanted_for, start_words, last_line, turn_line, turn_words}
-use Rattle.handover.proofs.Starting.{none_wanted, some_wanted, too_many, some_missing, all_there}
+use Rattle.handover.proofs.Starting.{some_wanted, too_many, some_missing, all_there}
 use Rattle.handover.proofs.Turning.{numbers_as}
 
 -- ---- the program's way

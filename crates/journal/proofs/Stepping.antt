@@ -10,7 +10,7 @@ use lib.ListN.{length, take, drop}
 use lib.Seq.{length-take-le, take-append_seam}
 use borrow.Author.Tests.{le-leb, lt-leb, leb-true, lt-ltb, le-ltb, ltb-true}
 use Rattle.sock.specs.Configuration.{Limits, encode}
-use Rattle.sock.specs.Calls.{Refusal, journal_short, short, number, Result, refused, done, ◌>>=◌, ◌>>◌, ◌unless◌, Numbers as Asked, Stepped, step, answer_of, output_of, step_answer, step_output, over}
+use Rattle.sock.specs.Calls.{Refusal, journal_short, short, Result, refused, done, ◌>>=◌, ◌>>◌, ◌unless◌, Numbers as Asked, Stepped, step, answer_of, output_of, step_answer, step_output, over}
 use Rattle.sock.specs.Journal.{alike, alike_behind, journal_of, journal_step, journal_after, journal_answer, journal_output, journal_written}
 use Rattle.sock.proofs.Configuration.{config_found}
 use Rattle.sock.proofs.Steps.{sure_done_lem, step_fits}

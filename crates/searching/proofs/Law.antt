@@ -5,20 +5,17 @@ use native.Mathlib.Omega.{arith}
 use native.Mathlib.Decide.{ℕ_discrete}
 use mathlib.Core.Path.{◌≡◌, refl, sym, ap, ◌∙◌}
 use mathlib.Core.Bool.{Bool, true, false, cond}
-use mathlib.Core.Option.{Option, none}
+use mathlib.Core.Option.{Option}
 use mathlib.Core.List.{List, ◌++◌}
-use borrow.Author.Tests.{eq-eqb, ne_eqb, le-ltb, le-leb, lt-leb, leb-true, leb-false}
+use borrow.Author.Tests.{eq-eqb, ne_eqb, le-ltb, leb-true, leb-false}
 use lib.Dec.{leb, eqb}
 use lib.ListN.{length, get_or, drop}
-use Rattle.sock.specs.Running.{Run, run_words, size, run_depth}
+use Rattle.sock.specs.Running.{run_words, size}
 use Rattle.sock.specs.Configuration.{Config}
 use Rattle.sock.specs.Frames.{Located}
-use Rattle.sock.specs.Calls.{Spot as Place, unreadable, nobody_there, done, ◌!◌, ◌>>=◌, engine_at, enabled_at}
+use Rattle.sock.specs.Calls.{Spot as Place, unreadable, nobody_there, done, ◌!◌, ◌>>=◌, enabled_at}
 use Rattle.sock.specs.Pending.{pending, side_at, searched, pending_at}
-use Rattle.sock.proofs.Fits.{Sound, no_frames}
-use Rattle.sock.proofs.Logic.{all_some_lem}
-use Rattle.sock.proofs.Frames.{locate_sound}
-use Rattle.sock.proofs.Located.{start_of, engine_fits, size_positive}
+use Rattle.sock.proofs.Located.{start_of, size_positive}
 use Rattle.sock.proofs.Positions.{stands_within}
 use Rattle.sock.proofs.Pending.{count_few}
 use Rattle.reading.specs.declared.survey.Starts.{Starts}
@@ -33,9 +30,7 @@ use Rattle.layout.specs.Limits.{figures}
 use Rattle.layout.specs.declared.limit.Limits.{Limits}
 use Rattle.finding.specs.declared.find.Site.{Site}
 use Rattle.finding.specs.declared.find.Found.{Found}
-use Rattle.finding.specs.declared.find.Found.TheVariants.{Hit, Past}
 use Rattle.finding.specs.Find.{find_w}
-use Rattle.pending.specs.Looking.{pending_w}
 use Rattle.pending.proofs.Looks.{pending_looks}
 use Rattle.stepping.specs.Lent.{Modest}
 use Rattle.stepping.proofs.Partners as partners

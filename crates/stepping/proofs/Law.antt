@@ -1,6 +1,6 @@
 -- The whole step on words is the definitions' step, for all words and numbers.
 -- Assumes nothing.
-use Prim.Native.Nat.{ℕ, ◌+◌, ◌-◌, ◌*◌, ◌/◌, ◌≤◌, ◌<◌}
+use Prim.Native.Nat.{ℕ, ◌+◌, ◌/◌, ◌≤◌, ◌<◌}
 use native.Mathlib.Omega.{arith}
 use native.Mathlib.Decide.{ℕ_discrete}
 use mathlib.Core.Path.{◌≡◌, refl, sym, ap, ◌∙◌}
@@ -8,12 +8,12 @@ use mathlib.Core.Bool.{Bool, true, false, cond}
 use mathlib.Core.Option.{Option, none}
 use mathlib.Core.List.{List}
 use borrow.Author.Tests.{eq-eqb, ne_eqb, le-ltb, leb-true, leb-false}
-use lib.Dec.{leb, eqb, lit<}
+use lib.Dec.{leb, eqb}
 use lib.ListN.{length, get_or}
 use Rattle.sock.specs.Words.{kind_of}
 use Rattle.sock.specs.Term.{kind}
 use Rattle.sock.specs.Running.{as_node, run_words}
-use Rattle.sock.specs.Configuration.{standard, Config}
+use Rattle.sock.specs.Configuration.{Config}
 use Rattle.sock.specs.Frames.{Located}
 use Rattle.sock.specs.Rules.{Message, Move, sends, move_of}
 use Rattle.sock.specs.Calls.{Spot as Place, unreadable, nobody_there, no_move, no_partner, not_decimal, refused, ◌>>=◌, ◌!◌, Numbers as Asked, engine_at, enabled_at, step, step_answer, step_output}

@@ -15,7 +15,7 @@ use Rattle.sock.specs.Term.{Expr, Node, node, Nodes, absent, list, Entries, no_p
 use Rattle.sock.specs.Layout.{expr_words, words, depth}
 use Rattle.sock.specs.Reading.{code, anywhere}
 use Rattle.sock.specs.Running.{Mark, Run, nil, seq, par, scope, executor, waiter, notice, act, as_node, run_words, size, run_depth, enable}
-use Rattle.sock.specs.Configuration.{standard, Engine, Config, values_words, engines_depth}
+use Rattle.sock.specs.Configuration.{Engine, Config, values_words, engines_depth}
 use Rattle.sock.specs.Calls.{engine_at}
 use Rattle.sock.specs.Variables.{values_at}
 use Rattle.sock.specs.Evaluation.{evaluate, is_true}

@@ -11,7 +11,7 @@ use lib.Dec.{ltb, lit<}
 use lib.ListN.{length, get_or, length-replicate}
 use Rattle.sock.specs.Term.{kind}
 use Rattle.sock.specs.Running.{Run, as_node, size}
-use Rattle.sock.specs.Configuration.{standard, Config}
+use Rattle.sock.specs.Configuration.{Config}
 use Rattle.sock.specs.Frames.{Located}
 use Rattle.sock.specs.Rules.{alone, unvalued, move_of}
 use Rattle.sock.specs.Calls.{Spot as Place, not_decimal, installing, refused, engine_at}

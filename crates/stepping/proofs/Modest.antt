@@ -3,8 +3,7 @@
 use Prim.Native.Nat.{ℕ}
 use native.Mathlib.Omega.{arith}
 use mathlib.Core.Path.{◌≡◌, sym, ap}
-use mathlib.Core.List.{List}
-use lib.ListN.{length, replicate, length-replicate}
+use lib.ListN.{replicate, length-replicate}
 use Rattle.sock.specs.Configuration.{standard}
 use Rattle.sock.specs.Cabinets.{small}
 use Rattle.layout.specs.Limits.{figures}

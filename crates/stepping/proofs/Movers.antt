@@ -15,7 +15,7 @@ use Rattle.sock.specs.Variables.{first_of, variable_words, values_at}
 use Rattle.sock.specs.Term.{Node, Entries, head_word, kind}
 use Rattle.sock.specs.Layout.{count, entries_words, entries_depth}
 use Rattle.sock.specs.Running.{Mark, marked_fault, scope_head, Run, nil, seq, par, scope, executor, waiter, notice, act, as_node, run_words, size, run_depth}
-use Rattle.sock.specs.Configuration.{standard, Config}
+use Rattle.sock.specs.Configuration.{Config}
 use Rattle.sock.specs.Calls.{engine_at}
 use Rattle.sock.specs.Frames.{Located, is_done}
 use Rattle.sock.specs.Rules.{action, Message, reply, Move, stuck, alone, sends, ending, acting, once_done, move_of, unvalued, valued}
@@ -23,7 +23,7 @@ use Rattle.sock.proofs.Fits.{FitsFixed, one_fixed, FitsEntries, FitsEngine, Soun
 use Rattle.sock.proofs.Fields.{head_kind, fields_below, fixed_fits, end_tests}
 use Rattle.sock.proofs.Variables.{laid, list_fits}
 use Rattle.sock.proofs.Located.{engine_fits, start_of}
-use Rattle.sock.proofs.Measures.{words_scope, words_executor, size_scope, size_executor, depth_scope}
+use Rattle.sock.proofs.Measures.{words_scope, words_executor, size_scope, depth_scope}
 use Rattle.sock.proofs.ByKind.{run_kind, kind_as_node, done_kind}
 use Rattle.sock.proofs.Positions.{at_head, at_past}
 use Rattle.reading.specs.declared.survey.Starts.{Starts}

@@ -14,7 +14,7 @@ use lib.ListN.{length, get_or, drop}
 use lib.Seq.{set_comm}
 use Rattle.sock.specs.Term.{kind}
 use Rattle.sock.specs.Running.{Run, as_node, run_words, size, run_depth}
-use Rattle.sock.specs.Configuration.{standard, Config, Engine}
+use Rattle.sock.specs.Configuration.{Config, Engine}
 use Rattle.sock.specs.Frames.{Located, plug}
 use Rattle.sock.specs.Rules.{Message, sends, move_of, Exchange, exchange}
 use Rattle.sock.specs.Calls.{Spot as Place, no_fit, Numbers, engine_at, with_engine}
@@ -41,7 +41,7 @@ use Rattle.stepping.specs.Lent.{Modest}
 use Rattle.stepping.specs.declared.answer.Told.{Told}
 use Rattle.stepping.specs.declared.bundles.Encounter.{Encounter}
 use Rattle.stepping.specs.declared.bundles.Side.{Side}
-use Rattle.stepping.specs.Answering.{changed, answered, refusing, accepting, two_w}
+use Rattle.stepping.specs.Answering.{changed, answered, refusing, two_w}
 use Rattle.stepping.specs.Meeting.{fit_w, serial_w, send_w, receive_w}
 use Rattle.stepping.specs.Exchanging.{blank, lent, sender_w, receiver_w, ordered_w, next_of, issued_of, fault_of, carry_w, spent_w, meet_w, between_w}
 use Rattle.stepping.proofs.Goal.{given, given_refused, fitted, fitted_spent}

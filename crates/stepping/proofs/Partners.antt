@@ -10,7 +10,7 @@ use lib.ListN.{length, get_or, drop, length-append, length-drop}
 use lib.Seq.{take_all}
 use Rattle.sock.specs.Term.{Node, Entries, kind}
 use Rattle.sock.specs.Running.{Mark, Run, seq, par, scope, executor, as_node, run_words, size, run_depth}
-use Rattle.sock.specs.Configuration.{standard, Engine, Config, engines_depth}
+use Rattle.sock.specs.Configuration.{Engine, Config, engines_depth}
 use Rattle.sock.specs.Frames.{Frame, seq_frame, left_frame, right_frame, scope_frame, executor_frame, Located}
 use Rattle.sock.specs.Rules.{Message, sends, move_of, exchange}
 use Rattle.sock.specs.Calls.{engine_at}

@@ -9,7 +9,7 @@ use borrow.Author.Tests.{lt-ltb, le-ltb}
 use lib.Dec.{lit<}
 use lib.ListN.{length, drop}
 use Rattle.sock.specs.Running.{Run, run_words, size, run_depth}
-use Rattle.sock.specs.Configuration.{standard, Config, guarded}
+use Rattle.sock.specs.Configuration.{Config, guarded}
 use Rattle.sock.specs.Frames.{Located, locate}
 use Rattle.sock.specs.Rules.{also}
 use Rattle.sock.specs.Calls.{Spot as Place, engine_at, enabled_at}

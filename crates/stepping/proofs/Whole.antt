@@ -1,6 +1,6 @@
 -- The step's cases by the definitions, once a process is found: it is stuck, it moves alone, its expression has no value, or it sends.
 -- Assumes nothing.
-use Prim.Native.Nat.{ℕ, ◌-◌}
+use Prim.Native.Nat.{ℕ}
 use mathlib.Core.Path.{◌≡◌, refl}
 use mathlib.Core.Bool.{Bool, true, false, ◌&&◌, cond}
 use mathlib.Core.Option.{Option, none, some}
@@ -12,7 +12,7 @@ use Rattle.sock.specs.Running.{Run, as_node}
 use Rattle.sock.specs.Configuration.{Config, guarded, read_config}
 use Rattle.sock.specs.Frames.{plug}
 use Rattle.sock.specs.Rules.{also, Message, stuck, alone, unvalued, sends, move_of, Exchange, exchange}
-use Rattle.sock.specs.Calls.{unreadable, nobody_there, no_move, no_partner, no_fit, not_decimal, installing, Result, refused, ◌>>=◌, ◌>>◌, ◌!◌, Numbers, Spot, enabled_at, movable, partner, effect, Stepped, with_engine, carried_out, step}
+use Rattle.sock.specs.Calls.{unreadable, nobody_there, no_move, no_partner, no_fit, not_decimal, installing, Result, refused, ◌>>=◌, ◌!◌, Numbers, Spot, enabled_at, movable, partner, effect, Stepped, with_engine, carried_out, step}
 use Rattle.layout.specs.declared.limit.Limits.{Limits}
 use Rattle.layout.specs.Limits.{figures}
 use Rattle.stepping.specs.Stepping.{none_else}

@@ -6,7 +6,7 @@ use Rattle.layout.specs.declared.limit.Limits.{Limits}
 use Rattle.stepping.specs.declared.answer.Answer.{Answer}
 use Rattle.stepping.specs.declared.answer.Change.{Change}
 use Rattle.stepping.specs.declared.answer.Told.{Told}
-use Rattle.stepping.specs.Writing.{Written, written, copy_w, engine_w}
+use Rattle.stepping.specs.Writing.{Written, copy_w, engine_w}
 
 -- an answer, and the output afterwards
 pub record Answered : Type 0 where

@@ -6,7 +6,6 @@ use Rattle.sock.specs.Bytes.{packed_part}
 use Rattle.sock.specs.Calls.{process_part}
 use Rattle.sock.specs.Configuration.{standard}
 use Rattle.bytewise.proofs.Placing.{Placed, is_placed, none_placed}
-use borrow.Author.Rules.{rules}
 use Rattle.bytewise.proofs.calls.part.Goals as goal
 use Rattle.bytewise.proofs.calls.part.Goals.{Else-n-e}
 

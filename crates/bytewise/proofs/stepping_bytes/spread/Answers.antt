@@ -1,12 +1,12 @@
 -- `spread` of `bytewise::stepping_bytes` meets its contract. The loop's invariant: the bytes of the first i words are over the output.
-use Prim.Native.Nat.{ℕ, ◌+◌, ◌-◌, ◌*◌, ◌≤◌, ◌<◌}
+use Prim.Native.Nat.{ℕ, ◌+◌, ◌*◌, ◌<◌}
 use native.Mathlib.Omega.{arith}
 use mathlib.Core.Path.{◌≡◌, refl, ap, ◌∙◌}
 use lib.ListN.{length, take, length-set}
 use Rattle.sock.specs.Bytes.{bytes_of}
 use Rattle.sock.specs.Calls.{over}
 use Rattle.bytewise.proofs.Spreading.{spread_turn, spread_none}
-use borrow.Author.Rules.{rules, Below-set}
+use borrow.Author.Rules.{Below-set}
 use Rattle.bytewise.proofs.stepping_bytes.spread.Goals as goal
 
 pub loop-i-init : goal.loop-i-init

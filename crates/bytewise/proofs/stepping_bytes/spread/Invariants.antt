@@ -1,12 +1,9 @@
 -- `spread` of `bytewise::stepping_bytes` meets its contract. The loop's invariant: the bytes of the first i words are over the output.
-use Prim.Native.Nat.{ℕ, ◌+◌, ◌-◌, ◌*◌, ◌≤◌, ◌<◌}
-use native.Mathlib.Omega.{arith}
-use mathlib.Core.Path.{◌≡◌, refl, ap, ◌∙◌}
-use lib.ListN.{length, take, length-set}
+use Prim.Native.Nat.{◌-◌, ◌≤◌}
+use mathlib.Core.Path.{◌≡◌}
+use lib.ListN.{length, take}
 use Rattle.sock.specs.Bytes.{bytes_of}
 use Rattle.sock.specs.Calls.{over}
-use Rattle.bytewise.proofs.Spreading.{spread_turn, spread_none}
-use borrow.Author.Rules.{rules, Below-set}
 use Rattle.bytewise.proofs.stepping_bytes.spread.Given as goal
 
 abbrev pub invariant-loop-i : goal.invariant-loop-i

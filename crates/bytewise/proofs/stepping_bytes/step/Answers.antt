@@ -2,7 +2,6 @@
 use mathlib.Core.Path.{ap, ◌∙◌}
 use Rattle.sock.specs.Bytes.{byte_answer, byte_output}
 use Rattle.bytewise.proofs.Stepping.{small_answer, small_output, small_keeps}
-use borrow.Author.Rules.{rules}
 use Rattle.bytewise.proofs.stepping_bytes.step.Goals as goal
 
 pub returns-then-a-eq10 : goal.returns-then-a-eq10

@@ -2,7 +2,6 @@
 use native.Mathlib.Omega.{arith}
 use mathlib.Core.Path.{◌∙◌}
 use Rattle.bytewise.proofs.Stepping.{as_step, law_refused, law_fits, law_done}
-use borrow.Author.Rules.{rules}
 use Rattle.bytewise.proofs.stepping_bytes.written.Goals as goal
 
 pub step_at-a-requires : goal.step_at-a-requires

@@ -1,6 +1,5 @@
 -- `fill` of `bytewise::words` meets its contract: the other way round twice.
 use native.Mathlib.Omega.{arith}
-use borrow.Author.Rules.{rules}
 use Rattle.bytewise.proofs.Holding.{rounds_back}
 use Rattle.bytewise.proofs.words.fill.Goals as goal
 

@@ -1,12 +1,11 @@
 -- `fill_round` of `bytewise::words` meets its contract. The loop's invariant: the first i words, each the other way round, are over what was
 -- there.
-use Prim.Native.Nat.{ℕ, ◌+◌, ◌-◌, ◌*◌, ◌≤◌}
+use Prim.Native.Nat.{◌+◌, ◌*◌}
 use mathlib.Core.Path.{◌≡◌, refl, sym, ◌∙◌}
-use lib.ListN.{length, take}
+use lib.ListN.{length}
 use native.Mathlib.Omega.{arith}
 use borrow.Author.Rules.{rules}
 use Rattle.sock.specs.Bytes.{words_of, words_or_none}
-use Rattle.sock.specs.Calls.{over}
 use Rattle.sock.proofs.ByteWords.{words_length}
 use Rattle.bytewise.specs.Held.{rounds}
 use Rattle.bytewise.proofs.Holding.{laid_turn, laid_end, rounds_length, round_pair}

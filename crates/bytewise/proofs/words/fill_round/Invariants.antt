@@ -1,15 +1,11 @@
 -- `fill_round` of `bytewise::words` meets its contract. The loop's invariant: the first i words, each the other way round, are over what was
 -- there.
-use Prim.Native.Nat.{ℕ, ◌+◌, ◌-◌, ◌*◌, ◌≤◌}
-use mathlib.Core.Path.{◌≡◌, refl, sym, ◌∙◌}
+use Prim.Native.Nat.{◌-◌, ◌≤◌}
+use mathlib.Core.Path.{◌≡◌}
 use lib.ListN.{length, take}
-use native.Mathlib.Omega.{arith}
-use borrow.Author.Rules.{rules}
 use Rattle.sock.specs.Bytes.{words_of, words_or_none}
 use Rattle.sock.specs.Calls.{over}
-use Rattle.sock.proofs.ByteWords.{words_length}
 use Rattle.bytewise.specs.Held.{rounds}
-use Rattle.bytewise.proofs.Holding.{laid_turn, laid_end, rounds_length, round_pair}
 use Rattle.bytewise.proofs.words.fill_round.Given as goal
 
 abbrev pub invariant-loop-i : goal.invariant-loop-i

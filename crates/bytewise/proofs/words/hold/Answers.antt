@@ -1,10 +1,9 @@
 -- `hold` of `bytewise::words` meets its contract.
-use Prim.Native.Nat.{ℕ, ◌*◌, ◌/◌}
+use Prim.Native.Nat.{◌*◌, ◌/◌}
 use native.Mathlib.Omega.{arith}
 use mathlib.Core.Path.{◌≡◌, refl}
 use lib.ListN.{length}
 use Rattle.bytewise.proofs.Holding.{held_odd, held_long, none_laid, all_laid}
-use borrow.Author.Rules.{rules}
 use Rattle.bytewise.proofs.words.hold.Goals as goal
 
 pub returns-then-n-bytes : goal.returns-then-n-bytes

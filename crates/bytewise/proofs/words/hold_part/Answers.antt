@@ -3,7 +3,6 @@ use native.Mathlib.Omega.{arith}
 use mathlib.Core.Path.{refl, sym}
 use lib.Seq.{length-take-le}
 use Rattle.bytewise.proofs.Parts.{part_held}
-use borrow.Author.Rules.{rules}
 use Rattle.bytewise.proofs.words.hold_part.Goals as goal
 
 pub slice_bounds-fill-end : goal.slice_bounds-fill-end

@@ -1,12 +1,9 @@
 -- `turn` of `bytewise::words` meets its contract. The loop's invariant: the first i words, the other way round, are over what was there.
-use Prim.Native.Nat.{ℕ, ◌-◌, ◌≤◌}
-use native.Mathlib.Omega.{arith}
-use mathlib.Core.Path.{◌≡◌, refl, sym, ◌∙◌}
+use Prim.Native.Nat.{◌-◌, ◌≤◌}
+use mathlib.Core.Path.{◌≡◌}
 use lib.ListN.{length, take}
-use borrow.Author.Rules.{rules}
 use Rattle.sock.specs.Calls.{over}
 use Rattle.bytewise.specs.Held.{rounds}
-use Rattle.bytewise.proofs.Holding.{laid_end, turn_length, turn_next}
 use Rattle.bytewise.proofs.words.turn.Given as goal
 
 abbrev pub invariant-loop-i : goal.invariant-loop-i

@@ -1,6 +1,5 @@
 -- `hand_out` of `cabinet::engines_bytes` meets its contract.
 use Rattle.cabinet.proofs.Engines.{handed_none, handed_some}
-use borrow.Author.Rules.{rules}
 use Rattle.cabinet.proofs.engines_bytes.hand_out.Goals as goal
 
 pub returns-then-w-ne0 : goal.returns-then-w-ne0

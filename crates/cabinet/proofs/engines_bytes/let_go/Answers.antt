@@ -1,7 +1,6 @@
 -- `let_go` of `cabinet::engines_bytes` meets its contract.
 use mathlib.Core.Path.{◌∙◌}
 use Rattle.cabinet.proofs.Engines.{let_go_fits, let_go_answer, let_go_output}
-use borrow.Author.Rules.{rules}
 use Rattle.cabinet.proofs.engines_bytes.let_go.Goals as goal
 
 pub hand_out-requires : goal.hand_out-requires

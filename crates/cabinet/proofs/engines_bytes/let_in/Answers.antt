@@ -1,7 +1,6 @@
 -- `let_in` of `cabinet::engines_bytes` meets its contract.
 use mathlib.Core.Path.{◌∙◌}
 use Rattle.cabinet.proofs.Engines.{let_in_fits, let_in_answer, let_in_output}
-use borrow.Author.Rules.{rules}
 use Rattle.cabinet.proofs.engines_bytes.let_in.Goals as goal
 
 pub hand_out-requires : goal.hand_out-requires

@@ -1,6 +1,5 @@
 -- `unread` of `cabinet::engines_bytes` meets its contract.
 use Rattle.cabinet.proofs.Engines.{unread_number, unread_long}
-use borrow.Author.Rules.{rules}
 use Rattle.cabinet.proofs.engines_bytes.unread.Goals as goal
 
 pub returns-then-number-ne0 : goal.returns-then-number-ne0

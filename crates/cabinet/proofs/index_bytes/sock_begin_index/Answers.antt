@@ -2,7 +2,6 @@
 use native.Mathlib.Omega.{arith}
 use mathlib.Core.Path.{refl, sym, ◌∙◌}
 use Rattle.cabinet.proofs.Indexing.{begin_short, begin_answer_lem, begin_keeps, begin_lays}
-use borrow.Author.Rules.{rules}
 use Rattle.cabinet.proofs.index_bytes.sock_begin_index.Goals as goal
 
 as_answered_begun : {A B : Type 0} → A × B → record { answered : A; begun : B }

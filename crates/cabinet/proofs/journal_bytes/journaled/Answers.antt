@@ -2,7 +2,6 @@
 use mathlib.Core.Path.{sym, ◌∙◌}
 use lib.Seq.{length-take-le}
 use Rattle.cabinet.proofs.Journaling.{left_alone, made_answer, fits_scratch, fits_out, made_out, fits_words, fits_journal, made_journal}
-use borrow.Author.Rules.{rules}
 use Rattle.cabinet.proofs.journal_bytes.journaled.Goals as goal
 
 pub compare-c-requires : goal.compare-c-requires

@@ -1,8 +1,7 @@
 -- `large_journal` of `cabinet::journal_bytes` meets its contract.
 use native.Mathlib.Omega.{arith}
-use mathlib.Core.Path.{refl, sym, ap, ◌∙◌}
+use mathlib.Core.Path.{refl, sym, ◌∙◌}
 use lib.Seq.{length-take-le}
-use Rattle.bytewise.specs.Held.{packed_as}
 use Rattle.bytewise.proofs.Holding.{first_held}
 use Rattle.sock.specs.Configuration.{standard}
 use Rattle.stepping.proofs.Modest.{modest_standard, blank_notes}

@@ -2,7 +2,6 @@
 use mathlib.Core.Path.{ap, ◌∙◌}
 use Rattle.bytewise.specs.Held.{packed_as}
 use Rattle.cabinet.proofs.Journaling.{journal_packed}
-use borrow.Author.Rules.{rules}
 use Rattle.cabinet.proofs.journal_bytes.sock_step_journal.Goals as goal
 
 pub returns : goal.returns

@@ -1,6 +1,5 @@
 -- `sock_take_back` of `cabinet::journal_bytes` meets its contract.
 use Rattle.cabinet.proofs.TakingBack.{back_packed}
-use borrow.Author.Rules.{rules}
 use Rattle.cabinet.proofs.journal_bytes.sock_take_back.Goals as goal
 
 pub returns : goal.returns

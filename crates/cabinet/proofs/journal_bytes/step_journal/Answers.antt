@@ -1,7 +1,6 @@
 -- `step_journal` of `cabinet::journal_bytes` meets its contract.
 use mathlib.Core.Path.{◌∙◌}
 use Rattle.cabinet.proofs.Journaling.{tried_given, tried_output, tried_journal, tried_keeps, again_given, again_output, again_journal}
-use borrow.Author.Rules.{rules}
 use Rattle.cabinet.proofs.journal_bytes.step_journal.Goals as goal
 
 pub returns-then-a-eq10 : goal.returns-then-a-eq10

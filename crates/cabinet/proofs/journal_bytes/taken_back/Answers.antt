@@ -1,7 +1,6 @@
 -- `taken_back` of `cabinet::journal_bytes` meets its contract.
 use mathlib.Core.Path.{◌∙◌}
 use Rattle.cabinet.proofs.TakingBack.{taken_as_lem, taken_refused, fits_result, fits_bytes, taken_done}
-use borrow.Author.Rules.{rules}
 use Rattle.cabinet.proofs.journal_bytes.taken_back.Goals as goal
 
 pub returns-then-t-ne0 : goal.returns-then-t-ne0

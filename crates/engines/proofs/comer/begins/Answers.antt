@@ -1,7 +1,6 @@
 -- `begins` of `engines::comer` meets its contract.
 use mathlib.Core.Path.{sym, ◌∙◌}
 use Rattle.engines.proofs.Coming.{few_words, head_nil, whole_read}
-use borrow.Author.Rules.{rules}
 use Rattle.engines.proofs.comer.begins.Goals as goal
 
 pub returns-then-engine-lt-VALUES : goal.returns-then-engine-lt-VALUES

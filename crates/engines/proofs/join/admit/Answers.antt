@@ -3,7 +3,6 @@ use Prim.Native.Nat.{◌≤◌, ◌<◌}
 use native.Mathlib.Omega.{arith}
 use lib.ListN.{get_or}
 use Rattle.engines.proofs.Joining.{not_read, full, has_room}
-use borrow.Author.Rules.{rules}
 use Rattle.engines.proofs.join.admit.Goals as goal
 
 pub returns-then-check_readable-ne0 : goal.returns-then-check_readable-ne0

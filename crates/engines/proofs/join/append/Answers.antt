@@ -3,7 +3,6 @@ use Prim.Native.Nat.{◌+◌, ◌≤◌}
 use native.Mathlib.Omega.{arith}
 use lib.ListN.{length}
 use Rattle.engines.proofs.Joining.{too_long, too_short, all_placed}
-use borrow.Author.Rules.{rules}
 use Rattle.engines.proofs.join.append.Goals as goal
 
 pub returns-then-ws-gt-LONGEST : goal.returns-then-ws-gt-LONGEST

@@ -1,8 +1,6 @@
 -- `join` of `engines::join` meets its contract.
 use native.Mathlib.Omega.{arith}
-use borrow.Author.Tests.{not-true, not-false}
 use Rattle.engines.proofs.Joining.{admitted, read_some, join_gives, not_admitted, not_fresh_lem, given_placed}
-use borrow.Author.Rules.{rules}
 use Rattle.engines.proofs.join.join.Goals as goal
 
 pub returns-then-refusal-ne0 : goal.returns-then-refusal-ne0

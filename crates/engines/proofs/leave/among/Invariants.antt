@@ -1,12 +1,8 @@
 -- `among` of `engines::leave` meets its contract. The loop's invariant: the walk from here gives what it gives from the start. The measure is the engines left.
 use Prim.Native.Nat.{◌-◌, ◌≤◌}
-use native.Mathlib.Omega.{arith}
-use native.Mathlib.Nat.{sub-zero}
-use mathlib.Core.Path.{◌≡◌, refl, ◌∙◌}
-use borrow.Author.Rules.{rules}
+use mathlib.Core.Path.{◌≡◌}
 use Rattle.reading.specs.Walk.{process_end}
 use Rattle.engines.specs.Leaving.{all_read}
-use Rattle.engines.proofs.Going.{not_met, met, met_all}
 use Rattle.engines.proofs.leave.among.Given as goal
 
 abbrev pub invariant-loop-e : goal.invariant-loop-e

@@ -1,11 +1,9 @@
 -- `leave` of `engines::leave` meets its contract.
 use native.Mathlib.Omega.{arith}
 use mathlib.Core.Path.{refl}
-use borrow.Author.Tests.{not-true, not-false}
 use Rattle.sock.specs.Configuration.{standard}
 use Rattle.reading.proofs.Known.{survey_known, few_engines, known_length}
 use Rattle.engines.proofs.Going.{leave_gives, leave_unread, at_work, leave_short, leave_done}
-use borrow.Author.Rules.{rules}
 use Rattle.engines.proofs.leave.leave.Goals as goal
 
 pub returns-then-n-eq0 : goal.returns-then-n-eq0

@@ -1,7 +1,6 @@
 -- `rests` of `engines::leave` meets its contract.
 use mathlib.Core.Path.{◌∙◌}
 use Rattle.engines.proofs.Going.{only_one, not_nil_lem, others_read}
-use borrow.Author.Rules.{rules}
 use Rattle.engines.proofs.leave.rests.Goals as goal
 
 pub returns-then-n-lt2 : goal.returns-then-n-lt2

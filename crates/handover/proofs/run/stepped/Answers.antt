@@ -4,7 +4,6 @@ use Rattle.sock.specs.Configuration.{standard}
 use Rattle.sock.specs.Calls.{Numbers, step_answer, step_output}
 use Rattle.stepping.specs.Answers.{answer_as}
 use Rattle.handover.proofs.Turning.{numbers_as}
-use borrow.Author.Rules.{rules}
 use Rattle.handover.proofs.run.stepped.Goals as goal
 
 pub returns : goal.returns

@@ -5,7 +5,6 @@ use mathlib.Core.Path.{refl, sym, ◌∙◌}
 use lib.ListN.{length}
 use borrow.Author.Tests.{lt-ltb, le-ltb}
 use Rattle.handover.proofs.Turning.{last_words, last_text, step_words, step_text}
-use borrow.Author.Rules.{rules}
 use Rattle.handover.proofs.run.turn.Goals as goal
 
 pub returns-then-bytes-lt10 : goal.returns-then-bytes-lt10

@@ -10,7 +10,6 @@ use Rattle.bytewise.specs.Held.{held}
 use Rattle.bytewise.proofs.Holding.{first_held}
 use Rattle.handover.specs.Printed.{start_words}
 use Rattle.handover.proofs.Starting.{too_many, some_missing, held_there}
-use borrow.Author.Rules.{rules}
 use Rattle.handover.proofs.start.words_in.Goals as goal
 
 pub returns-then-n-gt8192 : goal.returns-then-n-gt8192

@@ -1,7 +1,5 @@
 -- `take_back_indexed` of `index::back` meets its contract: the taking back, and the index of what it restored.
 use mathlib.Core.Path.{sym, ◌∙◌}
-use borrow.Author.Rules.{rules}
-use borrow.Author.Tests.{not-true, not-false}
 use lib.Seq.{length-take-le}
 use Rattle.index.proofs.Forming.{order_long}
 use Rattle.index.proofs.Answering.{back_unlisted, back_refuses, back_within, back_accepts}

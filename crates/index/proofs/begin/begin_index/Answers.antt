@@ -1,6 +1,5 @@
 -- `begin_index` of `index::begin` meets its contract.
 use mathlib.Core.Path.{◌∙◌}
-use borrow.Author.Rules.{rules}
 use Rattle.index.proofs.Answering.{all_cleared, begin_short, begin_refused, begin_done}
 use Rattle.index.proofs.begin.begin_index.Goals as goal
 

@@ -1,11 +1,7 @@
 -- `clear` of `index::begin` meets its contract. The loop's invariant: to clear from here on gives what it gives from the start.
-use Prim.Native.Nat.{◌-◌, ◌≤◌}
 use native.Mathlib.Omega.{arith}
-use mathlib.Core.Path.{◌≡◌, refl, sym, ◌∙◌}
-use lib.ListN.{length}
-use borrow.Author.Rules.{rules}
+use mathlib.Core.Path.{refl, sym, ◌∙◌}
 use lib.ListN.{length-set}
-use Rattle.index.specs.Form.{cleared}
 use Rattle.index.proofs.Forming.{cleared_more, cleared_all}
 use Rattle.index.proofs.begin.clear.Goals as goal
 

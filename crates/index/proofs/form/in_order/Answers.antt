@@ -1,7 +1,5 @@
 -- `in_order` of `index::form` meets its contract: the four tests, one after the other.
 use mathlib.Core.Path.{sym, ◌∙◌}
-use borrow.Author.Rules.{rules}
-use borrow.Author.Tests.{not-true, not-false}
 use Rattle.index.proofs.Forming.{order_short, order_many, order_falls, order_rises}
 use Rattle.index.proofs.form.in_order.Goals as goal
 

@@ -1,11 +1,8 @@
 -- `rises` of `index::form` meets its contract. The loop's invariant: the words before i rise, the last of them is `last`.
 use Prim.Native.Nat.{◌+◌, ◌-◌, ◌≤◌}
-use native.Mathlib.Omega.{arith}
-use mathlib.Core.Path.{◌≡◌, ap, ◌∙◌}
+use mathlib.Core.Path.{◌≡◌}
 use lib.ListN.{take, drop}
-use borrow.Author.Rules.{rules}
 use Rattle.sock.specs.Index.{rising}
-use Rattle.index.proofs.Forming.{rise_passes, rise_stops, rise_ends}
 use Rattle.index.proofs.form.rises.Given as goal
 
 abbrev pub invariant-loop-i : goal.invariant-loop-i

@@ -1,10 +1,6 @@
 -- `zeros` of `index::form` meets its contract. The loop's invariant: the words before i are 0.
-use Prim.Native.Nat.{◌-◌, ◌≤◌}
 use native.Mathlib.Omega.{arith}
-use mathlib.Core.Path.{◌≡◌, refl, ◌∙◌}
-use lib.ListN.{take, drop}
-use borrow.Author.Rules.{rules}
-use Rattle.sock.specs.Index.{zeros}
+use mathlib.Core.Path.{refl, ◌∙◌}
 use Rattle.index.proofs.Forming.{zero_passes, zero_stops, zeros_end}
 use Rattle.index.proofs.form.zeros.Goals as goal
 

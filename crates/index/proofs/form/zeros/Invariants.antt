@@ -1,11 +1,8 @@
 -- `zeros` of `index::form` meets its contract. The loop's invariant: the words before i are 0.
 use Prim.Native.Nat.{◌-◌, ◌≤◌}
-use native.Mathlib.Omega.{arith}
-use mathlib.Core.Path.{◌≡◌, refl, ◌∙◌}
+use mathlib.Core.Path.{◌≡◌}
 use lib.ListN.{take, drop}
-use borrow.Author.Rules.{rules}
 use Rattle.sock.specs.Index.{zeros}
-use Rattle.index.proofs.Forming.{zero_passes, zero_stops, zeros_end}
 use Rattle.index.proofs.form.zeros.Given as goal
 
 abbrev pub invariant-loop-i : goal.invariant-loop-i

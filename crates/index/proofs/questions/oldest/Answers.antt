@@ -1,7 +1,6 @@
 -- `oldest` of `index::questions` meets its contract.
 use mathlib.Core.Path.{sym, ◌∙◌}
 use native.Mathlib.Omega.{arith}
-use borrow.Author.Rules.{rules}
 use Rattle.index.proofs.Forming.{order_long}
 use Rattle.index.proofs.Answering.{oldest_told, oldest_refused}
 use Rattle.index.proofs.questions.oldest.Goals as goal

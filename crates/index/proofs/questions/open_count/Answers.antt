@@ -1,7 +1,6 @@
 -- `open_count` of `index::questions` meets its contract.
 use mathlib.Core.Path.{sym, ◌∙◌}
 use native.Mathlib.Omega.{arith}
-use borrow.Author.Rules.{rules}
 use Rattle.index.proofs.Forming.{order_long}
 use Rattle.index.proofs.Answering.{count_told, count_refused}
 use Rattle.index.proofs.questions.open_count.Goals as goal

@@ -1,6 +1,5 @@
 -- `follow` of `index::steps` meets its contract.
 use mathlib.Core.Path.{ap, ◌∙◌}
-use borrow.Author.Rules.{rules}
 use Rattle.sock.specs.Calls.{over}
 use Rattle.sock.specs.Index.{index_of}
 use Rattle.index.specs.Form.{serials_in}

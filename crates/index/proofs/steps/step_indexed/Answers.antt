@@ -1,7 +1,5 @@
 -- `step_indexed` of `index::steps` meets its contract: the step with a journal, and what follows by its answer.
 use mathlib.Core.Path.{sym, ◌∙◌}
-use borrow.Author.Rules.{rules}
-use borrow.Author.Tests.{not-true, not-false}
 use Rattle.stepping.specs.Bundles.{numbers_as}
 use Rattle.index.proofs.Answering.{step_unlisted, step_refuses, step_accepts}
 use Rattle.index.proofs.steps.step_indexed.Goals as goal

@@ -11,7 +11,6 @@ use Rattle.sock.specs.Journal.{put_back}
 use Rattle.journal.specs.Back.{said}
 use Rattle.writers.proofs.Over.{over_length, pasted_first}
 use Rattle.journal.proofs.Restoring.{put_words, put_laid, old_length, gives_refused, gives_done, not_read, not_fitting, is_restored}
-use borrow.Author.Rules.{rules}
 use Rattle.journal.proofs.back.checked.Goals as goal
 
 pub slice_bounds-check_readable-end : goal.slice_bounds-check_readable-end

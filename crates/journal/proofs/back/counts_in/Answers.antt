@@ -1,6 +1,5 @@
 -- `counts_in` of `journal::back` meets its contract.
 use Rattle.journal.specs.Back.{counts_of}
-use borrow.Author.Rules.{rules}
 use Rattle.journal.proofs.back.counts_in.Goals as goal
 
 pub returns : goal.returns

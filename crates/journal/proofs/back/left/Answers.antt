@@ -5,7 +5,6 @@ use mathlib.Core.Path.{◌≡◌, sym, ap, ◌∙◌}
 use lib.Dec.{eqb}
 use lib.ListN.{length, take, drop}
 use Rattle.journal.proofs.Restoring.{in_both, left_other, left_by, inside_journal}
-use borrow.Author.Rules.{rules}
 use Rattle.journal.proofs.back.left.Goals as goal
 
 pub returns-then-ws-new : goal.returns-then-ws-new

@@ -1,6 +1,5 @@
 -- `put_back` of `journal::back` meets its contract.
 use Rattle.journal.specs.Back.{put_w}
-use borrow.Author.Rules.{rules}
 use Rattle.journal.proofs.back.put_back.Goals as goal
 
 pub returns : goal.returns

@@ -4,7 +4,6 @@ use lib.ListN.{length}
 use Rattle.sock.specs.Journal.{put_back}
 use Rattle.journal.specs.Back.{said}
 use Rattle.journal.proofs.Restoring.{old_length, gives_refused, not_long}
-use borrow.Author.Rules.{rules}
 use Rattle.journal.proofs.back.restore.Goals as goal
 
 pub returns-then-n-gt8192 : goal.returns-then-n-gt8192

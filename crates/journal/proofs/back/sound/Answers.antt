@@ -3,7 +3,6 @@ use native.Mathlib.Omega.{arith}
 use mathlib.Core.Path.{ap, ◌∙◌}
 use lib.Dec.{leb}
 use Rattle.journal.proofs.Restoring.{sound_old, sound_new, sound_all}
-use borrow.Author.Rules.{rules}
 use Rattle.journal.proofs.back.sound.Goals as goal
 
 pub returns-then-old-alike : goal.returns-then-old-alike

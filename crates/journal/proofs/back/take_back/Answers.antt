@@ -1,9 +1,7 @@
 -- `take_back` of `journal::back` meets its contract.
 use mathlib.Core.Path.{sym, ◌∙◌}
 use lib.ListN.{length}
-use borrow.Author.Tests.{not-true, not-false}
 use Rattle.journal.proofs.Restoring.{sound_as, gives_refused, gives_same, back_unreadable, back_cut, back_unsound, back_left, back_checked, back_answer, back_output}
-use borrow.Author.Rules.{rules}
 use Rattle.journal.proofs.back.take_back.Goals as goal
 
 pub returns-then-check_readable-ne0 : goal.returns-then-check_readable-ne0

@@ -1,13 +1,10 @@
 -- `first_alike` of `journal::compare` meets its contract. The loop's invariant: the i words before are alike. Its measure: the words left.
-use Prim.Native.Nat.{◌+◌, ◌-◌, ◌≤◌}
 use native.Mathlib.Omega.{arith}
 use mathlib.Core.Path.{◌≡◌, sym, ◌∙◌}
 use mathlib.Core.Bool.{true}
 use lib.ListN.{length, take, drop}
-use Rattle.sock.specs.Journal.{alike, same_words}
+use Rattle.sock.specs.Journal.{same_words}
 use Rattle.journal.proofs.Comparing.{least_left, least_right, first_turn, first_begin}
-use borrow.Author.Tests.{not-false}
-use borrow.Author.Rules.{rules}
 use Rattle.journal.proofs.compare.first_alike.Goals as goal
 
 pub loop-i-init : goal.loop-i-init

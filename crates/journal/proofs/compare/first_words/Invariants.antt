@@ -1,12 +1,8 @@
 -- `first_words` of `journal::compare` meets its contract. The loop's invariant: the words up to k are alike. Its measure: the words left.
-use Prim.Native.Nat.{◌+◌, ◌-◌, ◌≤◌, ◌<◌}
-use native.Mathlib.Omega.{arith}
-use mathlib.Core.Path.{◌≡◌, refl}
+use Prim.Native.Nat.{◌+◌, ◌-◌, ◌≤◌}
+use mathlib.Core.Path.{◌≡◌}
 use lib.ListN.{length, drop}
 use Rattle.sock.specs.Journal.{alike}
-use Rattle.journal.specs.Comparing.{least_of}
-use Rattle.journal.proofs.Comparing.{least_left, least_right, first_word, first_stop, first_end}
-use borrow.Author.Rules.{rules}
 use Rattle.journal.proofs.compare.first_words.Given as goal
 
 abbrev pub invariant-loop-k : goal.invariant-loop-k

@@ -1,14 +1,12 @@
 -- `last_alike` of `journal::compare` meets its contract. The loop's invariant: the i last words are alike. Its measure: the words left.
-use Prim.Native.Nat.{◌+◌, ◌-◌, ◌≤◌}
+use Prim.Native.Nat.{◌-◌}
 use native.Mathlib.Omega.{arith}
 use mathlib.Core.Path.{◌≡◌, sym, ◌∙◌}
 use mathlib.Core.Bool.{true}
 use mathlib.Core.List.{reverse}
 use lib.ListN.{length, take, drop}
-use Rattle.sock.specs.Journal.{alike, same_words}
+use Rattle.sock.specs.Journal.{same_words}
 use Rattle.journal.proofs.Comparing.{least_left, least_right, first_begin, last_turn}
-use borrow.Author.Tests.{not-false}
-use borrow.Author.Rules.{rules}
 use Rattle.journal.proofs.compare.last_alike.Goals as goal
 
 pub loop-i-init : goal.loop-i-init

@@ -1,14 +1,9 @@
 -- `last_alike` of `journal::compare` meets its contract. The loop's invariant: the i last words are alike. Its measure: the words left.
 use Prim.Native.Nat.{◌+◌, ◌-◌, ◌≤◌}
-use native.Mathlib.Omega.{arith}
-use mathlib.Core.Path.{◌≡◌, sym, ◌∙◌}
-use mathlib.Core.Bool.{true}
+use mathlib.Core.Path.{◌≡◌}
 use mathlib.Core.List.{reverse}
-use lib.ListN.{length, take, drop}
-use Rattle.sock.specs.Journal.{alike, same_words}
-use Rattle.journal.proofs.Comparing.{least_left, least_right, first_begin, last_turn}
-use borrow.Author.Tests.{not-false}
-use borrow.Author.Rules.{rules}
+use lib.ListN.{length, drop}
+use Rattle.sock.specs.Journal.{alike}
 use Rattle.journal.proofs.compare.last_alike.Given as goal
 
 abbrev pub invariant-loop-i : goal.invariant-loop-i

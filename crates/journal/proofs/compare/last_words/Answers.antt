@@ -1,10 +1,8 @@
 -- `last_words` of `journal::compare` meets its contract. The loop's invariant: the k last words are alike. Its measure: the words left.
-use Prim.Native.Nat.{◌+◌, ◌-◌, ◌≤◌, ◌<◌}
+use Prim.Native.Nat.{◌≤◌, ◌<◌}
 use native.Mathlib.Omega.{arith}
-use mathlib.Core.Path.{◌≡◌, refl}
-use mathlib.Core.List.{reverse}
-use lib.ListN.{length, drop}
-use Rattle.sock.specs.Journal.{alike}
+use mathlib.Core.Path.{refl}
+use lib.ListN.{length}
 use Rattle.journal.specs.Comparing.{least_of}
 use Rattle.journal.proofs.Comparing.{least_left, least_right, last_word, last_stop, last_end}
 use borrow.Author.Rules.{rules}

@@ -1,12 +1,10 @@
 -- `same_block` of `journal::compare` meets its contract. The loop's invariant: whether the first k words are the same.
-use Prim.Native.Nat.{◌+◌, ◌-◌, ◌≤◌, ◌<◌}
+use Prim.Native.Nat.{◌+◌, ◌<◌}
 use native.Mathlib.Omega.{arith}
 use mathlib.Core.Path.{◌≡◌, ap, ◌∙◌}
-use mathlib.Core.Logic.{⊎_elim}
 use lib.ListN.{length, take, drop}
 use Rattle.sock.specs.Journal.{same_words}
 use Rattle.journal.proofs.Comparing.{turn_same, turn_differs, none_same}
-use borrow.Author.Rules.{rules}
 use Rattle.journal.proofs.compare.same_block.Goals as goal
 use Rattle.journal.proofs.compare.same_block.Goals.{then-a-i, else-a-i}
 

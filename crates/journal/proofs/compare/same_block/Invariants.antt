@@ -1,12 +1,8 @@
 -- `same_block` of `journal::compare` meets its contract. The loop's invariant: whether the first k words are the same.
-use Prim.Native.Nat.{◌+◌, ◌-◌, ◌≤◌, ◌<◌}
-use native.Mathlib.Omega.{arith}
-use mathlib.Core.Path.{◌≡◌, ap, ◌∙◌}
-use mathlib.Core.Logic.{⊎_elim}
-use lib.ListN.{length, take, drop}
+use Prim.Native.Nat.{◌-◌, ◌≤◌}
+use mathlib.Core.Path.{◌≡◌}
+use lib.ListN.{take, drop}
 use Rattle.sock.specs.Journal.{same_words}
-use Rattle.journal.proofs.Comparing.{turn_same, turn_differs, none_same}
-use borrow.Author.Rules.{rules}
 use Rattle.journal.proofs.compare.same_block.Given as goal
 
 abbrev pub invariant-loop-k : goal.invariant-loop-k

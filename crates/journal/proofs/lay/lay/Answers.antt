@@ -1,6 +1,5 @@
 -- `lay` of `journal::lay` meets its contract.
 use Rattle.journal.specs.Laying.{counts, old_end, lay_w, lay_end}
-use borrow.Author.Rules.{rules}
 use Rattle.journal.proofs.lay.lay.Goals as goal
 
 pub returns : goal.returns

@@ -4,7 +4,6 @@ use mathlib.Core.Path.{sym, ap, ◌∙◌}
 use lib.Seq.{length-take-le}
 use Rattle.stepping.specs.declared.answer.Answer.{Answer}
 use Rattle.journal.proofs.Stepping.{Took, did, compared_refused, alike_in, compared_short, compared_done}
-use borrow.Author.Rules.{rules}
 use Rattle.journal.proofs.steps.compare.Goals as goal
 
 pub step_at-a-requires : goal.step_at-a-requires

@@ -5,7 +5,6 @@ use lib.Seq.{length-take-le}
 use Rattle.sock.specs.Configuration.{standard}
 use Rattle.stepping.proofs.Modest.{modest_standard, blank_notes}
 use Rattle.journal.proofs.Stepping.{part_fits, large_answer, large_output, large_journal}
-use borrow.Author.Rules.{rules}
 use Rattle.journal.proofs.steps.large.Goals as goal
 
 pub slice_bounds-written-end-2 : goal.slice_bounds-written-end-2

@@ -1,6 +1,5 @@
 -- `needed` of `journal::steps` meets its contract.
 use mathlib.Core.Path.{refl}
-use borrow.Author.Rules.{rules}
 use Rattle.journal.specs.Stepping.{needed_of}
 use Rattle.journal.proofs.steps.needed.Goals as goal
 

@@ -11,7 +11,6 @@ use Rattle.stepping.specs.Bundles.{numbers_as}
 use Rattle.sock.specs.Configuration.{standard}
 use Rattle.stepping.proofs.Modest.{modest_standard, blank_notes}
 use Rattle.journal.proofs.Stepping.{part_fits}
-use borrow.Author.Rules.{rules}
 use Rattle.journal.proofs.steps.small.Goals as goal
 
 pub slice_bounds-written-end-2 : goal.slice_bounds-written-end-2

@@ -3,7 +3,6 @@ use native.Mathlib.Omega.{arith}
 use mathlib.Core.Path.{◌∙◌}
 use Rattle.sock.specs.Configuration.{standard}
 use Rattle.journal.proofs.Stepping.{small_answer, small_output, small_journal, small_keeps, again_answer, again_output, again_journal}
-use borrow.Author.Rules.{rules}
 use Rattle.journal.proofs.steps.step.Goals as goal
 
 pub returns-then-a-eq10 : goal.returns-then-a-eq10

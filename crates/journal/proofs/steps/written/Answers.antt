@@ -3,7 +3,6 @@ use native.Mathlib.Omega.{arith}
 use mathlib.Core.Path.{sym, ◌∙◌}
 use lib.Seq.{length-take-le}
 use Rattle.journal.proofs.Stepping.{kept, wrote, scratch_fits, scratch_length, copied, noted}
-use borrow.Author.Rules.{rules}
 use Rattle.journal.proofs.steps.written.Goals as goal
 
 pub compare-c-requires : goal.compare-c-requires

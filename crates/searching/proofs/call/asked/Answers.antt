@@ -3,7 +3,6 @@ use mathlib.Core.Path.{◌∙◌}
 use Rattle.sock.proofs.Tests.{tests}
 use Rattle.searching.specs.Asking.{asked_w}
 use Rattle.searching.proofs.Asking.{asked_beyond, asked_past, asked_hit}
-use borrow.Author.Rules.{rules}
 use Rattle.searching.proofs.call.asked.Goals as goal
 
 pub returns-then-n-eq0 : goal.returns-then-n-eq0

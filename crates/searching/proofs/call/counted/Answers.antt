@@ -1,6 +1,5 @@
 -- `counted` of `searching::call` meets its contract: the code is its mirror in specs/.
 use Rattle.searching.specs.Asking.{counted_w}
-use borrow.Author.Rules.{rules}
 use Rattle.searching.proofs.call.counted.Goals as goal
 
 pub returns : goal.returns

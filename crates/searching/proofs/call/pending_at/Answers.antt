@@ -6,7 +6,6 @@ use Rattle.stepping.proofs.Modest.{modest_standard}
 use Rattle.searching.specs.Answers.{pending_as}
 use Rattle.searching.specs.Asking.{many_notes, few_notes}
 use Rattle.searching.proofs.Law.{asked_law}
-use borrow.Author.Rules.{rules}
 use Rattle.searching.proofs.call.pending_at.Goals as goal
 
 pub returns-then-ws-gt-SHORT : goal.returns-then-ws-gt-SHORT

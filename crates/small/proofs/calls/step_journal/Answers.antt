@@ -5,7 +5,6 @@ use lib.Seq.{length-take-le}
 use Rattle.sock.specs.Cabinets.{small}
 use Rattle.stepping.proofs.Modest.{modest_small, blank_notes}
 use Rattle.journal.proofs.Stepping.{part_fits, large_answer, large_output, large_journal}
-use borrow.Author.Rules.{rules}
 use Rattle.small.proofs.calls.step_journal.Goals as goal
 
 pub slice_bounds-written-end-2 : goal.slice_bounds-written-end-2

@@ -1,7 +1,6 @@
 -- `alone` of `stepping::alone` meets its contract: the code is its mirror in specs/.
 use Rattle.stepping.specs.Alone.{alone_w}
 use Rattle.sock.proofs.Tests.{tests}
-use borrow.Author.Rules.{rules}
 use Rattle.stepping.proofs.alone.alone.Goals as goal
 
 pub returns-then-ws-gt-SHORT : goal.returns-then-ws-gt-SHORT

@@ -1,7 +1,6 @@
 -- `lone` of `stepping::alone` meets its contract: the code is its mirror in specs/.
 use Rattle.stepping.specs.Alone.{lone_w}
 use Rattle.sock.proofs.Tests.{tests}
-use borrow.Author.Rules.{rules}
 use Rattle.stepping.proofs.alone.lone.Goals as goal
 
 pub returns : goal.returns

@@ -3,7 +3,6 @@ use mathlib.Core.Path.{◌≡◌, refl, sym}
 use mathlib.Core.Bool.{Bool, true, false, not}
 use Rattle.stepping.specs.Alone.{settled_w, rewritten_w}
 use Rattle.sock.proofs.Tests.{tests}
-use borrow.Author.Rules.{rules}
 use Rattle.stepping.proofs.alone.rewritten.Goals as goal
 
 good : (b : Bool) → not b ≡ false → b ≡ true

@@ -1,7 +1,6 @@
 -- `rule` of `stepping::alone` meets its contract: the code is its mirror in specs/.
 use Rattle.stepping.specs.Alone.{rule_w}
 use Rattle.sock.proofs.Tests.{tests}
-use borrow.Author.Rules.{rules}
 use Rattle.stepping.proofs.alone.rule.Goals as goal
 
 pub returns-then-kind-gt-CHOICE : goal.returns-then-kind-gt-CHOICE

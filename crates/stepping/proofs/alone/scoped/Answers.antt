@@ -1,7 +1,6 @@
 -- `scoped` of `stepping::alone` meets its contract: the code is its mirror in specs/.
 use Rattle.stepping.specs.Alone.{scoped_w}
 use Rattle.sock.proofs.Tests.{tests}
-use borrow.Author.Rules.{rules}
 use Rattle.stepping.proofs.alone.scoped.Goals as goal
 
 pub returns-then-kind-eq-SCOPE : goal.returns-then-kind-eq-SCOPE

@@ -11,7 +11,6 @@ use Rattle.stepping.specs.Answering.{one_w}
 use Rattle.stepping.specs.Alone.{rule_w, lone_w, short_w, surely}
 use Rattle.sock.proofs.Tests.{tests}
 use Rattle.layout.specs.declared.limit.Limits.{Limits}
-use borrow.Author.Rules.{rules}
 use Rattle.stepping.proofs.alone.short.Goals as goal
 
 -- the short scratch had room

@@ -1,7 +1,6 @@
 -- `valued` of `stepping::alone` meets its contract: the code is its mirror in specs/.
 use Rattle.stepping.specs.Alone.{valued_w}
 use Rattle.sock.proofs.Tests.{tests}
-use borrow.Author.Rules.{rules}
 use Rattle.stepping.proofs.alone.valued.Goals as goal
 
 pub returns-then-start-lt-VALUES : goal.returns-then-start-lt-VALUES

@@ -1,7 +1,6 @@
 -- `one` of `stepping::answer` meets its contract: the code is its mirror in specs/.
 use Rattle.stepping.specs.Answering.{one_w}
 use Rattle.sock.proofs.Tests.{tests}
-use borrow.Author.Rules.{rules}
 use Rattle.stepping.proofs.answer.one.Goals as goal
 
 pub returns-then-p-ne0 : goal.returns-then-p-ne0

@@ -1,7 +1,6 @@
 -- `sized` of `stepping::answer` meets its contract: the code is its mirror in specs/.
 use Rattle.stepping.specs.Answering.{sized_w}
 use Rattle.sock.proofs.Tests.{tests}
-use borrow.Author.Rules.{rules}
 use Rattle.stepping.proofs.answer.sized.Goals as goal
 
 pub returns-then-limits-p : goal.returns-then-limits-p

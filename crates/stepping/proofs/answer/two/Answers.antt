@@ -1,7 +1,6 @@
 -- `two` of `stepping::answer` meets its contract: the code is its mirror in specs/.
 use Rattle.stepping.specs.Answering.{two_w}
 use Rattle.sock.proofs.Tests.{tests}
-use borrow.Author.Rules.{rules}
 use Rattle.stepping.proofs.answer.two.Goals as goal
 
 pub returns-then-n-ne0 : goal.returns-then-n-ne0

@@ -2,7 +2,6 @@
 use Rattle.stepping.specs.Writing.{copy_w}
 use Rattle.stepping.specs.Answering.{write_one_w}
 use Rattle.sock.proofs.Tests.{tests}
-use borrow.Author.Rules.{rules}
 use Rattle.stepping.proofs.answer.write_one.Goals as goal
 
 pub returns : goal.returns

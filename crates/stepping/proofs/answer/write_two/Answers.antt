@@ -1,8 +1,6 @@
 -- `write_two` of `stepping::answer` meets its contract: the code is its mirror in specs/.
-use Rattle.sock.proofs.Tests.{tests}
 use mathlib.Core.Path.{refl, ◌∙◌}
 use Rattle.stepping.proofs.Writings.{two_made}
-use borrow.Author.Rules.{rules}
 use Rattle.stepping.proofs.answer.write_two.Goals as goal
 
 pub returns : goal.returns

@@ -1,6 +1,5 @@
 -- `meeting_of` of `stepping::bundles` meets its contract: the code is its mirror in specs/.
 use Rattle.sock.proofs.Tests.{tests}
-use borrow.Author.Rules.{rules}
 use Rattle.stepping.proofs.bundles.meeting_of.Goals as goal
 
 pub returns : goal.returns

@@ -1,6 +1,5 @@
 -- `side_in` of `stepping::bundles` meets its contract: the code is its mirror in specs/.
 use Rattle.sock.proofs.Tests.{tests}
-use borrow.Author.Rules.{rules}
 use Rattle.stepping.proofs.bundles.side_in.Goals as goal
 
 pub returns : goal.returns

@@ -1,7 +1,6 @@
 -- `between` of `stepping::exchange` meets its contract: the code is its mirror in specs/.
 use Rattle.stepping.specs.Exchanging.{between_w}
 use Rattle.sock.proofs.Tests.{tests}
-use borrow.Author.Rules.{rules}
 use Rattle.stepping.proofs.exchange.between.Goals as goal
 
 pub returns-then-x : goal.returns-then-x

@@ -1,5 +1,4 @@
 -- `carry` of `stepping::exchange` meets its contract: the code is its mirror in specs/.
-use Rattle.sock.proofs.Tests.{tests}
 use mathlib.Core.Path.{ap, ◌∙◌}
 use Rattle.stepping.specs.Answering.{Answered}
 use Rattle.stepping.proofs.Carrying.{carry_first, carry_second}

@@ -1,7 +1,6 @@
 -- `meet` of `stepping::exchange` meets its contract: the code is its mirror in specs/.
 use Rattle.stepping.specs.Exchanging.{meet_w}
 use Rattle.sock.proofs.Tests.{tests}
-use borrow.Author.Rules.{rules}
 use Rattle.stepping.proofs.exchange.meet.Goals as goal
 
 pub returns-then-spent : goal.returns-then-spent

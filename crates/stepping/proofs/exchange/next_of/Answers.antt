@@ -1,7 +1,6 @@
 -- `next_of` of `stepping::exchange` meets its contract: the code is its mirror in specs/.
 use Rattle.stepping.specs.Exchanging.{next_of}
 use Rattle.sock.proofs.Tests.{tests}
-use borrow.Author.Rules.{rules}
 use Rattle.stepping.proofs.exchange.next_of.Goals as goal
 
 pub returns-then-issued-eq65535 : goal.returns-then-issued-eq65535

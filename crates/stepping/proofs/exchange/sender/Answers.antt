@@ -1,7 +1,6 @@
 -- `sender` of `stepping::exchange` meets its contract: the code is its mirror in specs/.
 use Rattle.stepping.specs.Exchanging.{sender_w}
 use Rattle.sock.proofs.Tests.{tests}
-use borrow.Author.Rules.{rules}
 use Rattle.stepping.proofs.exchange.sender.Goals as goal
 
 pub returns : goal.returns

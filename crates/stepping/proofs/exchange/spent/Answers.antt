@@ -1,7 +1,6 @@
 -- `spent` of `stepping::exchange` meets its contract: the code is its mirror in specs/.
 use Rattle.stepping.specs.Exchanging.{spent_w}
 use Rattle.sock.proofs.Tests.{tests}
-use borrow.Author.Rules.{rules}
 use Rattle.stepping.proofs.exchange.spent.Goals as goal
 
 pub returns-then-kind-eq-SOLICIT : goal.returns-then-kind-eq-SOLICIT

@@ -1,7 +1,6 @@
 -- `addressed` of `stepping::meeting` meets its contract: the code is its mirror in specs/.
 use Rattle.stepping.specs.Meeting.{addressed_w}
 use Rattle.sock.proofs.Tests.{tests}
-use borrow.Author.Rules.{rules}
 use Rattle.stepping.proofs.meeting.addressed.Goals as goal
 
 pub returns : goal.returns

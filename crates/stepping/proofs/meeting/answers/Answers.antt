@@ -1,7 +1,6 @@
 -- `answers` of `stepping::meeting` meets its contract: the code is its mirror in specs/.
 use Rattle.stepping.specs.Meeting.{replied_w}
 use Rattle.sock.proofs.Tests.{tests}
-use borrow.Author.Rules.{rules}
 use Rattle.stepping.proofs.meeting.answers.Goals as goal
 
 pub returns-then-replies : goal.returns-then-replies

@@ -1,7 +1,6 @@
 -- `fit` of `stepping::meeting` meets its contract: the code is its mirror in specs/.
 use Rattle.stepping.specs.Meeting.{fit_w}
 use Rattle.sock.proofs.Tests.{tests}
-use borrow.Author.Rules.{rules}
 use Rattle.stepping.proofs.meeting.fit.Goals as goal
 
 pub returns-then-kind-eq-EXECUTOR : goal.returns-then-kind-eq-EXECUTOR

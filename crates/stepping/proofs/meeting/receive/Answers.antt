@@ -1,7 +1,6 @@
 -- `receive` of `stepping::meeting` meets its contract: the code is its mirror in specs/.
 use Rattle.stepping.specs.Meeting.{receive_w}
 use Rattle.sock.proofs.Tests.{tests}
-use borrow.Author.Rules.{rules}
 use Rattle.stepping.proofs.meeting.receive.Goals as goal
 
 pub returns-then-kind-eq-NOTIFY : goal.returns-then-kind-eq-NOTIFY

@@ -1,7 +1,6 @@
 -- `replies` of `stepping::meeting` meets its contract: the code is its mirror in specs/.
 use Rattle.stepping.specs.Meeting.{replies_w}
 use Rattle.sock.proofs.Tests.{tests}
-use borrow.Author.Rules.{rules}
 use Rattle.stepping.proofs.meeting.replies.Goals as goal
 
 pub returns-then-branch-ne0 : goal.returns-then-branch-ne0

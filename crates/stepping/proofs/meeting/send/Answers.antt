@@ -1,7 +1,6 @@
 -- `send` of `stepping::meeting` meets its contract: the code is its mirror in specs/.
 use Rattle.stepping.specs.Meeting.{send_w}
 use Rattle.sock.proofs.Tests.{tests}
-use borrow.Author.Rules.{rules}
 use Rattle.stepping.proofs.meeting.send.Goals as goal
 
 pub returns-then-kind-eq-SOLICIT : goal.returns-then-kind-eq-SOLICIT

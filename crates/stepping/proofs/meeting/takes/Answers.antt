@@ -1,7 +1,6 @@
 -- `takes` of `stepping::meeting` meets its contract: the code is its mirror in specs/.
 use Rattle.stepping.specs.Meeting.{takes_w}
 use Rattle.sock.proofs.Tests.{tests}
-use borrow.Author.Rules.{rules}
 use Rattle.stepping.proofs.meeting.takes.Goals as goal
 
 pub returns-then-fits : goal.returns-then-fits

@@ -1,7 +1,6 @@
 -- `body_nil` of `stepping::steps` meets its contract: the code is its mirror in specs/.
 use Rattle.stepping.specs.Stepping.{body_nil}
 use Rattle.sock.proofs.Tests.{tests}
-use borrow.Author.Rules.{rules}
 use Rattle.stepping.proofs.steps.body_nil.Goals as goal
 
 pub returns : goal.returns

@@ -1,7 +1,6 @@
 -- `moves` of `stepping::steps` meets its contract: the code is its mirror in specs/.
 use Rattle.stepping.specs.Stepping.{moves_w}
 use Rattle.sock.proofs.Tests.{tests}
-use borrow.Author.Rules.{rules}
 use Rattle.stepping.proofs.steps.moves.Goals as goal
 
 pub returns-then-body_nil : goal.returns-then-body_nil

@@ -1,7 +1,6 @@
 -- `moving` of `stepping::steps` meets its contract: the code is its mirror in specs/.
 use Rattle.stepping.specs.Stepping.{moving_w}
 use Rattle.sock.proofs.Tests.{tests}
-use borrow.Author.Rules.{rules}
 use Rattle.stepping.proofs.steps.moving.Goals as goal
 
 pub returns-then-m-eq0 : goal.returns-then-m-eq0

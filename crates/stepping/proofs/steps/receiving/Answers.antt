@@ -1,10 +1,9 @@
 -- `receiving` of `stepping::steps` meets its contract: the code is its mirror in specs/.
-use mathlib.Core.Path.{refl, ap, ◌∙◌}
+use mathlib.Core.Path.{ap, ◌∙◌}
 use Rattle.stepping.specs.Answering.{Answered}
 use Rattle.stepping.specs.Stepping.{partner_w, receiving_w}
 use Rattle.stepping.proofs.Stepping.{receiving_past, receiving_hit}
 use Rattle.sock.proofs.Tests.{tests}
-use borrow.Author.Rules.{rules}
 use Rattle.stepping.proofs.steps.receiving.Goals as goal
 
 pub returns-then-g-i : goal.returns-then-g-i

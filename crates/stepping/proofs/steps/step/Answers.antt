@@ -3,7 +3,6 @@ use mathlib.Core.Path.{ap, ◌∙◌}
 use Rattle.sock.specs.Calls.{step_answer, step_output}
 use Rattle.stepping.specs.Answers.{numbers, answer_as}
 use Rattle.stepping.proofs.Modest.{modest_standard, blank_notes}
-use borrow.Author.Rules.{rules}
 use Rattle.stepping.proofs.steps.step.Goals as goal
 
 pub with_notes-requires : goal.with_notes-requires

@@ -5,7 +5,6 @@ use lib.ListN.{length}
 use Rattle.skipping.proofs.Notes.{Right}
 use Rattle.noting.proofs.Noted.{blank_right}
 use Rattle.stepping.proofs.Law.{answer_law, output_law}
-use borrow.Author.Rules.{rules}
 use Rattle.stepping.proofs.steps.step_at.Goals as goal
 
 pub returns : goal.returns

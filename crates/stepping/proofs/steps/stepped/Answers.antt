@@ -4,7 +4,6 @@ use Rattle.stepping.specs.Answering.{Answered}
 use Rattle.stepping.specs.Stepping.{found_w, step_w}
 use Rattle.stepping.proofs.Stepping.{step_beyond, step_past, step_hit}
 use Rattle.sock.proofs.Tests.{tests}
-use borrow.Author.Rules.{rules}
 use Rattle.stepping.proofs.steps.stepped.Goals as goal
 
 pub returns-then-n-eq0 : goal.returns-then-n-eq0

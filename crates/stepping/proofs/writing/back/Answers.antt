@@ -1,7 +1,6 @@
 -- `back` of `stepping::writing` meets its contract: the code is its mirror in specs/.
 use Rattle.stepping.specs.Writing.{copy_w, back_w}
 use Rattle.sock.proofs.Tests.{tests}
-use borrow.Author.Rules.{rules}
 use Rattle.stepping.proofs.writing.back.Goals as goal
 
 pub returns : goal.returns

@@ -2,7 +2,6 @@
 use mathlib.Core.Path.{ap, ◌∙◌}
 use Rattle.stepping.specs.Writing.{Written}
 use Rattle.stepping.proofs.Writings.{engine_made}
-use borrow.Author.Rules.{rules}
 use Rattle.stepping.proofs.writing.engine.Goals as goal
 
 pub returns : goal.returns

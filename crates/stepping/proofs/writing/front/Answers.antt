@@ -1,7 +1,6 @@
 -- `front` of `stepping::writing` meets its contract: the code is its mirror in specs/.
 use Rattle.stepping.specs.Writing.{copy_w, front_w}
 use Rattle.sock.proofs.Tests.{tests}
-use borrow.Author.Rules.{rules}
 use Rattle.stepping.proofs.writing.front.Goals as goal
 
 pub returns : goal.returns

@@ -1,7 +1,6 @@
 -- `lend` of `stepping::writing` meets its contract: the code is its mirror in specs/.
 use Rattle.stepping.specs.Writing.{lent_w}
 use Rattle.sock.proofs.Tests.{tests}
-use borrow.Author.Rules.{rules}
 use Rattle.stepping.proofs.writing.lend.Goals as goal
 
 pub returns-then-out-to : goal.returns-then-out-to

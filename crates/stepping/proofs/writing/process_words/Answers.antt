@@ -1,7 +1,6 @@
 -- `process_words` of `stepping::writing` meets its contract: the code is its mirror in specs/.
 use Rattle.stepping.specs.Writing.{process_w}
 use Rattle.sock.proofs.Tests.{tests}
-use borrow.Author.Rules.{rules}
 use Rattle.stepping.proofs.writing.process_words.Goals as goal
 
 pub returns : goal.returns

@@ -2,7 +2,6 @@
 use Rattle.stepping.specs.Writing.{store_w}
 use Rattle.sock.proofs.Tests.{tests}
 use mathlib.Core.Path.{refl}
-use borrow.Author.Rules.{rules}
 use Rattle.stepping.proofs.Writings.{store_made}
 use Rattle.stepping.proofs.writing.store.Goals as goal
 

@@ -2,7 +2,6 @@
 use Rattle.stepping.specs.Writing.{value_w}
 use Rattle.sock.proofs.Tests.{tests}
 use mathlib.Core.Path.{refl}
-use borrow.Author.Rules.{rules}
 use Rattle.stepping.proofs.writing.value.Goals as goal
 
 pub returns-then-x-ge-VARIABLES : goal.returns-then-x-ge-VARIABLES
