@@ -257,9 +257,9 @@ module _ {ws : List ℕ} {s : Starts} (ok : Words ws) (k : Known standard ws s) 
 -- ---- leaving
 
 module _ (ws : List ℕ) (ok : Words ws) (s : Starts) (e : s ≡ surveyed standard 11 ws) (out : List ℕ) where
-  pub leave_gives : (w : Written) (last : List ℕ) → Gives (leave standard ws (length out)) out w last → (w ≡ written_as (leave_answer standard ws out)) × (last ≡ leave_output standard ws out)
+  pub leave_gives : (w : Written) (after : List ℕ) → Gives (leave standard ws (length out)) out w after → (w ≡ written_as (leave_answer standard ws out)) × (after ≡ leave_output standard ws out)
   unfolding leave_answer leave_output
-  leave_gives w last g = (g.answered, g.wrote)
+  leave_gives w after g = (g.answered, g.wrote)
 
   pub leave_unread : s.engines ≡ 0 → (w : Written) → w ≡ record { number = 1; length = 0 } → Gives (leave standard ws (length out)) out w out
   unfolding leave ◌!◌ ◌>>=◌

@@ -30,7 +30,7 @@ asks y x = node (head_of Kind.solicit (name_fields 4 (first_of y))) ((1 * 2048 +
 answers : List ℕ → List ℕ → Node
 answers x y = node (head_of Kind.request (name_fields 4 (first_of x))) ((first_of y * 2048) ∷ variable_words x ++ variable_words y) [] absent (nil_node & no_parts)
 
--- a one_way with any own words
+-- a one-way with any own words
 odd : List ℕ → Node
 odd ws = node (head_of Kind.one_way (name_fields 4 7)) ws [] absent no_parts
 

@@ -85,7 +85,7 @@ rows =
     ∷ row 2048 [] 1 0 2  -- 4 if: expression, P, Q
     ∷ row 2048 [] 1 0 1  -- 5 while: expression, P
     ∷ row 1 [] 0 0 2  -- 6 choice: count; per branch a process of kind 7 or 8, then P
-    ∷ row 1 (variables ∷ []) 0 0 0  -- 7 one_way: operation, x; variables x
+    ∷ row 1 (variables ∷ []) 0 0 0  -- 7 one-way: operation, x; variables x
     ∷ row 1 (word 2048 ∷ variables ∷ variables ∷ []) 0 0 1  -- 8 request: operation, x; word y; variables x; variables y; P
     ∷ row 1 (word 2048 ∷ variables ∷ []) 0 0 0  -- 9 notify: operation, y; word z; variables y
     ∷ row 1 (word 64 ∷ variables ∷ variables ∷ []) 0 1 0  -- 10 solicit: operation, y; word z, x; variables y; variables x; list

@@ -103,7 +103,7 @@ fields_fit (running n issued) h f b =
     && (eqb (kind_of h) Kind.notice ⇒ end_fits n issued (notices_client (fixed_at f 0)) (fixed_at f 1))
 fields_fit (code c) h f b = eqb (kind_of h) Kind.scope ⇒ resting_fits (mark_of h) (zombie_of h) (first_name (fixed_at f 0)) (entries_of b)
 
--- The variables x that a one_way, a request, a solicit or a waiter receives in; none for the other kinds
+-- The variables x that a one-way, a request, a solicit or a waiter receives in; none for the other kinds
 unfoldable pub receives_in : ℕ → List ℕ → List ℕ
 receives_in h f =
     cond (eqb (kind_of h) Kind.one_way) (head_variables 0 h f)

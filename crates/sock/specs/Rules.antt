@@ -141,7 +141,7 @@ move_of vs fs (act p) = acting vs fs p (action p)
 
 -- ---- between two different engines, sender first
 
--- What a process can receive: a one_way by operation and x; a request by operation, x, y and P
+-- What a process can receive: a one-way by operation and x; a request by operation, x, y and P
 pub data Receiver : Type 0 where
   deaf : Receiver
   hears : ℕ → List ℕ → Receiver
@@ -197,7 +197,7 @@ pub record Exchange : Type 0 where
   pub serial : ℕ
   pub fault : ℕ
 
--- a notify in a one_way: x takes y
+-- a notify in a one-way: x takes y
 unfoldable pub notified : ℕ → List ℕ → ℕ → List ℕ → Receiver → Option Node → Option Exchange
 notified issued vs o v deaf next = none
 notified issued vs o v (hears op x) next =
