@@ -1,11 +1,10 @@
-pub mod Tests
 pub mod Bounds
-pub mod Adding
 pub mod Summing
-pub mod Going
+pub mod Pieces
 pub mod Lists
-pub mod Digits
+pub mod Going
 pub mod ByteReplies
+pub mod Digits
 pub mod Laws
 pub mod LaidOut
 pub mod Greatest

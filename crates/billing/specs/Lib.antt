@@ -1,3 +1,4 @@
 pub mod Bill
 pub mod Bytes
+pub mod Answer
 pub mod Adding
