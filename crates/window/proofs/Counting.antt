@@ -9,17 +9,18 @@ use mathlib.Core.List.{List, [], ◌∷◌, ◌++◌}
 use lib.Dec.{eqb}
 use lib.ListN.{length, get_or, set, length-set, get_or-append}
 use lib.Seq.{get_or-set_same, get_or-set_other, set-append_left, ext_get_or}
-use borrow.Author.Tests.{eq-eqb, ne_eqb, lt-ltb, le-ltb}
+use borrow.Author.Tests.{lt-ltb}
+use Rattle.std.proofs.lemmas.Grind.{common_steps}
 use Rattle.window.specs.Window.{times, counts_from, recount}
 use Rattle.window.specs.Entering.{raised, lowered}
 
 times_found : (e : ℕ) (es : List ℕ) → times e (e ∷ es) ≡ suc (times e es)
 unfolding times
-times_found e es = ap (λ (b : Bool). cond b (suc (times e es)) (times e es)) (eq-eqb e e refl)
+times_found e es = grind (arith, common_steps)
 
 times_passed : (e f : ℕ) (es : List ℕ) → (f ≡ e → ⊥) → times e (f ∷ es) ≡ times e es
 unfolding times
-times_passed e f es d = ap (λ (b : Bool). cond b (suc (times e es)) (times e es)) (ne_eqb f e d)
+times_passed e f es d = grind (arith, common_steps)
 
 pub times_append : (e : ℕ) (es fs : List ℕ) → times e (es ++ fs) ≡ times e es + times e fs
 unfolding times
@@ -169,27 +170,3 @@ lowered_is (suc o) es more h =
     ∙ ap (λ (k : ℕ). set ws k v) s
     ∙ set-append_left (recount (suc o ∷ es)) more o v l
     ∙ ap (λ (t : List ℕ). t ++ more) (recount_less o v es (omega arith) p)
-
--- ---- as the code writes it
-
-module _ (e o : ℕ) (ws : List ℕ) (up : 0 < e) (is : o ≡ e - 1) where
-  pub is_raised : set ws o (get_or ws o 0 + 1) ≡ raised e ws
-  unfolding raised
-  is_raised =
-      ap (λ (k : ℕ). set ws k (get_or ws k 0 + 1)) is
-      ∙ sym (ap (λ (b : Bool). cond b (set ws (e - 1) (get_or ws (e - 1) 0 + 1)) ws) (lt-ltb 0 e up))
-
-  pub is_lowered : set ws o (get_or ws o 0 - 1) ≡ lowered e ws
-  unfolding lowered
-  is_lowered =
-      ap (λ (k : ℕ). set ws k (get_or ws k 0 - 1)) is
-      ∙ sym (ap (λ (b : Bool). cond b (set ws (e - 1) (get_or ws (e - 1) 0 - 1)) ws) (lt-ltb 0 e up))
-
-module _ (e : ℕ) (ws : List ℕ) (none : e ≤ 0) where
-  pub not_raised : ws ≡ raised e ws
-  unfolding raised
-  not_raised = sym (ap (λ (b : Bool). cond b (set ws (e - 1) (get_or ws (e - 1) 0 + 1)) ws) (le-ltb 0 e none))
-
-  pub not_lowered : ws ≡ lowered e ws
-  unfolding lowered
-  not_lowered = sym (ap (λ (b : Bool). cond b (set ws (e - 1) (get_or ws (e - 1) 0 - 1)) ws) (le-ltb 0 e none))

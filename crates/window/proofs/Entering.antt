@@ -3,12 +3,11 @@
 use Prim.Native.Nat.{ℕ, suc, ◌+◌, ◌-◌, ◌≤◌, ◌<◌}
 use native.Mathlib.Omega.{arith}
 use mathlib.Core.Path.{◌≡◌, refl, sym, ap, ◌∙◌}
-use mathlib.Core.Bool.{Bool, cond}
 use mathlib.Core.List.{List, [], ◌∷◌, ◌++◌, append_assoc}
 use lib.ListN.{length, get_or, set, take, drop, replicate, length-append, length-drop}
 use lib.Seq.{drop-cons, drop-drop, take_at, drop_at, set_at, paste, length_paste_head}
-use borrow.Author.Tests.{eq-eqb, ne_eqb}
-use Rattle.window.specs.Window.{answer, entry, recount, window_of}
+use Rattle.std.proofs.lemmas.Grind.{common_steps}
+use Rattle.window.specs.Window.{recount, window_of}
 use Rattle.window.specs.Entering.{raised, lowered}
 use Rattle.window.proofs.Counting.{recount_length, raised_is, lowered_is}
 use Rattle.window.proofs.Words.{laid_out}
@@ -89,7 +88,7 @@ module _ (o : ℕ) (es beyond : List ℕ) where
 
   split : taken ≡ head ++ (o ∷ (es ++ zeros))
   unfolding head
-  split = sym (append_assoc (recount es) (suc (length es) ∷ []) (o ∷ (es ++ zeros)))
+  split = grind (arith, common_steps)
 
   pub taken_length : 65 + length es < length taken
   taken_length =
@@ -121,15 +120,3 @@ module _ (o : ℕ) (es beyond : List ℕ) where
       (e : ℕ) → e ≤ 64 → raised e (set (paste taken 65 (drop 66 taken) (length es)) (65 + length es) e) ≡ window_of (es ++ (e ∷ [])) ++ beyond
   replaced e h =
       ap (raised e) (put_last e) ∙ raised_to es beyond e h (suc (length es)) (more es e ∙ (let s : length es + 1 ≡ suc (length es) = omega arith in s))
-
--- ---- the entry of an answer
-
-module _ (n f o : ℕ) where
-  pub with_fault : f ≡ 1 → o + 1 ≡ entry (answer n f o)
-  unfolding entry
-  with_fault e =
-      (let s : o + 1 ≡ suc o = omega arith in s) ∙ sym (ap (λ (b : Bool). cond b (suc o) 0) (eq-eqb f 1 e))
-
-  pub without_fault : (f ≡ 1 → ⊥) → 0 ≡ entry (answer n f o)
-  unfolding entry
-  without_fault d = sym (ap (λ (b : Bool). cond b (suc o) 0) (ne_eqb f 1 d))

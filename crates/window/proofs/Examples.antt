@@ -3,7 +3,8 @@
 use mathlib.Core.Path.{◌≡◌, refl}
 use mathlib.Core.List.{List, [], ◌∷◌, ◌++◌}
 use lib.ListN.{take, replicate}
-use Rattle.window.specs.Window.{Answer, answer, entry, times, counts_from, recount, window_of, empty_window, entries_of, behind, none_above, same, given, fits, next_number, last, enters, next_window}
+use Rattle.window.specs.declared.answer.Answer.{Answer}
+use Rattle.window.specs.Window.{answer, entry, times, counts_from, recount, window_of, empty_window, entries_of, behind, none_above, same, given, fits, next_number, last, enters, next_window}
 use Rattle.window.specs.Runs.{hand_on}
 
 -- a fault of operation 5, an accepted answer without, a fault of an answer that is not accepted, a fault number of 2, a fault of operation 63

@@ -1,24 +1,23 @@
 -- The last of a list: what a list that grows at its end keeps.
 -- Assumes nothing.
-use Prim.Native.Nat.{ℕ, zero, suc, ◌+◌, ◌-◌, ◌≤◌}
+use Prim.Native.Nat.{ℕ, ◌+◌, ◌-◌, ◌≤◌}
 use native.Mathlib.Omega.{arith}
-use mathlib.Core.Path.{◌≡◌, refl, sym, ap, ◌∙◌}
+use mathlib.Core.Path.{◌≡◌, sym, ap, ◌∙◌}
 use mathlib.Core.List.{List, [], ◌∷◌, ◌++◌, map}
 use lib.ListN.{length, drop, length-append, length-drop, length-map}
 use lib.Seq.{drop-nil, drop-drop, drop-append-le}
+use Rattle.std.specs.List.{drop-map}
+use Rattle.std.proofs.lemmas.Grind.{common_steps}
 use Rattle.window.specs.Window.{last}
 
 pub last_all : {A : Type 0} (w : ℕ) (l : List A) → length l ≤ w → last w l ≡ l
 unfolding last
-last_all w l h = ap (λ (n : ℕ). drop n l) (let z : length l - w ≡ 0 = omega arith in z)
+last_all w l h = grind (arith, common_steps)
 
 -- one more than w: the first goes
 pub last_full : {A : Type 0} (w : ℕ) (l : List A) (x : A) → length l ≡ w → 1 ≤ w → last w (l ++ (x ∷ [])) ≡ drop 1 l ++ (x ∷ [])
 unfolding last
-last_full w l x e h =
-    let s : length (l ++ (x ∷ [])) ≡ length l + 1 = length-append l (x ∷ []) in
-    let k : length (l ++ (x ∷ [])) - w ≡ 1 = omega (arith, s) in
-    ap (λ (n : ℕ). drop n (l ++ (x ∷ []))) k ∙ drop-append-le 1 l (x ∷ []) (omega arith)
+last_full w l x e h = grind (arith, common_steps)
 
 pub last_length : {A : Type 0} (w : ℕ) (l : List A) → length (last w l) ≤ w
 unfolding last
@@ -41,11 +40,6 @@ last_last w l m =
     ∙ drop-drop (length (drop n l ++ m) - w) n (l ++ m)
     ∙ ap (λ (j : ℕ). drop j (l ++ m)) k
 
-drop_map : {A B : Type 0} (f : A → B) (n : ℕ) (l : List A) → drop n (map f l) ≡ map f (drop n l)
-drop_map f zero l = refl
-drop_map f (suc n) [] = refl
-drop_map f (suc n) (x ∷ l) = drop_map f n l
-
 pub last_map : {A B : Type 0} (f : A → B) (w : ℕ) (l : List A) → last w (map f l) ≡ map f (last w l)
 unfolding last
-last_map f w l = ap (λ (n : ℕ). drop (n - w) (map f l)) (length-map l f) ∙ drop_map f (length l - w) l
+last_map f w l = ap (λ (n : ℕ). drop (n - w) (map f l)) (length-map l f) ∙ drop-map f (length l - w) l

@@ -1,11 +1,13 @@
 pub mod Tests
 pub mod Counting
 pub mod Words
+pub mod Whole
 pub mod Lasting
 pub mod Entering
 pub mod Running
 pub mod Theorems
-pub mod Loops
+pub mod Tallying
+pub mod FromFn
 pub mod Spelling
 pub mod Given
 pub mod Changing

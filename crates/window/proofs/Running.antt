@@ -8,9 +8,11 @@ use mathlib.Core.List.{List, [], ◌∷◌, ◌++◌, map, append_assoc, append-
 use lib.Dec.{leb, eqb}
 use lib.ListN.{length, drop}
 use borrow.Author.Tests.{leb-true, le-leb}
-use Rattle.window.specs.Window.{Answer, entry, window_of, entries_of, none_above, given, fits, last, enters, next_window}
+use Rattle.window.specs.declared.answer.Answer.{Answer}
+use Rattle.window.specs.Window.{entry, window_of, entries_of, none_above, given, fits, last, enters, next_window}
 use Rattle.window.specs.Runs.{hand_on, entered}
-use Rattle.window.proofs.Tests.{and_holds, and_left, none_append, none_drop, none_one}
+use Rattle.std.proofs.lemmas.Bool.{and_parts, and_from}
+use Rattle.window.proofs.Tests.{none_append, none_drop, none_one}
 use Rattle.window.proofs.Words.{entries_are, beyond_is, window_given}
 use Rattle.window.proofs.Lasting.{last_all, last_length, last_last}
 
@@ -37,8 +39,8 @@ kept_small (a ∷ run) = by (counts a) refl (kept_small run)
   where
     by : (b : Bool) → counts a ≡ b → none_above 64 (map entry (kept run)) ≡ true → none_above 64 (map entry (cond b (a ∷ kept run) (kept run))) ≡ true
     by true c h =
-        let o : a.operation ≤ 63 = leb-true a.operation 63 (and_left _ (eqb a.number 0) c) in
-        and_holds (leb (entry a) 64) _ (le-leb (entry a) 64 (entry_most a o)) h
+        let o : a.operation ≤ 63 = leb-true a.operation 63 (and_parts _ (eqb a.number 0) c).0 in
+        and_from (leb (entry a) 64) _ (le-leb (entry a) 64 (entry_most a o)) h
     by false c h = h
 
 -- entries that a window of width w can have
@@ -77,7 +79,7 @@ module _ (w : ℕ) (low : 1 ≤ w) (high : w ≤ 1024) where
     kept_enter : (es : List ℕ) (a : Answer) → Kept w es → counts a ≡ true → Kept w (enter es a)
     unfolding enter last
     kept_enter es a k c =
-        let o : a.operation ≤ 63 = leb-true a.operation 63 (and_left _ (eqb a.number 0) c) in
+        let o : a.operation ≤ 63 = leb-true a.operation 63 (and_parts _ (eqb a.number 0) c).0 in
         record {
           few = last_length w (es ++ (entry a ∷ []));
           small = none_drop 64 (length (es ++ (entry a ∷ [])) - w) (es ++ (entry a ∷ [])) (none_append 64 es (entry a ∷ []) k.small (none_one 64 (entry a) (entry_most a o)));

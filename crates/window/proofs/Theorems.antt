@@ -9,9 +9,10 @@ use mathlib.Core.List.{List, [], ◌∷◌, ◌++◌, map}
 use lib.Dec.{leb, eqb}
 use lib.ListN.{length, get_or, drop, length-replicate, get_or-replicate, get_or-append}
 use borrow.Author.Tests.{leb-true, le-leb, eqb-true, eqb-false, eq-eqb, ne_eqb}
-use Rattle.window.specs.Window.{Answer, answer, entry, times, window_of, empty_window, entries_of, none_above, given, fits, last, enters, next_window}
+use Rattle.window.specs.declared.answer.Answer.{Answer}
+use Rattle.window.specs.Window.{answer, entry, times, window_of, empty_window, entries_of, none_above, given, fits, last, enters, next_window}
 use Rattle.window.specs.Runs.{hand_on, entered, faults, CountsAreARecount, all_fit, EndOfARun, TestIsExact}
-use Rattle.window.proofs.Tests.{and_fails_right, and_left, and_right, not_both}
+use Rattle.std.proofs.lemmas.Bool.{and_parts, and_right}
 use Rattle.window.proofs.Counting.{count_at}
 use Rattle.window.proofs.Words.{laid_out, empty_window_lem, window_given, given_few, given_formed}
 use Rattle.window.proofs.Lasting.{last_all, last_nil, last_map}
@@ -54,7 +55,7 @@ module _ (w : ℕ) (out : (leb 1 w && leb w 1024) ≡ false) where
   never a window = by (leb 1 w) (leb w 1024) out
     where
       by : (b c : Bool) → (b && c) ≡ false → ((b && (c && (leb a.operation 63 && given w window))) && eqb a.number 0) ≡ false
-      by true true e = absurd (not_both (sym e))
+      by true true e = cc
       by true false e = refl
       by false c e = refl
 
@@ -107,7 +108,7 @@ recounted w run beyond o h = by (leb 1 w) refl (leb w 1024) refl
 
     by : (b : Bool) → leb 1 w ≡ b → (c : Bool) → leb w 1024 ≡ c → get_or (hand_on w run window) o 0 ≡ faults o (last w (entered w run window))
     by true p true q = inside (leb-true 1 w p) (leb-true w 1024 q)
-    by true p false q = outside (and_fails_right (leb 1 w) (leb w 1024) q)
+    by true p false q = outside (and_right (leb 1 w) (leb w 1024) q)
     by false p c q = outside (ap (λ (b : Bool). b && leb w 1024) p)
 
 -- ---- the test is exact
@@ -126,20 +127,20 @@ leaves (suc o ∷ es) = ap (λ (t : List ℕ). suc o ∷ t) (leaves es)
 leaving_kept : (es : List ℕ) → none_above 64 es ≡ true → kept (map leaving es) ≡ map leaving es
 unfolding kept leaving none_above
 leaving_kept [] p = refl
-leaving_kept (zero ∷ es) p = ap (λ (t : List Answer). answer 0 0 0 ∷ t) (leaving_kept es (and_right (leb 0 64) _ p))
+leaving_kept (zero ∷ es) p = ap (λ (t : List Answer). answer 0 0 0 ∷ t) (leaving_kept es (and_parts (leb 0 64) _ p).1)
 leaving_kept (suc o ∷ es) p =
-    let h : suc o ≤ 64 = leb-true (suc o) 64 (and_left _ (none_above 64 es) p) in
+    let h : suc o ≤ 64 = leb-true (suc o) 64 (and_parts _ (none_above 64 es) p).0 in
     let l : leb o 63 ≡ true = le-leb o 63 (omega arith) in
     ap (λ (b : Bool). cond (b && true) (answer 0 1 o ∷ kept (map leaving es)) (kept (map leaving es))) l
-    ∙ ap (λ (t : List Answer). answer 0 1 o ∷ t) (leaving_kept es (and_right (leb (suc o) 64) _ p))
+    ∙ ap (λ (t : List Answer). answer 0 1 o ∷ t) (leaving_kept es (and_parts (leb (suc o) 64) _ p).1)
 
 leaving_fit : (es : List ℕ) → none_above 64 es ≡ true → all_fit (map leaving es) ≡ true
 unfolding all_fit leaving none_above
 leaving_fit [] p = refl
-leaving_fit (zero ∷ es) p = leaving_fit es (and_right (leb 0 64) _ p)
+leaving_fit (zero ∷ es) p = leaving_fit es (and_parts (leb 0 64) _ p).1
 leaving_fit (suc o ∷ es) p =
-    let h : suc o ≤ 64 = leb-true (suc o) 64 (and_left _ (none_above 64 es) p) in
-    ap (λ (b : Bool). b && all_fit (map leaving es)) (le-leb o 65535 (omega arith)) ∙ leaving_fit es (and_right (leb (suc o) 64) _ p)
+    let h : suc o ≤ 64 = leb-true (suc o) 64 (and_parts _ (none_above 64 es) p).0 in
+    ap (λ (b : Bool). b && all_fit (map leaving es)) (le-leb o 65535 (omega arith)) ∙ leaving_fit es (and_parts (leb (suc o) 64) _ p).1
 
 module _ (w : ℕ) (window : List ℕ) (low : 1 ≤ w) (high : w ≤ 1024) where
   -- the run that has left these entries, each its answer

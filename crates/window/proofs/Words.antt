@@ -4,14 +4,16 @@ use Prim.Native.Nat.{ℕ, ◌+◌, ◌-◌, ◌≤◌, ◌<◌}
 use native.Mathlib.Omega.{arith}
 use mathlib.Core.Path.{◌≡◌, refl, sym, ap, ◌∙◌}
 use mathlib.Core.Bool.{true}
-use mathlib.Core.List.{List, [], ◌∷◌, ◌++◌, append_assoc}
+use mathlib.Core.List.{List, [], ◌∷◌, ◌++◌}
 use lib.Dec.{leb}
 use lib.ListN.{length, get_or, take, drop, replicate, length-append, length-replicate, length-drop, take-append-drop}
 use lib.Seq.{drop-cons, drop-drop, drop-append-le, take_at, drop_at, get_or_at, get_or-drop, length-take-le, length-slice}
 use borrow.Author.Tests.{leb-true, le-leb}
+use Rattle.std.proofs.lemmas.Grind.{common_steps}
 use Rattle.window.specs.Window.{times, counts_from, recount, window_of, empty_window, held, entries_of, behind, none_above, same, given}
 use Rattle.window.specs.Entering.{Formed}
-use Rattle.window.proofs.Tests.{and_holds, and_left, and_right, none_zeros, all_zeros, same_refl, same_true}
+use Rattle.std.proofs.lemmas.Bool.{and_parts, and_from}
+use Rattle.window.proofs.Tests.{none_zeros, all_zeros, same_refl, same_true}
 use Rattle.window.proofs.Counting.{recount_length}
 
 abbrev zeros_behind : List ℕ → List ℕ
@@ -26,9 +28,7 @@ slice_rest k l a b =
 module _ (es beyond : List ℕ) where
   pub laid_out : window_of es ++ beyond ≡ recount es ++ (length es ∷ (es ++ (zeros_behind es ++ beyond)))
   unfolding window_of
-  laid_out =
-      append_assoc (recount es) (length es ∷ (es ++ zeros_behind es)) beyond
-      ∙ ap (λ (t : List ℕ). recount es ++ (length es ∷ t)) (append_assoc es (zeros_behind es) beyond)
+  laid_out = grind (arith, common_steps)
 
   pub held_is : held (window_of es ++ beyond) ≡ length es
   held_is =
@@ -101,7 +101,7 @@ module _ (es beyond : List ℕ) where
         let e : same (take 64 window) (recount (entries_of window)) ≡ true =
         ap (λ (t : List ℕ). same t (recount (entries_of window))) counts_are ∙ ap (λ (t : List ℕ). same (recount es) (recount t)) entries_are
         ∙ same_refl (recount es) in
-        and_holds _ _ a (and_holds _ _ b (and_holds _ _ c (and_holds _ _ d e)))
+        and_from _ _ a (and_from _ _ b (and_from _ _ c (and_from _ _ d e)))
 
 pub empty_window_lem : empty_window ≡ window_of []
 unfolding window_of recount counts_from times
@@ -120,15 +120,11 @@ module _ (w : ℕ) (window : List ℕ) (pass : given w window ≡ true) where
       × (take 64 window ≡ recount (entries_of window))
   unfolding given
   tests =
-      let p = and_right (leb 1089 (length window)) _ pass in
-      let q = and_right (leb (held window) w) _ p in
-      let r = and_right (none_above 64 (entries_of window)) _ q in (
-        leb-true 1089 (length window) (and_left _ _ pass),
-        leb-true (held window) w (and_left _ _ p),
-        and_left _ _ q,
-        and_left _ _ r,
-        same_true (take 64 window) (recount (entries_of window)) (and_right (none_above 0 (behind window)) _ r),
-      )
+      let p = and_parts (leb 1089 (length window)) _ pass in
+      let q = and_parts (leb (held window) w) _ p.1 in
+      let r = and_parts (none_above 64 (entries_of window)) _ q.1 in
+      let s = and_parts (none_above 0 (behind window)) _ r.1 in
+      (leb-true 1089 (length window) p.0, leb-true (held window) w q.0, r.0, s.0, same_true (take 64 window) (recount (entries_of window)) s.1)
 
   pub given_room : 1089 ≤ length window
   given_room = tests.0

@@ -1,7 +1,7 @@
 -- The window on bytes, for C: 1,089 words of two bytes, the high byte first; bytes past these 2,178 are not its own.
 use Rattle.std.specs.Prelude.{ℕ, ◌+◌, ◌*◌, ◌/◌, ◌%◌, ◌^◌, cond, List, [], ◌∷◌, ◌++◌, take, drop}
-use Rattle.window.specs.declared.answer.Count.{Count}
-use Rattle.window.specs.Window.{Answer, next_number, enters, next_window, count_of}
+use Rattle.window.specs.declared.answer.Answer.{Answer}
+use Rattle.window.specs.Window.{next_number, enters, next_window, Count, count_of}
 
 -- the words that a list of bytes has whole
 unfoldable pub words_of : List ℕ → List ℕ

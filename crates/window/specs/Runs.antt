@@ -1,6 +1,7 @@
 -- Runs of answers (document 02, change h): a window is begun empty and handed on from answer to answer. The statements of what is shown.
 use Rattle.std.specs.Prelude.{ℕ, suc, ◌≤◌, ◌<◌, ◌≡◌, Bool, true, ◌&&◌, cond, List, [], ◌∷◌, ◌++◌, leb, eqb, get_or}
-use Rattle.window.specs.Window.{Answer, empty_window, given, last, enters, next_window}
+use Rattle.window.specs.declared.answer.Answer.{Answer}
+use Rattle.window.specs.Window.{empty_window, given, last, enters, next_window}
 
 -- the window after a run of width w
 unfoldable pub hand_on : ℕ → List Answer → List ℕ → List ℕ

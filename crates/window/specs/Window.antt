@@ -1,14 +1,10 @@
 -- Faults in the last stretch of work (document 02, change h): a window of the last W accepted steps holds for each of 64 operations the
 -- number of delivered faults.
-use Rattle.std.specs.Prelude.{ℕ, zero, suc, ◌+◌, ◌-◌, Bool, true, false, ◌&&◌, cond, List, [], ◌∷◌, ◌++◌, leb, eqb, length, get_or, take, drop, replicate}
-use Rattle.window.specs.declared.answer.Count.{Count}
+use Rattle.std.specs.Prelude.{ℕ, zero, suc, ◌+◌, ◌-◌, Bool, true, false, ◌&&◌, cond, List, [], ◌∷◌, ◌++◌, leb, eqb, length, get_or, take, drop, replicate, Result, Ok, Err}
+use Rattle.window.specs.declared.answer.Answer.{Answer}
+use Rattle.window.specs.declared.refusal.Refusal.{Refusal}
 
 -- The answer of a step (number 0: accepted; fault 1: a fault was delivered) with the operation concerned.
-pub record Answer : Type 0 where
-  pub number : ℕ
-  pub fault : ℕ
-  pub operation : ℕ
-
 abbrev pub answer : ℕ → ℕ → ℕ → Answer
 answer n f o = record { number = n; fault = f; operation = o }
 
@@ -88,6 +84,21 @@ next_window w a window = cond (enters w a window) (window_of (last w (entries_of
 
 -- ---- the question: the faults of one operation, of a window that some width gives
 
+-- document 02's number, and the faults of the operation; 0 in a refusal
+pub record Count : Type 0 where
+  pub number : ℕ
+  pub count : ℕ
+
 unfoldable pub count_of : ℕ → List ℕ → Count
 count_of o window =
     cond (leb o 63 && given 1024 window) (record { number = 0; count = get_or window o 0 }) (record { number = 18; count = 0 })
+
+-- ---- what the calls answer, as these numbers
+
+abbrev pub number_as : Result (Unit {0}) Refusal → ℕ
+number_as (Ok done) = 0
+number_as (Err refusal) = 18
+
+abbrev pub count_as : Result ℕ Refusal → Count
+count_as (Ok faults) = record { number = 0; count = faults }
+count_as (Err refusal) = record { number = 18; count = 0 }

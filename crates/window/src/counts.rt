@@ -1,64 +1,50 @@
-// The 64 counts at the window's head: one fault more or less, and a recount.
-ghost use Rattle.std.specs.Prelude.{◌≡◌, true, ◌+◌, ◌-◌, ◌≤◌, ◌<◌, length, get_or, take, drop, replicate};
-ghost use Rattle.window.specs.Window.{none_above, counts_from, same};
+// The counts at the window's head: a recount of entries, and one fault more or less.
+ghost use Rattle.std.specs.Prelude.{◌≡◌, ◌+◌, ◌-◌, ◌≤◌, ◌<◌, true, false, length, get_or, MatchResult};
+ghost use Rattle.window.specs.Window.{counts_from, none_above};
 ghost use Rattle.window.specs.Entering.{raised, lowered};
 
-pub fn wide(word: u16) -> usize
-    ensures { (result ≡ word) × (result < 65536) }
+use crate::bounded::Entry;
+use crate::layout::{OPERATIONS, WIDEST};
+use crate::refusal::Refusal;
+
+// How often each entry from 0 on occurs.
+type Tally = [u16; OPERATIONS + 1];
+
+// The entries' tally; refused if a word is no entry.
+pub(crate) fn tally(words: &[u16]) -> Result<Tally, Refusal>
+    requires { length words.now ≤ WIDEST }
+    ensures { MatchResult result (λ counts. (none_above 64 words.now ≡ true) × (counts ≡ counts_from 65 0 words.now)) (λ _. none_above 64 words.now ≡ false) }
 {
-    word as usize
+    let mut counts = [0; OPERATIONS + 1];
+    for word in words {
+        let entry = Entry::try_from(*word)?;
+        counts[usize::from(entry.number)] += 1;
+    }
+    Ok(counts)
 }
 
-// How often each entry from 0 to 64 occurs; false if one is above 64.
-pub(crate) fn tally(window: &[u16], held: usize, counts: &mut [u16; 65]) -> bool
-    requires { (65 + held ≤ length window.now) × (held ≤ 1024) × (counts.old ≡ replicate 65 0) }
-    ensures { (result ≡ none_above 64 (take held (drop 65 window.now))) × (result ≡ true → counts.new ≡ counts_from 65 0 (take held (drop 65 window.now))) }
-{
-    let mut i = 0;
-    while i < held {
-        let e = wide(window[65 + i]);
-        if 64 < e {
-            return false;
-        }
-        counts[e] = counts[e] + 1;
-        i = i + 1;
-    }
-    true
-}
-
-// Whether the window's counts are these, from entry 1 on.
-pub(crate) fn agree(window: &[u16], counts: &[u16; 65]) -> bool
-    requires { (64 ≤ length window.now) × (length counts.now ≡ 65) }
-    ensures { result ≡ same (take 64 window.now) (drop 1 counts.now) }
-{
-    let mut i = 0;
-    while i < 64 {
-        if window[i] != counts[i + 1] {
-            return false;
-        }
-        i = i + 1;
-    }
-    true
-}
+// `raise` and `lower` differ in a sign. One function that takes the change as a closure is no plainer: its contract would speak of the closure's.
 
 // One fault more, if the entry is one.
-pub(crate) fn raise(window: &mut [u16], entry: u16)
-    requires { (entry ≤ length window.old) × (get_or window.old (entry - 1) 0 ≤ 1024) }
-    ensures { window.new ≡ raised entry window.old }
+#[tactic(auto, unfolding(crate::specs::Entering::raised))]
+pub(crate) fn raise(window: &mut [u16], entry: Entry)
+    requires room { entry.number ≤ length window.old }
+    requires fits { get_or window.old (entry.number - 1) 0 ≤ WIDEST }
+    ensures { window.new ≡ raised entry.number window.old }
 {
-    if 0 < entry {
-        let o = wide(entry - 1);
-        window[o] = window[o] + 1;
+    if let Some(operation) = entry.number.checked_sub(1) {
+        window[usize::from(operation)] += 1;
     }
 }
 
 // One fault less, if the entry is one.
-pub(crate) fn lower(window: &mut [u16], entry: u16)
-    requires { (entry ≤ length window.old) × (0 < entry → 0 < get_or window.old (entry - 1) 0) }
-    ensures { window.new ≡ lowered entry window.old }
+#[tactic(auto, unfolding(crate::specs::Entering::lowered))]
+pub(crate) fn lower(window: &mut [u16], entry: Entry)
+    requires room { entry.number ≤ length window.old }
+    requires counted { 0 < entry.number → 0 < get_or window.old (entry.number - 1) 0 }
+    ensures { window.new ≡ lowered entry.number window.old }
 {
-    if 0 < entry {
-        let o = wide(entry - 1);
-        window[o] = window[o] - 1;
+    if let Some(operation) = entry.number.checked_sub(1) {
+        window[usize::from(operation)] -= 1;
     }
 }

@@ -2,8 +2,11 @@
 #![tactic(auto)]
 
 pub mod answer;
+mod bounded;
 pub mod calls;
-pub mod counts;
-pub mod entries;
+mod counts;
+mod entries;
+mod layout;
 pub mod on_bytes;
-pub mod testing;
+pub mod refusal;
+mod testing;

@@ -1,91 +1,81 @@
 // The window on bytes. Its words are held in an array of their own, and written back where an answer entered.
-ghost use Rattle.std.specs.Prelude.{◌≡◌, ◌++◌, ◌+◌, ◌*◌, ◌/◌, ◌%◌, ◌≤◌, length, drop};
-ghost use Rattle.window.specs.Window.{answer};
-ghost use Rattle.window.specs.Bytes.{bytes_of, window_in, byte_number, byte_window, packed, byte_count};
+ghost use Rattle.std.specs.Prelude.{◌≡◌, ◌++◌, ◌+◌, ◌*◌, ◌≤◌, ◌<◌, length, drop, slice_index};
+ghost use Rattle.window.specs.Window.{answer, count_as};
+ghost use Rattle.window.specs.Bytes.{words_of, bytes_of, byte_number, byte_window, packed, byte_count};
 
-use crate::answer::Count;
-use crate::calls::{window_count, window_next};
+use crate::answer::Answer;
+use crate::calls::{count_among, words_after};
+use crate::layout::{BYTES, WORDS};
+use crate::refusal::Refusal;
+use std::array;
 
-fn word(high: u8, low: u8) -> u16
-    ensures { result ≡ high * 256 + low }
+// The word at place i, of two bytes, the high one first.
+fn word(bytes: &[u8; BYTES], i: usize) -> u16
+    requires { i < WORDS }
+    ensures { result ≡ slice_index bytes.now (2 * i) * 256 + slice_index bytes.now (2 * i + 1) }
 {
-    (high as u16) * 256 + (low as u16)
+    u16::from_be_bytes([bytes[2 * i], bytes[2 * i + 1]])
 }
 
-fn high(word: u16) -> u8
-    ensures { result ≡ word / 256 }
+fn words_in(bytes: &[u8; BYTES]) -> [u16; WORDS]
+    ensures { result ≡ words_of bytes.now }
 {
-    (word / 256) as u8
-}
-
-fn low(word: u16) -> u8
-    ensures { result ≡ word % 256 }
-{
-    (word % 256) as u8
-}
-
-fn words_in(bytes: &[u8]) -> [u16; 1089]
-    requires { 2178 ≤ length bytes.now }
-    ensures { result ≡ window_in bytes.now }
-{
-    let mut words = [0u16; 1089];
-    let mut i = 0;
-    while i < 1089 {
-        words[i] = word(bytes[i * 2], bytes[i * 2 + 1]);
-        i = i + 1;
-    }
-    words
+    array::from_fn(|i| word(bytes, i))
 }
 
 // The bytes of the words, over the first.
-fn put(words: &[u16], out: &mut [u8])
-    requires { length words.now * 2 ≤ length out.old }
-    ensures { out.new ≡ bytes_of words.now ++ drop (length words.now * 2) out.old }
+fn put(words: &[u16; WORDS], out: &mut [u8])
+    requires { BYTES ≤ length out.old }
+    ensures { out.new ≡ bytes_of words.now ++ drop BYTES out.old }
 {
-    let mut i = 0;
-    while i < words.len() {
-        let w = words[i];
-        out[i * 2] = high(w);
-        out[i * 2 + 1] = low(w);
-        i = i + 1;
+    for (i, word) in words.iter().enumerate() {
+        out[2 * i..2 * i + 2].copy_from_slice(&word.to_be_bytes());
     }
 }
 
 // Hands an answer on. A refusal, and an answer whose number is not 0, change no byte.
+// Numbers in and out, where `window_next` has an answer and a result: this is what C calls.
 pub fn next_bytes(width: u16, number: u8, fault: u8, operation: u16, window: &mut [u8]) -> u8
     ensures { (result ≡ byte_number width (answer number fault operation) window.old) × (window.new ≡ byte_window width (answer number fault operation) window.old) }
 {
-    if window.len() < 2178 {
-        return 18;
+    let Some((bytes, _)) = window.split_first_chunk() else {
+        return u8::from(Refusal);
+    };
+    let answer = Answer {
+        number,
+        fault,
+        operation,
+    };
+    match words_after(width, answer, words_in(bytes)) {
+        Ok(None) => 0,
+        Ok(Some(words)) => {
+            put(&words, window);
+            0
+        }
+        Err(refusal) => u8::from(refusal),
     }
-    let mut words = words_in(window);
-    let n = window_next(width, number, fault, operation, &mut words);
-    if n != 0 {
-        return n;
-    }
-    if number != 0 {
-        return 0;
-    }
-    put(&words, window);
-    0
 }
 
-fn pack(c: Count) -> u64
-    ensures { result ≡ packed c }
+// The place of the number in a packed count.
+const NUMBER: u64 = 1 << 56;
+
+#[tactic(auto, unfolding(crate::specs::Bytes::packed))]
+fn pack(count: Result<u16, Refusal>) -> u64
+    ensures { result ≡ packed (count_as count) }
 {
-    (c.number as u64) * 72057594037927936 + (c.count as u64)
+    match count {
+        Ok(count) => u64::from(count),
+        Err(refusal) => u64::from(u8::from(refusal)) * NUMBER,
+    }
 }
 
 // The faults of an operation in the window: from the top, the number in 8 bits, 40 zero, the count in 16.
+// One number, where `window_count` has a result: this is what C calls.
 pub fn count_bytes(operation: u16, window: &[u8]) -> u64
     ensures { result ≡ byte_count operation window.now }
 {
-    if window.len() < 2178 {
-        return pack(Count {
-            number: 18,
-            count: 0,
-        });
-    }
-    let words = words_in(window);
-    pack(window_count(operation, &words))
+    let Some((bytes, _)) = window.split_first_chunk() else {
+        return pack(Err(Refusal));
+    };
+    pack(count_among(operation, words_in(bytes)))
 }

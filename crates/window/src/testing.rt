@@ -1,43 +1,39 @@
 // Whether a window is one that some run gives.
-ghost use Rattle.std.specs.Prelude.{◌≡◌, ◌≤◌, length, take, drop};
-ghost use Rattle.window.specs.Window.{none_above};
-ghost use Rattle.window.specs.Window as specs;
+ghost use Rattle.std.specs.Prelude.{◌≡◌, ◌==◌, length};
+ghost use Rattle.std.specs.List.{list_all, zip};
+ghost use Rattle.window.specs.Window.{given};
 
-use crate::counts::{agree, tally, wide};
+use crate::bounded::Width;
+use crate::counts::tally;
+use crate::layout::{FIRST, HELD, OPERATIONS, WORDS};
 
-// Whether the words from there to the window's end are all 0.
-fn zeros(window: &[u16], from: usize) -> bool
-    requires { (1089 ≤ length window.now) × (from ≤ 1089) }
-    ensures { result ≡ none_above 0 (drop from (take 1089 window.now)) }
+fn all_zero(words: &[u16]) -> bool
+    ensures { result ≡ list_all (λ word. word == 0) words.now }
 {
-    let mut i = from;
-    while i < 1089 {
-        if window[i] != 0 {
-            return false;
-        }
-        i = i + 1;
-    }
-    true
+    words.iter().all(|word| *word == 0)
 }
 
-// Whether a run of this width gives the window: at most so many entries, each at most 64, zeros behind, and counts that are their recount.
-pub(crate) fn given(width: u16, window: &[u16]) -> bool
-    requires { width ≤ 1024 }
-    ensures { result ≡ specs.given width window.now }
+fn agree(counts: &[u16], recount: &[u16]) -> bool
+    requires { length counts.now ≡ length recount.now }
+    ensures { result ≡ list_all (λ pair. pair.0 == pair.1) (zip counts.now recount.now) }
 {
-    if window.len() < 1089 {
+    counts
+        .iter()
+        .zip(recount)
+        .all(|(count, recounted)| count == recounted)
+}
+
+// Whether a run of this width gives the words: at most so many entries, each at most 64, zeros behind, and counts that are their recount.
+pub(crate) fn is_given(width: Width, words: &[u16; WORDS]) -> bool
+    ensures { result ≡ given width.number words.now }
+{
+    let held = usize::from(words[HELD]);
+    if usize::from(width.number) < held {
         return false;
     }
-    let held = wide(window[64]);
-    if wide(width) < held {
-        return false;
+    let (entries, behind) = words[FIRST..].split_at(held);
+    match tally(entries) {
+        Ok(tally) => all_zero(behind) && agree(&words[..OPERATIONS], &tally[1..]),
+        Err(_) => false,
     }
-    let mut counts = [0u16; 65];
-    if !tally(window, held, &mut counts) {
-        return false;
-    }
-    if !zeros(window, 65 + held) {
-        return false;
-    }
-    agree(window, &counts)
 }

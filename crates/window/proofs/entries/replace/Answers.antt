@@ -1,22 +1,16 @@
 -- `replace` of `window::entries` meets its contract.
 use native.Mathlib.Omega.{arith}
-use Rattle.window.proofs.Changing.{formed_room, oldest_ready, shift_ready, write_ready, replace_ready, is_replaced}
+use Rattle.window.proofs.Changing.{oldest_small, oldest_counted, replace_ready, is_replaced}
 use Rattle.window.proofs.entries.replace.Goals as goal
 
-pub bounds-window-65 : goal.bounds-window-65
-bounds-window-65 c = omega (arith, formed_room (c.requires.0))
+pub invariant_of-oldest-clause-most : goal.invariant_of-oldest-clause-most
+invariant_of-oldest-clause-most c = oldest_small c.args.words.now c.requires.formed c.from-end.result c.from-end.ensures c.requires.some
 
-pub lower-requires : goal.lower-requires
-lower-requires c = oldest_ready (c.args.window.now) (c.requires.0) (c.args.held) (c.requires.1) (c.requires.2)
+pub lower-requires-clause-counted : goal.lower-requires-clause-counted
+lower-requires-clause-counted c = oldest_counted c.args.words.now c.requires.formed c.from-end.result c.from-end.ensures c.requires.some
 
-pub shift-requires : goal.shift-requires
-shift-requires c = shift_ready (c.args.window.now) (c.requires.0) (c.args.held) (c.requires.1) (c.requires.2) _ (c.lower.ensures)
-
-pub bounds-window-held : goal.bounds-window-held
-bounds-window-held c = write_ready (c.args.window.now) (c.requires.0) (c.args.held) (c.requires.1) (c.requires.2) _ (c.lower.ensures) (c.args.entry) (c.requires.3) _ (c.shift.ensures)
-
-pub raise-requires : goal.raise-requires
-raise-requires c = replace_ready (c.args.window.now) (c.requires.0) (c.args.held) (c.requires.1) (c.requires.2) _ (c.lower.ensures) (c.args.entry) (c.requires.3) _ (c.shift.ensures)
+pub raise-requires-clause-fits : goal.raise-requires-clause-fits
+raise-requires-clause-fits c = replace_ready c.args.words.now c.requires.formed c.from-end.result c.from-end.ensures c.requires.some _ c.lower.ensures c.args.entry.number c.args.entry.most _ c.copy_within.ensures.after
 
 pub returns : goal.returns
-returns c = is_replaced (c.args.window.now) (c.requires.0) (c.args.held) (c.requires.1) (c.requires.2) _ (c.lower.ensures) (c.args.entry) (c.requires.3) _ (c.shift.ensures) _ (c.raise.ensures)
+returns c = is_replaced c.args.words.now c.requires.formed c.from-end.result c.from-end.ensures c.requires.some _ c.lower.ensures c.args.entry.number c.args.entry.most _ c.copy_within.ensures.after (omega arith) _ c.raise.ensures

@@ -1,17 +1,15 @@
--- `words_in` of `window::on_bytes` meets its contract. The loop's invariant: the first i words are taken.
+-- `words_in` of `window::on_bytes` meets its contract.
 use native.Mathlib.Omega.{arith}
-use mathlib.Core.Path.{refl}
-use lib.ListN.{length-set}
-use Rattle.window.proofs.Spelling.{word_turn, words_end}
+use Prim.Native.Nat.{ℕ, ◌+◌, ◌*◌}
+use mathlib.Core.Path.{◌≡◌}
+use lib.ListN.{get_or}
+use Rattle.std.proofs.Common.{rules}
+use Rattle.window.proofs.FromFn.{from_calls}
+use Rattle.window.proofs.Spelling.{words_read}
 use Rattle.window.proofs.on_bytes.words_in.Goals as goal
 
-pub loop-i-init : goal.loop-i-init
-loop-i-init c = (omega arith, refl, refl)
-
-pub loop-i-preserved : goal.loop-i-preserved
-loop-i-preserved c =
-    let l = c.loop-i in
-    (omega arith, simp length-set l.invariant.1, word_turn (c.args.bytes.now) l.words l.i (c.requires) l.invariant.1 l.invariant.2 (c.loop-i-test.true) (c.word.result) (c.word.ensures))
-
 pub returns : goal.returns
-returns c = words_end (c.args.bytes.now) (c.loop-i.words) (c.loop-i.i) (c.requires) (c.loop-i.invariant.1) (c.loop-i.invariant.2) (c.loop-i-test.false)
+returns c =
+    let bytes = c.args.bytes.now in
+    words_read bytes c.from_fn.result (omega arith) c.from_fn.ensures.items.long
+    (from_calls _ _ c.from_fn.result (λ (i word : ℕ). word ≡ get_or bytes (2 * i) 0 * 256 + get_or bytes (2 * i + 1) 0) (λ i word q k. search rules) 1089 c.from_fn.ensures.items)
