@@ -9,7 +9,7 @@ ghost use Rattle.engines.specs.Leaving.{all_read, rests_w};
 use crate::answer::{Written, refuse};
 use layout::context::ROOT;
 use layout::limit::{DEEPEST, STANDARD, VALUES};
-use layout::number::{less, wide, word};
+use layout::number::{wide, word};
 use layout::unit::WORD;
 use reading::reader::read;
 use reading::survey::survey;
@@ -63,7 +63,7 @@ pub fn leave(ws: &[u16], out: &mut [u16]) -> Written
     if !rests(ws, starts, n) {
         return refuse(22);
     }
-    let m = less(ws.len(), GONE);
+    let m = ws.len().saturating_sub(GONE);
     if out.len() < m {
         return refuse(10);
     }

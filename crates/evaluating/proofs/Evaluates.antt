@@ -12,7 +12,8 @@ use Rattle.sock.proofs.Fields.{operator_tag_lem}
 use Rattle.sock.proofs.Positions.{At, at_head, at_past}
 use Rattle.evaluating.specs.declared.evaluate.Evaluated.{Evaluated}
 use Rattle.evaluating.specs.Evaluating.{value_in, operated, ended, combined, constant_at, both, evaluated_at, evaluated}
-use Rattle.evaluating.specs.Valuing.{good_value, value_as}
+use Rattle.std.specs.Prelude.{Some}
+use Rattle.evaluating.specs.Valuing.{value_as}
 
 -- ---- values
 
@@ -36,12 +37,11 @@ operated_as decimal_difference a b = refl
 
 -- two operands, each with a value or none
 combined_as :
-    (o : Operator) (i j : ℕ) (x y : Option ℕ) →
-    combined (operator_tag o) (ended i (value_as x)) (ended j (value_as y)) ≡ ended j (value_as (also x λ v. also y λ w. operate o v w))
+    (o : Operator) (x y : Option ℕ) → combined (operator_tag o) (value_as x) (value_as y) ≡ value_as (also x λ v. also y λ w. operate o v w)
 unfolding combined also
-combined_as o i j none y = refl
-combined_as o i j (some v) none = refl
-combined_as o i j (some v) (some w) = ap (ended j) (operated_as o v w)
+combined_as o none y = refl
+combined_as o (some v) none = refl
+combined_as o (some v) (some w) = operated_as o v w
 
 -- ---- expressions
 
@@ -68,13 +68,13 @@ module _ (vs : List ℕ) (below : AllBelow 4294967296 vs) (ws : List ℕ) where
       let y : 3 ≤ length ws - i = omega arith in
       let z : value_of (high_word v) (low_word v) ≡ v = omega arith in
       level ws (values_words vs) d i p
-      ∙ simp (le-ltb (length ws - i) 3 y, k, q.word, r.word) (ap (λ (u : ℕ). ended (i + 3) (good_value u)) z)
+      ∙ simp (le-ltb (length ws - i) 3 y, k, q.word, r.word) (ap (λ (u : ℕ). ended (i + 3) (Some u)) z)
   evaluates (variable_fits {x = x} b) zero h i rest e = absurd (omega arith)
   evaluates (variable_fits {x = x} b) (suc d) h i rest e =
       let p = at_head ws i (8192 + x * 256) rest e in
       let k : (8192 + x * 256) / 8192 ≡ 1 = omega arith in
       let y : (8192 + x * 256) / 256 % 32 ≡ x = omega arith in
-      level ws (values_words vs) d i p ∙ simp (k, y) (ap (λ (v : ℕ). ended (i + 1) (good_value v)) (value_in_lem below x))
+      level ws (values_words vs) d i p ∙ simp (k, y) (ap (λ (v : ℕ). ended (i + 1) (Some v)) (value_in_lem below x))
   evaluates (apply_fits f g) zero h i rest e = absurd (omega arith)
   evaluates (apply_fits {o = o} {a = a} {b = b} f g) (suc d) h i rest e =
       let p = at_head ws i (operator_tag o * 8192) (expr_words a ++ expr_words b ++ rest) e in
@@ -92,4 +92,4 @@ module _ (vs : List ℕ) (below : AllBelow 4294967296 vs) (ws : List ℕ) where
       (let q = length-append (expr_words a) (expr_words b) in omega arith) in
       level ws (values_words vs) d i p
       ∙ simp (k, ne_eqb (operator_tag o) 0 n0, ne_eqb (operator_tag o) 1 n1, ea, eb)
-      (combined_as o _ _ (evaluate vs a) (evaluate vs b) ∙ ap (λ (n : ℕ). ended n (value_as (also (evaluate vs a) λ v. also (evaluate vs b) λ w. operate o v w))) l)
+      (ap₂ (λ (n : ℕ) v. ended n v) l (combined_as o (evaluate vs a) (evaluate vs b)))

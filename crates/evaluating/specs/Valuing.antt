@@ -1,14 +1,8 @@
 -- A value or none, as the code has it.
-use Rattle.std.specs.Prelude.{ℕ, true, false}
+use Rattle.std.specs.Prelude.{ℕ, Some, None}
+use Rattle.std.specs.Prelude as code
 use Rattle.std.proofs.Math.Option.{Option, none, some}
-use Rattle.evaluating.specs.declared.digits.Value.{Value}
 
-abbrev pub no_value : Value
-no_value = record { good = false; value = 0 }
-
-abbrev pub good_value : ℕ → Value
-good_value v = record { good = true; value = v }
-
-abbrev pub value_as : Option ℕ → Value
-value_as none = no_value
-value_as (some v) = good_value v
+abbrev pub value_as : Option ℕ → code.Option ℕ
+value_as none = None
+value_as (some v) = Some v

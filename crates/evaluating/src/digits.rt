@@ -2,29 +2,7 @@
 ghost use Rattle.std.specs.Prelude.{◌≡◌, ◌<◌, ◌≤◌, ◌&&◌};
 ghost use Rattle.sock.specs.Digits.{decimal, number_of, packed_of, digit_sum, digit_difference};
 ghost use Rattle.sock.specs.Evaluation.{of_digits};
-ghost use Rattle.evaluating.specs.Valuing.{no_value, good_value, value_as};
-
-// Whether there is a value, and the value; 0 where there is none.
-#[derive(Clone, Copy)]
-pub struct Value {
-    pub good: bool,
-    pub value: u32,
-}
-
-pub fn no_value() -> Value
-    ensures { result ≡ no_value }
-{
-    Value {
-        good: false,
-        value: 0,
-    }
-}
-
-pub fn good_value(value: u32) -> Value
-    ensures { result ≡ good_value value }
-{
-    Value { good: true, value }
-}
+ghost use Rattle.evaluating.specs.Valuing.{value_as};
 
 // Whether none of the last n digits is above 9.
 fn decimal_digits(p: u32, n: usize) -> bool
@@ -69,24 +47,24 @@ fn both_decimal(a: u32, b: u32) -> bool
     false
 }
 
+// All the values that eight digits have.
+const ALL: u32 = 100000000;
+
 // Sum and difference modulo 100,000,000; none where a digit is above 9.
-pub fn decimal_sum(a: u32, b: u32) -> Value
+pub fn decimal_sum(a: u32, b: u32) -> Option<u32>
     ensures { result ≡ value_as (of_digits a b (digit_sum 8 a b)) }
 {
     if both_decimal(a, b) {
-        return good_value(packed_of((number_of(a, 8) + number_of(b, 8)) % 100000000, 8));
+        return Some(packed_of((number_of(a, 8) + number_of(b, 8)) % ALL, 8));
     }
-    no_value()
+    None
 }
 
-pub fn decimal_difference(a: u32, b: u32) -> Value
+pub fn decimal_difference(a: u32, b: u32) -> Option<u32>
     ensures { result ≡ value_as (of_digits a b (digit_difference 8 a b)) }
 {
     if both_decimal(a, b) {
-        return good_value(packed_of(
-            (number_of(a, 8) + 100000000 - number_of(b, 8)) % 100000000,
-            8,
-        ));
+        return Some(packed_of((number_of(a, 8) + ALL - number_of(b, 8)) % ALL, 8));
     }
-    no_value()
+    None
 }

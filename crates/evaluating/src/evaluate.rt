@@ -2,18 +2,25 @@
 ghost use Rattle.std.specs.Prelude.{◌≡◌, ◌<◌, length, ◌==◌, int_lt};
 ghost use Rattle.sock.specs.Words.{bit};
 ghost use Rattle.sock.specs.Evaluation.{signed};
+ghost use Rattle.layout.specs.Kinds.{tag_number};
 ghost use Rattle.evaluating.specs.Evaluating.{value_in, biased, operated, no_expression, combined, constant_at, evaluated};
 
-use crate::digits::{Value, decimal_difference, decimal_sum, good_value};
-use layout::field::{read_variable, tag_of, value_of};
+use crate::digits::{decimal_difference, decimal_sum};
+use layout::field::{read_variable, value_of};
 use layout::number::word;
-use layout::tag;
+use layout::tag::Tag;
 
-// Where an expression ends, whether it has a value, and the value; 0 where it has none.
+// Where an expression ends, and its value if it has one.
 #[derive(Clone, Copy)]
 pub struct Evaluated {
     pub end: usize,
-    pub good: bool,
+    pub value: Option<u32>,
+}
+
+// An expression that ends there, with a value: what a rule that reads one is handed.
+#[derive(Clone, Copy)]
+pub struct Valued {
+    pub end: usize,
     pub value: u32,
 }
 
@@ -23,12 +30,12 @@ fn nowhere() -> Evaluated
 {
     Evaluated {
         end: 0,
-        good: false,
-        value: 0,
+        value: None,
     }
 }
 
 // The value of a variable among values of two words each, of which an engine has 32; a word that is not there counts as 0.
+#[tactic(auto, unfolding(crate::specs::Evaluating::value_in))]
 pub fn variable(values: &[u16], x: usize) -> u32
     ensures { result ≡ value_in values.now x }
 {
@@ -42,64 +49,45 @@ pub fn variable(values: &[u16], x: usize) -> u32
 fn bias(v: u32) -> u32
     ensures { result ≡ biased v }
 {
-    std::num::wrapping_add_u32(v, 2147483648)
+    v.wrapping_add(2147483648)
 }
 
 fn less(a: u32, b: u32) -> u32
     ensures { result ≡ bit (int_lt (signed a) (signed b)) }
 {
-    if bias(a) < bias(b) { 1 } else { 0 }
+    u32::from(bias(a) < bias(b))
 }
 
 fn equal(a: u32, b: u32) -> u32
     ensures { result ≡ bit (a == b) }
 {
-    if a == b { 1 } else { 0 }
+    u32::from(a == b)
 }
 
-fn operate(operator: usize, a: u32, b: u32) -> Value
-    ensures { result ≡ operated operator a b }
+#[tactic(auto, unfolding(crate::specs::Evaluating::operated))]
+fn operate(operator: Tag, a: u32, b: u32) -> Option<u32>
+    ensures { result ≡ operated (tag_number operator) a b }
 {
-    if operator == tag::SUM {
-        return good_value(std::num::wrapping_add_u32(a, b));
+    match operator {
+        Tag::Sum => Some(a.wrapping_add(b)),
+        Tag::Difference => Some(a.wrapping_sub(b)),
+        Tag::Less => Some(less(a, b)),
+        Tag::DecimalSum => decimal_sum(a, b),
+        Tag::DecimalDifference => decimal_difference(a, b),
+        _ => Some(equal(a, b)),
     }
-    if operator == tag::DIFFERENCE {
-        return good_value(std::num::wrapping_sub_u32(a, b));
-    }
-    if operator == tag::LESS {
-        return good_value(less(a, b));
-    }
-    if operator == tag::DECIMAL_SUM {
-        return decimal_sum(a, b);
-    }
-    if operator == tag::DECIMAL_DIFFERENCE {
-        return decimal_difference(a, b);
-    }
-    good_value(equal(a, b))
 }
 
 // The value of an operator of two operands; none where one of them has none.
-fn combine(operator: usize, a: Evaluated, b: Evaluated) -> Evaluated
-    ensures { result ≡ combined operator a b }
+#[tactic(auto, unfolding(crate::specs::Evaluating::combined))]
+fn combine(operator: Tag, a: Option<u32>, b: Option<u32>) -> Option<u32>
+    ensures { result ≡ combined (tag_number operator) a b }
 {
-    if a.good {
-        if b.good {
-            let v = operate(operator, a.value, b.value);
-            return Evaluated {
-                end: b.end,
-                good: v.good,
-                value: v.value,
-            };
-        }
-    }
-    Evaluated {
-        end: b.end,
-        good: false,
-        value: 0,
-    }
+    operate(operator, a?, b?)
 }
 
 // A constant's two words.
+#[tactic(auto, unfolding(crate::specs::Evaluating::constant_at))]
 fn constant(ws: &[u16], at: usize) -> Evaluated
     requires { at < length ws.now }
     ensures { result ≡ constant_at ws.now at }
@@ -109,12 +97,12 @@ fn constant(ws: &[u16], at: usize) -> Evaluated
     }
     Evaluated {
         end: at + 3,
-        good: true,
-        value: value_of(ws[at + 1], ws[at + 2]),
+        value: Some(value_of(ws[at + 1], ws[at + 2])),
     }
 }
 
 // The expression at `at`, of at most `depth` levels.
+#[tactic(auto, using(crate::proofs::Evaluations::evaluated_step), unfolding(crate::specs::Evaluating::evaluated_at, crate::specs::Evaluating::both))]
 pub fn evaluate(ws: &[u16], values: &[u16], at: usize, depth: usize) -> Evaluated
     ensures { result ≡ evaluated depth ws.now values.now at }
 {
@@ -125,18 +113,20 @@ pub fn evaluate(ws: &[u16], values: &[u16], at: usize, depth: usize) -> Evaluate
         return nowhere();
     }
     let w = ws[at];
-    let t = tag_of(w);
+    let t = Tag::of(w);
     match t {
-        tag::CONSTANT => constant(ws, at),
-        tag::VARIABLE => Evaluated {
+        Tag::Constant => constant(ws, at),
+        Tag::Variable => Evaluated {
             end: at + 1,
-            good: true,
-            value: variable(values, read_variable(w)),
+            value: Some(variable(values, read_variable(w))),
         },
         _ => {
             let a = evaluate(ws, values, at + 1, depth - 1);
             let b = evaluate(ws, values, a.end, depth - 1);
-            combine(t, a, b)
+            Evaluated {
+                end: b.end,
+                value: combine(t, a.value, b.value),
+            }
         }
     }
 }

@@ -3,9 +3,10 @@ ghost use Rattle.std.specs.Prelude.{◌≡◌, ◌+◌, ◌<◌, length, get_or}
 ghost use Rattle.sock.specs.Words.{kind_of};
 ghost use Rattle.finding.specs.Find.{at_most, find_w, node_w, outside_w, cut, shut_in, here_w, in_seq_w, in_par_w, left_w, beside_w, in_body_w, in_scope_w, scope_of, level_of, catcher_of, fault_at, catches_w};
 
-use layout::field::{kind_of, name_of, zombie_of};
+use layout::field::{is_zombie, name_of};
+use layout::kind::Kind;
 use layout::own::own_end;
-use layout::{head, key, kind};
+use layout::{head, key};
 use skipping::pass::{note_at, pass, pass_list};
 use skipping::skip::skip_list;
 
@@ -82,22 +83,23 @@ fn find(ws: &[u16], notes: &[u16], at: usize, target: usize, depth: usize, level
 
 // By the kind of the process at `at`, whose parts are `depth` levels deep at most; the target is not its head.
 #[cycle(find_in_par_node)]
+#[tactic(auto, unfolding(crate::specs::Find::node_w))]
 fn node(ws: &[u16], notes: &[u16], at: usize, target: usize, depth: usize, level: usize) -> Found
     requires { (level + 1 + depth < 65536) × (at < length ws.now) }
     ensures { result ≡ node_w (find_w depth ws.now notes.now target (level + 1)) depth ws.now notes.now target level (kind_of (get_or ws.now at 0)) at }
 {
-    match kind_of(ws[at]) {
-        kind::SEQ => {
+    match Kind::of(ws[at]) {
+        Kind::Seq => {
             let f = find(ws, notes, at + 1, target, depth, level + 1);
             in_seq(ws, notes, at, f, depth)
         }
-        kind::PAR => in_par(ws, notes, at, target, depth, level + 1),
-        kind::SCOPE => {
+        Kind::Par => in_par(ws, notes, at, target, depth, level + 1),
+        Kind::Scope => {
             let body = pass_list(ws, notes, at + 2, depth);
             let f = find(ws, notes, body, target, depth, level + 1);
             in_scope(ws, at, target, level, f, depth)
         }
-        kind::EXECUTOR => {
+        Kind::Executor => {
             let body = own_end(ws, at);
             in_body(find(ws, notes, body, target, depth, level + 1))
         }
@@ -106,6 +108,7 @@ fn node(ws: &[u16], notes: &[u16], at: usize, target: usize, depth: usize, level
 }
 
 // Whether `target` is outside at..end; no, if the end is 0: it is not known.
+#[tactic(auto, unfolding(crate::specs::Find::outside_w))]
 fn outside(at: usize, target: usize, end: usize) -> bool
     ensures { result ≡ outside_w at target end }
 {
@@ -119,6 +122,7 @@ fn outside(at: usize, target: usize, end: usize) -> bool
 }
 
 // The process itself.
+#[tactic(auto, unfolding(crate::specs::Find::here_w))]
 fn here(ws: &[u16], notes: &[u16], at: usize, depth: usize, level: usize) -> Found
     ensures { result ≡ here_w depth ws.now notes.now level at }
 {
@@ -177,6 +181,7 @@ fn shut(s: Site, scope: usize, level: usize, catcher: usize) -> Site
 }
 
 // The first of a seq becoming nil, the second takes the seq's place; a nil second goes on.
+#[tactic(auto, unfolding(crate::specs::Find::in_seq_w, crate::specs::Find::seq_spot))]
 fn in_seq(ws: &[u16], notes: &[u16], at: usize, f: Found, depth: usize) -> Found
     ensures { result ≡ in_seq_w depth ws.now notes.now at f }
 {
@@ -200,6 +205,7 @@ fn in_seq(ws: &[u16], notes: &[u16], at: usize, f: Found, depth: usize) -> Found
 
 // A side of a par becoming nil, the other takes the par's place.
 #[cycle(find_in_par_node)]
+#[tactic(auto, unfolding(crate::specs::Find::par_sides, crate::specs::Find::in_par_w))]
 fn in_par(ws: &[u16], notes: &[u16], at: usize, target: usize, depth: usize, level: usize) -> Found
     requires { (level + depth < 65536) × (at < length ws.now) }
     ensures { result ≡ in_par_w (find_w depth ws.now notes.now target level) at }
@@ -211,6 +217,7 @@ fn in_par(ws: &[u16], notes: &[u16], at: usize, target: usize, depth: usize, lev
 }
 
 // The left side has the process.
+#[tactic(auto, unfolding(crate::specs::Find::left_w))]
 fn left(at: usize, s: Site) -> Found
     ensures { result ≡ left_w at s }
 {
@@ -221,6 +228,7 @@ fn left(at: usize, s: Site) -> Found
 }
 
 // The left side ends at `e`.
+#[tactic(auto, unfolding(crate::specs::Find::beside_w))]
 fn beside(at: usize, e: usize, f: Found) -> Found
     requires { at + 1 < 18446744073709551616 }
     ensures { result ≡ beside_w at e f }
@@ -237,6 +245,7 @@ fn beside(at: usize, e: usize, f: Found) -> Found
 }
 
 // The body of a scope or an executor becoming nil, a nil stands there.
+#[tactic(auto, unfolding(crate::specs::Find::in_body_w))]
 fn in_body(f: Found) -> Found
     ensures { result ≡ in_body_w f }
 {
@@ -246,6 +255,7 @@ fn in_body(f: Found) -> Found
     }
 }
 
+#[tactic(auto, unfolding(crate::specs::Find::in_scope_w))]
 fn in_scope(ws: &[u16], at: usize, target: usize, level: usize, f: Found, depth: usize) -> Found
     requires { at < length ws.now }
     ensures { result ≡ in_scope_w depth ws.now target level at f }
@@ -262,6 +272,7 @@ fn in_scope(ws: &[u16], at: usize, target: usize, level: usize, f: Found, depth:
 }
 
 // The nearest scope, if `scope` is that of the body.
+#[tactic(auto, unfolding(crate::specs::Find::scope_of))]
 fn scope_of(at: usize, scope: usize) -> usize
     ensures { result ≡ scope_of at scope }
 {
@@ -269,6 +280,7 @@ fn scope_of(at: usize, scope: usize) -> usize
 }
 
 // Its level, if the nearest scope of the body is at `scope` and its level `inner`.
+#[tactic(auto, unfolding(crate::specs::Find::level_of))]
 fn level_of(level: usize, scope: usize, inner: usize) -> usize
     ensures { result ≡ level_of level scope inner }
 {
@@ -276,6 +288,7 @@ fn level_of(level: usize, scope: usize, inner: usize) -> usize
 }
 
 // The scope that catches, if `catcher` does in the body. Only a throw asks for it, so no list is passed for any other process.
+#[tactic(auto, unfolding(crate::specs::Find::catcher_of))]
 fn catcher_of(ws: &[u16], at: usize, target: usize, catcher: usize, depth: usize) -> usize
     requires { at < length ws.now }
     ensures { result ≡ catcher_of depth ws.now target at catcher }
@@ -291,25 +304,26 @@ fn catcher_of(ws: &[u16], at: usize, target: usize, catcher: usize, depth: usize
 }
 
 // The fault that the process at `target` throws, as a key; none if it is no throw.
+#[tactic(auto, unfolding(crate::specs::Find::fault_at))]
 fn fault_at(ws: &[u16], target: usize) -> usize
     ensures { result ≡ fault_at ws.now target }
 {
     if ws.len() <= target {
         return key::NO_KEY;
     }
-    if kind_of(ws[target]) == kind::THROW {
-        name_of(ws[target])
-    } else {
-        key::NO_KEY
+    match Kind::of(ws[target]) {
+        Kind::Throw => name_of(ws[target]),
+        _ => key::NO_KEY,
     }
 }
 
 // Whether the scope at `at` stops a fault: its list has it, or the scope is a zombie.
+#[tactic(auto, unfolding(crate::specs::Find::catches_w))]
 fn catches(ws: &[u16], at: usize, fault: usize, depth: usize) -> bool
     requires { at < length ws.now }
     ensures { result ≡ catches_w depth ws.now at fault }
 {
-    if zombie_of(ws[at]) == 1 {
+    if is_zombie(ws[at]) {
         return true;
     }
     skip_list(ws, at + 2, depth, fault) != 0

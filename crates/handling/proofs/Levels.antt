@@ -1,17 +1,18 @@
 -- Depths on words: one level, and one turn of a loop.
 -- Assumes nothing.
-use Prim.Native.Nat.{ℕ, zero, suc, ◌+◌, ◌-◌, ◌≤◌, ◌<◌, max}
+use Prim.Native.Nat.{ℕ, zero, suc, ◌+◌, ◌-◌, ◌*◌, ◌≤◌, ◌<◌, max}
 use native.Mathlib.Omega.{arith}
 use native.Mathlib.Numerals.{sub-one}
 use mathlib.Core.Path.{◌≡◌, refl}
 use mathlib.Core.Bool.{cond}
-use mathlib.Core.List.{List}
+use mathlib.Core.List.{List, [], ◌∷◌}
 use lib.Dec.{leb, eqb}
 use lib.ListN.{length, get_or}
-use Rattle.sock.specs.Words.{tag_of}
+use Rattle.sock.specs.Words.{kind_of, count_of, tag_of}
+use Rattle.layout.specs.Own.{own_end}
 use Rattle.layout.specs.Positions.{onward}
 use Rattle.layout.specs.Tags
-use Rattle.handling.specs.Measuring.{measured, operand_levels, expression_levels, parts_levels, entries_levels, node_levels, code_levels}
+use Rattle.handling.specs.Measuring.{measured, operand_levels, expression_levels, expressed_levels, list_levels, parts_levels, entries_levels, node_levels, code_levels}
 use Rattle.handling.specs.declared.measure.Measured.{Measured}
 
 pub expression_levels_step :
@@ -56,3 +57,42 @@ pub entries_levels_end : (sub : ℕ → Measured) (n deepest i : ℕ) → n ≤ 
 unfolding entries_levels
 entries_levels_end sub zero deepest i h = refl
 entries_levels_end sub (suc n) deepest i h = absurd (omega arith)
+
+-- a kind whose parts and lists are none
+pub own_levels :
+    (ex sub : ℕ → Measured) (ws : List ℕ) (h i : ℕ) →
+    (kind_of h ≡ 1 → ⊥) → (kind_of h ≡ 2 → ⊥) → (kind_of h ≡ 3 → ⊥) → (kind_of h ≡ 4 → ⊥) → (kind_of h ≡ 5 → ⊥) → (kind_of h ≡ 6 → ⊥) → (kind_of h ≡ 8 → ⊥) → (kind_of h ≡ 10 → ⊥) → (kind_of h ≡ 11 → ⊥) → (kind_of h ≡ 12 → ⊥) →
+    node_levels ex sub ws h i ≡ measured (own_end ws i) 1
+unfolding node_levels
+own_levels ex sub ws h i = by (kind_of h)
+  where
+    by : (k : ℕ) → (k ≡ 1 → ⊥) → (k ≡ 2 → ⊥) → (k ≡ 3 → ⊥) → (k ≡ 4 → ⊥) → (k ≡ 5 → ⊥) → (k ≡ 6 → ⊥) → (k ≡ 8 → ⊥) → (k ≡ 10 → ⊥) → (k ≡ 11 → ⊥) → (k ≡ 12 → ⊥) → get_or
+        (measured (own_end ws i) 1
+        ∷ expressed_levels ex sub 0 (i + 1)
+        ∷ parts_levels sub 2 0 (i + 1)
+        ∷ parts_levels sub 2 0 (i + 1)
+        ∷ expressed_levels ex sub 2 (i + 1)
+        ∷ expressed_levels ex sub 1 (i + 1)
+        ∷ parts_levels sub (count_of h * 2) 0 (i + 1)
+        ∷ measured (own_end ws i) 1
+        ∷ parts_levels sub 1 0 (own_end ws i)
+        ∷ measured (own_end ws i) 1
+        ∷ list_levels sub ws (own_end ws i)
+        ∷ parts_levels sub 1 0 (onward i 3)
+        ∷ list_levels sub ws (i + 1)
+        ∷ [])
+        k (measured (own_end ws i) 1) ≡ measured (own_end ws i) 1
+    by zero _ _ _ _ _ _ _ _ _ _ = refl
+    by (suc zero) h _ _ _ _ _ _ _ _ _ = absurd (h refl)
+    by (suc (suc zero)) _ h _ _ _ _ _ _ _ _ = absurd (h refl)
+    by (suc (suc (suc zero))) _ _ h _ _ _ _ _ _ _ = absurd (h refl)
+    by (suc (suc (suc (suc zero)))) _ _ _ h _ _ _ _ _ _ = absurd (h refl)
+    by (suc (suc (suc (suc (suc zero))))) _ _ _ _ h _ _ _ _ _ = absurd (h refl)
+    by (suc (suc (suc (suc (suc (suc zero)))))) _ _ _ _ _ h _ _ _ _ = absurd (h refl)
+    by (suc (suc (suc (suc (suc (suc (suc zero))))))) _ _ _ _ _ _ _ _ _ _ = refl
+    by (suc (suc (suc (suc (suc (suc (suc (suc zero)))))))) _ _ _ _ _ _ h _ _ _ = absurd (h refl)
+    by (suc (suc (suc (suc (suc (suc (suc (suc (suc zero))))))))) _ _ _ _ _ _ _ _ _ _ = refl
+    by (suc (suc (suc (suc (suc (suc (suc (suc (suc (suc zero)))))))))) _ _ _ _ _ _ _ h _ _ = absurd (h refl)
+    by (suc (suc (suc (suc (suc (suc (suc (suc (suc (suc (suc zero))))))))))) _ _ _ _ _ _ _ _ h _ = absurd (h refl)
+    by (suc (suc (suc (suc (suc (suc (suc (suc (suc (suc (suc (suc zero)))))))))))) _ _ _ _ _ _ _ _ _ h = absurd (h refl)
+    by (suc (suc (suc (suc (suc (suc (suc (suc (suc (suc (suc (suc (suc k))))))))))))) _ _ _ _ _ _ _ _ _ _ = refl

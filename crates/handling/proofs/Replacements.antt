@@ -1,19 +1,21 @@
 -- cH replaced on words: one level, and one turn of the loop over parts.
 -- Assumes nothing.
-use Prim.Native.Nat.{ℕ, zero, suc, ◌-◌, ◌≤◌, ◌<◌, max}
+use Prim.Native.Nat.{ℕ, zero, suc, ◌-◌, ◌*◌, ◌≤◌, ◌<◌, max}
 use native.Mathlib.Omega.{arith}
 use native.Mathlib.Numerals.{sub-one}
 use mathlib.Core.Path.{◌≡◌, refl, sym, ◌∙◌}
 use mathlib.Core.Bool.{true, false, cond}
-use mathlib.Core.List.{List}
+use mathlib.Core.List.{List, [], ◌∷◌}
 use lib.Dec.{leb}
 use lib.ListN.{length, get_or, set}
 use Rattle.sock.specs.Kind
-use Rattle.sock.specs.Words.{head_of}
+use Rattle.sock.specs.Words.{head_of, kind_of, count_of}
+use Rattle.layout.specs.Own.{own_end}
 use Rattle.layout.specs.Positions.{onward}
 use Rattle.writers.specs.Writing.{lowered}
 use Rattle.handling.specs.Measuring.{expression_levels, code_levels}
-use Rattle.handling.specs.Replacing.{wrote, Walk, par_w, par_after, close_par, parts_w, node_w, replace_w}
+use Rattle.handling.specs.declared.measure.Measured.{Measured}
+use Rattle.handling.specs.Replacing.{wrote, Walk, nil_w, other_w, seq_w, condition_w, kept_w, c_hw, par_w, par_after, close_par, parts_w, node_w, replace_w}
 use Rattle.handling.specs.declared.replace.Rebuilt.{Rebuilt}
 use Rattle.handling.specs.declared.replace.Old.{Old}
 
@@ -75,3 +77,48 @@ pub parts_turn :
     k ≡ max levels m →
     parts_w sub (n - 1) k p.end o p.to ≡ parts_w sub n levels i out to
 parts_turn sub n levels i out to p o m k a b c d e = sym (parts_step sub n levels i out to a ∙ simp (← b, ← c, ← d, ← e))
+
+-- a kind without parts that could hold cH
+pub other_kind :
+    (ex code : ℕ → Measured) (sub : Walk) (ws : List ℕ) (old : Old) (h i : ℕ) (out : List ℕ) (to : ℕ) →
+    (kind_of h ≡ 0 → ⊥) → (kind_of h ≡ 2 → ⊥) → (kind_of h ≡ 3 → ⊥) → (kind_of h ≡ 4 → ⊥) → (kind_of h ≡ 5 → ⊥) → (kind_of h ≡ 6 → ⊥) → (kind_of h ≡ 8 → ⊥) → (kind_of h ≡ 11 → ⊥) → (kind_of h ≡ 15 → ⊥) →
+    node_w ex code sub ws old h i out to ≡ other_w code ws i out to
+unfolding node_w
+other_kind ex code sub ws old h i out to = by (kind_of h)
+  where
+    by : (k : ℕ) → (k ≡ 0 → ⊥) → (k ≡ 2 → ⊥) → (k ≡ 3 → ⊥) → (k ≡ 4 → ⊥) → (k ≡ 5 → ⊥) → (k ≡ 6 → ⊥) → (k ≡ 8 → ⊥) → (k ≡ 11 → ⊥) → (k ≡ 15 → ⊥) → get_or
+        (nil_w i out to
+        ∷ other_w code ws i out to
+        ∷ seq_w sub i out to
+        ∷ par_w sub i out to
+        ∷ condition_w ex sub ws i 2 out to
+        ∷ condition_w ex sub ws i 1 out to
+        ∷ kept_w sub ws i (own_end ws i) 1 (count_of h * 2) out to
+        ∷ other_w code ws i out to
+        ∷ kept_w sub ws i (own_end ws i) 1 1 out to
+        ∷ other_w code ws i out to
+        ∷ other_w code ws i out to
+        ∷ kept_w sub ws i (onward i 3) 1 1 out to
+        ∷ other_w code ws i out to
+        ∷ other_w code ws i out to
+        ∷ other_w code ws i out to
+        ∷ c_hw ws old i out to
+        ∷ [])
+        k (other_w code ws i out to) ≡ other_w code ws i out to
+    by zero h _ _ _ _ _ _ _ _ = absurd (h refl)
+    by (suc zero) _ _ _ _ _ _ _ _ _ = refl
+    by (suc (suc zero)) _ h _ _ _ _ _ _ _ = absurd (h refl)
+    by (suc (suc (suc zero))) _ _ h _ _ _ _ _ _ = absurd (h refl)
+    by (suc (suc (suc (suc zero)))) _ _ _ h _ _ _ _ _ = absurd (h refl)
+    by (suc (suc (suc (suc (suc zero))))) _ _ _ _ h _ _ _ _ = absurd (h refl)
+    by (suc (suc (suc (suc (suc (suc zero)))))) _ _ _ _ _ h _ _ _ = absurd (h refl)
+    by (suc (suc (suc (suc (suc (suc (suc zero))))))) _ _ _ _ _ _ _ _ _ = refl
+    by (suc (suc (suc (suc (suc (suc (suc (suc zero)))))))) _ _ _ _ _ _ h _ _ = absurd (h refl)
+    by (suc (suc (suc (suc (suc (suc (suc (suc (suc zero))))))))) _ _ _ _ _ _ _ _ _ = refl
+    by (suc (suc (suc (suc (suc (suc (suc (suc (suc (suc zero)))))))))) _ _ _ _ _ _ _ _ _ = refl
+    by (suc (suc (suc (suc (suc (suc (suc (suc (suc (suc (suc zero))))))))))) _ _ _ _ _ _ _ h _ = absurd (h refl)
+    by (suc (suc (suc (suc (suc (suc (suc (suc (suc (suc (suc (suc zero)))))))))))) _ _ _ _ _ _ _ _ _ = refl
+    by (suc (suc (suc (suc (suc (suc (suc (suc (suc (suc (suc (suc (suc zero))))))))))))) _ _ _ _ _ _ _ _ _ = refl
+    by (suc (suc (suc (suc (suc (suc (suc (suc (suc (suc (suc (suc (suc (suc zero)))))))))))))) _ _ _ _ _ _ _ _ _ = refl
+    by (suc (suc (suc (suc (suc (suc (suc (suc (suc (suc (suc (suc (suc (suc (suc zero))))))))))))))) _ _ _ _ _ _ _ _ h = absurd (h refl)
+    by (suc (suc (suc (suc (suc (suc (suc (suc (suc (suc (suc (suc (suc (suc (suc (suc k)))))))))))))))) _ _ _ _ _ _ _ _ _ = refl

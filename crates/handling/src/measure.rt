@@ -4,10 +4,11 @@ ghost use Rattle.layout.specs.Own.{own_end};
 ghost use Rattle.layout.specs.Positions.{onward};
 ghost use Rattle.handling.specs.Measuring.{measured, expression_levels, code_levels, parts_levels, expressed_levels, list_levels};
 
-use layout::field::{count_of, kind_of, tag_of};
+use layout::field::count_of;
+use layout::kind::Kind;
 use layout::number::{further, wide};
 use layout::own::own_end;
-use layout::{kind, tag};
+use layout::tag::Tag;
 
 // Where a process or an expression ends, and how many levels it has.
 #[derive(Clone, Copy)]
@@ -48,6 +49,7 @@ fn nowhere() -> Measured
     Measured { end: 0, levels: 0 }
 }
 
+#[tactic(auto, using(crate::proofs::Levels::expression_levels_step), unfolding(crate::specs::Measuring::operand_levels))]
 pub fn expression_levels(ws: &[u16], at: usize, depth: usize) -> Measured
     ensures { result ≡ expression_levels depth ws.now at }
 {
@@ -57,9 +59,9 @@ pub fn expression_levels(ws: &[u16], at: usize, depth: usize) -> Measured
     if ws.len() <= at {
         return nowhere();
     }
-    match tag_of(ws[at]) {
-        tag::CONSTANT => level(at, 3),
-        tag::VARIABLE => Measured {
+    match Tag::of(ws[at]) {
+        Tag::Constant => level(at, 3),
+        Tag::Variable => Measured {
             end: at + 1,
             levels: 1,
         },
@@ -76,6 +78,7 @@ pub fn expression_levels(ws: &[u16], at: usize, depth: usize) -> Measured
 
 // The process at `at`, of at most `depth` levels.
 #[cycle(code_levels_expressed_list_levels_parts)]
+#[tactic(auto, unfolding(crate::specs::Measuring::code_levels, crate::specs::Measuring::node_levels, crate::specs::Measuring::expressed_levels, crate::specs::Measuring::list_levels))]
 pub fn code_levels(ws: &[u16], at: usize, depth: usize) -> Measured
     ensures { result ≡ code_levels depth ws.now at }
 {
@@ -85,26 +88,23 @@ pub fn code_levels(ws: &[u16], at: usize, depth: usize) -> Measured
     if ws.len() <= at {
         return nowhere();
     }
-    match kind_of(ws[at]) {
-        kind::NIL => own(ws, at),
-        kind::ASSIGN => expressed(ws, at + 1, 0, depth - 1),
-        kind::SEQ => parts(ws, at + 1, 0, 2, depth - 1),
-        kind::PAR => parts(ws, at + 1, 0, 2, depth - 1),
-        kind::IF => expressed(ws, at + 1, 2, depth - 1),
-        kind::WHILE => expressed(ws, at + 1, 1, depth - 1),
-        kind::CHOICE => parts(ws, at + 1, 0, count_of(ws[at]) * 2, depth - 1),
-        kind::ONE_WAY => own(ws, at),
-        kind::REQUEST => parts(ws, own_end(ws, at), 0, 1, depth - 1),
-        kind::NOTIFY => own(ws, at),
-        kind::SOLICIT => list_levels(ws, own_end(ws, at), depth - 1),
-        kind::SCOPE => parts(ws, further(at, 3), 0, 1, depth - 1),
-        kind::INST => list_levels(ws, at + 1, depth - 1),
+    match Kind::of(ws[at]) {
+        Kind::Assign => expressed(ws, at + 1, 0, depth - 1),
+        Kind::Seq | Kind::Par => parts(ws, at + 1, 0, 2, depth - 1),
+        Kind::If => expressed(ws, at + 1, 2, depth - 1),
+        Kind::While => expressed(ws, at + 1, 1, depth - 1),
+        Kind::Choice => parts(ws, at + 1, 0, count_of(ws[at]) * 2, depth - 1),
+        Kind::Request => parts(ws, own_end(ws, at), 0, 1, depth - 1),
+        Kind::Solicit => list_levels(ws, own_end(ws, at), depth - 1),
+        Kind::Scope => parts(ws, further(at, 3), 0, 1, depth - 1),
+        Kind::Inst => list_levels(ws, at + 1, depth - 1),
         _ => own(ws, at),
     }
 }
 
 // An expression, then `count` processes.
 #[cycle(code_levels_expressed_list_levels_parts)]
+#[tactic(auto, unfolding(crate::specs::Measuring::code_levels, crate::specs::Measuring::node_levels, crate::specs::Measuring::expressed_levels, crate::specs::Measuring::list_levels))]
 fn expressed(ws: &[u16], at: usize, count: usize, depth: usize) -> Measured
     ensures { result ≡ expressed_levels (expression_levels depth ws.now) (code_levels depth ws.now) count at }
 {
@@ -114,6 +114,7 @@ fn expressed(ws: &[u16], at: usize, count: usize, depth: usize) -> Measured
 
 // `count` processes below a node whose other parts have `levels` levels.
 #[cycle(code_levels_expressed_list_levels_parts)]
+#[tactic(auto, unfolding(crate::specs::Measuring::code_levels, crate::specs::Measuring::node_levels, crate::specs::Measuring::expressed_levels, crate::specs::Measuring::list_levels))]
 fn parts(ws: &[u16], at: usize, levels: usize, count: usize, depth: usize) -> Measured
     ensures { result ≡ parts_levels (code_levels depth ws.now) count levels at }
 {
@@ -134,6 +135,7 @@ fn parts(ws: &[u16], at: usize, levels: usize, count: usize, depth: usize) -> Me
 
 // The list whose count is at `at`, of a node.
 #[cycle(code_levels_expressed_list_levels_parts)]
+#[tactic(auto, unfolding(crate::specs::Measuring::code_levels, crate::specs::Measuring::node_levels, crate::specs::Measuring::expressed_levels, crate::specs::Measuring::list_levels))]
 fn list_levels(ws: &[u16], at: usize, depth: usize) -> Measured
     ensures { result ≡ list_levels (code_levels depth ws.now) ws.now at }
 {

@@ -4,9 +4,10 @@ ghost use Rattle.handling.specs.Measuring.{expression_levels, code_levels};
 ghost use Rattle.handling.specs.Replacing.{old_end, old_out, replace_w, seq_w, par_w, close_par, condition_w, kept_w, other_w, c_hw, nil_w, missing};
 
 use crate::measure::{Measured, code_levels, expression_levels, larger, level, own};
-use layout::field::{count_of, kind_of};
-use layout::number::{further, less_one};
-use layout::{head, kind};
+use layout::field::count_of;
+use layout::head;
+use layout::kind::Kind;
+use layout::number::further;
 use writers::write::{copy, down, put};
 
 // Where the source ends, where the writing has come to, whether only nil was written, and how deep that is.
@@ -27,6 +28,7 @@ pub struct Old {
     pub levels: usize,
 }
 
+#[tactic(auto, unfolding(crate::specs::Replacing::old_end, crate::specs::Replacing::old_out))]
 fn put_old(ws: &[u16], old: Old, out: &mut [u16], to: usize) -> usize
     ensures { (result ≡ old_end ws.now old to) × (out.new ≡ old_out ws.now old out.old to) }
 {
@@ -52,6 +54,7 @@ fn nowhere() -> Rebuilt
 
 // The process at `at`, of at most `depth` levels.
 #[cycle(condition_in_par_in_seq_kept_replace)]
+#[tactic(auto, unfolding(crate::specs::Replacing::replace_w, crate::specs::Replacing::node_w, crate::specs::Replacing::seq_w, crate::specs::Replacing::after_first, crate::specs::Replacing::par_w, crate::specs::Replacing::par_after, crate::specs::Replacing::close_par, crate::specs::Replacing::condition_w, crate::specs::Replacing::kept_w, crate::specs::Replacing::nil_w))]
 pub fn replace(ws: &[u16], at: usize, old: Old, depth: usize, out: &mut [u16], to: usize) -> Rebuilt
     ensures { (result ≡ (replace_w depth ws.now old at out.old to).answer) × (out.new ≡ (replace_w depth ws.now old at out.old to).out) }
 {
@@ -61,30 +64,24 @@ pub fn replace(ws: &[u16], at: usize, old: Old, depth: usize, out: &mut [u16], t
     if ws.len() <= at {
         return nowhere();
     }
-    match kind_of(ws[at]) {
-        kind::NIL => nil(at, out, to),
-        kind::ASSIGN => other(ws, at, depth, out, to),
-        kind::SEQ => in_seq(ws, at, old, depth - 1, out, to),
-        kind::PAR => in_par(ws, at, old, depth - 1, out, to),
-        kind::IF => condition(ws, at, 2, old, depth - 1, out, to),
-        kind::WHILE => condition(ws, at, 1, old, depth - 1, out, to),
-        kind::CHOICE => {
+    match Kind::of(ws[at]) {
+        Kind::Nil => nil(at, out, to),
+        Kind::Seq => in_seq(ws, at, old, depth - 1, out, to),
+        Kind::Par => in_par(ws, at, old, depth - 1, out, to),
+        Kind::If => condition(ws, at, 2, old, depth - 1, out, to),
+        Kind::While => condition(ws, at, 1, old, depth - 1, out, to),
+        Kind::Choice => {
             let count = count_of(ws[at]) * 2;
             kept(ws, at, own(ws, at), count, old, depth - 1, out, to)
         }
-        kind::ONE_WAY => other(ws, at, depth, out, to),
-        kind::REQUEST => kept(ws, at, own(ws, at), 1, old, depth - 1, out, to),
-        kind::NOTIFY => other(ws, at, depth, out, to),
-        kind::SOLICIT => other(ws, at, depth, out, to),
-        kind::SCOPE => kept(ws, at, level(at, 3), 1, old, depth - 1, out, to),
-        kind::INST => other(ws, at, depth, out, to),
-        kind::THROW => other(ws, at, depth, out, to),
-        kind::COMP => other(ws, at, depth, out, to),
-        kind::CH => in_place(ws, at, old, out, to),
+        Kind::Request => kept(ws, at, own(ws, at), 1, old, depth - 1, out, to),
+        Kind::Scope => kept(ws, at, level(at, 3), 1, old, depth - 1, out, to),
+        Kind::Ch => in_place(ws, at, old, out, to),
         _ => other(ws, at, depth, out, to),
     }
 }
 
+#[tactic(auto, unfolding(crate::specs::Replacing::nil_w))]
 fn nil(at: usize, out: &mut [u16], to: usize) -> Rebuilt
     ensures { (result ≡ (nil_w at out.old to).answer) × (out.new ≡ (nil_w at out.old to).out) }
 {
@@ -96,6 +93,7 @@ fn nil(at: usize, out: &mut [u16], to: usize) -> Rebuilt
     }
 }
 
+#[tactic(auto, unfolding(crate::specs::Replacing::c_hw))]
 fn in_place(ws: &[u16], at: usize, old: Old, out: &mut [u16], to: usize) -> Rebuilt
     ensures { (result ≡ (c_hw ws.now old at out.old to).answer) × (out.new ≡ (c_hw ws.now old at out.old to).out) }
 {
@@ -109,6 +107,7 @@ fn in_place(ws: &[u16], at: usize, old: Old, out: &mut [u16], to: usize) -> Rebu
 }
 
 // A process without parts that could hold cH.
+#[tactic(auto, unfolding(crate::specs::Replacing::other_w))]
 fn other(ws: &[u16], at: usize, depth: usize, out: &mut [u16], to: usize) -> Rebuilt
     ensures { (result ≡ (other_w (code_levels depth ws.now) ws.now at out.old to).answer) × (out.new ≡ (other_w (code_levels depth ws.now) ws.now at out.old to).out) }
 {
@@ -123,6 +122,7 @@ fn other(ws: &[u16], at: usize, depth: usize, out: &mut [u16], to: usize) -> Reb
 }
 
 #[cycle(condition_in_par_in_seq_kept_replace)]
+#[tactic(auto, unfolding(crate::specs::Replacing::seq_w, crate::specs::Replacing::after_first, crate::specs::Replacing::par_w, crate::specs::Replacing::par_after, crate::specs::Replacing::close_par, crate::specs::Replacing::condition_w, crate::specs::Replacing::kept_w))]
 fn in_seq(ws: &[u16], at: usize, old: Old, depth: usize, out: &mut [u16], to: usize) -> Rebuilt
     ensures { (result ≡ (seq_w (replace_w depth ws.now old) at out.old to).answer) × (out.new ≡ (seq_w (replace_w depth ws.now old) at out.old to).out) }
 {
@@ -143,6 +143,7 @@ fn in_seq(ws: &[u16], at: usize, old: Old, depth: usize, out: &mut [u16], to: us
 }
 
 #[cycle(condition_in_par_in_seq_kept_replace)]
+#[tactic(auto, unfolding(crate::specs::Replacing::seq_w, crate::specs::Replacing::after_first, crate::specs::Replacing::par_w, crate::specs::Replacing::par_after, crate::specs::Replacing::close_par, crate::specs::Replacing::condition_w, crate::specs::Replacing::kept_w))]
 fn in_par(ws: &[u16], at: usize, old: Old, depth: usize, out: &mut [u16], to: usize) -> Rebuilt
     ensures { (result ≡ (par_w (replace_w depth ws.now old) at out.old to).answer) × (out.new ≡ (par_w (replace_w depth ws.now old) at out.old to).out) }
 {
@@ -158,7 +159,7 @@ fn in_par(ws: &[u16], at: usize, old: Old, depth: usize, out: &mut [u16], to: us
         down(out, t, n);
         return Rebuilt {
             end: q.end,
-            to: less_one(n),
+            to: n.saturating_sub(1),
             nil: false,
             levels: p.levels,
         };
@@ -173,6 +174,7 @@ fn in_par(ws: &[u16], at: usize, old: Old, depth: usize, out: &mut [u16], to: us
 
 // An if or a while: its condition, then its parts.
 #[cycle(condition_in_par_in_seq_kept_replace)]
+#[tactic(auto, unfolding(crate::specs::Replacing::seq_w, crate::specs::Replacing::after_first, crate::specs::Replacing::par_w, crate::specs::Replacing::par_after, crate::specs::Replacing::close_par, crate::specs::Replacing::condition_w, crate::specs::Replacing::kept_w))]
 fn condition(
     ws: &[u16],
     at: usize,
@@ -194,6 +196,7 @@ fn condition(
 
 // The words from `at` to the end of `own` stay, then come `count` parts.
 #[cycle(condition_in_par_in_seq_kept_replace)]
+#[tactic(auto, unfolding(crate::specs::Replacing::kept_w))]
 fn kept(
     ws: &[u16],
     at: usize,

@@ -3,7 +3,7 @@ ghost use Rattle.std.specs.Prelude.{◌≡◌};
 ghost use Rattle.handling.specs.Taking.{less_if, pass_w, take_w};
 
 use layout::field::key_of;
-use layout::number::{further, less_one, wide, word};
+use layout::number::{further, wide, word};
 use skipping::skip::skip;
 use writers::write::{copy, put};
 
@@ -24,6 +24,7 @@ pub struct Passing {
     pub upto: usize,
 }
 
+#[tactic(auto, unfolding(crate::specs::Taking::less_if))]
 fn less_if(n: u16, upto: usize) -> u16
     ensures { result ≡ less_if n upto }
 {
@@ -34,6 +35,7 @@ fn less_if(n: u16, upto: usize) -> u16
 }
 
 // The next entry stays, or is the one taken out.
+#[tactic(auto, unfolding(crate::specs::Taking::pass_w))]
 fn pass(ws: &[u16], s: Passing, key: usize, depth: usize, out: &mut [u16]) -> Passing
     ensures { (result ≡ (pass_w depth ws.now key s out.old).state) × (out.new ≡ (pass_w depth ws.now key s out.old).out) }
 {
@@ -59,6 +61,7 @@ fn pass(ws: &[u16], s: Passing, key: usize, depth: usize, out: &mut [u16]) -> Pa
 }
 
 // The list whose count is at `list`, from 0 on.
+#[tactic(auto, unfolding(crate::specs::Taking::take_w, crate::specs::Taking::took_w))]
 pub fn take(ws: &[u16], list: usize, key: usize, depth: usize, out: &mut [u16]) -> Taken
     ensures { (result ≡ (take_w depth ws.now list key out.old).answer) × (out.new ≡ (take_w depth ws.now list key out.old).out) }
 {

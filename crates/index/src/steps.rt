@@ -9,7 +9,7 @@ ghost use Rattle.index.specs.Form.{in_order, serials_in, open_by};
 
 use crate::change::{put, take};
 use crate::form::in_order;
-use layout::kind;
+use layout::kind::Kind;
 use stepping::answer::{Answer, refuse};
 use stepping::bundles::Numbers;
 
@@ -18,10 +18,9 @@ pub fn follow(index: &mut [u16], kind: u8, serial: u16)
     requires { in_order index.old ≡ true }
     ensures { index.new ≡ over (index_of (open_by kind serial (serials_in index.old))) index.old }
 {
-    match kind as usize {
-        kind::SOLICIT => put(index, serial),
-        kind::EXECUTOR => take(index, serial),
-        kind::NOTICE => take(index, serial),
+    match Kind::numbered(usize::from(kind)) {
+        Kind::Solicit => put(index, serial),
+        Kind::Executor | Kind::Notice => take(index, serial),
         _ => {}
     }
 }

@@ -5,7 +5,7 @@ ghost use Rattle.sock.specs.Journal.{left, put_back, taken_of, restored_over, ta
 ghost use Rattle.journal.specs.Back.{taken_as, counts_of, said, sound_by, Fits, put_w, checked_back};
 
 use crate::compare::first_alike;
-use layout::number::{less, wide, word};
+use layout::number::{wide, word};
 use reading::calls::check_readable;
 use writers::write::copy;
 
@@ -31,6 +31,7 @@ pub struct Counts {
     pub last: u16,
 }
 
+#[tactic(auto, unfolding(crate::specs::Back::counts_of))]
 fn counts_in(journal: &[u16]) -> Counts
     ensures { result ≡ counts_of journal.now }
 {
@@ -75,16 +76,17 @@ fn left(ws: &[u16], journal: &[u16], c: Counts) -> bool
 }
 
 // The words before the step, over the first of `scratch`.
+#[tactic(auto, unfolding(crate::specs::Back::put_w))]
 fn put_back(ws: &[u16], journal: &[u16], c: Counts, scratch: &mut [u16]) -> usize
     ensures { scratch.new ≡ put_w c ws.now journal.now scratch.old }
 {
     let first = wide(c.first);
-    let was = less(wide(c.old), first + wide(c.last));
+    let was = wide(c.old).saturating_sub(first + wide(c.last));
     copy(ws, 0, first, scratch, 0);
     copy(journal, 4, 4 + was, scratch, first);
     copy(
         ws,
-        less(ws.len(), wide(c.last)),
+        ws.len().saturating_sub(wide(c.last)),
         ws.len(),
         scratch,
         first + was,

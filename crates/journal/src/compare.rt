@@ -5,6 +5,7 @@ ghost use Rattle.sock.specs.Journal.{alike, same_words};
 ghost use Rattle.journal.specs.Comparing.{least_of, both_of};
 
 // The lesser of two lengths.
+#[tactic(auto, unfolding(crate::specs::Comparing::least_of))]
 fn least(a: usize, b: usize) -> usize
     ensures { result ≡ least_of a b }
 {

@@ -2,7 +2,6 @@
 ghost use Rattle.std.specs.Prelude.{◌≡◌, ◌%◌};
 ghost use Rattle.journal.specs.Laying.{lay_w, lay_end};
 
-use layout::number::less;
 use writers::write::{copy, put};
 
 // A number as a word; lengths of configurations and counts of their words are words.
@@ -13,6 +12,7 @@ fn word_of(n: usize) -> u16
 }
 
 // The journal of `old` and `new`, which have the `first` first and the `last` last words alike; the count of its words.
+#[tactic(auto, unfolding(crate::specs::Laying::lay_w, crate::specs::Laying::lay_end, crate::specs::Laying::counts, crate::specs::Laying::old_end))]
 pub fn lay(old: &[u16], new: &[u16], first: usize, last: usize, journal: &mut [u16]) -> usize
     ensures { (result ≡ lay_end old.now new.now first last) × (journal.new ≡ lay_w old.now new.now first last journal.old) }
 {
@@ -20,6 +20,6 @@ pub fn lay(old: &[u16], new: &[u16], first: usize, last: usize, journal: &mut [u
     put(journal, 1, word_of(new.len()));
     put(journal, 2, word_of(first));
     put(journal, 3, word_of(last));
-    let to = copy(old, first, less(old.len(), last), journal, 4);
-    copy(new, first, less(new.len(), last), journal, to)
+    let to = copy(old, first, old.len().saturating_sub(last), journal, 4);
+    copy(new, first, new.len().saturating_sub(last), journal, to)
 }

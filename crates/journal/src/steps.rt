@@ -33,6 +33,7 @@ pub struct Compared {
 }
 
 // Words of a journal, for lengths with so many words alike.
+#[tactic(auto, unfolding(crate::specs::Stepping::needed_of))]
 fn needed(old: usize, new: usize, first: usize, last: usize) -> usize
     requires { (first + last ≤ old) × (first + last ≤ new) × (old ≤ 65535) × (new ≤ 65535) }
     ensures { result ≡ needed_of old new first last }

@@ -5,10 +5,12 @@ ghost use Rattle.std.specs.Prelude.{◌≡◌};
 ghost use Rattle.killing.specs.Killing.{stopped, own_zombie, plain_zombie, head_for, dead_word};
 ghost use Rattle.killing.specs.Killing.{notice_w, waiter_w, kept_w, list_end_w, list_w, turned_w, vanished_w, kill_w, gone_w, seq_w, par_w, right_w, scope_w, zombie_w, live_w, executor_w};
 
-use layout::field::{kind_of, zombie_of};
-use layout::number::{further, less_one};
+use layout::field::is_zombie;
+use layout::kind::Kind;
+use layout::mark::Mark;
+use layout::number::further;
 use layout::own::own_end;
-use layout::{head, killed, kind, mark};
+use layout::{head, killed};
 use skipping::pass::{pass, pass_list};
 use writers::write::{copy, down, put};
 
@@ -32,6 +34,7 @@ fn stuck() -> Moved
 }
 
 #[cycle(kill_kill_executor_kill_live_kill_par_kill_right_kill_scope_kill_seq_kill_zombie)]
+#[tactic(auto, unfolding(crate::specs::Killing::kill_w, crate::specs::Killing::kind_w))]
 pub fn kill(
     ws: &[u16],
     notes: &[u16],
@@ -50,20 +53,21 @@ pub fn kill(
     if ws.len() <= at {
         return stuck();
     }
-    match kind_of(ws[at]) {
-        kind::SEQ => kill_seq(ws, notes, at + 1, fault, hole, depth - 1, out, to),
-        kind::PAR => kill_par(ws, notes, at + 1, fault, hole, depth - 1, out, to),
-        kind::SCOPE => kill_scope(ws, notes, at, fault, hole, depth - 1, out, to),
-        kind::INST => stuck(),
-        kind::EXECUTOR => kill_executor(ws, notes, at, fault, hole, depth - 1, out, to),
-        kind::WAITER => kill_waiter(ws, notes, at, depth, out, to),
-        kind::NOTICE => keep(ws, at, out, to),
+    match Kind::of(ws[at]) {
+        Kind::Seq => kill_seq(ws, notes, at + 1, fault, hole, depth - 1, out, to),
+        Kind::Par => kill_par(ws, notes, at + 1, fault, hole, depth - 1, out, to),
+        Kind::Scope => kill_scope(ws, notes, at, fault, hole, depth - 1, out, to),
+        Kind::Inst => stuck(),
+        Kind::Executor => kill_executor(ws, notes, at, fault, hole, depth - 1, out, to),
+        Kind::Waiter => kill_waiter(ws, notes, at, depth, out, to),
+        Kind::Notice => keep(ws, at, out, to),
         _ => vanish(ws, notes, at, depth, out, to),
     }
 }
 
 // A seq keeps its first, killed.
 #[cycle(kill_kill_executor_kill_live_kill_par_kill_right_kill_scope_kill_seq_kill_zombie)]
+#[tactic(auto, unfolding(crate::specs::Killing::goes, crate::specs::Killing::seq_on, crate::specs::Killing::seq_w))]
 fn kill_seq(
     ws: &[u16],
     notes: &[u16],
@@ -88,26 +92,23 @@ fn kill_seq(
 }
 
 // Whether what stands at `at` just becomes nil: it is of a kind that `kill` gives to `vanish`.
+#[tactic(auto, unfolding(crate::specs::Killing::gone_w, crate::specs::Killing::gone_kind))]
 fn gone(ws: &[u16], at: usize) -> bool
     ensures { result ≡ gone_w ws.now at }
 {
     if ws.len() <= at {
         return false;
     }
-    match kind_of(ws[at]) {
-        kind::SEQ => false,
-        kind::PAR => false,
-        kind::SCOPE => false,
-        kind::INST => false,
-        kind::EXECUTOR => false,
-        kind::WAITER => false,
-        kind::NOTICE => false,
+    match Kind::of(ws[at]) {
+        Kind::Seq | Kind::Par | Kind::Scope | Kind::Inst => false,
+        Kind::Executor | Kind::Waiter | Kind::Notice => false,
         _ => true,
     }
 }
 
 // A par without its sides that are nil. A left side that just becomes nil is passed over, so it takes no call and no word.
 #[cycle(kill_kill_executor_kill_live_kill_par_kill_right_kill_scope_kill_seq_kill_zombie)]
+#[tactic(auto, unfolding(crate::specs::Killing::goes, crate::specs::Killing::left_on, crate::specs::Killing::par_w))]
 fn kill_par(
     ws: &[u16],
     notes: &[u16],
@@ -137,6 +138,7 @@ fn kill_par(
 
 // The right side of a par whose left, killed, stands from `one` on; if it just becomes nil, it too is passed over.
 #[cycle(kill_kill_executor_kill_live_kill_par_kill_right_kill_scope_kill_seq_kill_zombie)]
+#[tactic(auto, unfolding(crate::specs::Killing::goes, crate::specs::Killing::right_on, crate::specs::Killing::right_w))]
 fn kill_right(
     ws: &[u16],
     notes: &[u16],
@@ -155,7 +157,7 @@ fn kill_right(
         down(out, one, to);
         return Moved {
             end: pass(ws, notes, at, depth),
-            to: less_one(to),
+            to: to.saturating_sub(1),
             nil: 0,
         };
     }
@@ -167,7 +169,7 @@ fn kill_right(
         down(out, one, to);
         return Moved {
             end: q.end,
-            to: less_one(to),
+            to: to.saturating_sub(1),
             nil: 0,
         };
     }
@@ -186,6 +188,7 @@ pub struct Scope {
 }
 
 #[cycle(kill_kill_executor_kill_live_kill_par_kill_right_kill_scope_kill_seq_kill_zombie)]
+#[tactic(auto, unfolding(crate::specs::Killing::scope_at, crate::specs::Killing::scope_w))]
 fn kill_scope(
     ws: &[u16],
     notes: &[u16],
@@ -208,7 +211,7 @@ fn kill_scope(
     if ws.len() <= body {
         return stuck();
     }
-    if zombie_of(ws[at]) == 1 {
+    if is_zombie(ws[at]) {
         return kill_zombie(ws, notes, Scope { at, body }, fault, hole, depth, out, to);
     }
     if ws[body] == head::NIL {
@@ -222,6 +225,7 @@ fn kill_scope(
 
 // A zombie stays as it is, if its body can be killed.
 #[cycle(kill_kill_executor_kill_live_kill_par_kill_right_kill_scope_kill_seq_kill_zombie)]
+#[tactic(auto, unfolding(crate::specs::Killing::goes, crate::specs::Killing::zombie_on, crate::specs::Killing::zombie_w))]
 fn kill_zombie(
     ws: &[u16],
     notes: &[u16],
@@ -247,6 +251,7 @@ fn kill_zombie(
 }
 
 // The list at..end; an empty one is its count.
+#[tactic(auto, unfolding(crate::specs::Killing::list_w, crate::specs::Killing::list_end_w))]
 fn copy_list(ws: &[u16], at: usize, end: usize, out: &mut [u16], to: usize) -> usize
     ensures { (result ≡ list_end_w ws.now at end to) × (out.new ≡ list_w ws.now at end out.old to) }
 {
@@ -260,6 +265,7 @@ fn copy_list(ws: &[u16], at: usize, end: usize, out: &mut [u16], to: usize) -> u
 }
 
 // A live scope whose body just becomes nil turns zombie, as below; nothing in it is killed, and each word is written once.
+#[tactic(auto, unfolding(crate::specs::Killing::turned_w))]
 fn turn_zombie(
     ws: &[u16],
     notes: &[u16],
@@ -288,6 +294,7 @@ fn turn_zombie(
 
 // A live scope turns zombie, with no marked fault, its list as it is and its body killed.
 #[cycle(kill_kill_executor_kill_live_kill_par_kill_right_kill_scope_kill_seq_kill_zombie)]
+#[tactic(auto, unfolding(crate::specs::Killing::goes, crate::specs::Killing::live_on, crate::specs::Killing::live_w))]
 fn kill_live(
     ws: &[u16],
     notes: &[u16],
@@ -317,6 +324,7 @@ fn kill_live(
 }
 
 // The head of the scope that stands at at..end, as a zombie's: mark 0 around the hole, else mark 2.
+#[tactic(auto, unfolding(crate::specs::Killing::head_for))]
 fn zombie_head(ws: &[u16], at: usize, hole: usize, end: usize) -> u16
     ensures { result ≡ head_for ws.now at hole end }
 {
@@ -335,17 +343,18 @@ fn zombie_head(ws: &[u16], at: usize, hole: usize, end: usize) -> u16
 fn own_zombie(h: u16) -> u16
     ensures { result ≡ own_zombie h }
 {
-    killed::zombie(h, mark::OWN_NAME)
+    killed::zombie(h, Mark::OwnName)
 }
 
 fn plain_zombie(h: u16) -> u16
     ensures { result ≡ plain_zombie h }
 {
-    killed::zombie(h, mark::UNMARKED)
+    killed::zombie(h, Mark::Unmarked)
 }
 
 // An executor becomes its killed body, which stands behind its own words, par a notice.
 #[cycle(kill_kill_executor_kill_live_kill_par_kill_right_kill_scope_kill_seq_kill_zombie)]
+#[tactic(auto, unfolding(crate::specs::Killing::goes, crate::specs::Killing::executor_on, crate::specs::Killing::executor_w))]
 fn kill_executor(
     ws: &[u16],
     notes: &[u16],
@@ -373,6 +382,7 @@ fn kill_executor(
 }
 
 // The notice of the executor at `at`, which ends at `end`.
+#[tactic(auto, unfolding(crate::specs::Killing::notice_w))]
 fn notice(ws: &[u16], at: usize, fault: u16, end: usize, out: &mut [u16], to: usize) -> Moved
     ensures { (result ≡ (notice_w ws.now fault at end out.old to).moved) × (out.new ≡ (notice_w ws.now fault at end out.old to).out) }
 {
@@ -392,6 +402,7 @@ fn notice(ws: &[u16], at: usize, fault: u16, end: usize, out: &mut [u16], to: us
 }
 
 // A waiter turns dead.
+#[tactic(auto, unfolding(crate::specs::Killing::waiter_w))]
 fn kill_waiter(
     ws: &[u16],
     notes: &[u16],
@@ -428,6 +439,7 @@ fn dead_word(w: u16) -> u16
 }
 
 // A notice stays.
+#[tactic(auto, unfolding(crate::specs::Killing::kept_w))]
 fn keep(ws: &[u16], at: usize, out: &mut [u16], to: usize) -> Moved
     ensures { (result ≡ (kept_w ws.now at out.old to).moved) × (out.new ≡ (kept_w ws.now at out.old to).out) }
 {
@@ -442,6 +454,7 @@ fn keep(ws: &[u16], at: usize, out: &mut [u16], to: usize) -> Moved
 }
 
 // All else becomes nil.
+#[tactic(auto, unfolding(crate::specs::Killing::vanished_w))]
 fn vanish(ws: &[u16], notes: &[u16], at: usize, depth: usize, out: &mut [u16], to: usize) -> Moved
     ensures { (result ≡ (vanished_w depth ws.now notes.now at out.old to).moved) × (out.new ≡ (vanished_w depth ws.now notes.now at out.old to).out) }
 {

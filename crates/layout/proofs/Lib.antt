@@ -1,3 +1,4 @@
+pub mod Named
 pub mod Others
 pub mod Owns
 pub mod Units

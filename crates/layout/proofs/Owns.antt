@@ -23,6 +23,8 @@ use Rattle.sock.proofs.Measures.{words_executor}
 use Rattle.sock.proofs.Positions.{at_head, at_past}
 use Rattle.sock.proofs.Reading.{split, tests}
 use Rattle.sock.proofs.Running.{as_node_fits}
+use Rattle.layout.specs.Kinds.{kind_named, number_of}
+use Rattle.layout.proofs.Named.{by_name}
 use Rattle.layout.specs.Own.{variables_end, lists_end, own_form, own_end}
 
 -- how the own words of a kind are laid out: fixed words, then lists of variables
@@ -60,6 +62,10 @@ no_row_lem k far = get_or-eq_default rows no_row far
 pub form_beyond : (k : ℕ) → 19 ≤ k → own_form k ≡ 0
 unfolding own_form counts_of counted word_count list_count
 form_beyond k far = rw (no_row_lem k far) refl
+
+-- by name it is the same
+pub form_named : (k : ℕ) → own_form (number_of (kind_named k)) ≡ own_form k
+form_named = by_name own_form (λ k far. form_beyond k far ∙ sym (form_beyond 19 (omega arith)))
 
 beyond_packed : (k : ℕ) → 19 ≤ k → (own_form k / 4 ≡ (counts_of k).fixed) × (own_form k % 4 ≡ (counts_of k).variables)
 unfolding own_form counts_of counted word_count list_count

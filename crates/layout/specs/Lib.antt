@@ -1,9 +1,11 @@
 pub mod Contexts
 pub mod Heads
 pub mod Keys
+pub mod Kinds
 pub mod Killed
 pub mod Limits
 pub mod Own
 pub mod Positions
+pub mod Refusals
 pub mod Tags
 pub mod Units

@@ -1,15 +1,8 @@
 // The fields of heads, fixed words, keys and expressions (document 01, "Words"), each as `Words` of the definitions has it.
-ghost use Rattle.std.specs.Prelude.{◌≡◌, ◌<◌, leb};
-ghost use Rattle.sock.specs.Words.{kind_of, count_of, variable_of, name_of, second_of, mark_of, zombie_of, first_variable, next_variable, first_name, executors_client, dead_of, waiters_server, notices_client, key_of, key_word, scope_key, tag_of, read_variable, value_of, high_word, low_word};
+ghost use Rattle.std.specs.Prelude.{◌≡◌, ◌<◌, leb, eqb};
+ghost use Rattle.sock.specs.Words.{count_of, variable_of, name_of, second_of, zombie_of, first_variable, next_variable, first_name, executors_client, dead_of, waiters_server, notices_client, key_of, key_word, scope_key, read_variable, value_of, high_word, low_word};
 
 use crate::number::wide;
-
-// A head's kind.
-pub fn kind_of(h: u16) -> usize
-    ensures { (result ≡ kind_of h) × (result < 32) }
-{
-    wide(h) / 2048
-}
 
 // The 11 bits after the kind: a choice's count.
 pub fn count_of(h: u16) -> usize
@@ -39,18 +32,11 @@ pub fn second_of(h: u16) -> usize
     wide(h) % 32
 }
 
-// Document 01's mark, 2 bits after a scope's name.
-pub fn mark_of(h: u16) -> usize
-    ensures { (result ≡ mark_of h) × (result < 4) }
+// Whether the bit after a scope's mark says that it is a zombie.
+pub fn is_zombie(h: u16) -> bool
+    ensures { result ≡ eqb (zombie_of h) 1 }
 {
-    wide(h) / 8 % 4
-}
-
-// The bit after the mark: 1 for a zombie.
-pub fn zombie_of(h: u16) -> usize
-    ensures { (result ≡ zombie_of h) × (result < 2) }
-{
-    wide(h) / 4 % 2
+    h / 4 % 2 == 1
 }
 
 // A variable in the first 5 bits: a request's y, z.
@@ -81,11 +67,11 @@ pub fn executors_client(w: u16) -> usize
     wide(w) / 8192
 }
 
-// 1 for a dead waiter.
-pub fn dead_of(w: u16) -> usize
-    ensures { (result ≡ dead_of w) × (result < 2) }
+// Whether a waiter's word says that it is dead.
+pub fn is_dead(w: u16) -> bool
+    ensures { result ≡ eqb (dead_of w) 1 }
 {
-    wide(w) / 32768
+    w / 32768 == 1
 }
 
 // A waiter's server engine.
@@ -141,13 +127,6 @@ pub fn is_scope_key(w: u16) -> bool
     ensures { result ≡ leb (key_word (scope_key 0)) w }
 {
     32768 <= w
-}
-
-// What an expression is, in 3 bits.
-pub fn tag_of(w: u16) -> usize
-    ensures { (result ≡ tag_of w) × (result < 8) }
-{
-    wide(w) / 8192
 }
 
 // The variable that an expression reads.

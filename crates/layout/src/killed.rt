@@ -1,12 +1,15 @@
 // The heads and words that killing writes, from those that it finds.
 ghost use Rattle.std.specs.Prelude.{◌≡◌};
+ghost use Rattle.layout.specs.Kinds.{mark_number};
 ghost use Rattle.layout.specs.Killed.{zombie_head, notice_head, notice_word, waiter_word};
 
+use crate::mark::Mark;
+
 // A scope's head as a zombie's, with another mark.
-pub fn zombie(h: u16, mark: usize) -> u16
-    ensures { result ≡ zombie_head h mark }
+pub fn zombie(h: u16, mark: Mark) -> u16
+    ensures { result ≡ zombie_head h (mark_number mark) }
 {
-    h / 32 * 32 + (mark % 4 * 8 + 4) as u16
+    h / 32 * 32 + u16::from(mark) * 8 + 4
 }
 
 // A notice's head, from its executor's.

@@ -1,38 +1,78 @@
-// The nineteen kinds of process by name (document 01, "Words"), as `Kind` of the definitions has them.
-pub const NIL: usize = 0;
+// The nineteen kinds of process by name, as `Kind` of the definitions has them.
+ghost use Rattle.std.specs.Prelude.{◌≡◌};
+ghost use Rattle.sock.specs.Words.{kind_of};
+ghost use Rattle.layout.specs.Kinds.{kind_named, number_of};
 
-pub const ASSIGN: usize = 1;
+use crate::number::wide;
+use crate::unit;
 
-pub const SEQ: usize = 2;
+// What the first five bits of a head say; `Unused` for the numbers that no kind has.
+#[derive(Clone, Copy, Debug, PartialEq, Eq)]
+pub enum Kind {
+    Nil,
+    Assign,
+    Seq,
+    Par,
+    If,
+    While,
+    Choice,
+    OneWay,
+    Request,
+    Notify,
+    Solicit,
+    Scope,
+    Inst,
+    Throw,
+    Comp,
+    Ch,
+    Executor,
+    Waiter,
+    Notice,
+    Unused,
+}
 
-pub const PAR: usize = 3;
+impl Kind {
+    // The kind with a number; of all numbers, so that who has one may ask.
+    pub fn numbered(number: usize) -> Kind
+        ensures { result ≡ kind_named number }
+    {
+        match number {
+            0 => Kind::Nil,
+            1 => Kind::Assign,
+            2 => Kind::Seq,
+            3 => Kind::Par,
+            4 => Kind::If,
+            5 => Kind::While,
+            6 => Kind::Choice,
+            7 => Kind::OneWay,
+            8 => Kind::Request,
+            9 => Kind::Notify,
+            10 => Kind::Solicit,
+            11 => Kind::Scope,
+            12 => Kind::Inst,
+            13 => Kind::Throw,
+            14 => Kind::Comp,
+            15 => Kind::Ch,
+            16 => Kind::Executor,
+            17 => Kind::Waiter,
+            18 => Kind::Notice,
+            _ => Kind::Unused,
+        }
+    }
 
-pub const IF: usize = 4;
+    // The kind of the process with the head h.
+    pub fn of(h: u16) -> Kind
+        ensures { result ≡ kind_named (kind_of h) }
+    {
+        Kind::numbered(wide(h) / unit::KIND)
+    }
+}
 
-pub const WHILE: usize = 5;
+// Its number, as the calls answer it.
+impl From<Kind> for u8 {
+    ghost from_gives = { λ kind n. n ≡ number_of kind };
 
-pub const CHOICE: usize = 6;
-
-pub const ONE_WAY: usize = 7;
-
-pub const REQUEST: usize = 8;
-
-pub const NOTIFY: usize = 9;
-
-pub const SOLICIT: usize = 10;
-
-pub const SCOPE: usize = 11;
-
-pub const INST: usize = 12;
-
-pub const THROW: usize = 13;
-
-pub const COMP: usize = 14;
-
-pub const CH: usize = 15;
-
-pub const EXECUTOR: usize = 16;
-
-pub const WAITER: usize = 17;
-
-pub const NOTICE: usize = 18;
+    fn from(kind: Kind) -> u8 {
+        kind as u8
+    }
+}

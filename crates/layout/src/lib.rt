@@ -12,5 +12,6 @@ pub mod limit;
 pub mod mark;
 pub mod number;
 pub mod own;
+pub mod refusal;
 pub mod tag;
 pub mod unit;

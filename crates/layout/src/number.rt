@@ -36,17 +36,3 @@ pub fn further(to: usize, n: usize) -> usize
     }
     to + n
 }
-
-// One less; 0 of 0.
-pub fn less_one(n: usize) -> usize
-    ensures { result ≡ n - 1 }
-{
-    if n == 0 { 0 } else { n - 1 }
-}
-
-// What is left of `a` without `b`; 0 where `b` is more.
-pub fn less(a: usize, b: usize) -> usize
-    ensures { result ≡ a - b }
-{
-    if a < b { 0 } else { a - b }
-}

@@ -1,10 +1,10 @@
 // Where a process's own words end: its head, its fixed words and its lists of variables. The fixed table of kinds decides. Behind the words
 // all ends are 0.
 ghost use Rattle.std.specs.Prelude.{◌≡◌, ◌<◌};
+ghost use Rattle.layout.specs.Kinds.{number_of};
 ghost use Rattle.layout.specs.Own.{variables_end, lists_end, own_form, own_end};
 
-use crate::field::kind_of;
-use crate::kind;
+use crate::kind::Kind;
 use crate::number::wide;
 
 // Where the list of variables whose count is at `at` ends: it has as many words as variables.
@@ -33,29 +33,17 @@ pub fn lists_end(ws: &[u16], at: usize, lists: usize) -> usize
 
 // The table's fixed words, times 4, and lists of variables of a kind in one number. The table itself is laid out anew wherever it is indexed;
 // this is one look at constant memory.
-fn own_form(kind: usize) -> usize
-    ensures { (result ≡ own_form kind) × (result < 16) }
+#[tactic(auto, unfolding(crate::specs::Own::own_form, sock::specs::Counts::counts_of, sock::specs::Counts::counted, sock::specs::Kind::row_of, sock::specs::Kind::rows, sock::specs::Counts::word_count, sock::specs::Counts::list_count))]
+fn own_form(kind: Kind) -> usize
+    ensures { (result ≡ own_form (number_of kind)) × (result < 16) }
 {
     match kind {
-        kind::NIL => 0,
-        kind::ASSIGN => 0,
-        kind::SEQ => 0,
-        kind::PAR => 0,
-        kind::IF => 0,
-        kind::WHILE => 0,
-        kind::CHOICE => 0,
-        kind::ONE_WAY => 1,
-        kind::REQUEST => 6,
-        kind::NOTIFY => 5,
-        kind::SOLICIT => 6,
-        kind::SCOPE => 4,
-        kind::INST => 0,
-        kind::THROW => 0,
-        kind::COMP => 0,
-        kind::CH => 0,
-        kind::EXECUTOR => 9,
-        kind::WAITER => 9,
-        kind::NOTICE => 8,
+        Kind::OneWay => 1,
+        Kind::Request | Kind::Solicit => 6,
+        Kind::Notify => 5,
+        Kind::Scope => 4,
+        Kind::Executor | Kind::Waiter => 9,
+        Kind::Notice => 8,
         _ => 0,
     }
 }
@@ -67,6 +55,6 @@ pub fn own_end(ws: &[u16], at: usize) -> usize
     if ws.len() <= at {
         return 0;
     }
-    let form = own_form(kind_of(ws[at]));
+    let form = own_form(Kind::of(ws[at]));
     lists_end(ws, at + 1 + form / 4, form % 4)
 }

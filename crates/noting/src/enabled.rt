@@ -6,13 +6,16 @@ ghost use Rattle.reading.specs.Walk.{process_end, two_end, marked_end, scope_end
 ghost use Rattle.noting.specs.Noting.{enabled, note_w, note_list_w, plain_par, plain_leaf, notes_w, enabled_notes, seq_notes, par_notes, scope_notes, executor_notes};
 
 use layout::context::{CODE, NOT_NIL, RECEIVER, RUNNING};
+use layout::field::second_of;
+use layout::kind::Kind;
 use layout::number::wide;
 use layout::unit::WORD;
-use layout::{kind, unit};
+use layout::{head, unit};
 use reading::reader::{executor_own, marked, read};
 use reading::tables::head_mask;
 
 // The process at `at` ends at `e`.
+#[tactic(auto, unfolding(crate::specs::Noting::note_w))]
 fn note(notes: &mut [u16], at: usize, e: usize) -> usize
     ensures ended { result ≡ e }
     ensures written { notes.new ≡ note_w notes.old at e }
@@ -29,6 +32,7 @@ fn note(notes: &mut [u16], at: usize, e: usize) -> usize
 }
 
 // The list at `at` ends at `e`.
+#[tactic(auto, unfolding(crate::specs::Noting::note_list_w))]
 fn note_list(notes: &mut [u16], at: usize, e: usize) -> usize
     ensures ended { result ≡ e }
     ensures written { notes.new ≡ note_list_w notes.old at e }
@@ -46,6 +50,7 @@ fn note_list(notes: &mut [u16], at: usize, e: usize) -> usize
 
 // An enabled process, in a context of those that run.
 #[cycle(enabled_executor_noted_par_scope_seq)]
+#[tactic(auto, unfolding(crate::specs::Noting::noting))]
 pub(crate) fn noted(
     ws: &[u16],
     at: usize,
@@ -64,6 +69,7 @@ pub(crate) fn noted(
 
 // The same, but for its own note. A process of one word is read here, since calls would take longer.
 #[cycle(enabled_executor_noted_par_scope_seq)]
+#[tactic(auto, unfolding(reading::specs::Walk::node_end))]
 fn enabled(
     ws: &[u16],
     at: usize,
@@ -82,60 +88,57 @@ fn enabled(
     if ws.len() <= at {
         return 0;
     }
-    let h = wide(ws[at]);
+    let head = ws[at];
     let d = depth - 1;
-    if plain_par(h, context) {
+    if plain_par(head, context) {
         return par(ws, at + 1, d, bound, notes);
     }
-    if plain_leaf(h, context) {
+    if plain_leaf(head, context) {
         return at + 1;
     }
-    let k = h / unit::KIND;
-    if (h + WORD) & head_mask(context, k) != 0 {
+    let h = wide(head);
+    if (h + WORD) & head_mask(context, h / unit::KIND) != 0 {
         return 0;
     }
-    match k {
-        kind::NIL => at + 1,
-        kind::SEQ => seq(ws, at + 1, d, bound, notes),
-        kind::PAR => par(ws, at + 1, d, bound, notes),
-        kind::SCOPE => scope(ws, at, d, h, bound, notes),
-        kind::EXECUTOR => executor(ws, at, d, bound, notes),
+    match Kind::of(head) {
+        Kind::Nil => at + 1,
+        Kind::Seq => seq(ws, at + 1, d, bound, notes),
+        Kind::Par => par(ws, at + 1, d, bound, notes),
+        Kind::Scope => scope(ws, at, d, h, bound, notes),
+        Kind::Executor => executor(ws, at, d, bound, notes),
         _ => read(ws, at, depth, context, bound),
     }
 }
 
-// The head of a par, and the first context of those that run in which one may not stand: the places above not nil.
-const PAR: usize = kind::PAR * unit::KIND;
-
+// The first context of those that run in which no par may stand: the places above not nil.
 const ABOVE: usize = RUNNING + RECEIVER;
 
 // The context of a part that runs and is not nil.
 const ENABLED: usize = RUNNING + NOT_NIL;
 
 // Whether a head is a par's and may stand in the context. Up to half of what is enabled are pars, and this saves the look at the table.
-fn plain_par(h: usize, context: usize) -> bool
-    ensures { result ≡ plain_par h context }
+#[tactic(auto, unfolding(crate::specs::Noting::plain_par))]
+fn plain_par(head: u16, context: usize) -> bool
+    ensures { result ≡ plain_par head context }
 {
     if ABOVE <= context {
         return false;
     }
-    h == PAR
+    head == head::PAR
 }
 
 // Whether a head is a throw's or a comp's with no bit that it does not use, and may stand in the context. Many of the other half are these.
-fn plain_leaf(h: usize, context: usize) -> bool
-    ensures { result ≡ plain_leaf h context }
+#[tactic(auto, unfolding(crate::specs::Noting::plain_leaf))]
+fn plain_leaf(head: u16, context: usize) -> bool
+    ensures { result ≡ plain_leaf head context }
 {
     if ABOVE <= context {
         return false;
     }
-    if h % unit::SECOND != 0 {
+    if second_of(head) != 0 {
         return false;
     }
-    if h / unit::KIND < kind::THROW {
-        return false;
-    }
-    h / unit::KIND < kind::CH
+    matches!(Kind::of(head), Kind::Throw | Kind::Comp)
 }
 
 // The parts of a seq: the first is enabled.

@@ -3,15 +3,23 @@
 use Prim.Native.Nat.{ℕ, zero, suc, ◌-◌, ◌≤◌, ◌<◌}
 use native.Mathlib.Omega.{arith}
 use native.Mathlib.Numerals.{sub-one}
-use mathlib.Core.Path.{◌≡◌, refl}
+use mathlib.Core.Path.{◌≡◌, refl, ap, ◌∙◌}
 use mathlib.Core.Bool.{false, cond}
 use mathlib.Core.List.{List}
 use borrow.Author.Tests.{lt-ltb, le-ltb, lt-leb, eq-eqb, ne_eqb}
 use lib.Dec.{leb, eqb}
 use lib.ListN.{length, get_or}
 use Rattle.sock.specs.Words.{kind_of}
+use Rattle.layout.specs.Kinds.{kind_named, number_of}
+use Rattle.layout.specs.declared.kind.Kind.{Kind}
+use Rattle.layout.proofs.Named.{by_name}
 use Rattle.pending.specs.declared.look.Seen.{Seen}
-use Rattle.pending.specs.Looking.{made, turn_w, goes_on, loop_w, look_w, across_w, sides_w}
+use Rattle.pending.specs.Looking.{made, behind_w, turn_w, goes_on, loop_w, look_w, across_w, sides_w}
+
+-- what comes behind a head is told by its kind's name
+pub behind_named : {r : Kind} (k : ℕ) → r ≡ kind_named k → (i end : ℕ) → behind_w (number_of r) i end ≡ behind_w k i end
+unfolding behind_w
+behind_named {r} k e i end = ap (λ r. behind_w (number_of r) i end) e ∙ by_name (λ k. behind_w k i end) (λ k far. rw (ne_eqb k 3 (λ q. omega arith)) refl) k
 
 pub no_depth : (d : ℕ) (ws notes : List ℕ) (i end n : ℕ) → d ≡ 0 → made 0 n ≡ look_w d ws notes i end n
 unfolding look_w

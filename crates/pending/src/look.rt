@@ -2,13 +2,15 @@
 // body ends it. It goes from head to head by the notes of where things end, so it looks at no word of what is not enabled. Total: words that were
 // not read end it.
 ghost use Rattle.std.specs.Prelude.{◌≡◌, ◌<◌};
+ghost use Rattle.layout.specs.Kinds.{number_of};
 ghost use Rattle.pending.specs.Looking.{made, scope_w, behind_w, seq_w, turn_w, look_w, pending_w};
 
-use layout::field::{kind_of, zombie_of};
+use layout::field::is_zombie;
+use layout::head;
+use layout::kind::Kind;
 use layout::limit::FUEL;
 use layout::number::{further, word};
 use layout::own::own_end;
-use layout::{head, kind};
 use skipping::pass::{pass, pass_list};
 
 // Where the search has come to, 0 if it ended at a pending process; and how many enabled processes it has met, that one with them.
@@ -25,11 +27,12 @@ fn stop(count: usize) -> Seen
 }
 
 // The body of a scope with this head, whose list is at `list`: a zombie's is searched, a live one's if it is not nil.
+#[tactic(auto, unfolding(crate::specs::Looking::scope_w))]
 fn scope(ws: &[u16], notes: &[u16], h: u16, list: usize, count: usize) -> Seen
     ensures { result ≡ scope_w ws.now notes.now h list count }
 {
     let body = pass_list(ws, notes, list, FUEL);
-    if zombie_of(h) == 1 {
+    if is_zombie(h) {
         return Seen { end: body, count };
     }
     if word(ws, body) == head::NIL {
@@ -40,6 +43,7 @@ fn scope(ws: &[u16], notes: &[u16], h: u16, list: usize, count: usize) -> Seen
 
 // From the enabled process at `at`, which is met, to where the next one begins.
 #[cycle(look_seq_turn)]
+#[tactic(auto, unfolding(crate::specs::Looking::turn_w, crate::specs::Looking::kind_w))]
 fn turn(ws: &[u16], notes: &[u16], at: usize, depth: usize, count: usize) -> Seen
     ensures { result ≡ turn_w (look_w depth ws.now notes.now) ws.now notes.now at count }
 {
@@ -47,12 +51,12 @@ fn turn(ws: &[u16], notes: &[u16], at: usize, depth: usize, count: usize) -> See
         return stop(count);
     }
     let n = further(count, 1);
-    let k = kind_of(ws[at]);
+    let k = Kind::of(ws[at]);
     match k {
-        kind::SEQ => seq(ws, notes, at + 1, depth, n),
-        kind::SCOPE => scope(ws, notes, ws[at], at + 2, n),
-        kind::INST => stop(n),
-        kind::EXECUTOR => Seen {
+        Kind::Seq => seq(ws, notes, at + 1, depth, n),
+        Kind::Scope => scope(ws, notes, ws[at], at + 2, n),
+        Kind::Inst => stop(n),
+        Kind::Executor => Seen {
             end: own_end(ws, at),
             count: n,
         },
@@ -65,15 +69,20 @@ fn turn(ws: &[u16], notes: &[u16], at: usize, depth: usize, count: usize) -> See
 
 // Behind the head of a par, whose sides are met next, else the end of what stands at `at`. No jump tells a par from what has no enabled part: which
 // of them comes next can't be foreseen.
-fn behind(kind: usize, at: usize, end: usize) -> usize
+#[tactic(auto, unfolding(crate::specs::Looking::behind_w))]
+fn behind(kind: Kind, at: usize, end: usize) -> usize
     requires { at < 18446744073709551615 }
-    ensures { result ≡ behind_w kind at end }
+    ensures { result ≡ behind_w (number_of kind) at end }
 {
-    if kind == kind::PAR { at + 1 } else { end }
+    match kind {
+        Kind::Par => at + 1,
+        _ => end,
+    }
 }
 
 // The first of a seq, at `at`, is searched, the second passed.
 #[cycle(look_seq_turn)]
+#[tactic(auto, unfolding(crate::specs::Looking::seq_w, crate::specs::Looking::seq_on))]
 fn seq(ws: &[u16], notes: &[u16], at: usize, depth: usize, count: usize) -> Seen
     ensures { result ≡ seq_w (look_w depth ws.now notes.now) ws.now notes.now at count }
 {
@@ -115,6 +124,7 @@ fn look(ws: &[u16], notes: &[u16], at: usize, end: usize, depth: usize, count: u
 }
 
 // The search of the process at `at`.
+#[tactic(auto, unfolding(crate::specs::Looking::pending_w))]
 pub fn pending(ws: &[u16], notes: &[u16], at: usize) -> Seen
     ensures { result ≡ pending_w ws.now notes.now at }
 {

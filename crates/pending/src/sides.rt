@@ -3,13 +3,13 @@ ghost use Rattle.std.specs.Prelude.{◌≡◌};
 ghost use Rattle.pending.specs.Looking.{found_w, beside_w, sides_w};
 
 use crate::look::pending;
-use layout::field::kind_of;
-use layout::kind;
+use layout::kind::Kind;
 use layout::limit::FUEL;
 use layout::own::own_end;
 use skipping::pass::{pass, pass_list};
 
 // Whether the process at `at` holds a pending one.
+#[tactic(auto, unfolding(crate::specs::Looking::found_w))]
 fn found(ws: &[u16], notes: &[u16], at: usize) -> bool
     ensures { result ≡ found_w ws.now notes.now at }
 {
@@ -19,6 +19,7 @@ fn found(ws: &[u16], notes: &[u16], at: usize) -> bool
 
 // Whether a side of the process at `at` that a fault from `target`, which stands in it, meets has a pending process.
 #[cycle(any_pending_beside)]
+#[tactic(auto, unfolding(crate::specs::Looking::sides_w, crate::specs::Looking::across_w))]
 pub fn any_pending(ws: &[u16], notes: &[u16], at: usize, target: usize, depth: usize) -> bool
     ensures { result ≡ sides_w depth ws.now notes.now target at }
 {
@@ -31,23 +32,24 @@ pub fn any_pending(ws: &[u16], notes: &[u16], at: usize, target: usize, depth: u
     if at == target {
         return false;
     }
-    match kind_of(ws[at]) {
-        kind::SEQ => any_pending(ws, notes, at + 1, target, depth - 1),
-        kind::PAR => beside(ws, notes, at + 1, target, depth - 1),
-        kind::SCOPE => any_pending(
+    match Kind::of(ws[at]) {
+        Kind::Seq => any_pending(ws, notes, at + 1, target, depth - 1),
+        Kind::Par => beside(ws, notes, at + 1, target, depth - 1),
+        Kind::Scope => any_pending(
             ws,
             notes,
             pass_list(ws, notes, at + 2, FUEL),
             target,
             depth - 1,
         ),
-        kind::EXECUTOR => any_pending(ws, notes, own_end(ws, at), target, depth - 1),
+        Kind::Executor => any_pending(ws, notes, own_end(ws, at), target, depth - 1),
         _ => false,
     }
 }
 
 // The sides of a par, the left one at `at`: first those within the side that has the target, then the other side.
 #[cycle(any_pending_beside)]
+#[tactic(auto, unfolding(crate::specs::Looking::beside_w))]
 fn beside(ws: &[u16], notes: &[u16], at: usize, target: usize, depth: usize) -> bool
     ensures { result ≡ beside_w (sides_w depth ws.now notes.now target) ws.now notes.now target at }
 {

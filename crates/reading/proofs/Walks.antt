@@ -3,20 +3,54 @@
 use Prim.Native.Nat.{ℕ, zero, suc, ◌+◌, ◌-◌, ◌/◌, ◌<◌, ◌≤◌}
 use native.Mathlib.Omega.{arith}
 use native.Mathlib.Numerals.{sub-one}
-use mathlib.Core.Path.{◌≡◌, refl, sym, ◌∙◌}
+use mathlib.Core.Path.{◌≡◌, refl, sym, ap, ◌∙◌}
 use borrow.Author.Tests.{lt-ltb, ltb-true, ne_eqb}
 use mathlib.Core.Bool.{Bool, true, false, ◌||◌, cond}
-use mathlib.Core.List.{List}
+use mathlib.Core.List.{List, [], ◌∷◌}
 use lib.Bits.{bit_and}
 use lib.Dec.{ltb, eqb}
-use lib.ListN.{length}
+use lib.ListN.{length, get_or}
+use Rattle.sock.specs.Words.{clear, tag_of}
+use Rattle.layout.specs.Units
 use Rattle.reading.specs.Tables.{head_mask}
-use Rattle.reading.specs.Walk.{when, on, at, expr_at, expr_end, two_end, branches_end, key_at, entry_context, entries_end, node_end, process_end}
+use Rattle.reading.specs.Walk.{when, on, at, constant_end, operation_end, expr_at, expr_end, two_end, branches_end, key_at, entry_context, entries_end, node_end, process_end}
 
 pub expr_step : (d : ℕ) (ws : List ℕ) (i : ℕ) → (d ≡ 0 → ⊥) → expr_end d ws i ≡ when (ltb i (length ws)) (expr_at (expr_end (d - 1) ws) ws i (at ws i))
 unfolding expr_end
 expr_step zero ws i h = absurd (h refl)
 expr_step (suc d) ws i h = rw (sub-one (suc d))
+
+-- what is neither a constant nor a variable is an operation
+pub operation_at :
+    (sub : ℕ → ℕ) (ws : List ℕ) (i : ℕ) {w v : ℕ} → w ≡ v → (tag_of v ≡ 0 → ⊥) → (tag_of v ≡ 1 → ⊥) → v < 65536 →
+    expr_at sub ws i w ≡ operation_end sub i w
+unfolding expr_at
+operation_at sub ws i {w} {v} e c d small =
+    by (tag_of w) (λ h. c (sym (ap tag_of e) ∙ h)) (λ h. d (sym (ap tag_of e) ∙ h)) (let h : w / 8192 < 8 = omega arith in h)
+  where
+    by :
+        (k : ℕ) → (k ≡ 0 → ⊥) → (k ≡ 1 → ⊥) → k < 8 →
+        get_or
+        (constant_end ws i w
+        ∷ when (clear Units.read_variable w) (i + 1)
+        ∷ operation_end sub i w
+        ∷ operation_end sub i w
+        ∷ operation_end sub i w
+        ∷ operation_end sub i w
+        ∷ operation_end sub i w
+        ∷ operation_end sub i w
+        ∷ [])
+        k 0
+        ≡ operation_end sub i w
+    by zero c v h = absurd (c refl)
+    by (suc zero) c v h = absurd (v refl)
+    by (suc (suc zero)) c v h = refl
+    by (suc (suc (suc zero))) c v h = refl
+    by (suc (suc (suc (suc zero)))) c v h = refl
+    by (suc (suc (suc (suc (suc zero))))) c v h = refl
+    by (suc (suc (suc (suc (suc (suc zero)))))) c v h = refl
+    by (suc (suc (suc (suc (suc (suc (suc zero))))))) c v h = refl
+    by (suc (suc (suc (suc (suc (suc (suc (suc k)))))))) c v h = absurd (omega arith)
 
 pub process_step :
     (d : ℕ) (ws : List ℕ) (bound c i : ℕ) →

@@ -11,10 +11,10 @@ use crate::reader::{executor_own, list, process};
 use crate::survey::survey;
 use layout::context::{CODE, ROOT, RUNNING};
 use layout::key::NO_KEY;
+use layout::kind::Kind;
 use layout::limit::{DEEPEST, STANDARD};
 use layout::number::wide;
 use layout::unit::WORD;
-use layout::{kind, unit};
 
 // Waiters, and executors plus notices, up to `end`; all 0 if there is no end.
 #[derive(Clone, Copy)]
@@ -32,6 +32,7 @@ pub struct EndCounts {
     pub workers: u16,
 }
 
+#[tactic(auto, unfolding(crate::specs::Tally::uncounted))]
 fn not_counted() -> Counted
     ensures { result ≡ uncounted }
 {
@@ -42,6 +43,7 @@ fn not_counted() -> Counted
     }
 }
 
+#[tactic(auto, unfolding(crate::specs::Tally::counted))]
 fn count(end: usize, waiters: usize, workers: usize) -> Counted
     ensures { result ≡ counted end waiters workers }
 {
@@ -56,6 +58,7 @@ fn count(end: usize, waiters: usize, workers: usize) -> Counted
 }
 
 // 1 if the end at `at` has the serial.
+#[tactic(auto, unfolding(crate::specs::Tally::serial_at))]
 fn serial_at(ws: &[u16], at: usize, serial: usize) -> usize
     requires { at < length ws.now }
     ensures { (result ≡ serial_at ws.now at serial) × (result ≤ 1) }
@@ -68,6 +71,7 @@ fn serial_at(ws: &[u16], at: usize, serial: usize) -> usize
 
 // The ends of a serial in the process at `at`.
 #[cycle(tally_tally_executor_tally_par_tally_scope_tally_seq)]
+#[tactic(auto, unfolding(crate::specs::Tally::tally_at, crate::specs::Tally::node_tally))]
 fn tally(ws: &[u16], at: usize, depth: usize, serial: usize, bound: usize) -> Counted
     ensures { result ≡ tally_at depth ws.now serial bound at }
 {
@@ -78,17 +82,17 @@ fn tally(ws: &[u16], at: usize, depth: usize, serial: usize, bound: usize) -> Co
         return not_counted();
     }
     let d = depth - 1;
-    match wide(ws[at]) / unit::KIND {
-        kind::SEQ => tally_seq(ws, at + 1, d, serial, bound),
-        kind::PAR => tally_par(ws, at + 1, d, serial, bound),
-        kind::SCOPE => tally_scope(ws, at + 2, d, serial, bound),
-        kind::EXECUTOR => tally_executor(ws, at, d, serial, bound),
-        kind::WAITER => count(
+    match Kind::of(ws[at]) {
+        Kind::Seq => tally_seq(ws, at + 1, d, serial, bound),
+        Kind::Par => tally_par(ws, at + 1, d, serial, bound),
+        Kind::Scope => tally_scope(ws, at + 2, d, serial, bound),
+        Kind::Executor => tally_executor(ws, at, d, serial, bound),
+        Kind::Waiter => count(
             process(ws, at, depth, RUNNING, bound),
             serial_at(ws, at, serial),
             0,
         ),
-        kind::NOTICE => count(
+        Kind::Notice => count(
             process(ws, at, depth, RUNNING, bound),
             0,
             serial_at(ws, at, serial),
@@ -99,6 +103,7 @@ fn tally(ws: &[u16], at: usize, depth: usize, serial: usize, bound: usize) -> Co
 
 // Of a seq only the first part is enabled.
 #[cycle(tally_tally_executor_tally_par_tally_scope_tally_seq)]
+#[tactic(auto, unfolding(crate::specs::Tally::seq_tally, crate::specs::Tally::after))]
 fn tally_seq(ws: &[u16], at: usize, depth: usize, serial: usize, bound: usize) -> Counted
     ensures { result ≡ seq_tally (tally_at depth ws.now serial bound) (process_end depth ws.now bound) at }
 {
@@ -111,6 +116,7 @@ fn tally_seq(ws: &[u16], at: usize, depth: usize, serial: usize, bound: usize) -
 }
 
 #[cycle(tally_tally_executor_tally_par_tally_scope_tally_seq)]
+#[tactic(auto, unfolding(crate::specs::Tally::par_tally, crate::specs::Tally::after))]
 fn tally_par(ws: &[u16], at: usize, depth: usize, serial: usize, bound: usize) -> Counted
     ensures { result ≡ par_tally (tally_at depth ws.now serial bound) at }
 {
@@ -125,6 +131,7 @@ fn tally_par(ws: &[u16], at: usize, depth: usize, serial: usize, bound: usize) -
 
 // A scope's list, and its body.
 #[cycle(tally_tally_executor_tally_par_tally_scope_tally_seq)]
+#[tactic(auto, unfolding(crate::specs::Tally::scope_tally))]
 fn tally_scope(ws: &[u16], at: usize, depth: usize, serial: usize, bound: usize) -> Counted
     ensures { result ≡ scope_tally (tally_at depth ws.now serial bound) (process_end depth ws.now bound) ws.now at }
 {
@@ -136,6 +143,7 @@ fn tally_scope(ws: &[u16], at: usize, depth: usize, serial: usize, bound: usize)
 }
 
 #[cycle(tally_tally_executor_tally_par_tally_scope_tally_seq)]
+#[tactic(auto, unfolding(crate::specs::Tally::executor_tally))]
 fn tally_executor(ws: &[u16], at: usize, depth: usize, serial: usize, bound: usize) -> Counted
     requires { at < length ws.now }
     ensures { result ≡ executor_tally (tally_at depth ws.now serial bound) ws.now serial at (executor_own ws.now bound at) }

@@ -13,13 +13,17 @@ use crate::tables::{bit, head_mask, shape};
 use layout::context::{CODE, CONTEXTS, EXPRESSION, HANDLERS, NOT_NIL, RECEIVER, RUNNING, STRATUM};
 use layout::field::next_variable;
 use layout::key::{NO_KEY, SCOPE_KEYS};
+use layout::kind::Kind;
 use layout::limit::{BRANCHES, ENGINES, MESSAGE};
-use layout::number::{less_one, wide, word};
+use layout::mark::Mark;
+use layout::number::{wide, word};
+use layout::tag::Tag;
+use layout::unit;
 use layout::unit::WORD;
-use layout::{kind, mark, tag, unit};
 
 // An expression of at most `depth` levels.
 #[cycle(expression_operation)]
+#[tactic(auto, unfolding(crate::specs::Walk::expr_end, crate::specs::Walk::expr_at, crate::specs::Walk::operation_end, crate::specs::Walk::on, crate::specs::Walk::when))]
 pub fn expression(ws: &[u16], at: usize, depth: usize) -> usize
     ensures { result ≡ expr_end depth ws.now at }
 {
@@ -29,27 +33,23 @@ pub fn expression(ws: &[u16], at: usize, depth: usize) -> usize
     if ws.len() <= at {
         return 0;
     }
-    let w = wide(ws[at]);
-    match w / unit::TAG {
-        tag::CONSTANT => constant(ws, at, w),
-        tag::VARIABLE => {
+    let head = ws[at];
+    let w = wide(head);
+    match Tag::of(head) {
+        Tag::Constant => constant(ws, at, w),
+        Tag::Variable => {
             if w % unit::READ_VARIABLE == 0 {
                 at + 1
             } else {
                 0
             }
         }
-        tag::SUM => operation(ws, at, depth - 1, w),
-        tag::DIFFERENCE => operation(ws, at, depth - 1, w),
-        tag::LESS => operation(ws, at, depth - 1, w),
-        tag::EQUAL => operation(ws, at, depth - 1, w),
-        tag::DECIMAL_SUM => operation(ws, at, depth - 1, w),
-        tag::DECIMAL_DIFFERENCE => operation(ws, at, depth - 1, w),
-        _ => 0,
+        _ => operation(ws, at, depth - 1, w),
     }
 }
 
 // A constant: two words follow.
+#[tactic(auto, unfolding(crate::specs::Walk::constant_end, crate::specs::Walk::when))]
 fn constant(ws: &[u16], at: usize, w: usize) -> usize
     requires { at < length ws.now }
     ensures { result ≡ constant_end ws.now at w }
@@ -62,6 +62,7 @@ fn constant(ws: &[u16], at: usize, w: usize) -> usize
 
 // Two operands.
 #[cycle(expression_operation)]
+#[tactic(auto, unfolding(crate::specs::Walk::expr_end, crate::specs::Walk::expr_at, crate::specs::Walk::operation_end, crate::specs::Walk::on, crate::specs::Walk::when))]
 fn operation(ws: &[u16], at: usize, depth: usize, w: usize) -> usize
     requires { at < length ws.now }
     ensures { result ≡ operation_end (expr_end depth ws.now) at w }
@@ -83,6 +84,7 @@ fn same_context(context: usize) -> usize
     context / STRATUM * STRATUM
 }
 
+#[tactic(auto, unfolding(crate::specs::Walk::rest_of))]
 fn rest_context(context: usize) -> usize
     ensures { (result ≡ rest_of context) × (result < running) }
 {
@@ -94,6 +96,7 @@ fn rest_context(context: usize) -> usize
 }
 
 // Where a node's shape stands: its kind, or behind all kinds by the first three bits of an expression.
+#[tactic(auto, unfolding(crate::specs::Walk::slot_of))]
 fn slot(context: usize, h: usize) -> usize
     ensures { result ≡ slot_of context h }
 {
@@ -105,6 +108,7 @@ fn slot(context: usize, h: usize) -> usize
 }
 
 // Whether a node whose shape is `t` stands here, with no other words than its parts' and those the shape tells.
+#[tactic(auto, unfolding(crate::specs::Walk::fits_at))]
 fn fits(ws: &[u16], at: usize, context: usize, t: usize) -> bool
     requires { (at < length ws.now) × (0 < t % 4) }
     ensures { result ≡ fits_at ws.now at context t }
@@ -144,6 +148,7 @@ fn ready(ws: &[u16], at: usize, depth: usize, context: usize, n: usize, t: usize
 }
 
 // The context of a node's part.
+#[tactic(auto, unfolding(crate::specs::Walk::part_of))]
 fn part(context: usize, how: usize) -> usize
     requires { context < 13 }
     ensures { result ≡ part_of context how }
@@ -214,6 +219,7 @@ pub fn read(ws: &[u16], at: usize, depth: usize, context: usize, bound: usize) -
 
 // A process or an expression.
 #[cycle(branch_choice_executor_list_marked_node_process_repeat_request_resting_scope_solicit_two_waiter_whole)]
+#[tactic(auto, unfolding(crate::specs::Walk::item_end))]
 fn whole(ws: &[u16], at: usize, depth: usize, context: usize, bound: usize) -> usize
     requires { context < 13 }
     ensures { result ≡ item_end ws.now bound depth context at }
@@ -227,6 +233,7 @@ fn whole(ws: &[u16], at: usize, depth: usize, context: usize, bound: usize) -> u
 
 // A process in a context, by its kind.
 #[cycle(branch_choice_executor_list_marked_node_process_repeat_request_resting_scope_solicit_two_waiter_whole)]
+#[tactic(auto, unfolding(crate::specs::Walk::on, crate::specs::Walk::when, crate::specs::Walk::process_end, crate::specs::Walk::two_end, crate::specs::Walk::branch_end, crate::specs::Walk::repeat_end, crate::specs::Walk::branches_end, crate::specs::Walk::choice_end, crate::specs::Walk::request_end, crate::specs::Walk::entries_end, crate::specs::Walk::list_end, crate::specs::Walk::solicit_end, crate::specs::Walk::marked_end, crate::specs::Walk::resting_end, crate::specs::Walk::scope_end, crate::specs::Walk::executor_end, crate::specs::Walk::waiter_end, crate::specs::Walk::node_end))]
 fn node(ws: &[u16], at: usize, depth: usize, context: usize, bound: usize) -> usize
     requires { context < contexts }
     ensures { result ≡ process_end depth ws.now bound context at }
@@ -237,18 +244,18 @@ fn node(ws: &[u16], at: usize, depth: usize, context: usize, bound: usize) -> us
     if ws.len() <= at {
         return 0;
     }
-    let h = wide(ws[at]);
-    let k = h / unit::KIND;
-    if (h + WORD) & head_mask(context, k) != 0 {
+    let head = ws[at];
+    let h = wide(head);
+    if (h + WORD) & head_mask(context, h / unit::KIND) != 0 {
         return 0;
     }
     let d = depth - 1;
     let c = rest_context(context);
-    match k {
-        kind::NIL => at + 1,
-        kind::ASSIGN => expression(ws, at + 1, d),
-        kind::SEQ => two(ws, at + 1, d, same_context(context) + NOT_NIL, c, bound),
-        kind::PAR => two(
+    match Kind::of(head) {
+        Kind::Nil => at + 1,
+        Kind::Assign => expression(ws, at + 1, d),
+        Kind::Seq => two(ws, at + 1, d, same_context(context) + NOT_NIL, c, bound),
+        Kind::Par => two(
             ws,
             at + 1,
             d,
@@ -256,27 +263,26 @@ fn node(ws: &[u16], at: usize, depth: usize, context: usize, bound: usize) -> us
             same_context(context) + NOT_NIL,
             bound,
         ),
-        kind::IF => branch(ws, at + 1, d, c, bound),
-        kind::WHILE => repeat(ws, at + 1, d, c, bound),
-        kind::CHOICE => choice(ws, at + 1, d, c, h % unit::KIND, bound),
-        kind::ONE_WAY => one_way(ws, at, h),
-        kind::REQUEST => request(ws, at, d, c, h, bound),
-        kind::NOTIFY => notify(ws, at),
-        kind::SOLICIT => solicit(ws, at, d, bound),
-        kind::SCOPE => scope(ws, at, d, context, h, bound),
-        kind::INST => list(ws, at + 1, d, HANDLERS, NO_KEY, bound),
-        kind::THROW => at + 1,
-        kind::COMP => at + 1,
-        kind::CH => at + 1,
-        kind::EXECUTOR => executor(ws, at, d, bound),
-        kind::WAITER => waiter(ws, at, d, h, bound),
-        kind::NOTICE => notice(ws, at, bound),
-        _ => 0,
+        Kind::If => branch(ws, at + 1, d, c, bound),
+        Kind::While => repeat(ws, at + 1, d, c, bound),
+        Kind::Choice => choice(ws, at + 1, d, c, h % unit::KIND, bound),
+        Kind::OneWay => one_way(ws, at, h),
+        Kind::Request => request(ws, at, d, c, h, bound),
+        Kind::Notify => notify(ws, at),
+        Kind::Solicit => solicit(ws, at, d, bound),
+        Kind::Scope => scope(ws, at, d, context, h, bound),
+        Kind::Inst => list(ws, at + 1, d, HANDLERS, NO_KEY, bound),
+        Kind::Throw | Kind::Comp | Kind::Ch => at + 1,
+        Kind::Executor => executor(ws, at, d, bound),
+        Kind::Waiter => waiter(ws, at, d, h, bound),
+        Kind::Notice => notice(ws, at, bound),
+        Kind::Unused => 0,
     }
 }
 
 // Two processes, one after the other.
 #[cycle(branch_choice_executor_list_marked_node_process_repeat_request_resting_scope_solicit_two_waiter_whole)]
+#[tactic(auto, unfolding(crate::specs::Walk::on, crate::specs::Walk::when, crate::specs::Walk::process_end, crate::specs::Walk::two_end, crate::specs::Walk::branch_end, crate::specs::Walk::repeat_end, crate::specs::Walk::branches_end, crate::specs::Walk::choice_end, crate::specs::Walk::request_end, crate::specs::Walk::entries_end, crate::specs::Walk::list_end, crate::specs::Walk::solicit_end, crate::specs::Walk::marked_end, crate::specs::Walk::resting_end, crate::specs::Walk::scope_end, crate::specs::Walk::executor_end, crate::specs::Walk::waiter_end, crate::specs::Walk::node_end))]
 fn two(ws: &[u16], at: usize, depth: usize, first: usize, second: usize, bound: usize) -> usize
     requires { (first < contexts) × (second < contexts) }
     ensures { result ≡ two_end (process_end depth ws.now bound) first second at }
@@ -290,6 +296,7 @@ fn two(ws: &[u16], at: usize, depth: usize, first: usize, second: usize, bound: 
 
 // What follows the head of an if, and of a while.
 #[cycle(branch_choice_executor_list_marked_node_process_repeat_request_resting_scope_solicit_two_waiter_whole)]
+#[tactic(auto, unfolding(crate::specs::Walk::on, crate::specs::Walk::when, crate::specs::Walk::process_end, crate::specs::Walk::two_end, crate::specs::Walk::branch_end, crate::specs::Walk::repeat_end, crate::specs::Walk::branches_end, crate::specs::Walk::choice_end, crate::specs::Walk::request_end, crate::specs::Walk::entries_end, crate::specs::Walk::list_end, crate::specs::Walk::solicit_end, crate::specs::Walk::marked_end, crate::specs::Walk::resting_end, crate::specs::Walk::scope_end, crate::specs::Walk::executor_end, crate::specs::Walk::waiter_end, crate::specs::Walk::node_end))]
 fn branch(ws: &[u16], at: usize, depth: usize, context: usize, bound: usize) -> usize
     requires { context < contexts }
     ensures { result ≡ branch_end (expr_end depth ws.now) (process_end depth ws.now bound) context at }
@@ -302,6 +309,7 @@ fn branch(ws: &[u16], at: usize, depth: usize, context: usize, bound: usize) -> 
 }
 
 #[cycle(branch_choice_executor_list_marked_node_process_repeat_request_resting_scope_solicit_two_waiter_whole)]
+#[tactic(auto, unfolding(crate::specs::Walk::on, crate::specs::Walk::when, crate::specs::Walk::process_end, crate::specs::Walk::two_end, crate::specs::Walk::branch_end, crate::specs::Walk::repeat_end, crate::specs::Walk::branches_end, crate::specs::Walk::choice_end, crate::specs::Walk::request_end, crate::specs::Walk::entries_end, crate::specs::Walk::list_end, crate::specs::Walk::solicit_end, crate::specs::Walk::marked_end, crate::specs::Walk::resting_end, crate::specs::Walk::scope_end, crate::specs::Walk::executor_end, crate::specs::Walk::waiter_end, crate::specs::Walk::node_end))]
 fn repeat(ws: &[u16], at: usize, depth: usize, context: usize, bound: usize) -> usize
     requires { context < contexts }
     ensures { result ≡ repeat_end (expr_end depth ws.now) (process_end depth ws.now bound) context at }
@@ -315,6 +323,7 @@ fn repeat(ws: &[u16], at: usize, depth: usize, context: usize, bound: usize) -> 
 
 // The branches of a choice, 1 to 8.
 #[cycle(branch_choice_executor_list_marked_node_process_repeat_request_resting_scope_solicit_two_waiter_whole)]
+#[tactic(auto, unfolding(crate::specs::Walk::on, crate::specs::Walk::when, crate::specs::Walk::process_end, crate::specs::Walk::two_end, crate::specs::Walk::branch_end, crate::specs::Walk::repeat_end, crate::specs::Walk::branches_end, crate::specs::Walk::choice_end, crate::specs::Walk::request_end, crate::specs::Walk::entries_end, crate::specs::Walk::list_end, crate::specs::Walk::solicit_end, crate::specs::Walk::marked_end, crate::specs::Walk::resting_end, crate::specs::Walk::scope_end, crate::specs::Walk::executor_end, crate::specs::Walk::waiter_end, crate::specs::Walk::node_end))]
 fn choice(ws: &[u16], at: usize, depth: usize, context: usize, count: usize, bound: usize) -> usize
     requires { context < running + receiver }
     ensures { result ≡ choice_end (process_end depth ws.now bound) context count at }
@@ -338,6 +347,7 @@ fn choice(ws: &[u16], at: usize, depth: usize, context: usize, count: usize, bou
 }
 
 // Whether a fixed word follows the head, with its bits below `spare` 0.
+#[tactic(auto, unfolding(crate::specs::Walk::fixed_after))]
 fn fixed(ws: &[u16], at: usize, spare: usize) -> bool
     requires { (at < length ws.now) × (0 < spare) }
     ensures { result ≡ fixed_after ws.now at spare }
@@ -349,6 +359,7 @@ fn fixed(ws: &[u16], at: usize, spare: usize) -> bool
 }
 
 // `left` further variables of a list, from `at` on.
+#[tactic(auto, unfolding(crate::specs::Walk::when))]
 fn further_variables(ws: &[u16], at: usize, left: usize) -> usize
     ensures { result ≡ further_end left ws.now at }
 {
@@ -368,6 +379,7 @@ fn further_variables(ws: &[u16], at: usize, left: usize) -> usize
 }
 
 // A list of 1 to 4 variables, whose count is at `at`.
+#[tactic(auto, unfolding(crate::specs::Walk::when, crate::specs::Walk::variables_end))]
 fn variables(ws: &[u16], at: usize) -> usize
     ensures { result ≡ variables_end ws.now at }
 {
@@ -425,6 +437,7 @@ fn distinct(ws: &[u16], at: usize, left: usize, first: usize) -> bool
 }
 
 // A list of variables that receive, the first of which stands elsewhere: none of them twice.
+#[tactic(auto, unfolding(crate::specs::Walk::on, crate::specs::Walk::when, crate::specs::Walk::variables_end, crate::specs::Walk::receiving_end))]
 fn receiving(ws: &[u16], at: usize, first: usize) -> usize
     ensures { result ≡ receiving_end ws.now first at }
 {
@@ -435,7 +448,7 @@ fn receiving(ws: &[u16], at: usize, first: usize) -> usize
     if e == 0 {
         return 0;
     }
-    let left = less_one(wide(ws[at]));
+    let left = wide(ws[at]).saturating_sub(1);
     if distinct(ws, at + 1, left, first) {
         e
     } else {
@@ -444,6 +457,7 @@ fn receiving(ws: &[u16], at: usize, first: usize) -> usize
 }
 
 // A one-way whose head is `h`.
+#[tactic(auto, unfolding(crate::specs::Walk::one_way_end))]
 fn one_way(ws: &[u16], at: usize, h: usize) -> usize
     requires { at < length ws.now }
     ensures { result ≡ one_way_end ws.now h at }
@@ -453,6 +467,7 @@ fn one_way(ws: &[u16], at: usize, h: usize) -> usize
 
 // A request whose head is `h`: x, y, and P.
 #[cycle(branch_choice_executor_list_marked_node_process_repeat_request_resting_scope_solicit_two_waiter_whole)]
+#[tactic(auto, unfolding(crate::specs::Walk::on, crate::specs::Walk::when, crate::specs::Walk::request_end, crate::specs::Walk::solicit_end, crate::specs::Walk::executor_end, crate::specs::Walk::waiter_end))]
 fn request(ws: &[u16], at: usize, depth: usize, context: usize, h: usize, bound: usize) -> usize
     requires { (at < length ws.now) × (context < contexts) }
     ensures { result ≡ request_end (process_end depth ws.now bound) ws.now context h at }
@@ -472,6 +487,7 @@ fn request(ws: &[u16], at: usize, depth: usize, context: usize, h: usize, bound:
     }
 }
 
+#[tactic(auto, unfolding(crate::specs::Walk::when, crate::specs::Walk::notify_end))]
 fn notify(ws: &[u16], at: usize) -> usize
     requires { at < length ws.now }
     ensures { result ≡ notify_end ws.now at }
@@ -485,6 +501,7 @@ fn notify(ws: &[u16], at: usize) -> usize
 
 // A solicit: y, x, and its list.
 #[cycle(branch_choice_executor_list_marked_node_process_repeat_request_resting_scope_solicit_two_waiter_whole)]
+#[tactic(auto, unfolding(crate::specs::Walk::on, crate::specs::Walk::when, crate::specs::Walk::request_end, crate::specs::Walk::solicit_end, crate::specs::Walk::executor_end, crate::specs::Walk::waiter_end))]
 fn solicit(ws: &[u16], at: usize, depth: usize, bound: usize) -> usize
     requires { at < length ws.now }
     ensures { result ≡ solicit_end (process_end depth ws.now bound) ws.now at }
@@ -506,6 +523,7 @@ fn solicit(ws: &[u16], at: usize, depth: usize, bound: usize) -> usize
 
 // A list whose entries stand in a context; the key wanted has to be there, unless it is `NO_KEY`.
 #[cycle(branch_choice_executor_list_marked_node_process_repeat_request_resting_scope_solicit_two_waiter_whole)]
+#[tactic(auto, unfolding(crate::specs::Walk::on, crate::specs::Walk::when, crate::specs::Walk::process_end, crate::specs::Walk::two_end, crate::specs::Walk::branch_end, crate::specs::Walk::repeat_end, crate::specs::Walk::branches_end, crate::specs::Walk::choice_end, crate::specs::Walk::request_end, crate::specs::Walk::entries_end, crate::specs::Walk::list_end, crate::specs::Walk::solicit_end, crate::specs::Walk::marked_end, crate::specs::Walk::resting_end, crate::specs::Walk::scope_end, crate::specs::Walk::executor_end, crate::specs::Walk::waiter_end, crate::specs::Walk::node_end))]
 pub(crate) fn list(
     ws: &[u16],
     at: usize,
@@ -541,6 +559,7 @@ pub(crate) fn list(
 }
 
 // The key at a position, at least `least`; `NO_KEY` if there is none.
+#[tactic(auto, unfolding(crate::specs::Walk::key_at))]
 fn key_at(ws: &[u16], at: usize, least: usize) -> usize
     ensures { (result ≡ key_at ws.now at least) × (result < 129) }
 {
@@ -567,6 +586,7 @@ pub fn met_by(met: bool, key: usize, wanted: usize) -> bool
 }
 
 // Under a scope's key in a scope's list nil may not stand.
+#[tactic(auto, unfolding(crate::specs::Walk::entry_context))]
 fn entry_context(context: usize, key: usize) -> usize
     requires { context < contexts }
     ensures { (result ≡ entry_context context key) × (result < contexts) }
@@ -579,6 +599,7 @@ fn entry_context(context: usize, key: usize) -> usize
 
 // A scope whose head is `h`.
 #[cycle(branch_choice_executor_list_marked_node_process_repeat_request_resting_scope_solicit_two_waiter_whole)]
+#[tactic(auto, unfolding(crate::specs::Walk::on, crate::specs::Walk::when, crate::specs::Walk::process_end, crate::specs::Walk::two_end, crate::specs::Walk::branch_end, crate::specs::Walk::repeat_end, crate::specs::Walk::branches_end, crate::specs::Walk::choice_end, crate::specs::Walk::request_end, crate::specs::Walk::entries_end, crate::specs::Walk::list_end, crate::specs::Walk::solicit_end, crate::specs::Walk::marked_end, crate::specs::Walk::resting_end, crate::specs::Walk::scope_end, crate::specs::Walk::executor_end, crate::specs::Walk::waiter_end, crate::specs::Walk::node_end))]
 fn scope(ws: &[u16], at: usize, depth: usize, context: usize, h: usize, bound: usize) -> usize
     requires { (at < length ws.now) × (context < contexts) }
     ensures { result ≡ scope_end (process_end depth ws.now bound) ws.now context h at }
@@ -599,6 +620,7 @@ fn scope(ws: &[u16], at: usize, depth: usize, context: usize, h: usize, bound: u
 
 // A scope that is code: no marked fault and an empty list.
 #[cycle(branch_choice_executor_list_marked_node_process_repeat_request_resting_scope_solicit_two_waiter_whole)]
+#[tactic(auto, unfolding(crate::specs::Walk::on, crate::specs::Walk::when, crate::specs::Walk::process_end, crate::specs::Walk::two_end, crate::specs::Walk::branch_end, crate::specs::Walk::repeat_end, crate::specs::Walk::branches_end, crate::specs::Walk::choice_end, crate::specs::Walk::request_end, crate::specs::Walk::entries_end, crate::specs::Walk::list_end, crate::specs::Walk::solicit_end, crate::specs::Walk::marked_end, crate::specs::Walk::resting_end, crate::specs::Walk::scope_end, crate::specs::Walk::executor_end, crate::specs::Walk::waiter_end, crate::specs::Walk::node_end))]
 fn resting(ws: &[u16], at: usize, depth: usize, context: usize, fault: usize, bound: usize) -> usize
     requires { (at + 2 < length ws.now) × (context < contexts) }
     ensures { result ≡ resting_end (process_end depth ws.now bound) ws.now context fault at }
@@ -614,25 +636,26 @@ fn resting(ws: &[u16], at: usize, depth: usize, context: usize, fault: usize, bo
 
 // The list of a scope that runs, by its mark.
 #[cycle(branch_choice_executor_list_marked_node_process_repeat_request_resting_scope_solicit_two_waiter_whole)]
+#[tactic(auto, unfolding(crate::specs::Walk::on, crate::specs::Walk::when, crate::specs::Walk::process_end, crate::specs::Walk::two_end, crate::specs::Walk::branch_end, crate::specs::Walk::repeat_end, crate::specs::Walk::branches_end, crate::specs::Walk::choice_end, crate::specs::Walk::request_end, crate::specs::Walk::entries_end, crate::specs::Walk::list_end, crate::specs::Walk::solicit_end, crate::specs::Walk::marked_end, crate::specs::Walk::resting_end, crate::specs::Walk::scope_end, crate::specs::Walk::executor_end, crate::specs::Walk::waiter_end, crate::specs::Walk::node_end))]
 pub fn marked(ws: &[u16], at: usize, depth: usize, h: usize, fault: usize, bound: usize) -> usize
     ensures { result ≡ marked_end (process_end depth ws.now bound) ws.now h fault at }
 {
-    match h / unit::MARK % unit::MARKS {
-        mark::UNMARKED => {
+    match Mark::numbered(h / unit::MARK % unit::MARKS) {
+        Mark::Unmarked => {
             if fault == 0 {
                 list(ws, at, depth, CODE, NO_KEY, bound)
             } else {
                 0
             }
         }
-        mark::FAULTED => {
+        Mark::Faulted => {
             if fault % unit::FIRST_NAME == 0 {
                 list(ws, at, depth, CODE, fault / unit::FIRST_NAME, bound)
             } else {
                 0
             }
         }
-        mark::OWN_NAME => {
+        Mark::OwnName => {
             if fault != 0 {
                 return 0;
             }
@@ -642,11 +665,12 @@ pub fn marked(ws: &[u16], at: usize, depth: usize, h: usize, fault: usize, bound
                 0
             }
         }
-        _ => 0,
+        Mark::Unused => 0,
     }
 }
 
 // The fixed words of an end: the first clear below `spare` and from there up an engine below n, then a serial of 1 to issued.
+#[tactic(auto, unfolding(crate::specs::Walk::end_after))]
 fn end(ws: &[u16], at: usize, spare: usize, bound: usize) -> bool
     requires { (at < length ws.now) × (0 < spare) }
     ensures { result ≡ end_after ws.now at spare bound }
@@ -672,6 +696,7 @@ fn end(ws: &[u16], at: usize, spare: usize, bound: usize) -> bool
 }
 
 // The own words of the executor at `at`, wherever that is: where its body begins.
+#[tactic(auto, unfolding(crate::specs::Walk::when, crate::specs::Walk::executor_own))]
 pub fn executor_own(ws: &[u16], at: usize, bound: usize) -> usize
     ensures { result ≡ executor_own ws.now bound at }
 {
@@ -686,6 +711,7 @@ pub fn executor_own(ws: &[u16], at: usize, bound: usize) -> usize
 }
 
 #[cycle(branch_choice_executor_list_marked_node_process_repeat_request_resting_scope_solicit_two_waiter_whole)]
+#[tactic(auto, unfolding(crate::specs::Walk::on, crate::specs::Walk::when, crate::specs::Walk::request_end, crate::specs::Walk::solicit_end, crate::specs::Walk::executor_end, crate::specs::Walk::waiter_end))]
 fn executor(ws: &[u16], at: usize, depth: usize, bound: usize) -> usize
     ensures { result ≡ executor_end (process_end depth ws.now bound) ws.now bound at }
 {
@@ -698,6 +724,7 @@ fn executor(ws: &[u16], at: usize, depth: usize, bound: usize) -> usize
 
 // A waiter whose head is `h`.
 #[cycle(branch_choice_executor_list_marked_node_process_repeat_request_resting_scope_solicit_two_waiter_whole)]
+#[tactic(auto, unfolding(crate::specs::Walk::on, crate::specs::Walk::when, crate::specs::Walk::request_end, crate::specs::Walk::solicit_end, crate::specs::Walk::executor_end, crate::specs::Walk::waiter_end))]
 fn waiter(ws: &[u16], at: usize, depth: usize, h: usize, bound: usize) -> usize
     requires { at < length ws.now }
     ensures { result ≡ waiter_end (process_end depth ws.now bound) ws.now h bound at }
@@ -713,6 +740,7 @@ fn waiter(ws: &[u16], at: usize, depth: usize, h: usize, bound: usize) -> usize
     }
 }
 
+#[tactic(auto, unfolding(crate::specs::Walk::notice_end, crate::specs::Walk::when))]
 fn notice(ws: &[u16], at: usize, bound: usize) -> usize
     requires { at < length ws.now }
     ensures { result ≡ notice_end ws.now bound at }

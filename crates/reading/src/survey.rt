@@ -16,6 +16,7 @@ pub struct Starts {
     pub starts: [usize; 9],
 }
 
+#[tactic(auto, unfolding(crate::specs::Survey::no_starts))]
 pub fn unreadable() -> Starts
     ensures { result ≡ no_starts }
 {
@@ -26,6 +27,7 @@ pub fn unreadable() -> Starts
 }
 
 // Whether the words begin and end as a configuration may: n from 1 on and at most 8, and no more words than the limits have.
+#[tactic(auto, unfolding(crate::specs::Survey::opens))]
 pub fn opened(ws: &[u16], limits: Limits) -> bool
     ensures { result ≡ opens (figures limits) ws.now }
 {

@@ -3,12 +3,12 @@ ghost use Rattle.std.specs.Prelude.{◌≡◌, ◌<◌};
 ghost use Rattle.reading.specs.Tables.{places_of, bit_of, head_mask, shape_of};
 
 use layout::context::RUNNING;
-use layout::kind;
 
 // By kind, first where it is code and then where it runs: in the lowest 11 bits those of a head that it does not use, then the contexts where
 // it may stand, one bit each; 0 where it may not stand at all.
 const PLACES: usize = 2048;
 
+#[tactic(auto, unfolding(crate::specs::Tables::places_of, crate::specs::Tables::bit_of, crate::specs::Tables::spare_of, sock::specs::Reading::allowed, sock::specs::Reading::placed, sock::specs::Kind::row_of, sock::specs::Kind::rows))]
 fn places(slot: usize) -> usize
     ensures { result ≡ places_of slot }
 {
@@ -56,6 +56,7 @@ fn places(slot: usize) -> usize
 }
 
 // The bit of a context; 12 stands for an expression.
+#[tactic(auto, unfolding(crate::specs::Tables::bit_of))]
 pub fn bit(context: usize) -> usize
     ensures { result ≡ bit_of context }
 {
@@ -131,39 +132,41 @@ pub const STANDS: usize = 1125899906842624;
 // Behind the shapes of kinds stand those of expressions, by the first three bits.
 pub const EXPRESSIONS: usize = 19;
 
-// What a node with fixed parts is made of, by kind, then by the first three bits of an expression; packed from the fixed table
+// What a node with fixed parts is made of, by the number of its kind, then by the first three bits of an expression: rows of one table, so they are
+// told by number; packed from the fixed table
 // (`specs/Tables`). A node that is not read so, since its parts or variables are counted or its list is tested, has no bit among its contexts.
+#[tactic(auto, unfolding(crate::specs::Tables::shape_of, crate::specs::Tables::bit_of, crate::specs::Tables::spare_of, sock::specs::Reading::allowed, sock::specs::Reading::placed, sock::specs::Kind::row_of, sock::specs::Kind::rows, sock::specs::Counts::word_count, sock::specs::Counts::list_count))]
 pub fn shape(slot: usize) -> usize
     ensures { result ≡ shape_of slot }
 {
     match slot {
-        kind::NIL => 2766336073258762241,
-        kind::ASSIGN => 922112023770172421,
-        kind::SEQ => 922112025850560969,
-        kind::PAR => 922112025850659273,
-        kind::IF => 922112025850563597,
-        kind::WHILE => 922112025850563593,
-        kind::CHOICE => 1,
-        kind::ONE_WAY => 1,
-        kind::REQUEST => 1,
-        kind::NOTIFY => 1,
-        kind::SOLICIT => 1,
-        kind::SCOPE => 211669173928984647,
-        kind::INST => 922674967214030850,
-        kind::THROW => 922112023736614913,
-        kind::COMP => 922112023736614913,
-        kind::CH => 54043197674881025,
-        kind::EXECUTOR => 1,
-        kind::WAITER => 1,
-        kind::NOTICE => 1,
-        19 => 4611686027016273923,
-        20 => 4611686018694774785,
-        21 => 4611686027017063433,
-        22 => 4611686027017063433,
-        23 => 4611686027017063433,
-        24 => 4611686027017063433,
-        25 => 4611686027017063433,
-        26 => 4611686027017063433,
+        0 => 2766336073258762241, // nil
+        1 => 922112023770172421, // assign
+        2 => 922112025850560969, // seq
+        3 => 922112025850659273, // par
+        4 => 922112025850563597, // if
+        5 => 922112025850563593, // while
+        6 => 1, // choice
+        7 => 1, // one-way
+        8 => 1, // request
+        9 => 1, // notify
+        10 => 1, // solicit
+        11 => 211669173928984647, // scope
+        12 => 922674967214030850, // inst
+        13 => 922112023736614913, // throw
+        14 => 922112023736614913, // comp
+        15 => 54043197674881025, // cH
+        16 => 1, // executor
+        17 => 1, // waiter
+        18 => 1, // notice
+        19 => 4611686027016273923, // a constant
+        20 => 4611686018694774785, // a variable
+        21 => 4611686027017063433, // sum
+        22 => 4611686027017063433, // difference
+        23 => 4611686027017063433, // less
+        24 => 4611686027017063433, // equal
+        25 => 4611686027017063433, // decimal sum
+        26 => 4611686027017063433, // decimal difference
         _ => 1,
     }
 }

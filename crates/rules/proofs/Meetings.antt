@@ -23,6 +23,8 @@ use Rattle.layout.specs.Own.{variables_end}
 use Rattle.layout.specs.Positions.{onward}
 use Rattle.writers.proofs.Laid.{Near, onward_near}
 use Rattle.evaluating.specs.Evaluating.{value_in}
+use Rattle.layout.specs.Kinds.{counted_as}
+use Rattle.layout.proofs.Named.{counted_is}
 use Rattle.rules.specs.declared.store.Store.{Store}
 use Rattle.rules.specs.declared.rewriting.Rewriting.{Rewriting}
 use Rattle.rules.specs.declared.pair.Offer.{Offer}
@@ -43,17 +45,17 @@ pub data Meets (b : Bool) (r : Run) (t : Rewriting) (fresh : List ℕ) (store : 
   meets : {q : Run} → b ≡ true → Takes r q t fresh store → Meets b r t fresh store made (some (made q))
   misses : b ≡ false → Meets b r t fresh store made none
 
-fits_at : (ws : List ℕ) (o : Offer) (k g h : ℕ) → o.some ≡ true → at ws o.guard ≡ g → kind_of g ≡ k →
+fits_at : (ws : List ℕ) (o : Offer) (k g h : ℕ) → k < 19 → o.some ≡ true → at ws o.guard ≡ g → kind_of g ≡ k →
     fits_w ws o k h ≡ eqb (name_of h) (name_of g)
 unfolding fits_w receives_w
-fits_at ws o k g h s a e = rw (s, a, eq-eqb (kind_of g) k e) (by (eqb (name_of g) (name_of h)) ∙ turned_round (name_of g) (name_of h))
+fits_at ws o k g h low s a e = rw (s, a, eq-eqb (counted_as (kind_of g)) k (counted_is e low)) (by (eqb (name_of g) (name_of h)) ∙ turned_round (name_of g) (name_of h))
   where
     by : (b : Bool) → cond b true false ≡ b
     by true = refl
     by false = refl
 
-fits_other : (ws : List ℕ) (r : Run) (o : Offer) (k j g h : ℕ) → at ws o.guard ≡ g → kind_of g ≡ j → (j ≡ k → ⊥) → fits_w ws o k h ≡ false
-fits_other ws r o k j g h a e never = not_kind ws r o k h λ z. never (sym e ∙ (sym (ap kind_of a) ∙ z))
+fits_other : (ws : List ℕ) (r : Run) (o : Offer) (k j g h : ℕ) → k < 19 → at ws o.guard ≡ g → kind_of g ≡ j → (j ≡ k → ⊥) → fits_w ws o k h ≡ false
+fits_other ws r o k j g h low a e never = not_kind ws r o k h low λ z. never (sym e ∙ (sym (ap kind_of a) ∙ z))
 
 values_count : (vs x : List ℕ) → length (values_at vs x) ≡ length x
 unfolding values_at
@@ -151,7 +153,7 @@ module _ (part : List ℕ) (near-part : Near (length part)) (values va : List �
           (notified issued vs (name_of h) v c next)
       unfolding notified guarded hears_w heard_w
       hears_when (silent a b) = misses (rw (a h))
-      hears_when (serving {g} k s a x y p st) = misses (rw (fits_other ws r o 7 8 g h a k λ z. omega arith))
+      hears_when (serving {g} k s a x y p st) = misses (rw (fits_other ws r o 7 8 g h (omega arith) a k λ z. omega arith))
       hears_when (hearing {g} {x} {next} k s a hx st) = by (eqb (name_of h) (name_of g)) refl (eqb (length v) (length x)) refl
         where
           list : Listed ws (onward o.guard 1) x
@@ -160,7 +162,7 @@ module _ (part : List ℕ) (near-part : Near (length part)) (values va : List �
           test : cond (fits_w ws o 7 h) (hears_w part ws o.guard) false ≡ (eqb (name_of h) (name_of g) && eqb (length v) (length x))
           test =
               both (fits_w ws o 7 h) (hears_w part ws o.guard)
-              ∙ ap₂ (λ a b. a && b) (fits_at ws o 7 g h s a k) (alike_counts sent list ∙ ap (λ n. eqb n (length x)) (sym (values_count va y)))
+              ∙ ap₂ (λ a b. a && b) (fits_at ws o 7 g h (omega arith) s a k) (alike_counts sent list ∙ ap (λ n. eqb n (length x)) (sym (values_count va y)))
 
           by :
               (b : Bool) → eqb (name_of h) (name_of g) ≡ b → (c : Bool) → eqb (length v) (length x) ≡ c →
@@ -204,7 +206,7 @@ module _ (part : List ℕ) (near-part : Near (length part)) (values va : List �
           (solicited issued client server vs (name_of h) v x l c next)
       unfolding solicited guarded serves_w served_w
       serves_when (silent a b) = misses (rw (b h))
-      serves_when (hearing {g} k s a x st) = misses (rw (fits_other ws r o 8 7 g h a k λ z. omega arith))
+      serves_when (hearing {g} k s a x st) = misses (rw (fits_other ws r o 8 7 g h (omega arith) a k λ z. omega arith))
       serves_when (serving {g} {w} {x = x'} {y = y'} {p} {next} k s a front back f st) =
           by (eqb (name_of h) (name_of g)) refl (eqb (length v) (length x')) refl (eqb (length y') (length x)) refl
         where
@@ -214,7 +216,7 @@ module _ (part : List ℕ) (near-part : Near (length part)) (values va : List �
           test :
               cond (fits_w ws o 8 h) (serves_w part ws o.guard) false ≡ (eqb (name_of h) (name_of g) && eqb (length v) (length x') && eqb (length y') (length x))
           test =
-              ap₂ (λ a b. cond a b false) (fits_at ws o 8 g h s a k)
+              ap₂ (λ a b. cond a b false) (fits_at ws o 8 g h (omega arith) s a k)
               (ap₂ (λ a b. cond a b false) (alike_counts sent list ∙ ap (λ n. eqb n (length x')) (sym (values_count va y)))
               (alike_counts wanted (back_list ws rest r stands close o front back st) ∙ turned_round (length x) (length y')))
               ∙ all_three (eqb (name_of h) (name_of g)) (eqb (length v) (length x')) (eqb (length y') (length x))

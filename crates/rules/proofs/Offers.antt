@@ -23,6 +23,8 @@ use Rattle.sock.proofs.Variables.{laid, variables_read, behind_read}
 use Rattle.sock.proofs.ByKind.{run_kind, kind_as_node}
 use Rattle.sock.proofs.Measures.{words_act, depth_act}
 use Rattle.skipping.proofs.Skips.{code_end}
+use Rattle.layout.specs.Kinds.{counted_as}
+use Rattle.layout.proofs.Named.{counted_not}
 use Rattle.rules.specs.declared.pair.Offer.{Offer}
 use Rattle.rules.specs.Rewriting.{at, part_end}
 use Rattle.rules.specs.Offering.{offering, no_offer, bare_w, branch_at, chosen_w, choice_w, offer_w, receives_w, fits_w}
@@ -120,9 +122,9 @@ pub data Offers (ws : List ℕ) (r : Run) (o : Offer) : Receiver → Option Node
       Offers ws r o (serves (name_of g) x y p) next
 
 module _ (ws : List ℕ) (r : Run) (o : Offer) where
-  pub not_kind : (k h : ℕ) → (kind_of (at ws o.guard) ≡ k → ⊥) → fits_w ws o k h ≡ false
+  pub not_kind : (k h : ℕ) → k < 19 → (kind_of (at ws o.guard) ≡ k → ⊥) → fits_w ws o k h ≡ false
   unfolding fits_w receives_w
-  not_kind k h never = rw (ne_eqb (kind_of (at ws o.guard)) k never) (by o.some)
+  not_kind k h low never = rw (ne_eqb (counted_as (kind_of (at ws o.guard))) k (counted_not never low)) (by o.some)
     where
       by : (b : Bool) → cond b false false ≡ false
       by true = refl
@@ -130,7 +132,7 @@ module _ (ws : List ℕ) (r : Run) (o : Offer) where
 
   offers_as : {m : Node} {v : Receiver} {next : Option Node} → o.some ≡ true → at ws o.guard ≡ head_word m → Stands r o m next →
       Heard m v → Offers ws r o v next
-  offers_as s h p (nothing_heard a b) = silent (λ k. not_kind 7 k (rw h a)) (λ k. not_kind 8 k (rw h b))
+  offers_as s h p (nothing_heard a b) = silent (λ k. not_kind 7 k (omega arith) (rw h a)) (λ k. not_kind 8 k (omega arith) (rw h b))
   offers_as s h p (one_way k x) = hearing k s h x p
   offers_as s h p (request k x y f) = serving k s h x y f p
 
@@ -233,7 +235,7 @@ module _ (n issued : ℕ) (ws : List ℕ) (few : n ≤ 8) (small : issued < 6553
           by : (z : Bool) → Offers ws r (cond z (offering 0 0 (part_end ws 0) (part_end ws 0)) no_offer) deaf next
           by true =
               let o = offering 0 0 (part_end ws 0) (part_end ws 0) in
-              silent (λ h. not_kind ws r o 7 h (rw head_at b)) (λ h. not_kind ws r o 8 h (rw head_at c))
+              silent (λ h. not_kind ws r o 7 h (omega arith) (rw head_at b)) (λ h. not_kind ws r o 8 h (omega arith) (rw head_at c))
           by false = nothing_offered ws r no_offer refl
 
     -- a process that is no choice

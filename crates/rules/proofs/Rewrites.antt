@@ -22,8 +22,8 @@ use Rattle.sock.proofs.Running.{enable_as_node, enable_done}
 use Rattle.sock.proofs.Measures.{words_act, words_seq, depth_nil, depth_seq, depth_act}
 use Rattle.reading.proofs.Combining.{Words}
 use Rattle.skipping.proofs.Skips.{code_end}
-use Rattle.evaluating.specs.declared.evaluate.Evaluated.{Evaluated}
-use Rattle.evaluating.specs.Valuing.{good_value, value_as}
+use Rattle.evaluating.specs.declared.evaluate.Valued.{Valued}
+use Rattle.evaluating.specs.Valuing.{value_as}
 use Rattle.evaluating.specs.Evaluating.{ended, evaluated}
 use Rattle.evaluating.proofs.Evaluates.{evaluates}
 use Rattle.writers.proofs.Laid.{Near, Laid, laid_put, laid_then, laid_copy, copy_end}
@@ -124,8 +124,8 @@ module _ (ws rest : List ℕ) (r : Run) (p : Node) (f : Fits (code false) anywhe
 -- ---- assign, if, while, at the words of the process
 
 -- the expression behind the head h, evaluated
-abbrev pub valued_at : ℕ → Expr → ℕ → Evaluated
-valued_at h e v = ended (length (h ∷ expr_words e)) (good_value v)
+abbrev pub valued_at : ℕ → Expr → ℕ → Valued
+valued_at h e v = record { end = length (h ∷ expr_words e); value = v }
 
 module _ (n issued : ℕ) (ws : List ℕ) (ok : Words ws) (few : n ≤ 8) (small : issued < 65536) (vs : List ℕ) (below : AllBelow 4294967296 vs) (rest : List ℕ) where
   abbrev bound : ℕ

@@ -27,6 +27,8 @@ use Rattle.sock.proofs.Variables.{laid}
 use Rattle.layout.specs.Own.{variables_end, lists_end}
 use Rattle.skipping.proofs.Skips.{code_end, run_end}
 use Rattle.writers.proofs.Laid.{Near, laid_put}
+use Rattle.layout.specs.Kinds.{counted_as}
+use Rattle.layout.proofs.Named.{counted_not}
 use Rattle.rules.specs.declared.store.Store.{Store}
 use Rattle.rules.specs.Storing.{unchanged}
 use Rattle.rules.specs.Rewriting.{rewritten, vanishing, keeping, at, part_end}
@@ -247,7 +249,7 @@ module _ (ws rest : List ℕ) (h serial client sender receiver : ℕ) where
   -- no waiter
   not_waiting : (r : Run) → ws ≡ run_words r ++ rest → (kind_of (at ws 0) ≡ 17 → ⊥) → awaits_w ws h serial client sender receiver ≡ false
   unfolding awaits_w waits_w receives_w
-  not_waiting r stands never = rw (ne_eqb (kind_of (at ws 0)) 17 never) (by (eqb client receiver) (eqb (waiters_server (at ws 1)) sender))
+  not_waiting r stands never = rw (ne_eqb (counted_as (kind_of (at ws 0))) 17 (counted_not never (omega arith))) (by (eqb client receiver) (eqb (waiters_server (at ws 1)) sender))
     where
       by : (a b : Bool) → cond a (cond b false false) false ≡ false
       by true true = refl

@@ -2,6 +2,7 @@
 use Rattle.std.specs.Prelude.{ℕ, zero, suc, ◌-◌, Bool, true, false, cond, List, ltb, eqb, set}
 use Rattle.sock.specs.Kind
 use Rattle.sock.specs.Words.{kind_of, count_of, name_of, dead_of, waiters_server}
+use Rattle.layout.specs.Kinds.{counted_as}
 use Rattle.layout.specs.Heads.{executor_head, client_word, waiter_head, server_word, throw_head}
 use Rattle.layout.specs.Own.{variables_end, lists_end}
 use Rattle.layout.specs.Positions.{onward}
@@ -36,7 +37,7 @@ unfoldable pub offer_w : List ℕ → ℕ → Offer
 offer_w ws i = cond (eqb (kind_of (at ws 0)) Kind.choice) (choice_w ws (count_of (at ws 0)) i) (bare_w ws i)
 
 unfoldable pub receives_w : ℕ → ℕ → ℕ → Bool
-receives_w g kind h = cond (eqb (kind_of g) kind) (cond (eqb (name_of g) (name_of h)) true false) false
+receives_w g kind h = cond (eqb (counted_as (kind_of g)) kind) (cond (eqb (name_of g) (name_of h)) true false) false
 
 unfoldable pub fits_w : List ℕ → Offer → ℕ → ℕ → Bool
 fits_w ws o kind h =

@@ -5,7 +5,7 @@ use Rattle.layout.specs.declared.limit.Limits.{Limits}
 use Rattle.reading.specs.Walk.{process_end}
 use Rattle.skipping.specs.Skip.{skip_end}
 use Rattle.writers.specs.Writing.{pasted, pasted_end}
-use Rattle.evaluating.specs.declared.evaluate.Evaluated.{Evaluated}
+use Rattle.evaluating.specs.declared.evaluate.Valued.{Valued}
 use Rattle.rules.specs.Storing.{takes, unchanged}
 use Rattle.rules.specs.declared.store.Store.{Store}
 use Rattle.rules.specs.declared.rewriting.Rewriting.{Rewriting}
@@ -33,14 +33,14 @@ at ws i = get_or ws i 0
 unfoldable pub part_w : List ℕ → ℕ → ℕ → ℕ → Store → Rewriting
 part_w ws from upto end s = cond (eqb (at ws from) 0) (vanishing s) (keeping 0 from upto end s)
 
-unfoldable pub assign_w : List ℕ → Evaluated → Rewriting
+unfoldable pub assign_w : List ℕ → Valued → Rewriting
 assign_w ws e = vanishing (takes (variable_of (at ws 0)) e.value)
 
 -- where the process at a position ends
 abbrev pub part_end : List ℕ → ℕ → ℕ
 part_end ws i = skip_end 64 ws i
 
-unfoldable pub branch_w : List ℕ → Evaluated → Rewriting
+unfoldable pub branch_w : List ℕ → Valued → Rewriting
 branch_w ws e =
     let q = part_end ws e.end in
     let end = part_end ws q in
@@ -49,7 +49,7 @@ branch_w ws e =
 unfoldable pub unroll_w : List ℕ → ℕ → ℕ → List ℕ → Rewritten
 unroll_w ws from end fresh = rewritten (keeping (pasted_end ws from end 1) 0 end end unchanged) (pasted ws from end (set fresh 0 4096) 1)
 
-unfoldable pub repeat_w : Limits → ℕ → ℕ → List ℕ → Evaluated → List ℕ → Rewritten
+unfoldable pub repeat_w : Limits → ℕ → ℕ → List ℕ → Valued → List ℕ → Rewritten
 repeat_w limits level bound ws e fresh =
     let end = part_end ws e.end in
     cond (eqb e.value 0) (rewritten (vanishing unchanged) fresh)

@@ -1,27 +1,29 @@
-// Assign, if and while. A rule is handed the words from the process's position on, and its expression evaluated, which has a value.
+// Assign, if and while. A rule is handed the words from the process's position on, and its expression with the value that it has.
 ghost use Rattle.std.specs.Prelude.{◌≡◌};
 ghost use Rattle.rules.specs.Rewriting.{assign_w, branch_w, unroll_w, repeat_w};
 
 use crate::rewriting::{Rewriting, keep, refusal, to_nil, to_part};
 use crate::store::{nothing, one};
-use evaluating::evaluate::Evaluated;
+use evaluating::evaluate::Valued;
 use layout::field::variable_of;
 use layout::head;
 use layout::limit::{FUEL, Limits};
-use layout::number::{less, word};
+use layout::number::word;
 use reading::reader::read;
 use skipping::skip::skip;
 use writers::write::{copy, put};
 
 // x takes the expression's value.
-pub fn assign(part: &[u16], e: Evaluated) -> Rewriting
+#[tactic(auto, unfolding(crate::specs::Rewriting::assign_w))]
+pub fn assign(part: &[u16], e: Valued) -> Rewriting
     ensures { result ≡ assign_w part.now e }
 {
     to_nil(one(variable_of(word(part, 0)), e.value))
 }
 
 // An if becomes its first process, or its second.
-pub fn branch(part: &[u16], e: Evaluated) -> Rewriting
+#[tactic(auto, unfolding(crate::specs::Rewriting::branch_w))]
+pub fn branch(part: &[u16], e: Valued) -> Rewriting
     ensures { result ≡ branch_w part.now e }
 {
     let q = skip(part, e.end, FUEL);
@@ -33,6 +35,7 @@ pub fn branch(part: &[u16], e: Evaluated) -> Rewriting
 }
 
 // The body, from..end, then the while itself.
+#[tactic(auto, unfolding(crate::specs::Rewriting::unroll_w))]
 fn unroll(part: &[u16], from: usize, end: usize, fresh: &mut [u16]) -> Rewriting
     ensures rewritten { result ≡ (unroll_w part.now from end fresh.old).rewriting }
     ensures fresh { fresh.new ≡ (unroll_w part.now from end fresh.old).fresh }
@@ -43,9 +46,10 @@ fn unroll(part: &[u16], from: usize, end: usize, fresh: &mut [u16]) -> Rewriting
 }
 
 // A true while becomes its body, then itself, which is then one level deeper; a nil body is dropped, so nothing changes.
+#[tactic(auto, unfolding(crate::specs::Rewriting::repeat_w))]
 pub fn repeat(
     part: &[u16],
-    e: Evaluated,
+    e: Valued,
     level: usize,
     bound: usize,
     limits: Limits,
@@ -62,7 +66,7 @@ pub fn repeat(
     if word(part, body) == 0 {
         return keep(0, 0, end, end, nothing());
     }
-    if read(part, 0, less(limits.deepest, level), 0, bound) == 0 {
+    if read(part, 0, limits.deepest.saturating_sub(level), 0, bound) == 0 {
         return refusal(8);
     }
     unroll(part, body, end, fresh)

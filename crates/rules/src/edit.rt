@@ -42,6 +42,7 @@ pub fn refuse(number: u8) -> Edit
 }
 
 // A nil behind the first `f` fresh words, if one is to stand there.
+#[tactic(auto, unfolding(crate::specs::Editing::hollow_w))]
 fn hollow(hollow: bool, f: usize, fresh: &mut [u16]) -> usize
     ensures place { result ≡ (hollow_w hollow f fresh.old).to }
     ensures fresh { fresh.new ≡ (hollow_w hollow f fresh.old).fresh }
@@ -53,6 +54,7 @@ fn hollow(hollow: bool, f: usize, fresh: &mut [u16]) -> usize
 }
 
 // The process becomes nil, and the list l..m the first `f` fresh words.
+#[tactic(auto, unfolding(crate::specs::Editing::nil_w))]
 pub fn become_nil(s: Site, l: usize, m: usize, f: usize, store: Store, fresh: &mut [u16]) -> Edit
     ensures edited { result ≡ (nil_w s l m f store fresh.old).edit }
     ensures fresh { fresh.new ≡ (nil_w s l m f store fresh.old).fresh }
@@ -73,6 +75,7 @@ pub fn become_nil(s: Site, l: usize, m: usize, f: usize, store: Store, fresh: &m
 }
 
 // The process turns into what `t` says; no list changes. The engine's process begins at `start`.
+#[tactic(auto, unfolding(crate::specs::Editing::plain_w))]
 pub fn plain(s: Site, start: usize, t: Rewriting, fresh: &mut [u16]) -> Edit
     ensures edited { result ≡ (plain_w s start t fresh.old).edit }
     ensures fresh { fresh.new ≡ (plain_w s start t fresh.old).fresh }

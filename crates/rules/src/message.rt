@@ -11,6 +11,7 @@ use layout::number::{further, wide, word};
 use layout::own::variables_end;
 
 // Variable i, from 0 on, of the process at `at` whose list has its count at `count`.
+#[tactic(auto, unfolding(crate::specs::Messages::listed_w))]
 fn listed(ws: &[u16], at: usize, count: usize, i: usize) -> usize
     ensures { result ≡ listed_w ws.now at count i }
 {
@@ -24,6 +25,7 @@ fn listed(ws: &[u16], at: usize, count: usize, i: usize) -> usize
 }
 
 // Variable i of the receiver takes the value of variable i of the sender.
+#[tactic(auto, unfolding(crate::specs::Messages::taking_w))]
 fn taking(
     part: &[u16],
     sent: usize,
@@ -44,6 +46,7 @@ fn taking(
 }
 
 // What the receiver at `at` of the words `other` takes; `sent` and `heard` are the positions of the two counts.
+#[tactic(auto, unfolding(crate::specs::Messages::carried_w))]
 fn carried(
     part: &[u16],
     sent: usize,
@@ -68,6 +71,7 @@ fn carried(
 }
 
 // Whether two lists have as many variables, by the positions of their counts.
+#[tactic(auto, unfolding(crate::specs::Messages::alike_w))]
 fn alike(part: &[u16], sent: usize, other: &[u16], heard: usize) -> bool
     ensures { result ≡ alike_w part.now sent other.now heard }
 {
@@ -75,12 +79,14 @@ fn alike(part: &[u16], sent: usize, other: &[u16], heard: usize) -> bool
 }
 
 // A notify in the one-way at `guard`.
+#[tactic(auto, unfolding(crate::specs::Messages::hears_w))]
 pub fn hears(part: &[u16], other: &[u16], guard: usize) -> bool
     ensures { result ≡ hears_w part.now other.now guard }
 {
     alike(part, 2, other, further(guard, 1))
 }
 
+#[tactic(auto, unfolding(crate::specs::Messages::heard_w))]
 pub fn heard(part: &[u16], values: &[u16], other: &[u16], guard: usize) -> Store
     ensures { result ≡ heard_w part.now values.now other.now guard }
 {
@@ -88,6 +94,7 @@ pub fn heard(part: &[u16], values: &[u16], other: &[u16], guard: usize) -> Store
 }
 
 // A solicit in the request at `guard`: its y are for the request's x, and it wants for its x what the request has in y.
+#[tactic(auto, unfolding(crate::specs::Messages::serves_w))]
 pub fn serves(part: &[u16], other: &[u16], guard: usize) -> bool
     ensures { result ≡ serves_w part.now other.now guard }
 {
@@ -100,6 +107,7 @@ pub fn serves(part: &[u16], other: &[u16], guard: usize) -> bool
     false
 }
 
+#[tactic(auto, unfolding(crate::specs::Messages::served_w))]
 pub fn served(part: &[u16], values: &[u16], other: &[u16], guard: usize) -> Store
     ensures { result ≡ served_w part.now values.now other.now guard }
 {
@@ -107,12 +115,14 @@ pub fn served(part: &[u16], values: &[u16], other: &[u16], guard: usize) -> Stor
 }
 
 // An executor's reply in the waiter that begins the words `other`.
+#[tactic(auto, unfolding(crate::specs::Messages::answers_w))]
 pub fn answers(part: &[u16], other: &[u16]) -> bool
     ensures { result ≡ answers_w part.now other.now }
 {
     alike(part, 3, other, 3)
 }
 
+#[tactic(auto, unfolding(crate::specs::Messages::answered_w))]
 pub fn answered(part: &[u16], values: &[u16], other: &[u16]) -> Store
     ensures { result ≡ answered_w part.now values.now other.now }
 {

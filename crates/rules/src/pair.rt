@@ -1,14 +1,16 @@
 // The rules between two engines: what is offered to a sender, whether the two fit, and what each of them turns into.
 ghost use Rattle.std.specs.Prelude.{◌≡◌, ◌<◌};
+ghost use Rattle.layout.specs.Kinds.{number_of};
 ghost use Rattle.rules.specs.Offering.{no_offer, bare_w, branch_at, choice_w, offer_w, receives_w, fits_w, hear_w, seq_first, three_to, three_w, serve_w, ask_w, waits_w, awaits_w, answer_w, fail_w};
 
 use crate::rewriting::{Rewriting, keep, to_nil, to_part};
 use crate::store::{Store, nothing};
-use layout::field::{count_of, dead_of, kind_of, name_of, waiters_server};
+use layout::field::{count_of, is_dead, name_of, waiters_server};
+use layout::head;
+use layout::kind::Kind;
 use layout::limit::FUEL;
 use layout::number::{further, word};
 use layout::own::{lists_end, variables_end};
-use layout::{head, kind};
 use skipping::skip::skip;
 use writers::write::put;
 
@@ -35,6 +37,7 @@ fn no_offer() -> Offer
 }
 
 // A bare receiver, for branch 0.
+#[tactic(auto, unfolding(crate::specs::Offering::bare_w))]
 fn bare(part: &[u16], branch: usize) -> Offer
     ensures { result ≡ bare_w part.now branch }
 {
@@ -52,6 +55,7 @@ fn bare(part: &[u16], branch: usize) -> Offer
 }
 
 // Where the branch with `before` others in front of it begins.
+#[tactic(auto, unfolding(crate::specs::Offering::branch_at))]
 fn branch_at(part: &[u16], before: usize) -> usize
     ensures { result ≡ branch_at part.now before 1 }
 {
@@ -66,6 +70,7 @@ fn branch_at(part: &[u16], before: usize) -> usize
 }
 
 // A choice's branch, counted from 1.
+#[tactic(auto, unfolding(crate::specs::Offering::choice_w, crate::specs::Offering::chosen_w))]
 fn chosen(part: &[u16], count: usize, branch: usize) -> Offer
     ensures { result ≡ choice_w part.now count branch }
 {
@@ -88,32 +93,29 @@ fn chosen(part: &[u16], count: usize, branch: usize) -> Offer
     }
 }
 
+#[tactic(auto, unfolding(crate::specs::Offering::offer_w))]
 pub fn offered(part: &[u16], branch: usize) -> Offer
     ensures { result ≡ offer_w part.now branch }
 {
     let h = word(part, 0);
-    if kind_of(h) == kind::CHOICE {
-        return chosen(part, count_of(h), branch);
+    match Kind::of(h) {
+        Kind::Choice => chosen(part, count_of(h), branch),
+        _ => bare(part, branch),
     }
-    bare(part, branch)
 }
 
 // Whether the head g is of that kind, with the operation of the head h.
-fn receives(g: u16, kind: usize, h: u16) -> bool
-    ensures { result ≡ receives_w g kind h }
+#[tactic(auto, unfolding(crate::specs::Offering::receives_w))]
+fn receives(g: u16, kind: Kind, h: u16) -> bool
+    ensures { result ≡ receives_w g (number_of kind) h }
 {
-    if kind_of(g) != kind {
-        return false;
-    }
-    if name_of(g) != name_of(h) {
-        return false;
-    }
-    true
+    Kind::of(g) == kind && name_of(g) == name_of(h)
 }
 
 // Whether a receiver of that kind stands there, with the operation of the head h.
-pub fn fits(part: &[u16], o: Offer, kind: usize, h: u16) -> bool
-    ensures { result ≡ fits_w part.now o kind h }
+#[tactic(auto, unfolding(crate::specs::Offering::fits_w))]
+pub fn fits(part: &[u16], o: Offer, kind: Kind, h: u16) -> bool
+    ensures { result ≡ fits_w part.now o (number_of kind) h }
 {
     if o.some {
         return receives(word(part, o.guard), kind, h);
@@ -122,6 +124,7 @@ pub fn fits(part: &[u16], o: Offer, kind: usize, h: u16) -> bool
 }
 
 // A one-way hears, and its variables take what the message brings.
+#[tactic(auto, unfolding(crate::specs::Offering::hear_w))]
 pub fn hear(part: &[u16], o: Offer, store: Store) -> Rewriting
     ensures { result ≡ hear_w part.now o store }
 {
@@ -132,6 +135,7 @@ pub fn hear(part: &[u16], o: Offer, store: Store) -> Rewriting
 }
 
 // The head of a seq, where a process follows.
+#[tactic(auto, unfolding(crate::specs::Offering::seq_first))]
 fn seq_first(next: usize, fresh: &mut [u16]) -> usize
     ensures place { result ≡ (seq_first next fresh.old).to }
     ensures fresh { fresh.new ≡ (seq_first next fresh.old).fresh }
@@ -143,6 +147,7 @@ fn seq_first(next: usize, fresh: &mut [u16]) -> usize
 }
 
 // Three words from a place on.
+#[tactic(auto, unfolding(crate::specs::Offering::three_to, crate::specs::Offering::three_w))]
 fn three(fresh: &mut [u16], to: usize, a: u16, b: u16, c: u16) -> usize
     ensures place { result ≡ three_to to }
     ensures fresh { fresh.new ≡ three_w fresh.old to a b c }
@@ -153,6 +158,7 @@ fn three(fresh: &mut [u16], to: usize, a: u16, b: u16, c: u16) -> usize
 }
 
 // A request hears and becomes an executor: of its own words it keeps those behind its list of variables x.
+#[tactic(auto, unfolding(crate::specs::Offering::serve_w))]
 pub fn serve(
     part: &[u16],
     o: Offer,
@@ -179,6 +185,7 @@ pub fn serve(
 }
 
 // A solicit becomes a waiter: of its own words it keeps those behind the first of its lists, which is y.
+#[tactic(auto, unfolding(crate::specs::Offering::ask_w))]
 pub fn ask(part: &[u16], server: u16, serial: u16, fresh: &mut [u16]) -> Rewriting
     ensures rewritten { result ≡ (ask_w part.now server serial fresh.old).rewriting }
     ensures fresh { fresh.new ≡ (ask_w part.now server serial fresh.old).fresh }
@@ -196,16 +203,18 @@ pub fn ask(part: &[u16], server: u16, serial: u16, fresh: &mut [u16]) -> Rewriti
 }
 
 // Whether a waiter stands in `part`, with the operation of the head h and that serial.
+#[tactic(auto, unfolding(crate::specs::Offering::waits_w))]
 fn waits(part: &[u16], h: u16, serial: u16) -> bool
     ensures { result ≡ waits_w part.now h serial }
 {
-    if receives(word(part, 0), kind::WAITER, h) {
+    if receives(word(part, 0), Kind::Waiter, h) {
         return word(part, 2) == serial;
     }
     false
 }
 
 // Whether it does so for an end in the engine `sender` that names `client`, itself in the engine `receiver`.
+#[tactic(auto, unfolding(crate::specs::Offering::awaits_w))]
 pub fn awaits(
     part: &[u16],
     h: u16,
@@ -226,6 +235,7 @@ pub fn awaits(
 }
 
 // A reply: its variables take what the message brings, and the waiter becomes inst of its list.
+#[tactic(auto, unfolding(crate::specs::Offering::answer_w))]
 pub fn answer(part: &[u16], store: Store, fresh: &mut [u16]) -> Rewriting
     ensures rewritten { result ≡ (answer_w part.now store fresh.old).rewriting }
     ensures fresh { fresh.new ≡ (answer_w part.now store fresh.old).fresh }
@@ -237,11 +247,12 @@ pub fn answer(part: &[u16], store: Store, fresh: &mut [u16]) -> Rewriting
 }
 
 // A fault, from the word w of its notice: a live waiter becomes throw, a dead one nil.
+#[tactic(auto, unfolding(crate::specs::Offering::fail_w))]
 pub fn fail(part: &[u16], w: u16, fresh: &mut [u16]) -> Rewriting
     ensures rewritten { result ≡ (fail_w part.now w fresh.old).rewriting }
     ensures fresh { fresh.new ≡ (fail_w part.now w fresh.old).fresh }
 {
-    if dead_of(word(part, 1)) == 1 {
+    if is_dead(word(part, 1)) {
         return to_nil(nothing());
     }
     let g = put(fresh, 0, head::throw(w));

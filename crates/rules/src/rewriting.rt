@@ -61,6 +61,7 @@ pub fn keep(fresh: usize, from: usize, upto: usize, end: usize, store: Store) ->
 }
 
 // Its own process from..upto, which may be nil.
+#[tactic(auto, unfolding(crate::specs::Rewriting::part_w))]
 pub fn to_part(part: &[u16], from: usize, upto: usize, end: usize, store: Store) -> Rewriting
     ensures { result ≡ part_w part.now from upto end store }
 {

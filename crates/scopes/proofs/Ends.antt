@@ -26,7 +26,7 @@ use Rattle.rules.specs.Storing.{unchanged}
 use Rattle.rules.specs.Editing.{nil_w}
 use Rattle.rules.proofs.Outcomes.{Ruled}
 use Rattle.rules.proofs.Depths.{Shallow}
-use Rattle.scopes.specs.Ending.{ending_w, ended_w}
+use Rattle.scopes.specs.Ending.{ending_w, unmarked_w, ended_w}
 use Rattle.scopes.proofs.ScopeLists.{nil_ruled, list_first}
 use Rattle.scopes.proofs.ScopeWords.{inner_sound, scope_fits_lem, head_mark, head_zombie, head_at, own_key}
 use Rattle.scopes.proofs.Resumes.{resumes}
@@ -89,7 +89,7 @@ module _ (f target : ℕ) (r : Run) (start : ℕ) (l : Located) (s : Site) (ws n
 
   -- the rule
   pub ends : (name : ℕ) (mark : Mark) (zombie : Bool) (h : Entries) → l.process ≡ scope name mark zombie h nil → Result name mark zombie h
-  unfolding ended_w ending
+  unfolding ended_w unmarked_w ending
   ends name (faulted x) zombie h is =
       let b = low name (faulted x) zombie h is in
       rw (

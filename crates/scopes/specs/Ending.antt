@@ -70,11 +70,15 @@ ending_w ws notes s key fresh =
     let l = onward s.scope 2 in
     updated_w ws notes s l (promoted_to ws l t.answer key t.out) (promoted_w ws l t.answer key t.out)
 
+-- with no mark
+unfoldable pub unmarked_w : List ℕ → List ℕ → ℕ → Site → ℕ → List ℕ → Edited
+unmarked_w ws notes start s key fresh =
+    cond (eqb (zombie_of (get_or ws s.at 0)) 1) (nil_w s start start 0 unchanged fresh)
+    (cond (eqb s.scope 0) (nil_w s start start 0 unchanged fresh)
+    (ending_w ws notes s key fresh))
+
 unfoldable pub ended_w : List ℕ → List ℕ → ℕ → Site → List ℕ → Edited
 ended_w ws notes start s fresh =
     let h = get_or ws s.at 0 in
     let key = key_at_w ws s.at in
-    cond (ltb 0 (mark_of h)) (resumed_w ws notes start s.at key fresh)
-    (cond (eqb (zombie_of h) 1) (nil_w s start start 0 unchanged fresh)
-    (cond (eqb s.scope 0) (nil_w s start start 0 unchanged fresh)
-    (ending_w ws notes s key fresh)))
+    cond (ltb 0 (mark_of h)) (resumed_w ws notes start s.at key fresh) (unmarked_w ws notes start s key fresh)

@@ -6,7 +6,7 @@ use finding::find::Site;
 use handling::take::{Taken, take};
 use layout::field::scope_key;
 use layout::limit::{FUEL, Limits};
-use layout::number::{further, less, word};
+use layout::number::{further, word};
 use reading::reader::read;
 use rules::edit::{Edit, become_nil, refuse};
 use rules::store::nothing;
@@ -14,6 +14,7 @@ use skipping::pass::pass_list;
 use writers::write::copy;
 
 // What was taken out of the list stands in the place of the process; the list without it is in the first fresh words.
+#[tactic(auto, unfolding(crate::specs::Compensating::moved_w))]
 fn moved(ws: &[u16], notes: &[u16], s: Site, t: Taken, fresh: &mut [u16]) -> Edit
     ensures edited { result ≡ (moved_w ws.now notes.now s t fresh.old).edit }
     ensures fresh { fresh.new ≡ (moved_w ws.now notes.now s t fresh.old).fresh }
@@ -41,6 +42,7 @@ fn moved(ws: &[u16], notes: &[u16], s: Site, t: Taken, fresh: &mut [u16]) -> Edi
 }
 
 // The comp at `s`, in the engine's process that begins at `start`.
+#[tactic(auto, unfolding(crate::specs::Compensating::compensated_w))]
 pub fn compensated(
     ws: &[u16],
     notes: &[u16],
@@ -64,7 +66,7 @@ pub fn compensated(
     if read(
         ws,
         t.from,
-        less(further(limits.deepest, 1), s.level),
+        further(limits.deepest, 1).saturating_sub(s.level),
         0,
         bound,
     ) == 0

@@ -1,15 +1,16 @@
 // A scope whose body is nil: with a mark it runs the handler under its key, else it ends.
 ghost use Rattle.std.specs.Prelude.{◌≡◌};
-ghost use Rattle.scopes.specs.Ending.{resumed_head, key_at_w, take_behind_w, taken_to, taken_w, resumed_w, promoted_to, promoted_w, ending_w, ended_w};
+ghost use Rattle.scopes.specs.Ending.{resumed_head, key_at_w, take_behind_w, taken_to, taken_w, resumed_w, promoted_to, promoted_w, ending_w, unmarked_w, ended_w};
 
 use crate::installing::updated;
 use finding::find::Site;
 use handling::take::{Taken, take};
 use handling::update::update_by;
-use layout::field::{first_name, mark_of, scope_key, zombie_of};
+use layout::field::{first_name, is_zombie, scope_key};
 use layout::head;
 use layout::limit::FUEL;
-use layout::number::{further, less_one, word};
+use layout::mark::Mark;
+use layout::number::{further, word};
 use rules::edit::{Edit, become_nil};
 use rules::store::nothing;
 use skipping::pass::pass_list;
@@ -23,17 +24,19 @@ fn resumed_head(h: u16) -> u16
 }
 
 // The key of the handler it runs or hands on: the fault with mark 1, else its own name.
+#[tactic(auto, unfolding(crate::specs::Ending::key_at_w))]
 fn key_at(ws: &[u16], at: usize) -> usize
     ensures { result ≡ key_at_w ws.now at }
 {
     let h = word(ws, at);
-    if mark_of(h) == 1 {
-        return first_name(word(ws, further(at, 1)));
+    match Mark::of(h) {
+        Mark::Faulted => first_name(word(ws, further(at, 1))),
+        _ => scope_key(h),
     }
-    scope_key(h)
 }
 
 // The list without the entry of a key, behind two words.
+#[tactic(auto, unfolding(crate::specs::Ending::take_behind_w))]
 fn take_behind(ws: &[u16], list: usize, key: usize, fresh: &mut [u16]) -> Taken
     ensures answered { result ≡ (take_behind_w ws.now list key fresh.old).answer }
     ensures fresh { fresh.new ≡ (take_behind_w ws.now list key fresh.old).out }
@@ -49,6 +52,7 @@ fn take_behind(ws: &[u16], list: usize, key: usize, fresh: &mut [u16]) -> Taken
 }
 
 // What was taken out, or nil where nothing was; the place behind it.
+#[tactic(auto, unfolding(crate::specs::Ending::taken_to, crate::specs::Ending::taken_w))]
 fn put_taken(ws: &[u16], t: Taken, fresh: &mut [u16], to: usize) -> usize
     ensures place { result ≡ taken_to ws.now t to }
     ensures fresh { fresh.new ≡ taken_w ws.now t fresh.old to }
@@ -96,6 +100,7 @@ fn resumed(
 }
 
 // The list at `l` updated by what was taken out under the key, from 0 on; the place behind it.
+#[tactic(auto, unfolding(crate::specs::Ending::promoted_to, crate::specs::Ending::promoted_w))]
 fn promoted(ws: &[u16], l: usize, t: Taken, key: usize, fresh: &mut [u16]) -> usize
     ensures place { result ≡ promoted_to ws.now l t key fresh.old }
     ensures fresh { fresh.new ≡ promoted_w ws.now l t key fresh.old }
@@ -104,7 +109,7 @@ fn promoted(ws: &[u16], l: usize, t: Taken, key: usize, fresh: &mut [u16]) -> us
         let u = take(ws, l, key, FUEL, fresh);
         return u.to;
     }
-    let u = update_by(ws, l, less_one(t.from), 1, FUEL, fresh);
+    let u = update_by(ws, l, t.from.saturating_sub(1), 1, FUEL, fresh);
     u.to
 }
 
@@ -119,7 +124,20 @@ fn ending(ws: &[u16], notes: &[u16], s: Site, key: usize, fresh: &mut [u16]) -> 
     updated(ws, notes, s, l, f, fresh)
 }
 
+// The scope with no mark ends: it becomes nil, and hands its handler on where it was killed by nobody and stands in another scope.
+#[tactic(auto, unfolding(crate::specs::Ending::unmarked_w))]
+fn unmarked(ws: &[u16], notes: &[u16], start: usize, s: Site, key: usize, fresh: &mut [u16]) -> Edit
+    ensures edited { result ≡ (unmarked_w ws.now notes.now start s key fresh.old).edit }
+    ensures fresh { fresh.new ≡ (unmarked_w ws.now notes.now start s key fresh.old).fresh }
+{
+    if is_zombie(word(ws, s.at)) || s.scope == 0 {
+        return become_nil(s, start, start, 0, nothing(), fresh);
+    }
+    ending(ws, notes, s, key, fresh)
+}
+
 // The scope with nil body at `s`, in the engine's process that begins at `start`.
+#[tactic(auto, unfolding(crate::specs::Ending::ended_w))]
 pub fn ended(ws: &[u16], notes: &[u16], start: usize, s: Site, fresh: &mut [u16]) -> Edit
     ensures edited { result ≡ (ended_w ws.now notes.now start s fresh.old).edit }
     ensures fresh { fresh.new ≡ (ended_w ws.now notes.now start s fresh.old).fresh }
@@ -127,14 +145,8 @@ pub fn ended(ws: &[u16], notes: &[u16], start: usize, s: Site, fresh: &mut [u16]
     let at = s.at;
     let h = word(ws, at);
     let key = key_at(ws, at);
-    if 0 < mark_of(h) {
-        return resumed(ws, notes, start, at, key, fresh);
+    match Mark::of(h) {
+        Mark::Unmarked => unmarked(ws, notes, start, s, key, fresh),
+        _ => resumed(ws, notes, start, at, key, fresh),
     }
-    if zombie_of(h) == 1 {
-        return become_nil(s, start, start, 0, nothing(), fresh);
-    }
-    if s.scope == 0 {
-        return become_nil(s, start, start, 0, nothing(), fresh);
-    }
-    ending(ws, notes, s, key, fresh)
 }

@@ -11,6 +11,7 @@ use rules::store::nothing;
 use skipping::pass::pass_list;
 
 // Whether entries of so many levels are too deep, in a scope at a level.
+#[tactic(auto, unfolding(crate::specs::Installing::too_deep_w))]
 fn too_deep(limits: Limits, level: usize, levels: usize) -> bool
     ensures { result ≡ too_deep_w limits level levels }
 {
@@ -21,6 +22,7 @@ fn too_deep(limits: Limits, level: usize, levels: usize) -> bool
 }
 
 // The list at `l` becomes the first `f` fresh words, the process nil.
+#[tactic(auto, unfolding(crate::specs::Installing::updated_w))]
 pub fn updated(ws: &[u16], notes: &[u16], s: Site, l: usize, f: usize, fresh: &mut [u16]) -> Edit
     ensures edited { result ≡ (updated_w ws.now notes.now s l f fresh.old).edit }
     ensures fresh { fresh.new ≡ (updated_w ws.now notes.now s l f fresh.old).fresh }
@@ -30,6 +32,7 @@ pub fn updated(ws: &[u16], notes: &[u16], s: Site, l: usize, f: usize, fresh: &m
 }
 
 // The inst at `s`, in the engine's process that begins at `start`.
+#[tactic(auto, unfolding(crate::specs::Installing::installed_w))]
 pub fn installed(
     ws: &[u16],
     notes: &[u16],

@@ -17,6 +17,7 @@ use skipping::skip::skip_list;
 use writers::write::{copy, put};
 
 // The fault that the throw at a position throws.
+#[tactic(auto, unfolding(crate::specs::Throwing::fault_w))]
 fn fault_at(ws: &[u16], at: usize) -> u16
     ensures { result ≡ fault_w ws.now at }
 {
@@ -24,6 +25,7 @@ fn fault_at(ws: &[u16], at: usize) -> u16
 }
 
 // The words from `a` on that were killed become the fresh ones.
+#[tactic(auto, unfolding(crate::specs::Throwing::cleared_w))]
 fn cleared(start: usize, a: usize, k: Moved) -> Edit
     ensures { result ≡ cleared_w start a k }
 {
@@ -45,6 +47,7 @@ fn cleared(start: usize, a: usize, k: Moved) -> Edit
 }
 
 // No scope stops the fault. 6 if a side can't be killed.
+#[tactic(auto, unfolding(crate::specs::Throwing::uncaught_w, crate::specs::Throwing::cleared_by))]
 fn uncaught(
     ws: &[u16],
     notes: &[u16],
@@ -64,6 +67,7 @@ fn uncaught(
 }
 
 // Whether the list of the scope at `c` has the fault.
+#[tactic(auto, unfolding(crate::specs::Throwing::listed_w))]
 fn listed(ws: &[u16], c: usize, fault: u16) -> bool
     ensures { result ≡ listed_w ws.now c fault }
 {
@@ -74,6 +78,7 @@ fn listed(ws: &[u16], c: usize, fault: u16) -> bool
 }
 
 // The first two words of the scope at `c`, which stops the fault: marked with it, if its list has it.
+#[tactic(auto, unfolding(crate::specs::Throwing::marked_w))]
 fn marked(ws: &[u16], c: usize, fault: u16, fresh: &mut [u16]) -> usize
     ensures place { result ≡ 2 }
     ensures fresh { fresh.new ≡ marked_w ws.now c fault fresh.old }
@@ -89,6 +94,7 @@ fn marked(ws: &[u16], c: usize, fault: u16, fresh: &mut [u16]) -> usize
 }
 
 // Where its body begins.
+#[tactic(auto, unfolding(crate::specs::Throwing::body_w))]
 fn body_at(ws: &[u16], notes: &[u16], c: usize) -> usize
     ensures { result ≡ body_w ws.now notes.now c }
 {
@@ -96,6 +102,7 @@ fn body_at(ws: &[u16], notes: &[u16], c: usize) -> usize
 }
 
 // All of it but the body.
+#[tactic(auto, unfolding(crate::specs::Throwing::opened_to, crate::specs::Throwing::opened_w))]
 fn opened(ws: &[u16], c: usize, body: usize, fault: u16, fresh: &mut [u16]) -> usize
     ensures place { result ≡ opened_to ws.now c body }
     ensures fresh { fresh.new ≡ opened_w ws.now c body fault fresh.old }
@@ -105,6 +112,7 @@ fn opened(ws: &[u16], c: usize, body: usize, fault: u16, fresh: &mut [u16]) -> u
 }
 
 // The scope at `c` stops the fault: its body becomes what climbs out of it. 6 as above.
+#[tactic(auto, unfolding(crate::specs::Throwing::caught_w, crate::specs::Throwing::cleared_by))]
 fn caught(
     ws: &[u16],
     notes: &[u16],
@@ -126,6 +134,7 @@ fn caught(
     cleared(start, c, k)
 }
 
+#[tactic(auto, unfolding(crate::specs::Throwing::thrown_w))]
 pub fn thrown(ws: &[u16], notes: &[u16], start: usize, s: Site, fresh: &mut [u16]) -> Edit
     ensures edited { result ≡ (thrown_w ws.now notes.now start s fresh.old).edit }
     ensures fresh { fresh.new ≡ (thrown_w ws.now notes.now start s fresh.old).fresh }

@@ -43,6 +43,7 @@ fn refuse(number: u8) -> Pending
 }
 
 // The process at `at` is searched.
+#[tactic(auto, unfolding(crate::specs::Asking::counted_w))]
 fn counted(ws: &[u16], notes: &[u16], at: usize) -> Pending
     ensures { result ≡ counted_w ws.now notes.now at }
 {
@@ -55,6 +56,7 @@ fn counted(ws: &[u16], notes: &[u16], at: usize) -> Pending
 }
 
 // The notes are all 0 before.
+#[tactic(auto, unfolding(crate::specs::Asking::asked_w))]
 fn asked(ws: &[u16], notes: &mut [u16], engine: u16, position: u16, limits: Limits) -> Pending
     ensures answered { result ≡ asked_w limits ws.now notes.old engine position }
     ensures noted { notes.new ≡ survey_notes (figures limits) ws.now notes.old }

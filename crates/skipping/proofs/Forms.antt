@@ -3,7 +3,7 @@
 use Prim.Native.Nat.{ℕ, zero, suc, ◌+◌, ◌*◌, ◌/◌, ◌%◌, ◌<◌, ◌≤◌}
 use native.Mathlib.Omega.{arith}
 use native.Mathlib.Nat.{zero-add, mul-zero}
-use mathlib.Core.Path.{◌≡◌, refl}
+use mathlib.Core.Path.{◌≡◌, refl, sym, ap, ◌∙◌}
 use mathlib.Core.Bool.{Bool, true, false, cond}
 use lib.Dec.{T, eqb}
 use lib.ListN.{get_or-eq_default}
@@ -17,7 +17,10 @@ use Rattle.sock.specs.Reading.{Stratum, Place, head_fits}
 use Rattle.sock.proofs.Fields.{From, end, ◌then◌, fact_at}
 use Rattle.sock.proofs.ByKind.{head_tests}
 use Rattle.reading.proofs.Contexts.{allowed_kind}
-use Rattle.skipping.specs.Skip.{form_of, parts_by}
+use Rattle.layout.specs.Kinds.{kind_named, number_of, tag_named, tag_number}
+use Rattle.layout.specs.declared.kind.Kind as Kinds
+use Rattle.layout.proofs.Named.{by_name, tag_by_name}
+use Rattle.skipping.specs.Skip.{form_of, expr_form, parts_by}
 
 -- what is no kind has one word
 no_row_lem : (k : ℕ) → 19 ≤ k → row_of k ≡ no_row
@@ -29,6 +32,16 @@ unfolding form_of word_count list_count
 form_beyond k far =
     let other : k ≡ Kind.choice → ⊥ = λ e. omega arith in
     rw (no_row_lem k far, ne_eqb k Kind.choice other) refl
+
+-- by name it is the same
+pub form_head : {r : Kinds.Kind} {h w : ℕ} → h ≡ w → r ≡ kind_named (w / 2048) → form_of (number_of r) ≡ form_of (h / 2048)
+form_head {r} {h} {w} e q =
+    ap (λ k. form_of (number_of k)) q ∙ by_name form_of (λ k far. form_beyond k far ∙ sym (form_beyond 19 (omega arith))) (w / 2048)
+    ∙ ap (λ n. form_of (n / 2048)) (sym e)
+
+pub expr_named : (k : ℕ) → expr_form (tag_number (tag_named k)) ≡ expr_form k
+unfolding expr_form
+expr_named k = tag_by_name expr_form (λ k far. rw (ne_eqb k 0 (λ e. omega (arith, e)), ne_eqb k 1 (λ e. omega (arith, e)))) k
 
 -- what follows a process's own words, as the code numbers it: how many expressions and lists
 pub data Follows : ℕ → ℕ → ℕ → Type 0 where

@@ -18,6 +18,7 @@ fn noted(notes: &[u16], place: usize) -> usize
 }
 
 // Where the process at `at` ends, if it was noted.
+#[tactic(auto, unfolding(crate::specs::Pass::note_at))]
 pub fn note_at(notes: &[u16], at: usize) -> usize
     ensures { result ≡ note_at notes.now at }
 {
@@ -39,6 +40,7 @@ pub fn pass(ws: &[u16], notes: &[u16], at: usize, depth: usize) -> usize
 }
 
 // Where the list whose count is at `at` ends, unless it is empty.
+#[tactic(auto, unfolding(crate::specs::Pass::list_note_at))]
 fn pass_entries(ws: &[u16], notes: &[u16], at: usize, depth: usize) -> usize
     ensures { result ≡ pass_entries depth ws.now notes.now at }
 {
@@ -53,6 +55,7 @@ fn pass_entries(ws: &[u16], notes: &[u16], at: usize, depth: usize) -> usize
 }
 
 // Where the list whose count is at `at` ends. Most lists of scopes are empty, and the count tells it without a call.
+#[tactic(auto, unfolding(crate::specs::Pass::pass_list))]
 pub fn pass_list(ws: &[u16], notes: &[u16], at: usize, depth: usize) -> usize
     ensures { result ≡ pass_list depth ws.now notes.now at }
 {

@@ -1,12 +1,15 @@
 // Passing over what the reader has accepted: where a process, a list or an expression ends. Nothing is tested but that words are left, so an
 // answer says something only of words that were read.
 ghost use Rattle.std.specs.Prelude.{◌≡◌, ◌<◌};
+ghost use Rattle.layout.specs.Kinds.{number_of, tag_number};
 ghost use Rattle.skipping.specs.Skip.{form_of, expr_form, expr_skip, behind_by, skip_end, skip_list};
 
 use layout::key::NO_KEY;
+use layout::kind::Kind;
 use layout::number::wide;
 use layout::own::lists_end;
-use layout::{kind, tag, unit};
+use layout::tag::Tag;
+use layout::unit;
 use reading::reader::met_by;
 
 // A form's fields, by the worth of their lowest bits. From the lowest: 3 bits for how many words of its own a process has before its lists of
@@ -29,30 +32,31 @@ const COUNTS: usize = 4;
 
 // What a process is made of, by kind; packed from the fixed table (`specs/Skip`). A match, and no constant array, which every call would lay
 // out anew.
-fn form(kind: usize) -> usize
-    ensures { (result ≡ form_of kind) × (result < 1026) }
+#[tactic(auto, unfolding(crate::specs::Skip::form_of, sock::specs::Kind::row_of, sock::specs::Kind::rows, sock::specs::Counts::word_count, sock::specs::Counts::list_count))]
+fn form(kind: Kind) -> usize
+    ensures { (result ≡ form_of (number_of kind)) × (result < 1026) }
 {
     match kind {
-        kind::NIL => 1,
-        kind::ASSIGN => 9,
-        kind::SEQ => 257,
-        kind::PAR => 257,
-        kind::IF => 265,
-        kind::WHILE => 137,
-        kind::CHOICE => 1025,
-        kind::ONE_WAY => 33,
-        kind::REQUEST => 194,
-        kind::NOTIFY => 34,
-        kind::SOLICIT => 82,
-        kind::SCOPE => 146,
-        kind::INST => 17,
-        kind::THROW => 1,
-        kind::COMP => 1,
-        kind::CH => 1,
-        kind::EXECUTOR => 163,
-        kind::WAITER => 51,
-        kind::NOTICE => 3,
-        _ => 1,
+        Kind::Nil => 1,
+        Kind::Assign => 9,
+        Kind::Seq => 257,
+        Kind::Par => 257,
+        Kind::If => 265,
+        Kind::While => 137,
+        Kind::Choice => 1025,
+        Kind::OneWay => 33,
+        Kind::Request => 194,
+        Kind::Notify => 34,
+        Kind::Solicit => 82,
+        Kind::Scope => 146,
+        Kind::Inst => 17,
+        Kind::Throw => 1,
+        Kind::Comp => 1,
+        Kind::Ch => 1,
+        Kind::Executor => 163,
+        Kind::Waiter => 51,
+        Kind::Notice => 3,
+        Kind::Unused => 1,
     }
 }
 
@@ -78,8 +82,9 @@ pub fn skip(ws: &[u16], at: usize, depth: usize) -> usize
         if ws.len() <= a {
             return 0;
         }
-        let h = wide(ws[a]);
-        let f = form(h / unit::KIND);
+        let head = ws[a];
+        let h = wide(head);
+        let f = form(Kind::of(head));
         a = a + f % FOLLOWS;
         follows = f / FOLLOWS % FOLLOWING;
         left = left - 1 + f / PARTS % COUNTS + h % unit::KIND * (f / BRANCHES);
@@ -90,6 +95,7 @@ pub fn skip(ws: &[u16], at: usize, depth: usize) -> usize
 
 // Behind the lists of variables, and the expression or the list that follows, if one does. Most lists are empty.
 #[cycle(behind_skip_skip_list)]
+#[tactic(auto, unfolding(crate::specs::Skip::behind_by, crate::specs::Skip::after_by, crate::specs::Skip::list_by, crate::specs::Skip::entries_skip, crate::specs::Skip::skip_list, layout::specs::Own::lists_end))]
 fn behind(ws: &[u16], at: usize, follows: usize, depth: usize) -> usize
     ensures { result ≡ behind_by (skip_end depth ws.now) ws.now follows at }
 {
@@ -114,6 +120,7 @@ fn behind(ws: &[u16], at: usize, follows: usize, depth: usize) -> usize
 
 // Where the list whose count is at `at` ends; 0 if no entry has the key wanted, unless that is `NO_KEY`.
 #[cycle(behind_skip_skip_list)]
+#[tactic(auto, unfolding(crate::specs::Skip::list_by, crate::specs::Skip::skip_list))]
 pub fn skip_list(ws: &[u16], at: usize, depth: usize, wanted: usize) -> usize
     ensures { result ≡ skip_list depth ws.now wanted at }
 {
@@ -137,16 +144,19 @@ pub fn skip_list(ws: &[u16], at: usize, depth: usize, wanted: usize) -> usize
 // An expression by the first three bits of its word: in the lowest 2 bits its own words, then its operands.
 const OPERANDS: usize = 4;
 
-fn expression_form(tag: usize) -> usize
-    ensures { (result ≡ expr_form tag) × (result < 10) }
+#[tactic(auto, unfolding(crate::specs::Skip::expr_form))]
+fn expression_form(tag: Tag) -> usize
+    ensures { (result ≡ expr_form (tag_number tag)) × (result < 10) }
 {
-    if tag == tag::CONSTANT {
-        return 3;
+    match tag {
+        Tag::Constant => 3,
+        Tag::Variable => 1,
+        _ => 9,
     }
-    if tag == tag::VARIABLE { 1 } else { 9 }
 }
 
 // Where the expression at `at` ends; `left` expressions are still to come from `a` on.
+#[tactic(auto, unfolding(crate::specs::Skip::expr_skip))]
 fn skip_expression(ws: &[u16], at: usize) -> usize
     ensures { result ≡ expr_skip ws.now at }
 {
@@ -160,7 +170,7 @@ fn skip_expression(ws: &[u16], at: usize) -> usize
         if ws.len() <= a {
             return 0;
         }
-        let f = expression_form(wide(ws[a]) / unit::TAG);
+        let f = expression_form(Tag::of(ws[a]));
         a = a + f % OPERANDS;
         left = left - 1 + f / OPERANDS;
         turns = turns - 1;

@@ -40,11 +40,13 @@ use Rattle.stepping.specs.declared.bundles.Engines.{Engines}
 use Rattle.stepping.specs.declared.bundles.Numbers.{Numbers}
 use Rattle.stepping.specs.Bundles.{numbers_as, bound_of, side_of}
 use Rattle.stepping.specs.Alone.{alone_w}
+use Rattle.layout.specs.Kinds.{counted_as}
+use Rattle.layout.proofs.Named.{counted_is}
 use Rattle.stepping.specs.Stepping.{moves_w, partner_w, receiving_w, none_else, moving_w, found_w, step_w}
 use Rattle.stepping.proofs.Goal.{given, given_refused}
 use Rattle.stepping.proofs.Whole.{after, step_read, lone_of, pair_of, after_stuck, after_alone, after_unvalued, after_sends}
 use Rattle.stepping.proofs.Seeking.{Seen, placed, Seeks, unseen, seen, seeks, seeks_none}
-use Rattle.stepping.proofs.Movers.{Moving, stays, goes, lacks, asks, known_moving}
+use Rattle.stepping.proofs.Movers.{Moving, stays, goes, lacks, asks, known_moving, known_kind}
 use Rattle.stepping.proofs.LoneLaw.{unvalued_law, lone_law}
 use Rattle.stepping.proofs.PairLaw.{pair_law}
 use Rattle.stepping.proofs.Partners as partners
@@ -101,8 +103,11 @@ module _ {limits : Limits} (modest : Modest limits) (ws : List ℕ) (ok : Words 
           (head_on ws sp.at (as_node l.process) _
           (sym (partners.lent_on ws ok s modest known sp.at) ∙ partners.found_at ws ok s modest known k.engine found.inside target l sp found.spotted))
 
-      kind_low : kind (as_node l.process) < 32
-      kind_low = let w : at ws sp.at < 65536 = ok sp.at in omega (arith, kind_at)
+      kind_known : kind (as_node l.process) < 19
+      kind_known = known_kind ws ok s modest known k.engine found.inside target l sp found.place found.spotted notes right
+
+      counted : counted_as (kind_of (at ws sp.at)) ≡ kind (as_node l.process)
+      counted = counted_is kind_at kind_known
 
       receiving_law :
           (m : Message) → move_of (engine_at c k.engine).values l.frames l.process ≡ sends m →
@@ -116,7 +121,7 @@ module _ {limits : Limits} (modest : Modest limits) (ws : List ℕ) (ok : Words 
               partner_w limits ws g k sp (kind (as_node l.process)) out f
               ≡ given ((no_partner ! o) >>= λ b. pair_of limits c asked a b m (length out)) out
           seek _ _ unseen = sym (given_refused no_partner out)
-          seek _ _ (seen {l = lb} {sp = sb} y) = pair_law ws ok s modest known k.engine target l sp found k.second _ lb sb y asked m moves kind_low out
+          seek _ _ (seen {l = lb} {sp = sb} y) = pair_law ws ok s modest known k.engine target l sp found k.second _ lb sb y asked m moves out
 
           by :
               (b : Bool) → leb n k.second ≡ b →
@@ -133,17 +138,18 @@ module _ {limits : Limits} (modest : Modest limits) (ws : List ℕ) (ok : Words 
       moving_law : moving_w limits ws notes g k sp out ≡ given (after limits c asked a (length out)) out
       unfolding moving_w
       moving_law =
-          rw kind_at
+          rw counted
           (by (move_of (engine_at c k.engine).values l.frames l.process) (moves_w ws notes sp.at (kind (as_node l.process))) refl
           (known_moving ws ok s modest known k.engine found.inside target l sp found.place found.spotted notes right))
         where
           by :
               (m : Move) (j : ℕ) → move_of (engine_at c k.engine).values l.frames l.process ≡ m → Moving m j →
               cond (eqb j 0) (answered (refusing 3) out)
-              (cond (eqb j 2) (receiving_w limits ws notes g k sp (kind (as_node l.process)) out)
+              (cond (eqb j 1)
               (cond (none_else k.second k.second_position k.branch)
               (alone_w limits ws notes (side_of g k.engine sp) (kind (as_node l.process)) (bound_of g) out)
-              (answered (refusing 3) out)))
+              (answered (refusing 3) out))
+              (receiving_w limits ws notes g k sp (kind (as_node l.process)) out))
               ≡ given (after limits c asked a (length out)) out
           by _ _ q stays = rw (after_stuck limits c asked a (length out) q) (sym (given_refused no_move out))
           by _ _ q (goes {vs = vs} {q = o}) = rw (after_alone limits c asked a (length out) vs o q) (go (none_else k.second k.second_position k.branch))
@@ -152,7 +158,7 @@ module _ {limits : Limits} (modest : Modest limits) (ws : List ℕ) (ok : Words 
                   (b : Bool) →
                   cond b (alone_w limits ws notes (side_of g k.engine sp) (kind (as_node l.process)) (bound_of g) out) (answered (refusing 3) out)
                   ≡ given (cond b (lone_of limits c a vs o (length out)) (refused no_move)) out
-              go true = lone_law ws ok s modest known k.engine target l sp found notes right vs o q kind_low out
+              go true = lone_law ws ok s modest known k.engine target l sp found notes right vs o q out
               go false = sym (given_refused no_move out)
           by _ _ q lacks = rw (after_unvalued limits c asked a (length out) q) (go (none_else k.second k.second_position k.branch))
             where
@@ -160,7 +166,7 @@ module _ {limits : Limits} (modest : Modest limits) (ws : List ℕ) (ok : Words 
                   (b : Bool) →
                   cond b (alone_w limits ws notes (side_of g k.engine sp) (kind (as_node l.process)) (bound_of g) out) (answered (refusing 3) out)
                   ≡ given (cond b (refused not_decimal) (refused no_move)) out
-              go true = unvalued_law ws ok s modest known k.engine target l sp found notes right q kind_low out
+              go true = unvalued_law ws ok s modest known k.engine target l sp found notes right q out
               go false = sym (given_refused no_move out)
           by _ _ q (asks {m = m}) = rw (after_sends limits c asked a (length out) m q) (receiving_law m q)
 

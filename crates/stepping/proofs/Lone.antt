@@ -12,7 +12,7 @@ use lib.ListN.{length, get_or, drop, set, length-drop, length-set}
 use lib.Seq.{take_all, get_or-drop}
 use Rattle.sock.specs.Words.{kind_of, variable_of, name_of, scope_key}
 use Rattle.sock.specs.Term.{Expr, Node, node, Nodes, absent, list, Entries, no_parts, ◌&◌, kind}
-use Rattle.sock.specs.Layout.{expr_words, words, depth}
+use Rattle.sock.specs.Layout.{words, depth}
 use Rattle.sock.specs.Reading.{code, anywhere}
 use Rattle.sock.specs.Running.{Mark, Run, nil, seq, par, scope, executor, waiter, notice, act, as_node, run_words, size, run_depth, enable}
 use Rattle.sock.specs.Configuration.{Engine, Config, values_words, engines_depth}
@@ -35,9 +35,8 @@ use Rattle.reading.proofs.Known.{Known}
 use Rattle.reading.specs.Walk.{process_end}
 use Rattle.skipping.proofs.Notes.{Right}
 use Rattle.writers.specs.Writing.{pasted, pasted_end}
-use Rattle.evaluating.specs.declared.evaluate.Evaluated.{Evaluated}
+use Rattle.evaluating.specs.declared.evaluate.Valued.{Valued}
 use Rattle.evaluating.specs.Valuing.{value_as}
-use Rattle.evaluating.specs.Evaluating.{ended}
 use Rattle.writers.proofs.Laid.{Near, near_of, near_below}
 use Rattle.handling.proofs.Leaves.{pasted_keeps}
 use Rattle.finding.specs.declared.find.Site.{Site}
@@ -66,7 +65,7 @@ use Rattle.rules.proofs.Depths.{Shallow}
 use Rattle.stepping.specs.declared.bundles.Side.{Side}
 use Rattle.stepping.specs.Lent.{Modest}
 use Rattle.stepping.specs.Exchanging.{lent}
-use Rattle.stepping.specs.Alone.{settled_w, rewritten_w, valued_w, scoped_w, rule_w}
+use Rattle.stepping.specs.Alone.{reads, when_valued, settled_w, rewritten_w, valued_w, scoped_w, rule_w}
 use Rattle.stepping.proofs.Results.{one_stands, one_behind, one_values}
 
 -- no engine is deeper than all
@@ -90,7 +89,7 @@ part_none ws from upto end = by (eqb (at ws from) 0)
     by true = refl
     by false = refl
 
-branch_none : (ws : List ℕ) (e : Evaluated) → (branch_w ws e).store ≡ unchanged
+branch_none : (ws : List ℕ) (e : Valued) → (branch_w ws e).store ≡ unchanged
 unfolding branch_w
 branch_none ws e = by (eqb e.value 0)
   where
@@ -106,7 +105,7 @@ unfolding plain_w
 plain_number s start t fresh e = rw e
 
 -- a while keeps the scratch's length
-repeat_keeps : (limits : Limits) (level bound : ℕ) (ws : List ℕ) (e : Evaluated) (fresh : List ℕ) → length (repeat_w limits level bound ws e fresh).fresh ≡ length fresh
+repeat_keeps : (limits : Limits) (level bound : ℕ) (ws : List ℕ) (e : Valued) (fresh : List ℕ) → length (repeat_w limits level bound ws e fresh).fresh ≡ length fresh
 unfolding repeat_w unroll_w
 repeat_keeps limits level bound ws e fresh =
     by (eqb e.value 0) (eqb (at ws e.end) 0) (eqb (process_end (limits.deepest - level) ws bound 0 0) 0)
@@ -205,14 +204,14 @@ module _ (ws : List ℕ) (ok : Words ws) (n issued : ℕ) (few : n ≤ 8) (small
     made_executor false u m = tt
 
     -- assign, if and while
-    plain_rule : (k : ℕ) → k ≤ 6 →
+    plain_rule : (k : ℕ) → reads k ≡ true →
         (let t = rewritten_w limits (drop s.at ws) (values_words vs) s.level k bound fresh in
         rule_w limits ws notes side k bound fresh ≡ plain_w s start t.rewriting t.fresh)
     unfolding rule_w valued_w
     plain_rule k h =
         let fits = whole_inside (fault_at ws target) target r start l s ws words_at spotted near standing.frames deep in
         rw (
-          le-ltb 6 k h,
+          h,
           le-ltb start 64 low,
           le-ltb (length ws) start (omega (arith, fits)),
           le-ltb (length ws) s.at (omega (arith, inside)),
@@ -236,7 +235,7 @@ module _ (ws : List ℕ) (ok : Words ws) (n issued : ℕ) (few : n ≤ 8) (small
     node_deep m is = omega (arith, process_deep, its_level, ap run_depth is ∙ depth_act m)
 
     -- by the value of its expression; 13 where it has none
-    by_value : (k : ℕ) → k ≤ 6 → (h : ℕ) (e : Expr) (ps : Nodes) → FitsExpr e → l.process ≡ act (node h [] (e ∷ []) absent ps) → (move : ℕ → Move) →
+    by_value : (k : ℕ) → reads k ≡ true → (h : ℕ) (e : Expr) (ps : Nodes) → FitsExpr e → l.process ≡ act (node h [] (e ∷ []) absent ps) → (move : ℕ → Move) →
         ((v : ℕ) →
         (let t = settled_w limits (drop s.at ws) (valued_at h e v) s.level k bound fresh in
         Makes (plain_w s start t.rewriting t.fresh) (move v))) →
@@ -249,7 +248,7 @@ module _ (ws : List ℕ) (ok : Words ws) (n issued : ℕ) (few : n ≤ 8) (small
         rw (plain_rule k low, value) (go (evaluate vs e))
       where
         go : (o : Option ℕ) →
-            (let t = settled_w limits (drop s.at ws) (ended (length (h ∷ expr_words e)) (value_as o)) s.level k bound fresh in
+            (let t = when_valued (value_as o) (λ v. settled_w limits (drop s.at ws) (valued_at h e v) s.level k bound fresh) fresh in
             Makes (plain_w s start t.rewriting t.fresh) (valuing o move))
         go none = refl
         go (some v) = settled v
@@ -258,7 +257,7 @@ module _ (ws : List ℕ) (ok : Words ws) (n issued : ℕ) (few : n ≤ 8) (small
         Makes (rule_w limits ws notes side 1 bound fresh) (valuing (evaluate vs e) λ v. alone (set vs (variable_of h) v) (some (plug l.frames nil)))
     unfolding settled_w
     made_assign h e g is =
-        by_value 1 (omega arith) h e no_parts g is _ λ v.
+        by_value 1 refl h e no_parts g is _ λ v.
         let m : Node = node h [] (e ∷ []) absent no_parts in
         let x : ℕ = variable_of h in
         let turn : assign_w (drop s.at ws) (valued_at h e v) ≡ vanishing (takes x v) =
@@ -274,7 +273,7 @@ module _ (ws : List ℕ) (ok : Words ws) (n issued : ℕ) (few : n ≤ 8) (small
         (valuing (evaluate vs e) λ v. alone vs (some (plug l.frames (enable (cond (is_true v) p q)))))
     unfolding settled_w depth
     made_branch h e p q g fp fq is =
-        by_value 4 (omega arith) h e (p & q & no_parts) g is _ λ v.
+        by_value 4 refl h e (p & q & no_parts) g is _ λ v.
         let m : Node = node h [] (e ∷ []) absent (p & q & no_parts) in
         let b = branch_rewrites n issued (drop s.at ws) (words_part ws s.at ok) few small vs below rest h e p q g fp fq
         (omega (arith, node_deep m is, deep.low)) (node_at m is) fresh v in
@@ -293,7 +292,7 @@ module _ (ws : List ℕ) (ok : Words ws) (n issued : ℕ) (few : n ≤ 8) (small
         alone vs (some (plug l.frames (cond (is_true v) (seq_of (enable p) (node h [] (e ∷ []) absent (p & no_parts))) nil))))
     unfolding settled_w
     made_repeat h e p k g fp f is =
-        by_value 5 (omega arith) h e (p & no_parts) g is _ λ v.
+        by_value 5 refl h e (p & no_parts) g is _ λ v.
         let m : Node = node h [] (e ∷ []) absent (p & no_parts) in
         let o = repeat_rewrites n issued (drop s.at ws) (words_part ws s.at ok) few small vs below rest h k e p g fp
         (omega (arith, node_deep m is, deep.low)) (node_at m is) f fresh (omega (arith, length-drop s.at ws)) big

@@ -1,6 +1,6 @@
 -- A step of one engine alone is the definitions'.
 -- Assumes nothing.
-use Prim.Native.Nat.{ℕ, ◌+◌, ◌-◌, ◌*◌, ◌%◌, ◌≤◌, ◌<◌}
+use Prim.Native.Nat.{ℕ, ◌+◌, ◌-◌, ◌*◌, ◌≤◌}
 use native.Mathlib.Omega.{arith}
 use mathlib.Core.Path.{◌≡◌, refl, sym, ap, ◌∙◌}
 use mathlib.Core.Bool.{Bool, true, false, cond}
@@ -87,9 +87,6 @@ module _ (ws : List ℕ) (ok : Words ws) (s : Starts) {limits : Limits} (modest 
   by_rule u vs' (some q) (ruled z edits d) v out =
       one_given modest c known.readable.fitting known.readable.shallow ws known.same short e seen.inside u.edit u.fresh k out vs' q z edits d (v z)
 
-  kind_low : k < 32 → k % 32 ≡ k
-  kind_low h = omega arith
-
   first : get_or s.starts e 0 ≡ start
   first = known.starts e (omega (arith, seen.inside))
 
@@ -101,18 +98,18 @@ module _ (ws : List ℕ) (ok : Words ws) (s : Starts) {limits : Limits} (modest 
 
   -- the answer and the output of a step alone, if they are the same whatever the scratch is that has room
   by_scratch :
-      (notes : List ℕ) → k < 32 → (out : List ℕ) (answer : Answered) →
+      (notes : List ℕ) → (out : List ℕ) (answer : Answered) →
       ((fresh : List ℕ) → Roomy ws fresh → Spacious (rule_w limits ws notes own k bound fresh) fresh → Near (length fresh) →
       (let u = rule_w limits ws notes own k bound fresh in
       one_w limits ws start end u.edit k u.fresh out ≡ answer)) →
       alone_w limits ws notes side k bound out ≡ answer
   unfolding alone_w short_w lone_w
-  by_scratch notes low out answer rule = by (ltb 512 (length ws)) (ltb surely (rule_w limits ws notes side k bound small).edit.fresh) refl refl
+  by_scratch notes out answer rule = by (ltb 512 (length ws)) (ltb surely (rule_w limits ws notes side k bound small).edit.fresh) refl refl
     where
       scratched :
           (fresh : List ℕ) → Roomy ws fresh → Spacious (rule_w limits ws notes own k bound fresh) fresh → Near (length fresh) →
           lone_w limits ws notes side k bound fresh out ≡ answer
-      scratched fresh room wide big = rw (first, last, kind_low low) (rule fresh room wide big)
+      scratched fresh room wide big = rw (first, last) (rule fresh room wide big)
 
       in_large : lone_w limits ws notes side k bound large out ≡ answer
       in_large =
@@ -135,19 +132,19 @@ module _ (ws : List ℕ) (ok : Words ws) (s : Starts) {limits : Limits} (modest 
           (λ h. omega (arith, spare, small_length)) (rw small_length (near_of 1024 (lit< tt)))
 
   pub lone_law :
-      (notes : List ℕ) → Right ws notes → (vs' : List ℕ) (q : Option Run) → move_of (engine_at c e).values l.frames l.process ≡ alone vs' q → k < 32 → (out : List ℕ) →
+      (notes : List ℕ) → Right ws notes → (vs' : List ℕ) (q : Option Run) → move_of (engine_at c e).values l.frames l.process ≡ alone vs' q → (out : List ℕ) →
       alone_w limits ws notes side k bound out ≡ given (lone_of limits c a vs' q (length out)) out
-  lone_law notes right vs' q m low out =
-      by_scratch notes low out _ λ fresh room wide big.
+  lone_law notes right vs' q m out =
+      by_scratch notes out _ λ fresh room wide big.
       let r = known_lone ws ok s modest known e seen.inside target l sp seen.place seen.spotted _ notes right fresh room wide big vs' q m in
       by_rule (rule_w limits ws notes own k bound fresh) vs' q r.0 r.1 out
 
   -- an expression that has no value
   pub unvalued_law :
-      (notes : List ℕ) → Right ws notes → move_of (engine_at c e).values l.frames l.process ≡ unvalued → k < 32 → (out : List ℕ) →
+      (notes : List ℕ) → Right ws notes → move_of (engine_at c e).values l.frames l.process ≡ unvalued → (out : List ℕ) →
       alone_w limits ws notes side k bound out ≡ given (refused not_decimal) out
-  unvalued_law notes right m low out =
-      by_scratch notes low out _ λ fresh room wide big.
+  unvalued_law notes right m out =
+      by_scratch notes out _ λ fresh room wide big.
       let u = rule_w limits ws notes own k bound fresh in
       let z : u.edit.number ≡ 13 = known_unvalued ws ok s modest known e seen.inside target l sp seen.place seen.spotted _ notes right fresh room wide big m in
       one_refused modest c known.readable.fitting known.readable.shallow ws known.same short e seen.inside u.edit u.fresh k out (λ y. omega (arith, y, z))

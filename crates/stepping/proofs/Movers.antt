@@ -48,6 +48,11 @@ use Rattle.layout.specs.Limits.{figures}
 use Rattle.rules.proofs.Depths.{Shallow}
 use Rattle.stepping.specs.Lent.{Modest}
 use Rattle.stepping.specs.Stepping.{body_nil, by_kind, moves_w}
+use Rattle.sock.proofs.Fits.{Fits, fits}
+use Rattle.sock.proofs.Running.{as_node_fits}
+use Rattle.sock.specs.Reading.{Stratum}
+use Rattle.sock.specs.Reading as reading
+use Rattle.skipping.proofs.Forms.{known}
 use Rattle.stepping.proofs.Lone.{near, standing, rest, part_at, inside, process_deep, run_stands, run_deep, run_short}
 
 -- what the code says of a move
@@ -183,6 +188,10 @@ module _ (ws : List ℕ) (ok : Words ws) (n issued : ℕ) (few : n ≤ 8) (small
       (standing ws ok n issued few small r sound start words_at low limits deep short target l s place spotted).process in
       rw (kind_as_node g) (moves l.process refl g)
 
+-- a process that fits is of one of the kinds
+fits_known : {s : Stratum} {p : reading.Place} {m : Node} → Fits s p m → kind m < 19
+fits_known (fits t fx ex bl pt nf) = known _ _ _ t
+
 -- in a configuration that is known
 module _ (ws : List ℕ) (ok : Words ws) (starts : Starts) {limits : Limits} (modest : Modest limits) (known : Known (figures limits) ws starts) (e : ℕ)
     (h : e < length known.config.engines)
@@ -201,3 +210,13 @@ module _ (ws : List ℕ) (ok : Words ws) (starts : Starts) {limits : Limits} (mo
       (engine_at c e).process fit.sound
       (start_of c e) (run_stands ws ok starts modest known e h) (omega arith) limits (run_deep ws ok starts modest known e h) (run_short ws ok starts modest known e h)
       target l s place spotted (engine_at c e).values notes right
+
+  -- it has one of the nineteen kinds
+  pub known_kind : kind (as_node l.process) < 19
+  known_kind =
+      let fit : FitsEngine (length c.engines) c.issued (engine_at c e) = engine_fits _ known.readable.fitting.engines e h in
+      let g : Sound (length c.engines) c.issued l.process =
+      (standing ws ok (length c.engines) c.issued known.readable.fitting.few known.readable.fitting.word (engine_at c e).process fit.sound
+      (start_of c e) (run_stands ws ok starts modest known e h) (omega arith) limits (run_deep ws ok starts modest known e h) (run_short ws ok starts modest known e h)
+      target l s place spotted).process in
+      fits_known (as_node_fits known.readable.fitting.few known.readable.fitting.word g {p = reading.anywhere} tt)

@@ -1,6 +1,6 @@
 -- A step between two engines is the definitions'.
 -- Assumes nothing.
-use Prim.Native.Nat.{ℕ, suc, ◌+◌, ◌-◌, ◌%◌, ◌≤◌, ◌<◌}
+use Prim.Native.Nat.{ℕ, suc, ◌+◌, ◌-◌, ◌≤◌, ◌<◌}
 use native.Mathlib.Omega.{arith}
 use native.Mathlib.Decide.{ℕ_discrete}
 use mathlib.Core.Path.{◌≡◌, refl, sym, ap, ap₂, ◌∙◌}
@@ -39,7 +39,7 @@ use Rattle.layout.specs.declared.limit.Limits.{Limits}
 use Rattle.layout.specs.Limits.{figures}
 use Rattle.stepping.specs.Lent.{Modest}
 use Rattle.stepping.specs.declared.answer.Told.{Told}
-use Rattle.stepping.specs.declared.bundles.Encounter.{Encounter}
+use Rattle.stepping.specs.Bundles.{Encounter}
 use Rattle.stepping.specs.declared.bundles.Side.{Side}
 use Rattle.stepping.specs.Answering.{changed, answered, refusing, two_w}
 use Rattle.stepping.specs.Meeting.{fit_w, serial_w, send_w, receive_w}
@@ -120,7 +120,7 @@ module _ (ws : List ℕ) (ok : Words ws) (s : Starts) {limits : Limits} (modest 
     vb = stored (engine_at c i).values r.store
 
     abbrev told : Told
-    told = record { kind = kd % 32; serial = serial; fault = fault; issued = issued }
+    told = record { kind = kd; serial = serial; fault = fault; issued = issued }
 
     abbrev met : Encounter
     met =
@@ -139,7 +139,7 @@ module _ (ws : List ℕ) (ok : Words ws) (s : Starts) {limits : Limits} (modest 
         (fitted limits (length out)
         (record {
           config = record { issued = issued; engines = with_engine i vb qb (with_engine e va qa c.engines) };
-          kind = kd % 32;
+          kind = kd;
           serial = serial;
           fault = fault;
         }))
@@ -156,17 +156,17 @@ module _ (ws : List ℕ) (ok : Words ws) (s : Starts) {limits : Limits} (modest 
             (fitted limits (length out)
             (record {
               config = record { issued = issued; engines = with_engine i vb qb (with_engine e va qa c.engines) };
-              kind = kd % 32;
+              kind = kd;
               serial = serial;
               fault = fault;
             }))
             out
         by true z =
-            two_given modest c known.readable.fitting known.readable.shallow ws known.same short e i (ltb-true e i z) hi p f qa editsA r g qb editsB issued (kd % 32) serial fault out fine deepA deepB
+            two_given modest c known.readable.fitting known.readable.shallow ws known.same short e i (ltb-true e i z) hi p f qa editsA r g qb editsB issued kd serial fault out fine deepA deepB
             fewA fewB
         by false z =
             let low : i < e = (let y : i ≤ e = ltb-false e i z in lt_of_le-ne y (λ w. other (sym w))) in
-            two_given modest c known.readable.fitting known.readable.shallow ws known.same short i e low he r g qb editsB p f qa editsA issued (kd % 32) serial fault out fine deepB deepA
+            two_given modest c known.readable.fitting known.readable.shallow ws known.same short i e low he r g qb editsB p f qa editsA issued kd serial fault out fine deepB deepA
             fewB fewA
             ∙ same_stepped refl (set_comm c.engines i e _ _ (λ w. other (sym w))) refl refl refl out
 
@@ -208,7 +208,7 @@ module _ (ws : List ℕ) (ok : Words ws) (s : Starts) {limits : Limits} (modest 
   -- ---- two processes found
 
   module _ (e ta : ℕ) (la : Located) (sa : Site) (seenA : Seen ws ok s modest known e ta la sa) (i tb : ℕ) (lb : Located) (sb : Site) (seenB : Seen ws ok s modest known i tb lb sb)
-      (k : Numbers) (m : Message) (moves : move_of (engine_at c e).values la.frames la.process ≡ sends m) (low : kind (as_node la.process) < 32) (out : List ℕ) where
+      (k : Numbers) (m : Message) (moves : move_of (engine_at c e).values la.frames la.process ≡ sends m) (out : List ℕ) where
     abbrev a : Place
     a = placed ws ok s modest known e la
 
@@ -261,7 +261,7 @@ module _ (ws : List ℕ) (ok : Words ws) (s : Starts) {limits : Limits} (modest 
         (ap₂ (λ (vs us : List ℕ). with_engine i vs (plug lb.frames x.receiver) (with_engine e us (plug la.frames x.sender) c.engines))
         (ap (stored (engine_at c i).values) p2.takes ∙ sym t.values)
         (stored_none (engine_at c e).values _ (ap (λ s. s.variable) (p1.takes ∙ t.sender.takes))))
-        (let z : kd % 32 ≡ kd = omega arith in z) (sym t.numbers) (sym t.fails) out)
+        refl (sym t.numbers) (sym t.fails) out)
 
     -- where no serial is left
     spent_law :

@@ -16,7 +16,7 @@ use Rattle.finding.specs.declared.find.Found.TheVariants.{Hit, Past}
 use Rattle.finding.specs.Find.{find_w}
 use Rattle.rules.specs.Rewriting.{at}
 use Rattle.layout.specs.declared.limit.Limits.{Limits}
-use Rattle.stepping.specs.declared.bundles.Encounter.{Encounter}
+use Rattle.stepping.specs.Bundles.{Encounter}
 use Rattle.stepping.specs.declared.bundles.Engines.{Engines}
 use Rattle.stepping.specs.declared.bundles.Numbers.{Numbers}
 use Rattle.stepping.specs.Bundles.{encounter_of}

@@ -1,7 +1,7 @@
 -- A step of one engine alone, as the code goes.
-use Rattle.std.specs.Prelude.{ℕ, ◌-◌, ◌%◌, cond, List, ltb, eqb, length, replicate}
+use Rattle.std.specs.Prelude.{ℕ, ◌-◌, Bool, ◌||◌, Option, Some, None, cond, List, ltb, eqb, length, replicate}
 use Rattle.sock.specs.Kind
-use Rattle.evaluating.specs.declared.evaluate.Evaluated.{Evaluated}
+use Rattle.evaluating.specs.declared.evaluate.Valued.{Valued}
 use Rattle.evaluating.specs.Evaluating.{evaluated}
 use Rattle.finding.specs.declared.find.Site.{Site}
 use Rattle.rules.specs.Rewriting.{Rewritten, rewritten, refused, assign_w, branch_w, repeat_w}
@@ -15,16 +15,25 @@ use Rattle.stepping.specs.declared.bundles.Side.{Side}
 use Rattle.stepping.specs.Answering.{Answered, one_w}
 use Rattle.stepping.specs.Exchanging.{lent}
 
--- assign, if or while, with its expression evaluated
-unfoldable pub settled_w : Limits → List ℕ → Evaluated → ℕ → ℕ → ℕ → List ℕ → Rewritten
+-- the kinds whose rule goes by an expression
+abbrev pub reads : ℕ → Bool
+reads kind = eqb kind Kind.assign || eqb kind Kind.if || eqb kind Kind.while
+
+-- assign, if or while, with the value that its expression has
+unfoldable pub settled_w : Limits → List ℕ → Valued → ℕ → ℕ → ℕ → List ℕ → Rewritten
 settled_w limits part e level kind bound fresh =
-    cond e.good
-    (cond (eqb kind Kind.assign) (rewritten (assign_w part e) fresh)
-    (cond (eqb kind Kind.if) (rewritten (branch_w part e) fresh) (repeat_w limits level bound part e fresh)))
-    (rewritten (refused 13) fresh)
+    cond (eqb kind Kind.assign) (rewritten (assign_w part e) fresh)
+    (cond (eqb kind Kind.if) (rewritten (branch_w part e) fresh) (repeat_w limits level bound part e fresh))
+
+-- 13 where it has none
+abbrev pub when_valued : Option ℕ → (ℕ → Rewritten) → List ℕ → Rewritten
+when_valued None settle fresh = rewritten (refused 13) fresh
+when_valued (Some v) settle fresh = settle v
 
 unfoldable pub rewritten_w : Limits → List ℕ → List ℕ → ℕ → ℕ → ℕ → List ℕ → Rewritten
-rewritten_w limits part vs level kind bound fresh = settled_w limits part (evaluated 64 part vs 1) level kind bound fresh
+rewritten_w limits part vs level kind bound fresh =
+    let e = evaluated 64 part vs 1 in
+    when_valued e.value (λ v. settled_w limits part (record { end = e.end; value = v }) level kind bound fresh) fresh
 
 unfoldable pub valued_w : Limits → List ℕ → ℕ → Site → ℕ → ℕ → List ℕ → Rewritten
 valued_w limits ws start s kind bound fresh =
@@ -42,12 +51,13 @@ scoped_w limits ws notes start s kind bound fresh =
 unfoldable pub rule_w : Limits → List ℕ → List ℕ → Side → ℕ → ℕ → List ℕ → Edited
 rule_w limits ws notes m kind bound fresh =
     let t = valued_w limits ws m.start m.site kind bound fresh in
-    cond (ltb Kind.choice kind) (scoped_w limits ws notes m.start m.site kind bound fresh) (plain_w m.site m.start t.rewriting t.fresh)
+    cond (reads kind) (plain_w m.site m.start t.rewriting t.fresh)
+    (scoped_w limits ws notes m.start m.site kind bound fresh)
 
 unfoldable pub lone_w : Limits → List ℕ → List ℕ → Side → ℕ → ℕ → List ℕ → List ℕ → Answered
 lone_w limits ws notes m kind bound fresh out =
     let p = rule_w limits ws notes m kind bound fresh in
-    one_w limits ws m.start m.end p.edit (kind % 32) p.fresh out
+    one_w limits ws m.start m.end p.edit kind p.fresh out
 
 -- scratch for all, and for short configurations
 abbrev pub large : List ℕ

@@ -2,7 +2,8 @@
 use Rattle.std.specs.Prelude.{ℕ, ◌+◌, ◌-◌, ◌*◌, get_or}
 use Rattle.sock.specs.Calls as sock
 use Rattle.finding.specs.declared.find.Site.{Site}
-use Rattle.stepping.specs.declared.bundles.Encounter.{Encounter}
+use Rattle.layout.specs.Kinds.{number_of}
+use Rattle.stepping.specs.declared.bundles.Encounter as code
 use Rattle.stepping.specs.declared.bundles.Engines.{Engines}
 use Rattle.stepping.specs.declared.bundles.Numbers.{Numbers}
 use Rattle.stepping.specs.declared.bundles.Side.{Side}
@@ -19,6 +20,27 @@ start_at g e = get_or g.starts e 0
 
 abbrev pub side_of : Engines → ℕ → Site → Side
 side_of g e site = record { start = start_at g e; end = start_at g (e + 1) - 64; site = site }
+
+-- two processes that may exchange something, the kind of the one that sends by its number
+pub record Encounter : Type 0 where
+  pub kind : ℕ
+  pub engine : ℕ
+  pub second : ℕ
+  pub branch : ℕ
+  pub sender : Side
+  pub receiver : Side
+
+-- the code's as that
+abbrev pub met : code.Encounter → Encounter
+met x =
+    record {
+      kind = number_of x.kind;
+      engine = x.engine;
+      second = x.second;
+      branch = x.branch;
+      sender = x.sender;
+      receiver = x.receiver;
+    }
 
 abbrev pub encounter_of : Engines → Numbers → ℕ → Site → Site → Encounter
 encounter_of g k kind a b =

@@ -1,5 +1,5 @@
 -- A step between two different engines, as the code goes.
-use Rattle.std.specs.Prelude.{ℕ, ◌+◌, ◌-◌, ◌%◌, Bool, false, cond, List, ltb, eqb, length, replicate, take, drop}
+use Rattle.std.specs.Prelude.{ℕ, ◌+◌, ◌-◌, Bool, false, cond, List, ltb, eqb, length, replicate, take, drop}
 use Rattle.sock.specs.Kind
 use Rattle.rules.specs.declared.pair.Offer.{Offer}
 use Rattle.rules.specs.declared.edit.Edit.{Edit}
@@ -8,7 +8,7 @@ use Rattle.rules.specs.Offering.{offer_w}
 use Rattle.rules.specs.Editing.{Edited, plain_w}
 use Rattle.layout.specs.declared.limit.Limits.{Limits}
 use Rattle.stepping.specs.declared.answer.Told.{Told}
-use Rattle.stepping.specs.declared.bundles.Encounter.{Encounter}
+use Rattle.stepping.specs.Bundles.{Encounter}
 use Rattle.stepping.specs.Answering.{Answered, answered, refusing, changed, two_w}
 use Rattle.stepping.specs.Meeting.{fit_w, serial_w, send_w, receive_w}
 
@@ -49,7 +49,7 @@ carry_w limits ws part vs other o x out =
     let p = sender_w part x serial blank in
     let q = receiver_w part vs other o x serial blank in
     ordered_w limits ws x p.edit p.fresh q.edit q.fresh
-    (record { kind = x.kind % 32; serial = serial; fault = fault_of x.kind; issued = issued_of x.kind (at ws 1) next }) out
+    (record { kind = x.kind; serial = serial; fault = fault_of x.kind; issued = issued_of x.kind (at ws 1) next }) out
 
 unfoldable pub spent_w : List ℕ → ℕ → Bool
 spent_w ws kind = cond (eqb kind Kind.solicit) (eqb (at ws 1) 65535) false

@@ -1,5 +1,5 @@
 -- The whole step on words, as the code goes.
-use Rattle.std.specs.Prelude.{ℕ, Bool, false, cond, List, leb, ltb, eqb}
+use Rattle.std.specs.Prelude.{ℕ, Option, Some, None, Bool, false, cond, List, leb, ltb, eqb}
 use Rattle.sock.specs.Kind
 use Rattle.sock.specs.Words.{kind_of}
 use Rattle.skipping.specs.Pass.{pass_list}
@@ -16,6 +16,9 @@ use Rattle.rules.specs.Rewriting.{at}
 use Rattle.layout.specs.declared.limit.Limits.{Limits}
 use Rattle.stepping.specs.declared.bundles.Engines.{Engines}
 use Rattle.stepping.specs.declared.bundles.Numbers.{Numbers}
+use Rattle.layout.specs.Kinds.{counted_as}
+use Rattle.stepping.specs.declared.steps.Way.{Way}
+use Rattle.stepping.specs.declared.steps.Way.TheVariants as ways
 use Rattle.stepping.specs.Bundles.{start_at, side_of, bound_of, encounter_of}
 use Rattle.stepping.specs.Answering.{Answered, answered, refusing}
 use Rattle.stepping.specs.Exchanging.{between_w}
@@ -33,6 +36,10 @@ by_kind kind =
     (cond (eqb kind Kind.solicit) 2
     (cond (eqb kind Kind.notice) 2
     (cond (ltb kind Kind.inst) 0 (cond (ltb kind Kind.cH) 1 0)))))))
+
+-- by name: nothing, alone, sending
+abbrev pub way_as : ℕ → Option Way
+way_as n = cond (eqb n 0) None (cond (eqb n 1) (Some ways.Alone) (Some ways.Sending))
 
 unfoldable pub moves_w : List ℕ → List ℕ → ℕ → ℕ → ℕ
 moves_w ws notes i kind =
@@ -54,12 +61,13 @@ none_else i place branch = cond (eqb i 0) (cond (eqb place 0) (eqb branch 0) fal
 
 unfoldable pub moving_w : Limits → List ℕ → List ℕ → Engines → Numbers → Site → List ℕ → Answered
 moving_w limits ws notes g k a out =
-    let kind = kind_of (at ws a.at) in
+    let kind = counted_as (kind_of (at ws a.at)) in
     let m = moves_w ws notes a.at kind in
     cond (eqb m 0) (answered (refusing 3) out)
-    (cond (eqb m 2) (receiving_w limits ws notes g k a kind out)
+    (cond (eqb m 1)
     (cond (none_else k.second k.second_position k.branch) (alone_w limits ws notes (side_of g k.engine a) kind (bound_of g) out)
-    (answered (refusing 3) out)))
+    (answered (refusing 3) out))
+    (receiving_w limits ws notes g k a kind out))
 
 unfoldable pub found_w : Limits → List ℕ → List ℕ → Engines → Numbers → List ℕ → Found → Answered
 found_w limits ws notes g k out (Past p) = answered (refusing 2) out

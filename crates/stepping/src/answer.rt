@@ -4,7 +4,7 @@ ghost use Rattle.stepping.specs.Answering.{refusing, accepting, sized_w, write_o
 
 use crate::writing::engine;
 use layout::limit::Limits;
-use layout::number::{further, less};
+use layout::number::further;
 use rules::edit::Edit;
 use writers::write::{copy, put};
 
@@ -43,6 +43,7 @@ pub fn accept(kind: u8, serial: u16, fault: u8, length: u16) -> Answer
 }
 
 // How many words there are once an edit is carried out on so many; too many where its fresh words alone are.
+#[tactic(auto, unfolding(crate::specs::Answering::sized_w))]
 fn sized(limits: Limits, words: usize, p: Edit) -> usize
     ensures { result ≡ sized_w limits words p }
 {
@@ -50,11 +51,12 @@ fn sized(limits: Limits, words: usize, p: Edit) -> usize
         return further(limits.longest, 1);
     }
     let a = further(words, p.fresh);
-    let b = less(a, less(p.past, p.list));
-    let c = less(b, less(p.upto, p.from));
-    less(c, less(p.end, p.gap))
+    a.saturating_sub(p.past.saturating_sub(p.list))
+        .saturating_sub(p.upto.saturating_sub(p.from))
+        .saturating_sub(p.end.saturating_sub(p.gap))
 }
 
+#[tactic(auto, unfolding(crate::specs::Answering::write_one_w, crate::specs::Writing::copy_w))]
 fn write_one(ws: &[u16], start: usize, end: usize, p: Edit, fresh: &[u16], out: &mut [u16]) -> usize
     ensures place { result ≡ (write_one_w ws.now start end p fresh.now out.old).to }
     ensures written { out.new ≡ (write_one_w ws.now start end p fresh.now out.old).out }
@@ -64,6 +66,7 @@ fn write_one(ws: &[u16], start: usize, end: usize, p: Edit, fresh: &[u16], out: 
 }
 
 // The refusal of a length, or 0.
+#[tactic(auto, unfolding(crate::specs::Answering::length_of))]
 fn fitting(limits: Limits, length: usize, room: usize) -> u8
     ensures { result ≡ length_of limits length room }
 {
@@ -77,6 +80,7 @@ fn fitting(limits: Limits, length: usize, room: usize) -> u8
 }
 
 // One engine's process start..end under an edit.
+#[tactic(auto, unfolding(crate::specs::Answering::one_w))]
 pub fn one(
     ws: &[u16],
     start: usize,
@@ -141,6 +145,7 @@ fn write_two(
 }
 
 // Two engines' processes under an edit each, in the order of the words, and the serials issued.
+#[tactic(auto, unfolding(crate::specs::Answering::two_w))]
 pub fn two(
     ws: &[u16],
     p: Change,

@@ -1,8 +1,10 @@
 // What the step hands on in one: the numbers of a call, the engines of a configuration, and a process found in one of them.
 ghost use Rattle.std.specs.Prelude.{◌≡◌, ◌-◌, ◌≤◌, ◌<◌};
-ghost use Rattle.stepping.specs.Bundles.{bound_of, side_of, encounter_of};
+ghost use Rattle.layout.specs.Kinds.{number_of};
+ghost use Rattle.stepping.specs.Bundles.{bound_of, side_of, met, encounter_of};
 
 use finding::find::Site;
+use layout::kind::Kind;
 use layout::limit::VALUES;
 use layout::number::wide;
 
@@ -61,7 +63,7 @@ pub fn side_in(g: Engines, engine: u16, site: Site) -> Side
 // Two processes that may exchange something: the kind of the one that sends, both engines, the branch, and where the two were found.
 #[derive(Clone, Copy)]
 pub struct Encounter {
-    pub kind: usize,
+    pub kind: Kind,
     pub engine: u16,
     pub second: u16,
     pub branch: usize,
@@ -69,9 +71,9 @@ pub struct Encounter {
     pub receiver: Side,
 }
 
-pub fn meeting_of(g: Engines, k: Numbers, kind: usize, a: Site, b: Site) -> Encounter
+pub fn meeting_of(g: Engines, k: Numbers, kind: Kind, a: Site, b: Site) -> Encounter
     requires { (k.engine < 8) × (k.second < 8) }
-    ensures { result ≡ encounter_of g k kind a b }
+    ensures { met result ≡ encounter_of g k (number_of kind) a b }
 {
     let sender = side_in(g, k.engine, a);
     let receiver = side_in(g, k.second, b);

@@ -1,23 +1,26 @@
 // A step between two different engines, the sender's and the receiver's.
 ghost use Rattle.std.specs.Prelude.{◌≡◌};
+ghost use Rattle.layout.specs.Kinds.{number_of};
 ghost use Rattle.stepping.specs.Answering.{changed};
+ghost use Rattle.stepping.specs.Bundles.{met};
 ghost use Rattle.stepping.specs.Exchanging.{sender_w, receiver_w, next_of, issued_of, fault_of, carry_w, spent_w, meet_w, between_w};
 
 use crate::answer::{Answer, Change, Told, refuse, two};
 use crate::bundles::{Encounter, Side};
 use crate::meeting::{fit, receive, send, serial_of};
-use layout::kind;
+use layout::kind::Kind;
 use layout::limit::{Limits, VALUES};
-use layout::number::{wide, word};
+use layout::number::{LARGEST, wide, word};
 use rules::edit::{Edit, plain};
 use rules::pair::{Offer, offered};
 
 // Scratch: no process that sends or receives turns into more than a few words that are new.
 const SCRATCH: usize = 64;
 
+#[tactic(auto, unfolding(crate::specs::Exchanging::sender_w))]
 fn sender(part: &[u16], x: Encounter, serial: u16, fresh: &mut [u16]) -> Edit
-    ensures edited { result ≡ (sender_w part.now x serial fresh.old).edit }
-    ensures fresh { fresh.new ≡ (sender_w part.now x serial fresh.old).fresh }
+    ensures edited { result ≡ (sender_w part.now (met x) serial fresh.old).edit }
+    ensures fresh { fresh.new ≡ (sender_w part.now (met x) serial fresh.old).fresh }
 {
     let t = send(part, x.kind, x.second, serial, fresh);
     let m = x.sender;
@@ -25,6 +28,7 @@ fn sender(part: &[u16], x: Encounter, serial: u16, fresh: &mut [u16]) -> Edit
     plain(s, m.start, t, fresh)
 }
 
+#[tactic(auto, unfolding(crate::specs::Exchanging::receiver_w))]
 fn receiver(
     part: &[u16],
     values: &[u16],
@@ -34,8 +38,8 @@ fn receiver(
     serial: u16,
     fresh: &mut [u16],
 ) -> Edit
-    ensures edited { result ≡ (receiver_w part.now values.now other.now o x serial fresh.old).edit }
-    ensures fresh { fresh.new ≡ (receiver_w part.now values.now other.now o x serial fresh.old).fresh }
+    ensures edited { result ≡ (receiver_w part.now values.now other.now o (met x) serial fresh.old).edit }
+    ensures fresh { fresh.new ≡ (receiver_w part.now values.now other.now o (met x) serial fresh.old).fresh }
 {
     let t = receive(part, values, other, o, x.kind, x.engine, serial, fresh);
     let m = x.receiver;
@@ -55,22 +59,35 @@ fn change(m: Side, edit: Edit) -> Change
 }
 
 // The serial that a solicit takes.
+#[tactic(auto, unfolding(crate::specs::Exchanging::next_of))]
 fn next_of(issued: u16) -> u16
     ensures { result ≡ next_of issued }
 {
-    if issued == 65535 { issued } else { issued + 1 }
+    if issued == LARGEST {
+        issued
+    } else {
+        issued + 1
+    }
 }
 
-fn issued_of(kind: usize, issued: u16, next: u16) -> u16
-    ensures { result ≡ issued_of kind issued next }
+#[tactic(auto, unfolding(crate::specs::Exchanging::issued_of))]
+fn issued_of(kind: Kind, issued: u16, next: u16) -> u16
+    ensures { result ≡ issued_of (number_of kind) issued next }
 {
-    if kind == kind::SOLICIT { next } else { issued }
+    match kind {
+        Kind::Solicit => next,
+        _ => issued,
+    }
 }
 
-fn fault_of(kind: usize) -> u8
-    ensures { result ≡ fault_of kind }
+#[tactic(auto, unfolding(crate::specs::Exchanging::fault_of))]
+fn fault_of(kind: Kind) -> u8
+    ensures { result ≡ fault_of (number_of kind) }
 {
-    if kind == kind::NOTICE { 1 } else { 0 }
+    match kind {
+        Kind::Notice => 1,
+        _ => 0,
+    }
 }
 
 // The two fit. Their edits are carried out in the order of the engines.
@@ -84,8 +101,8 @@ fn carry(
     limits: Limits,
     out: &mut [u16],
 ) -> Answer
-    ensures answered { result ≡ (carry_w limits ws.now part.now values.now other.now o x out.old).answer }
-    ensures written { out.new ≡ (carry_w limits ws.now part.now values.now other.now o x out.old).out }
+    ensures answered { result ≡ (carry_w limits ws.now part.now values.now other.now o (met x) out.old).answer }
+    ensures written { out.new ≡ (carry_w limits ws.now part.now values.now other.now o (met x) out.old).out }
 {
     let issued = word(ws, 1);
     let next = next_of(issued);
@@ -95,7 +112,7 @@ fn carry(
     let mut fresh2 = [0u16; SCRATCH];
     let second = receiver(part, values, other, o, x, serial, &mut fresh2);
     let told = Told {
-        kind: (x.kind % 32) as u8,
+        kind: u8::from(x.kind),
         serial,
         fault: fault_of(x.kind),
         issued: issued_of(x.kind, issued, next),
@@ -111,16 +128,18 @@ fn carry(
 }
 
 // Whether a solicit finds no serial left.
-fn spent(ws: &[u16], kind: usize) -> bool
-    ensures { result ≡ spent_w ws.now kind }
+#[tactic(auto, unfolding(crate::specs::Exchanging::spent_w))]
+fn spent(ws: &[u16], kind: Kind) -> bool
+    ensures { result ≡ spent_w ws.now (number_of kind) }
 {
-    if kind == kind::SOLICIT {
-        return word(ws, 1) == 65535;
+    match kind {
+        Kind::Solicit => word(ws, 1) == LARGEST,
+        _ => false,
     }
-    false
 }
 
 // The words from each process's position on are handed to the rule, with the sender's values.
+#[tactic(auto, unfolding(crate::specs::Exchanging::meet_w))]
 fn meet(
     ws: &[u16],
     part: &[u16],
@@ -130,8 +149,8 @@ fn meet(
     limits: Limits,
     out: &mut [u16],
 ) -> Answer
-    ensures answered { result ≡ (meet_w limits ws.now part.now values.now other.now x out.old).answer }
-    ensures written { out.new ≡ (meet_w limits ws.now part.now values.now other.now x out.old).out }
+    ensures answered { result ≡ (meet_w limits ws.now part.now values.now other.now (met x) out.old).answer }
+    ensures written { out.new ≡ (meet_w limits ws.now part.now values.now other.now (met x) out.old).out }
 {
     let o = offered(other, x.branch);
     if fit(
@@ -153,9 +172,10 @@ fn meet(
 }
 
 // That the places are inside is known of all that was found.
+#[tactic(auto, unfolding(crate::specs::Exchanging::between_w))]
 pub(crate) fn between(ws: &[u16], x: Encounter, limits: Limits, out: &mut [u16]) -> Answer
-    ensures answered { result ≡ (between_w limits ws.now x out.old).answer }
-    ensures written { out.new ≡ (between_w limits ws.now x out.old).out }
+    ensures answered { result ≡ (between_w limits ws.now (met x) out.old).answer }
+    ensures written { out.new ≡ (between_w limits ws.now (met x) out.old).out }
 {
     let a = x.sender;
     let b = x.receiver;

@@ -3,9 +3,10 @@ ghost use Rattle.std.specs.Prelude.{◌≡◌, ◌≤◌, ◌<◌};
 ghost use Rattle.sock.specs.Configuration.{standard};
 ghost use Rattle.sock.specs.Calls.{step_answer, step_output};
 ghost use Rattle.noting.specs.Noting.{survey_notes};
+ghost use Rattle.layout.specs.Kinds.{number_of};
 ghost use Rattle.layout.specs.Limits.{figures};
 ghost use Rattle.stepping.specs.Answers.{answer_as, numbers};
-ghost use Rattle.stepping.specs.Stepping.{body_nil, by_kind, moves_w, receiving_w, none_else, moving_w, step_w};
+ghost use Rattle.stepping.specs.Stepping.{body_nil, way_as, by_kind, moves_w, receiving_w, none_else, moving_w, step_w};
 ghost use Rattle.stepping.specs.Bundles.{numbers_as};
 ghost use Rattle.stepping.specs.Lent.{Modest, Blank};
 
@@ -14,8 +15,7 @@ use crate::answer::{Answer, refuse};
 use crate::bundles::{Engines, Numbers, bound, meeting_of, side_in};
 use crate::exchange::between;
 use finding::find::{Found, Site, locate};
-use layout::field::kind_of;
-use layout::kind;
+use layout::kind::Kind;
 use layout::limit::{ENGINES, FUEL, Limits, standard};
 use layout::number::{further, wide, word};
 use layout::own::own_end;
@@ -30,6 +30,7 @@ pub const FEW: usize = 1024;
 pub const SHORT: usize = 512;
 
 // Whether the body of the scope at a position is nil.
+#[tactic(auto, unfolding(crate::specs::Stepping::body_nil))]
 fn body_nil(ws: &[u16], notes: &[u16], at: usize) -> bool
     ensures { result ≡ body_nil ws.now notes.now at }
 {
@@ -37,67 +38,53 @@ fn body_nil(ws: &[u16], notes: &[u16], at: usize) -> bool
     word(ws, body) == 0
 }
 
-// What a process of the kind given does, unless that goes by its body: 0 nothing, 1 it moves alone, 2 it sends.
-fn by_kind(kind: usize) -> usize
-    ensures { result ≡ by_kind kind }
+// What a process that can move does: it moves alone, or it sends to another engine.
+#[derive(Clone, Copy, Debug, PartialEq, Eq)]
+enum Way {
+    Alone,
+    Sending,
+}
+
+// What a process of the kind given does, unless that goes by its body; nothing, where it can't move.
+#[tactic(auto, unfolding(crate::specs::Stepping::by_kind))]
+fn by_kind(kind: Kind) -> Option<Way>
+    ensures { result ≡ way_as (by_kind (number_of kind)) }
 {
-    if kind == kind::ASSIGN {
-        return 1;
+    match kind {
+        Kind::Assign | Kind::If | Kind::While => Some(Way::Alone),
+        Kind::Inst | Kind::Throw | Kind::Comp => Some(Way::Alone),
+        Kind::Notify | Kind::Solicit | Kind::Notice => Some(Way::Sending),
+        _ => None,
     }
-    if kind == kind::IF {
-        return 1;
-    }
-    if kind == kind::WHILE {
-        return 1;
-    }
-    if kind == kind::NOTIFY {
-        return 2;
-    }
-    if kind == kind::SOLICIT {
-        return 2;
-    }
-    if kind == kind::NOTICE {
-        return 2;
-    }
-    if kind < kind::INST {
-        return 0;
-    }
-    if kind < kind::CH { 1 } else { 0 }
 }
 
 // What the process at a position does: a scope ends, and an executor replies, once its body is nil.
-fn moves(ws: &[u16], notes: &[u16], at: usize, kind: usize) -> usize
-    ensures { result ≡ moves_w ws.now notes.now at kind }
+#[tactic(auto, unfolding(crate::specs::Stepping::moves_w))]
+fn moves(ws: &[u16], notes: &[u16], at: usize, kind: Kind) -> Option<Way>
+    ensures { result ≡ way_as (moves_w ws.now notes.now at (number_of kind)) }
 {
-    if kind == kind::SCOPE {
-        if body_nil(ws, notes, at) {
-            return 1;
-        }
-        return 0;
+    match kind {
+        Kind::Scope => body_nil(ws, notes, at).then_some(Way::Alone),
+        Kind::Executor => (word(ws, own_end(ws, at)) == 0).then_some(Way::Sending),
+        _ => by_kind(kind),
     }
-    if kind == kind::EXECUTOR {
-        if word(ws, own_end(ws, at)) == 0 {
-            return 2;
-        }
-        return 0;
-    }
-    by_kind(kind)
 }
 
 // The process found sends; the receiver is sought in the second engine.
+#[tactic(auto, unfolding(crate::specs::Stepping::receiving_w, crate::specs::Stepping::partner_w))]
 fn receiving(
     ws: &[u16],
     notes: &[u16],
     g: Engines,
     k: Numbers,
     a: Site,
-    kind: usize,
+    kind: Kind,
     limits: Limits,
     out: &mut [u16],
 ) -> Answer
     requires { (g.count ≤ 8) × (k.engine < 8) }
-    ensures answered { result ≡ (receiving_w limits ws.now notes.now g k a kind out.old).answer }
-    ensures written { out.new ≡ (receiving_w limits ws.now notes.now g k a kind out.old).out }
+    ensures answered { result ≡ (receiving_w limits ws.now notes.now g k a (number_of kind) out.old).answer }
+    ensures written { out.new ≡ (receiving_w limits ws.now notes.now g k a (number_of kind) out.old).out }
 {
     let i = wide(k.second);
     if g.count <= i {
@@ -119,19 +106,15 @@ fn receiving(
 }
 
 // Whether a second engine, place and branch are all 0.
+#[tactic(auto, unfolding(crate::specs::Stepping::none_else))]
 fn none_else(second: u16, place: u16, branch: u16) -> bool
     ensures { result ≡ none_else second place branch }
 {
-    if second != 0 {
-        return false;
-    }
-    if place != 0 {
-        return false;
-    }
-    branch == 0
+    second == 0 && place == 0 && branch == 0
 }
 
 // The process a was found in the first engine.
+#[tactic(auto, unfolding(crate::specs::Stepping::moving_w))]
 fn moving(
     ws: &[u16],
     notes: &[u16],
@@ -145,29 +128,22 @@ fn moving(
     ensures answered { result ≡ (moving_w limits ws.now notes.now g k a out.old).answer }
     ensures written { out.new ≡ (moving_w limits ws.now notes.now g k a out.old).out }
 {
-    let kind = kind_of(word(ws, a.at));
-    let m = moves(ws, notes, a.at, kind);
-    if m == 0 {
-        return refuse(3);
+    let kind = Kind::of(word(ws, a.at));
+    match moves(ws, notes, a.at, kind) {
+        None => refuse(3),
+        Some(Way::Sending) => receiving(ws, notes, g, k, a, kind, limits, out),
+        Some(Way::Alone) => {
+            if none_else(k.second, k.second_position, k.branch) {
+                let side = side_in(g, k.engine, a);
+                return alone(ws, notes, side, kind, bound(g), limits, out);
+            }
+            refuse(3)
+        }
     }
-    if m == 2 {
-        return receiving(ws, notes, g, k, a, kind, limits, out);
-    }
-    if none_else(k.second, k.second_position, k.branch) {
-        return alone(
-            ws,
-            notes,
-            side_in(g, k.engine, a),
-            kind,
-            bound(g),
-            limits,
-            out,
-        );
-    }
-    refuse(3)
 }
 
 // The notes are all 0 before.
+#[tactic(auto, unfolding(crate::specs::Stepping::step_w, crate::specs::Stepping::found_w))]
 fn stepped(ws: &[u16], notes: &mut [u16], k: Numbers, limits: Limits, out: &mut [u16]) -> Answer
     ensures { (result ≡ (step_w limits ws.now notes.old k out.old).answer) × (out.new ≡ (step_w limits ws.now notes.old k out.old).out) × (notes.new ≡ survey_notes (figures limits) ws.now notes.old) }
 {

@@ -10,6 +10,7 @@ use rules::store::Store;
 use writers::write::{copy, put};
 
 // What an edit puts in front: up to its second fresh words.
+#[tactic(auto, unfolding(crate::specs::Writing::front_w, crate::specs::Writing::copy_w))]
 fn front(ws: &[u16], start: usize, p: Edit, fresh: &[u16], out: &mut [u16]) -> usize
     ensures place { result ≡ (front_w ws.now start p fresh.now out.old).to }
     ensures written { out.new ≡ (front_w ws.now start p fresh.now out.old).out }
@@ -20,6 +21,7 @@ fn front(ws: &[u16], start: usize, p: Edit, fresh: &[u16], out: &mut [u16]) -> u
 }
 
 // And behind, from a place on.
+#[tactic(auto, unfolding(crate::specs::Writing::back_w, crate::specs::Writing::copy_w))]
 fn back(ws: &[u16], end: usize, p: Edit, fresh: &[u16], out: &mut [u16], to: usize) -> usize
     ensures place { result ≡ (back_w ws.now end p fresh.now out.old to).to }
     ensures written { out.new ≡ (back_w ws.now end p fresh.now out.old to).out }
@@ -30,6 +32,7 @@ fn back(ws: &[u16], end: usize, p: Edit, fresh: &[u16], out: &mut [u16], to: usi
 }
 
 // The process start..end under an edit, into the output's part from where it begins.
+#[tactic(auto, unfolding(crate::specs::Writing::process_w))]
 pub fn process_words(
     ws: &[u16],
     start: usize,
@@ -46,6 +49,7 @@ pub fn process_words(
 }
 
 // Variable x of the values that end at `to` takes v, if there is one.
+#[tactic(auto, unfolding(crate::specs::Writing::value_w))]
 fn value(out: &mut [u16], to: usize, x: usize, v: u32) -> usize
     ensures nothing { result ≡ 0 }
     ensures written { out.new ≡ value_w out.old to x v }
@@ -66,6 +70,7 @@ fn value(out: &mut [u16], to: usize, x: usize, v: u32) -> usize
 }
 
 // The variables of a store take their values, if it has any.
+#[tactic(auto, unfolding(crate::specs::Writing::store_w))]
 fn store(out: &mut [u16], to: usize, s: Store) -> usize
     ensures nothing { result ≡ 0 }
     ensures written { out.new ≡ store_w out.old to s }
@@ -83,6 +88,7 @@ fn store(out: &mut [u16], to: usize, s: Store) -> usize
 }
 
 // The output's part from a place on is lent to the process writer.
+#[tactic(auto, unfolding(crate::specs::Writing::lent_w))]
 fn lend(
     ws: &[u16],
     start: usize,

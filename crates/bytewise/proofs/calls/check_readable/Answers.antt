@@ -7,8 +7,5 @@ use Rattle.bytewise.proofs.Holding.{first_held, readable_as}
 use borrow.Author.Rules.{rules}
 use Rattle.bytewise.proofs.calls.check_readable.Goals as goal
 
-pub slice_bounds-check_readable-end : goal.slice_bounds-check_readable-end
-slice_bounds-check_readable-end c = sym (length-take-le _ _ (search rules))
-
 pub returns : goal.returns
 returns c = c.check_readable.ensures ∙ readable_as standard 8192 (omega arith) _ _ (first_held _ 8192 _ _ _ _ (search rules) c.hold-n.ensures.0 c.hold-n.ensures.1)

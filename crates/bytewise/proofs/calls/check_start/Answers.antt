@@ -7,8 +7,5 @@ use Rattle.bytewise.proofs.Holding.{first_held, start_as}
 use borrow.Author.Rules.{rules}
 use Rattle.bytewise.proofs.calls.check_start.Goals as goal
 
-pub slice_bounds-check_start-end : goal.slice_bounds-check_start-end
-slice_bounds-check_start-end c = sym (length-take-le _ _ (search rules))
-
 pub returns : goal.returns
 returns c = c.check_start.ensures ∙ start_as standard 8192 (omega arith) _ _ (first_held _ 8192 _ _ _ _ (search rules) c.hold-n.ensures.0 c.hold-n.ensures.1)

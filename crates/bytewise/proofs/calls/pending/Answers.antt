@@ -5,9 +5,6 @@ use Rattle.bytewise.proofs.Holding.{first_held, pending_as_lem, pending_packed}
 use borrow.Author.Rules.{rules}
 use Rattle.bytewise.proofs.calls.pending.Goals as goal
 
-pub slice_bounds-pending_at-end : goal.slice_bounds-pending_at-end
-slice_bounds-pending_at-end c = sym (length-take-le _ _ (search rules))
-
 pub returns : goal.returns
 returns c =
     pending_packed _ _ _ c.pending_at-p.ensures c.flag.ensures.0

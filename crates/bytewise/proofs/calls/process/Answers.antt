@@ -5,8 +5,5 @@ use Rattle.bytewise.proofs.Holding.{first_held, process_as}
 use borrow.Author.Rules.{rules}
 use Rattle.bytewise.proofs.calls.process.Goals as goal
 
-pub slice_bounds-part-end : goal.slice_bounds-part-end
-slice_bounds-part-end c = sym (length-take-le _ _ (search rules))
-
 pub returns : goal.returns
 returns c = c.part.ensures ∙ process_as _ _ (first_held _ 8192 _ _ _ _ (search rules) c.hold-n.ensures.0 c.hold-n.ensures.1) _

@@ -10,14 +10,6 @@ use Rattle.bytewise.proofs.Stepping.{part_fits, large_answer, large_output}
 use borrow.Author.Rules.{rules}
 use Rattle.bytewise.proofs.stepping_bytes.large.Goals as goal
 
-pub slice_bounds-written-end : goal.slice_bounds-written-end
-slice_bounds-written-end c =
-    sym (length-take-le _ _ (search rules))
-
-pub slice_bounds-written-end-3 : goal.slice_bounds-written-end-3
-slice_bounds-written-end-3 c =
-    sym (length-take-le _ _ (omega (arith, c.room_of-room.ensures.1)))
-
 pub written-requires : goal.written-requires
 written-requires c =
     let r = c.room_of-room.ensures in

@@ -12,14 +12,6 @@ use Rattle.bytewise.proofs.stepping_bytes.spread.Goals as goal
 pub loop-i-init : goal.loop-i-init
 loop-i-init c = (omega arith, spread_none c.args.ws.now c.args.out.now, refl)
 
-pub bounds-out-i-in-loop-i : goal.bounds-out-i-in-loop-i
-bounds-out-i-in-loop-i c =
-    let a = c.args in
-    let l = c.loop-i in
-    let x : l.i < a.n = c.loop-i-test.true in
-    let z : l.i * 2 + 1 < length l.out = omega (arith, l.invariant.2) in
-    Below-set _ l.out _ _ _ z
-
 pub loop-i-preserved : goal.loop-i-preserved
 loop-i-preserved c =
     let a = c.args in
@@ -28,10 +20,3 @@ loop-i-preserved c =
     let y : l.i < length a.ws.now = omega arith in
     let z : l.i * 2 + 1 < length a.out.now = omega arith in
     (omega arith, spread_turn a.ws.now l.out a.out.now l.i _ _ l.invariant.1 c.high.ensures c.low.ensures y z, simp length-set l.invariant.2)
-
-pub returns : goal.returns
-returns c =
-    let l = c.loop-i in
-    let a = c.args in
-    let i : l.i ≡ a.n = omega arith in
-    (i, l.invariant.1 ∙ ap (λ (m : ℕ). over (bytes_of (take m a.ws.now)) a.out.now) i)

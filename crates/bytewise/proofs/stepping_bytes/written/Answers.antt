@@ -4,9 +4,6 @@ use mathlib.Core.Path.{◌∙◌}
 use Rattle.bytewise.proofs.Stepping.{as_step, law_refused, law_fits, law_done}
 use Rattle.bytewise.proofs.stepping_bytes.written.Goals as goal
 
-pub step_at-a-requires : goal.step_at-a-requires
-step_at-a-requires c = (c.requires.0, c.requires.1)
-
 pub spread-requires : goal.spread-requires
 spread-requires c =
     let f = law_fits _ c.args.ws.now _ c.args.res.now c.args.out.now _ c.step_at-a.ensures.answered c.if-a-eq0.true in

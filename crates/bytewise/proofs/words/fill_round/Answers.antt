@@ -11,9 +11,6 @@ use Rattle.bytewise.specs.Held.{rounds}
 use Rattle.bytewise.proofs.Holding.{laid_turn, laid_end, rounds_length, round_pair}
 use Rattle.bytewise.proofs.words.fill_round.Goals as goal
 
-pub loop-i-init : goal.loop-i-init
-loop-i-init c = (omega arith, refl, refl)
-
 pub loop-i-preserved : goal.loop-i-preserved
 loop-i-preserved c =
     let l = c.loop-i in

@@ -7,9 +7,6 @@ use Rattle.bytewise.specs.Held.{rounds}
 use Rattle.bytewise.proofs.Holding.{laid_end, turn_length, turn_next}
 use Rattle.bytewise.proofs.words.turn.Goals as goal
 
-pub loop-i-init : goal.loop-i-init
-loop-i-init c = (omega arith, refl, refl)
-
 pub loop-i-preserved : goal.loop-i-preserved
 loop-i-preserved c =
     let l = c.loop-i in

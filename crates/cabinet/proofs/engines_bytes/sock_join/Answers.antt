@@ -8,30 +8,10 @@ use Rattle.cabinet.proofs.Engines.{join_bytes, too_long_bytes, join_answer_lem, 
 use borrow.Author.Rules.{rules}
 use Rattle.cabinet.proofs.engines_bytes.sock_join.Goals as goal
 
-pub slice_bounds-unread-end : goal.slice_bounds-unread-end
-slice_bounds-unread-end c =
-    sym (length-take-le _ _ (search rules))
-
 pub returns-then-newcomer-gt-NEWCOMER_BYTES : goal.returns-then-newcomer-gt-NEWCOMER_BYTES
 returns-then-newcomer-gt-NEWCOMER_BYTES c =
     let held = first_held _ 8192 _ _ _ _ (search rules) (c.hold-n.ensures.0) (c.hold-n.ensures.1) in
     let same = too_long_bytes (c.args.config.now) _ held (c.args.newcomer.now) (c.args.out.now) (c.if-newcomer-gt-NEWCOMER_BYTES.true) in record { answered = join_answer_lem (c.args.config.now) (c.args.newcomer.now) (c.args.out.now) _ (c.unread.ensures) same; wrote = long_output (c.args.config.now) (c.args.newcomer.now) (c.args.out.now) _ same }
-
-pub slice_bounds-let_in-end : goal.slice_bounds-let_in-end
-slice_bounds-let_in-end c =
-    sym (length-take-le _ _ (search rules))
-
-pub slice_bounds-let_in-end-2 : goal.slice_bounds-let_in-end-2
-slice_bounds-let_in-end-2 c =
-    sym (length-take-le _ _ (search rules))
-
-pub slice_bounds-let_in-end-3 : goal.slice_bounds-let_in-end-3
-slice_bounds-let_in-end-3 c =
-    sym (length-take-le _ _ (omega (arith, c.room_of-room.ensures.1)))
-
-pub let_in-requires : goal.let_in-requires
-let_in-requires c =
-    part_fits _ _ (omega (arith, c.room_of-room.ensures.1)) (c.room_of-room.ensures.2)
 
 pub returns : goal.returns
 returns c =

@@ -8,18 +8,6 @@ use Rattle.cabinet.proofs.Engines.{leave_bytes, leave_answer_lem, leave_output_l
 use borrow.Author.Rules.{rules}
 use Rattle.cabinet.proofs.engines_bytes.sock_leave.Goals as goal
 
-pub slice_bounds-let_go-end : goal.slice_bounds-let_go-end
-slice_bounds-let_go-end c =
-    sym (length-take-le _ _ (search rules))
-
-pub slice_bounds-let_go-end-2 : goal.slice_bounds-let_go-end-2
-slice_bounds-let_go-end-2 c =
-    sym (length-take-le _ _ (omega (arith, c.room_of-room.ensures.1)))
-
-pub let_go-requires : goal.let_go-requires
-let_go-requires c =
-    part_fits _ _ (omega (arith, c.room_of-room.ensures.1)) (c.room_of-room.ensures.2)
-
 pub returns : goal.returns
 returns c =
     let held = first_held _ 8192 _ _ _ _ (search rules) (c.hold-n.ensures.0) (c.hold-n.ensures.1) in record { answered = leave_answer_lem (c.args.config.now) (c.args.out.now) _ (c.let_go.ensures.answered) (leave_bytes (c.args.config.now) _ held (c.args.out.now) _ (length-take-le _ _ (omega (arith, c.room_of-room.ensures.1)) ∙ c.room_of-room.ensures.0)); wrote = leave_output_lem (c.args.config.now) (c.args.out.now) _ (c.let_go.ensures.wrote) (leave_bytes (c.args.config.now) _ held (c.args.out.now) _ (length-take-le _ _ (omega (arith, c.room_of-room.ensures.1)) ∙ c.room_of-room.ensures.0)) }

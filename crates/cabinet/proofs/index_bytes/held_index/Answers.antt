@@ -6,9 +6,6 @@ use Rattle.cabinet.proofs.Indexing.{order_held, words_held}
 use borrow.Author.Rules.{rules}
 use Rattle.cabinet.proofs.index_bytes.held_index.Goals as goal
 
-pub slice_bounds-in_order-end-2 : goal.slice_bounds-in_order-end-2
-slice_bounds-in_order-end-2 c = sym (length-take-le _ _ (search rules))
-
 pub returns : goal.returns
 returns c =
     let h = c.hold_part-n.ensures in record { ordered = c.in_order.ensures ∙ order_held c.args.index.now _ (first_part _ 2049 _ _ _ _ c.requires h.0 h.1); held = words_held _ c.args.index.now _ _ c.requires h.1 }

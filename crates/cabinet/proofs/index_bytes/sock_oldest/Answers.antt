@@ -6,9 +6,6 @@ use Rattle.cabinet.proofs.Indexing.{oldest_packed}
 use borrow.Author.Rules.{rules}
 use Rattle.cabinet.proofs.index_bytes.sock_oldest.Goals as goal
 
-pub slice_bounds-oldest-end : goal.slice_bounds-oldest-end
-slice_bounds-oldest-end c = sym (length-take-le _ _ (search rules))
-
 pub returns : goal.returns
 returns c =
     let h = c.hold_part-n.ensures in

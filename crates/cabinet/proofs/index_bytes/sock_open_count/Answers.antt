@@ -6,9 +6,6 @@ use Rattle.cabinet.proofs.Indexing.{count_packed}
 use borrow.Author.Rules.{rules}
 use Rattle.cabinet.proofs.index_bytes.sock_open_count.Goals as goal
 
-pub slice_bounds-open_count-end : goal.slice_bounds-open_count-end
-slice_bounds-open_count-end c = sym (length-take-le _ _ (search rules))
-
 pub returns : goal.returns
 returns c =
     let h = c.hold_part-n.ensures in

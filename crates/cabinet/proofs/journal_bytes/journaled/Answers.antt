@@ -4,9 +4,6 @@ use lib.Seq.{length-take-le}
 use Rattle.cabinet.proofs.Journaling.{left_alone, made_answer, fits_scratch, fits_out, made_out, fits_words, fits_journal, made_journal}
 use Rattle.cabinet.proofs.journal_bytes.journaled.Goals as goal
 
-pub compare-c-requires : goal.compare-c-requires
-compare-c-requires c = (c.requires.0, c.requires.1)
-
 pub returns-then-given-ne0 : goal.returns-then-given-ne0
 returns-then-given-ne0 c =
     let l = left_alone _ c.requires.0.few c.args.ws.now _ c.args.res.now c.args.words.now c.compare-c.result c.compare-c.ensures.0 c.args.out.now c.args.journal.now c.if-given-ne0.true in record { answered = l.answer; wrote = l.out_kept; noted = l.journal_kept }

@@ -12,22 +12,6 @@ use Rattle.cabinet.proofs.Journaling.{small_journal_step, small_journal_after}
 use borrow.Author.Rules.{rules}
 use Rattle.cabinet.proofs.journal_bytes.short_journal.Goals as goal
 
-pub slice_bounds-journaled-end : goal.slice_bounds-journaled-end
-slice_bounds-journaled-end c =
-    sym (length-take-le _ _ (search rules))
-
-pub slice_bounds-journaled-end-3 : goal.slice_bounds-journaled-end-3
-slice_bounds-journaled-end-3 c =
-    sym (length-take-le _ _ (omega (arith, c.room_of-room.ensures.1)))
-
-pub slice_bounds-journaled-end-4 : goal.slice_bounds-journaled-end-4
-slice_bounds-journaled-end-4 c =
-    sym (length-take-le _ _ (omega (arith, c.room_of-most.ensures.1)))
-
-pub journaled-requires : goal.journaled-requires
-journaled-requires c =
-    (modest_standard refl, blank_notes 1024, part_fits _ _ (omega (arith, c.room_of-room.ensures.1)) c.room_of-room.ensures.2, part_fits _ _ (omega (arith, c.room_of-most.ensures.1)) c.room_of-most.ensures.2)
-
 pub returns : goal.returns
 returns c =
     let h = c.hold-n.ensures in

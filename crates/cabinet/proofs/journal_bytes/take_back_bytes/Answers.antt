@@ -9,18 +9,6 @@ use Rattle.cabinet.proofs.TakingBack.{back_answer, back_output, back_held}
 use borrow.Author.Rules.{rules}
 use Rattle.cabinet.proofs.journal_bytes.take_back_bytes.Goals as goal
 
-pub slice_bounds-taken_back-end : goal.slice_bounds-taken_back-end
-slice_bounds-taken_back-end c = sym (length-take-le _ _ (search rules))
-
-pub slice_bounds-taken_back-end-2 : goal.slice_bounds-taken_back-end-2
-slice_bounds-taken_back-end-2 c = sym (length-take-le _ _ (search rules))
-
-pub slice_bounds-taken_back-end-4 : goal.slice_bounds-taken_back-end-4
-slice_bounds-taken_back-end-4 c = sym (length-take-le _ _ (omega (arith, c.room_of-room.ensures.1, c.requires)))
-
-pub taken_back-requires : goal.taken_back-requires
-taken_back-requires c = part_fits _ _ (omega (arith, c.room_of-room.ensures.1, c.requires)) c.room_of-room.ensures.2
-
 pub returns : goal.returns
 returns c =
     let h = c.hold-n.ensures in

@@ -7,8 +7,5 @@ use Rattle.bytewise.proofs.Holding.{first_held, readable_as}
 use borrow.Author.Rules.{rules}
 use Rattle.cabinet.proofs.small_bytes.sock_check_readable_small.Goals as goal
 
-pub slice_bounds-readable_at-end : goal.slice_bounds-readable_at-end
-slice_bounds-readable_at-end c = sym (length-take-le _ _ (search rules))
-
 pub returns : goal.returns
 returns c = c.readable_at.ensures ∙ readable_as small 2048 (omega arith) _ _ (first_held _ 2048 _ _ _ _ (search rules) c.hold-n.ensures.0 c.hold-n.ensures.1)

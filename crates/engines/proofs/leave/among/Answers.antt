@@ -5,9 +5,6 @@ use mathlib.Core.Path.{refl, ◌∙◌}
 use Rattle.engines.proofs.Going.{not_met, met, met_all}
 use Rattle.engines.proofs.leave.among.Goals as goal
 
-pub loop-e-init : goal.loop-e-init
-loop-e-init c = (rw sub-zero refl, omega arith)
-
 pub returns-then-read-eq0 : goal.returns-then-read-eq0
 returns-then-read-eq0 c = not_met _ _ _ _ _ c.read.ensures c.loop-e-test.true c.if-read-eq0.true ∙ c.loop-e.invariant.0
 

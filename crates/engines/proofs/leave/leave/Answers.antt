@@ -17,7 +17,7 @@ pub returns-then-not-rests : goal.returns-then-not-rests
 returns-then-not-rests c = record { answered = (leave_gives _ (λ i. (c.type_inv.ws i).fits) _ (c.survey-s.ensures) _ _ _ (at_work (c.args.ws.now) (λ i. (c.type_inv.ws i).fits) _ (c.survey-s.ensures) (c.args.out.now) (c.if-n-eq0.false) _ (c.rests.ensures) (c.if-not-rests.true) _ (c.refuse-then-not-rests.ensures))).0; wrote = (leave_gives _ (λ i. (c.type_inv.ws i).fits) _ (c.survey-s.ensures) _ _ _ (at_work (c.args.ws.now) (λ i. (c.type_inv.ws i).fits) _ (c.survey-s.ensures) (c.args.out.now) (c.if-n-eq0.false) _ (c.rests.ensures) (c.if-not-rests.true) _ (c.refuse-then-not-rests.ensures))).1 }
 
 pub returns-then-out-m : goal.returns-then-out-m
-returns-then-out-m c = record { answered = (leave_gives _ (λ i. (c.type_inv.ws i).fits) _ (c.survey-s.ensures) _ _ _ (leave_short (c.args.ws.now) (λ i. (c.type_inv.ws i).fits) _ (c.survey-s.ensures) (c.args.out.now) (c.if-n-eq0.false) _ (c.rests.ensures) (c.if-not-rests.false) _ (c.less-m.ensures) (c.if-out-m.true) _ (c.refuse-then-out-m.ensures))).0; wrote = (leave_gives _ (λ i. (c.type_inv.ws i).fits) _ (c.survey-s.ensures) _ _ _ (leave_short (c.args.ws.now) (λ i. (c.type_inv.ws i).fits) _ (c.survey-s.ensures) (c.args.out.now) (c.if-n-eq0.false) _ (c.rests.ensures) (c.if-not-rests.false) _ (c.less-m.ensures) (c.if-out-m.true) _ (c.refuse-then-out-m.ensures))).1 }
+returns-then-out-m c = record { answered = (leave_gives _ (λ i. (c.type_inv.ws i).fits) _ (c.survey-s.ensures) _ _ _ (leave_short (c.args.ws.now) (λ i. (c.type_inv.ws i).fits) _ (c.survey-s.ensures) (c.args.out.now) (c.if-n-eq0.false) _ (c.rests.ensures) (c.if-not-rests.false) _ (c.saturating_sub-m.ensures) (c.if-out-m.true) _ (c.refuse-then-out-m.ensures))).0; wrote = (leave_gives _ (λ i. (c.type_inv.ws i).fits) _ (c.survey-s.ensures) _ _ _ (leave_short (c.args.ws.now) (λ i. (c.type_inv.ws i).fits) _ (c.survey-s.ensures) (c.args.out.now) (c.if-n-eq0.false) _ (c.rests.ensures) (c.if-not-rests.false) _ (c.saturating_sub-m.ensures) (c.if-out-m.true) _ (c.refuse-then-out-m.ensures))).1 }
 
 pub overflow_cast-n : goal.overflow_cast-n
 overflow_cast-n c =
@@ -25,7 +25,7 @@ overflow_cast-n c =
 
 pub overflow_cast-result : goal.overflow_cast-result
 overflow_cast-result c =
-    omega (arith, (known_length (survey_known standard (c.args.ws.now) (λ i. (c.type_inv.ws i).fits) _ (c.survey-s.ensures) (c.if-n-eq0.false))).1, c.less-m.ensures)
+    omega (arith, (known_length (survey_known standard (c.args.ws.now) (λ i. (c.type_inv.ws i).fits) _ (c.survey-s.ensures) (c.if-n-eq0.false))).1, c.saturating_sub-m.ensures)
 
 pub returns : goal.returns
-returns c = record { answered = (leave_gives _ (λ i. (c.type_inv.ws i).fits) _ (c.survey-s.ensures) _ _ _ (leave_done (c.args.ws.now) (λ i. (c.type_inv.ws i).fits) _ (c.survey-s.ensures) (c.args.out.now) (c.if-n-eq0.false) _ (c.rests.ensures) (c.if-not-rests.false) _ (c.less-m.ensures) _ _ _ refl (c.if-out-m.false) (c.copy.ensures.1) (c.put.ensures.1))).0; wrote = (leave_gives _ (λ i. (c.type_inv.ws i).fits) _ (c.survey-s.ensures) _ _ _ (leave_done (c.args.ws.now) (λ i. (c.type_inv.ws i).fits) _ (c.survey-s.ensures) (c.args.out.now) (c.if-n-eq0.false) _ (c.rests.ensures) (c.if-not-rests.false) _ (c.less-m.ensures) _ _ _ refl (c.if-out-m.false) (c.copy.ensures.1) (c.put.ensures.1))).1 }
+returns c = record { answered = (leave_gives _ (λ i. (c.type_inv.ws i).fits) _ (c.survey-s.ensures) _ _ _ (leave_done (c.args.ws.now) (λ i. (c.type_inv.ws i).fits) _ (c.survey-s.ensures) (c.args.out.now) (c.if-n-eq0.false) _ (c.rests.ensures) (c.if-not-rests.false) _ (c.saturating_sub-m.ensures) _ _ _ refl (c.if-out-m.false) (c.copy.ensures.1) (c.put.ensures.1))).0; wrote = (leave_gives _ (λ i. (c.type_inv.ws i).fits) _ (c.survey-s.ensures) _ _ _ (leave_done (c.args.ws.now) (λ i. (c.type_inv.ws i).fits) _ (c.survey-s.ensures) (c.args.out.now) (c.if-n-eq0.false) _ (c.rests.ensures) (c.if-not-rests.false) _ (c.saturating_sub-m.ensures) _ _ _ refl (c.if-out-m.false) (c.copy.ensures.1) (c.put.ensures.1))).1 }

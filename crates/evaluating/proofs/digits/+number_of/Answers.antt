@@ -6,12 +6,6 @@ use Rattle.evaluating.proofs.digits.+number_of.Goals as goal
 pub returns-then-n-eq0 : goal.returns-then-n-eq0
 returns-then-n-eq0 t c = (sym (number_none c.args.n c.args.p c.if-n-eq0.true), omega arith)
 
-pub overflow_mul-result : goal.overflow_mul-result
-overflow_mul-result t c = let e = c.number_of.ensures.1 in omega (arith, e)
-
-pub overflow_add-result : goal.overflow_add-result
-overflow_add-result t c = let e = c.number_of.ensures.1 in omega (arith, e)
-
 pub returns : goal.returns
 returns t c =
     let a = c.args in

@@ -1,5 +1,5 @@
 -- `decimal_difference`: both numbers are below 100,000,000 once their digits were seen to be decimal, so nothing runs over or below 0.
-use Rattle.std.proofs.Common.{ℕ, ◌+◌, ◌-◌, ◌%◌, ◌∙◌, ap₂, arith}
+use Rattle.std.proofs.Common.{ℕ, refl, ◌+◌, ◌-◌, ◌%◌, ◌∙◌, ap₂, arith}
 use Rattle.sock.specs.Digits.{packed_of, power}
 use Rattle.evaluating.proofs.Operands.{first_low, second_low, given, missing}
 use Rattle.evaluating.proofs.digits.decimal_difference.Goals as goal
@@ -25,7 +25,7 @@ unfolding power
 returns-then-both_decimal c =
     let e = c.both_decimal.ensures in
     let left = ap₂ (λ (x y : ℕ). packed_of 8 ((x + 100000000 - y) % 100000000)) c.number_of.ensures.0 c.number_of-then-both_decimal.ensures.0 in
-    given c.args.a c.args.b e c.if-both_decimal.true _ _ (c.packed_of.ensures ∙ left) c.good_value.ensures
+    given c.args.a c.args.b e c.if-both_decimal.true _ _ (c.packed_of.ensures ∙ left) refl
 
 pub returns : goal.returns
-returns c = missing c.args.a c.args.b c.both_decimal.ensures c.if-both_decimal.false _ c.no_value.ensures
+returns c = missing c.args.a c.args.b c.both_decimal.ensures c.if-both_decimal.false _ refl

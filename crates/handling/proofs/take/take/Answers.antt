@@ -6,9 +6,6 @@ use Rattle.handling.proofs.Turns.{passes_turn, passes_end}
 use borrow.Author.Rules.{rules}
 use Rattle.handling.proofs.take.take.Goals as goal
 
-pub loop-left-init : goal.loop-left-init
-loop-left-init c = (refl, refl)
-
 pub loop-left-preserved : goal.loop-left-preserved
 loop-left-preserved c = (
   passes_turn _ _ _ _ _ _ _ _ c.loop-left-test.true c.pass-s.ensures.0 c.pass-s.ensures.1

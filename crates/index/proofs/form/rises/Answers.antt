@@ -7,9 +7,6 @@ use Rattle.sock.specs.Index.{rising}
 use Rattle.index.proofs.Forming.{rise_passes, rise_stops, rise_ends}
 use Rattle.index.proofs.form.rises.Goals as goal
 
-pub loop-i-init : goal.loop-i-init
-loop-i-init c = (omega arith, omega arith, ap (λ k. rising 0 (take k (drop 1 (c.args.index.now)))) (let q : c.args.n + 1 - 1 ≡ c.args.n = omega arith in q))
-
 pub returns-then-index-i : goal.returns-then-index-i
 returns-then-index-i c = rise_stops c.args.index.now c.args.n c.loop-i.i c.loop-i.last c.loop-i-test.true c.requires c.if-index-i.true ∙ c.loop-i.invariant.2
 

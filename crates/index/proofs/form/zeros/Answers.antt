@@ -4,9 +4,6 @@ use mathlib.Core.Path.{refl, ◌∙◌}
 use Rattle.index.proofs.Forming.{zero_passes, zero_stops, zeros_end}
 use Rattle.index.proofs.form.zeros.Goals as goal
 
-pub loop-i-init : goal.loop-i-init
-loop-i-init c = (omega arith, refl)
-
 pub returns-then-index-i-ne0 : goal.returns-then-index-i-ne0
 returns-then-index-i-ne0 c = zero_stops c.args.index.now 2049 c.loop-i.i c.requires.0 c.loop-i-test.true c.if-index-i-ne0.true ∙ c.loop-i.invariant.1
 

@@ -16,9 +16,6 @@ pub returns-then-a-ne0 : goal.returns-then-a-ne0
 returns-then-a-ne0 c =
     let a = c.args in as_answered_wrote_noted_followed (step_refuses a.ws.now (numbers_as a.k) a.out.now a.journal.now a.index.now (sym c.in_order.ensures ∙ c.if-not-in_order.false) c.step-a.result c.step-a.ensures.answered _ _ c.step-a.ensures.wrote c.step-a.ensures.noted c.if-a-ne0.true)
 
-pub follow-requires : goal.follow-requires
-follow-requires c = sym c.in_order.ensures ∙ c.if-not-in_order.false
-
 pub returns : goal.returns
 returns c =
     let a = c.args in as_answered_wrote_noted_followed (step_accepts a.ws.now (numbers_as a.k) a.out.now a.journal.now a.index.now (sym c.in_order.ensures ∙ c.if-not-in_order.false) c.step-a.result c.step-a.ensures.answered _ _ c.step-a.ensures.wrote c.step-a.ensures.noted c.if-a-ne0.false _ c.follow.ensures)

@@ -13,12 +13,6 @@ use Rattle.writers.proofs.Over.{over_length, pasted_first}
 use Rattle.journal.proofs.Restoring.{put_words, put_laid, old_length, gives_refused, gives_done, not_read, not_fitting, is_restored}
 use Rattle.journal.proofs.back.checked.Goals as goal
 
-pub slice_bounds-check_readable-end : goal.slice_bounds-check_readable-end
-slice_bounds-check_readable-end c = omega (arith, c.requires.1, c.wide-n.ensures.0)
-
-pub slice_bounds-check_readable-end-2 : goal.slice_bounds-check_readable-end-2
-slice_bounds-check_readable-end-2 c = sym (length-take-le _ _ (omega (arith, c.requires.1, c.wide-n.ensures.0)))
-
 pub returns-then-check_readable-ne0 : goal.returns-then-check_readable-ne0
 returns-then-check_readable-ne0 c =
     let old : List ℕ = put_back (said (c.args.c) (c.args.journal.now)) (c.args.ws.now) in

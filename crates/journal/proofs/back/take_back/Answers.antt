@@ -19,9 +19,6 @@ returns-then-not-sound c =
     let e = sym (sound_as _ (c.args.ws.now) (c.args.journal.now)) ∙ sym (c.sound.ensures) ∙ (c.if-not-sound.true) in
     let g = gives_refused _ (c.args.out.now) (back_unsound (c.args.ws.now) (c.args.journal.now) (length (c.args.out.now)) _ (c.counts_in-c.ensures) h (c.if-journal-lt4.false) e) (c.refuse-then-not-sound.ensures) in record { answered = back_answer (c.args.ws.now) (c.args.journal.now) (c.args.out.now) _ _ g; wrote = back_output (c.args.ws.now) (c.args.journal.now) (c.args.out.now) _ _ g }
 
-pub left-requires : goal.left-requires
-left-requires c = (sym (c.sound.ensures) ∙ (c.if-not-sound.false), c.if-journal-lt4.false)
-
 pub returns-then-not-left : goal.returns-then-not-left
 returns-then-not-left c =
     let h = sym (c.check_readable.ensures) ∙ c.if-check_readable-ne0.false in

@@ -13,15 +13,9 @@ loop-i-init c =
     let b = c.args.b.now in
     (omega arith, omega (arith, c.least-n.ensures, least_left (length a) (length b)), omega (arith, c.least-n.ensures, least_right (length a) (length b)), first_begin a b)
 
-pub returns-then-not-same_block : goal.returns-then-not-same_block
-returns-then-not-same_block c = sym (c.loop-i.invariant.3 ∙ sym c.first_words.ensures)
-
 pub loop-i-preserved : goal.loop-i-preserved
 loop-i-preserved c =
     let l = c.loop-i in
     let x = c.args in
     let s : true ≡ same_words (take 16 (drop l.i x.a.now)) (take 16 (drop l.i x.b.now)) = sym (c.if-not-same_block.false) ∙ c.same_block.ensures in
     (omega arith, l.invariant.1, l.invariant.2, first_turn x.a.now x.b.now l.i (omega arith) (omega arith) s l.invariant.3)
-
-pub returns : goal.returns
-returns c = sym (c.loop-i.invariant.3 ∙ sym c.first_words-2.ensures)

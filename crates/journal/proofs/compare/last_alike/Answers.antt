@@ -15,15 +15,9 @@ loop-i-init c =
     let b = c.args.b.now in
     (omega arith, omega (arith, c.least-n.ensures, least_left (length a) (length b)), omega (arith, c.least-n.ensures, least_right (length a) (length b)), first_begin (reverse a) (reverse b))
 
-pub returns-then-not-same_block : goal.returns-then-not-same_block
-returns-then-not-same_block c = sym (c.loop-i.invariant.3 ∙ sym c.last_words.ensures)
-
 pub loop-i-preserved : goal.loop-i-preserved
 loop-i-preserved c =
     let l = c.loop-i in
     let x = c.args in
     let s : true ≡ same_words (take 16 (drop (length x.a.now - l.i - 16) x.a.now)) (take 16 (drop (length x.b.now - l.i - 16) x.b.now)) = sym (c.if-not-same_block.false) ∙ c.same_block.ensures in
     (omega arith, l.invariant.1, l.invariant.2, last_turn x.a.now x.b.now l.i (omega arith) (omega arith) s l.invariant.3)
-
-pub returns : goal.returns
-returns c = sym (c.loop-i.invariant.3 ∙ sym c.last_words-2.ensures)

@@ -22,9 +22,3 @@ loop-k-preserved c =
       | then-a-i w ↦ (omega arith, w.same-is ∙ turn_differs x.a.now x.b.now x.i x.j l.k f g w.if-a-i.true)
       | else-a-i w ↦ (omega arith, w.same-is ∙ turn_same x.a.now x.b.now x.i x.j l.k f g l.invariant.1 w.if-a-i.false)
     ]
-
-pub returns : goal.returns
-returns c =
-    let l = c.loop-k in
-    let e : l.k ≡ 16 = omega arith in
-    l.invariant.1 ∙ ap (λ n. same_words (take n (drop c.args.i c.args.a.now)) (take n (drop c.args.j c.args.b.now))) e

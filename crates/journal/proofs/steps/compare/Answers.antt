@@ -6,9 +6,6 @@ use Rattle.stepping.specs.declared.answer.Answer.{Answer}
 use Rattle.journal.proofs.Stepping.{Took, did, compared_refused, alike_in, compared_short, compared_done}
 use Rattle.journal.proofs.steps.compare.Goals as goal
 
-pub step_at-a-requires : goal.step_at-a-requires
-step_at-a-requires c = c.requires
-
 pub returns-then-a-ne0 : goal.returns-then-a-ne0
 returns-then-a-ne0 c =
     let t : Took _ c.requires.0.few c.args.ws.now _ c.args.res.now _ _ = record { answered = c.step_at-a.ensures.answered; written = c.step_at-a.ensures.written } in

@@ -7,10 +7,6 @@ use Rattle.stepping.proofs.Modest.{modest_standard, blank_notes}
 use Rattle.journal.proofs.Stepping.{part_fits, large_answer, large_output, large_journal}
 use Rattle.journal.proofs.steps.large.Goals as goal
 
-pub slice_bounds-written-end-2 : goal.slice_bounds-written-end-2
-slice_bounds-written-end-2 c =
-    sym (length-take-le _ _ (omega (arith, c.room_in-room.ensures.1)))
-
 pub written-requires : goal.written-requires
 written-requires c =
     (modest_standard refl, blank_notes 16384, part_fits _ _ (omega (arith, c.room_in-room.ensures.1)) c.room_in-room.ensures.2)

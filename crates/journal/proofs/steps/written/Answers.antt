@@ -5,9 +5,6 @@ use lib.Seq.{length-take-le}
 use Rattle.journal.proofs.Stepping.{kept, wrote, scratch_fits, scratch_length, copied, noted}
 use Rattle.journal.proofs.steps.written.Goals as goal
 
-pub compare-c-requires : goal.compare-c-requires
-compare-c-requires c = (c.requires.0, c.requires.1)
-
 pub returns-then-given-ne0 : goal.returns-then-given-ne0
 returns-then-given-ne0 c =
     let k = kept _ c.requires.0.few c.args.ws.now _ c.args.res.now c.args.out.now c.args.journal.now c.compare-c.result c.compare-c.ensures.0 c.if-given-ne0.true in record { answered = k.answer; wrote = k.keeps_out; noted = k.keeps_journal }

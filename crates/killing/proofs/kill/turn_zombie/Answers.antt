@@ -1,15 +1,7 @@
 -- `turn_zombie` of `killing::kill` meets its contract: the words of the zombie one after the other.
 use mathlib.Core.Path.{ap}
-use Rattle.killing.specs.Killing.{turned_w}
 use Rattle.killing.proofs.Kills.{turned_made}
-use Rattle.sock.proofs.Tests.{tests}
 use Rattle.killing.proofs.kill.turn_zombie.Goals as goal
-
-pub returns-then-ws-at : goal.returns-then-ws-at
-unfolding turned_w
-returns-then-ws-at c =
-    let f0 = c.if-ws-at.true in
-    (simp (tests, ← c.stuck.ensures, f0), simp (tests, f0))
 
 pub returns : goal.returns
 returns c =

@@ -6,6 +6,8 @@ use mathlib.Core.Path.{refl, sym, ◌∙◌}
 use Rattle.reading.specs.Walk.{node_end}
 use Rattle.noting.specs.Noting.{noting, notes_w}
 use Rattle.noting.proofs.Notes.{Headed, none_deep, none_left, refused, others, one_word, a_seq, a_par, a_scope, an_executor, par_ends, leaf_ends, two_none, two_next, seq_none, seq_next, par_none, par_next, scope_short, scope_none, scope_next, executor_none, executor_next, same_note}
+use Rattle.layout.specs.declared.kind.Kind.TheVariants as kinds
+use Rattle.layout.proofs.Named.{head_kind, head_not}
 use Rattle.noting.proofs.enabled.+enabled_executor_noted_par_scope_seq.Goals as goal
 use Rattle.noting.proofs.enabled.+enabled_executor_noted_par_scope_seq.Goals.{enabled-Else-h-head_mask-ne0}
 
@@ -34,42 +36,38 @@ pub enabled-returns-then-ws-at : goal.enabled-returns-then-ws-at
 enabled-returns-then-ws-at t c = as_ended_written (none_left _ _ _ _ _ _ (c.if-depth-eq0.false) (c.if-ws-at.true))
 
 pub enabled-returns-then-plain_par : goal.enabled-returns-then-plain_par
-enabled-returns-then-plain_par t c = as_ended_written (par_ends _ _ _ _ _ _ _ (c.if-depth-eq0.false) (c.if-ws-at.false) (c.wide-h.ensures.0) (c.requires.0) (c.requires.1) (sym (c.plain_par.ensures) ∙ c.if-plain_par.true) _ _ (c.par.ensures.ended) (c.par.ensures.written))
+enabled-returns-then-plain_par t c = as_ended_written (par_ends _ _ _ _ _ _ _ (c.if-depth-eq0.false) (c.if-ws-at.false) refl (c.requires.0) (c.requires.1) (sym (c.plain_par.ensures) ∙ c.if-plain_par.true) _ _ (c.par.ensures.ended) (c.par.ensures.written))
 
 pub enabled-returns-then-plain_leaf : goal.enabled-returns-then-plain_leaf
-enabled-returns-then-plain_leaf t c = as_ended_written (leaf_ends _ _ _ _ _ _ _ (c.if-depth-eq0.false) (c.if-ws-at.false) (c.wide-h.ensures.0) (c.requires.0) (c.requires.1) (sym (c.plain_leaf.ensures) ∙ c.if-plain_leaf.true))
+enabled-returns-then-plain_leaf t c = as_ended_written (leaf_ends _ _ _ _ _ _ _ (c.if-depth-eq0.false) (c.if-ws-at.false) refl (c.requires.0) (c.requires.1) (sym (c.plain_leaf.ensures) ∙ c.if-plain_leaf.true))
 
 pub enabled-returns-then-h-head_mask-ne0 : goal.enabled-returns-then-h-head_mask-ne0
 enabled-returns-then-h-head_mask-ne0 t c = as_ended_written (refused _ _ _ _ _ _ _ _ (c.if-depth-eq0.false) (c.if-ws-at.false) (c.wide-h.ensures.0) (c.head_mask.ensures) (c.if-h-head_mask-ne0.true))
 
-pub enabled-returns-in-0 : goal.enabled-returns-in-0
+pub enabled-returns-in-Nil : goal.enabled-returns-in-Nil
 unfolding node_end
-enabled-returns-in-0 t c = as_ended_written (one_word _ _ _ _ _ _ _ _ (enabled_head t (goal.at.enabled-returns-in-0 t c).Else-h-head_mask-ne0) 0 (c.in-0.is) (λ h e. rw e refl) (λ z. omega arith) (λ z. omega arith) (λ z. omega arith) (λ z. omega arith))
+enabled-returns-in-Nil t c = as_ended_written (one_word _ _ _ _ _ _ _ _ (enabled_head t (goal.at.enabled-returns-in-Nil t c).Else-h-head_mask-ne0) 0 (head_kind kinds.Nil c.wide-h.ensures.0 c.in-Nil.ensures (omega arith)) (λ h e. rw e refl) (λ z. omega arith) (λ z. omega arith) (λ z. omega arith) (λ z. omega arith))
 
-pub enabled-returns-in-2 : goal.enabled-returns-in-2
-enabled-returns-in-2 t c = as_ended_written (a_seq _ _ _ _ _ _ _ _ (enabled_head t (goal.at.enabled-returns-in-2 t c).Else-h-head_mask-ne0) _ _ (c.in-2.is) (c.seq.ensures.ended) (c.seq.ensures.written))
+pub enabled-returns-in-Seq : goal.enabled-returns-in-Seq
+enabled-returns-in-Seq t c = as_ended_written (a_seq _ _ _ _ _ _ _ _ (enabled_head t (goal.at.enabled-returns-in-Seq t c).Else-h-head_mask-ne0) _ _ (head_kind kinds.Seq c.wide-h.ensures.0 c.in-Seq.ensures (omega arith)) (c.seq.ensures.ended) (c.seq.ensures.written))
 
-pub enabled-returns-in-3 : goal.enabled-returns-in-3
-enabled-returns-in-3 t c = as_ended_written (a_par _ _ _ _ _ _ _ _ (enabled_head t (goal.at.enabled-returns-in-3 t c).Else-h-head_mask-ne0) _ _ (c.in-3.is) (c.par-in-3.ensures.ended) (c.par-in-3.ensures.written))
+pub enabled-returns-in-Par : goal.enabled-returns-in-Par
+enabled-returns-in-Par t c = as_ended_written (a_par _ _ _ _ _ _ _ _ (enabled_head t (goal.at.enabled-returns-in-Par t c).Else-h-head_mask-ne0) _ _ (head_kind kinds.Par c.wide-h.ensures.0 c.in-Par.ensures (omega arith)) (c.par-in-Par.ensures.ended) (c.par-in-Par.ensures.written))
 
-pub enabled-returns-in-11 : goal.enabled-returns-in-11
-enabled-returns-in-11 t c = as_ended_written (a_scope _ _ _ _ _ _ _ _ (enabled_head t (goal.at.enabled-returns-in-11 t c).Else-h-head_mask-ne0) _ _ (c.in-11.is) (c.scope.ensures.ended) (c.scope.ensures.written))
+pub enabled-returns-in-Scope : goal.enabled-returns-in-Scope
+enabled-returns-in-Scope t c = as_ended_written (a_scope _ _ _ _ _ _ _ _ (enabled_head t (goal.at.enabled-returns-in-Scope t c).Else-h-head_mask-ne0) _ _ (head_kind kinds.Scope c.wide-h.ensures.0 c.in-Scope.ensures (omega arith)) (c.scope.ensures.ended) (c.scope.ensures.written))
 
-pub enabled-returns-in-16 : goal.enabled-returns-in-16
-enabled-returns-in-16 t c = as_ended_written (an_executor _ _ _ _ _ _ _ _ (enabled_head t (goal.at.enabled-returns-in-16 t c).Else-h-head_mask-ne0) _ _ (c.in-16.is) (c.executor.ensures.ended) (c.executor.ensures.written))
+pub enabled-returns-in-Executor : goal.enabled-returns-in-Executor
+enabled-returns-in-Executor t c = as_ended_written (an_executor _ _ _ _ _ _ _ _ (enabled_head t (goal.at.enabled-returns-in-Executor t c).Else-h-head_mask-ne0) _ _ (head_kind kinds.Executor c.wide-h.ensures.0 c.in-Executor.ensures (omega arith)) (c.executor.ensures.ended) (c.executor.ensures.written))
 
 pub enabled-returns-in_default : goal.enabled-returns-in_default
-enabled-returns-in_default t c = record { ended = c.read.ensures; written = others _ _ _ _ _ _ _ _ (enabled_head t (goal.at.enabled-returns-in_default t c).Else-h-head_mask-ne0) _ refl (c.in_default.in_default-own.rest.0.0.0.1) (c.in_default.in_default-own.rest.0.0.1) (c.in_default.in_default-own.rest.0.1) (c.in_default.in_default-own.rest.1) }
+enabled-returns-in_default t c = record { ended = c.read.ensures; written = others _ _ _ _ _ _ _ _ (enabled_head t (goal.at.enabled-returns-in_default t c).Else-h-head_mask-ne0) _ refl (head_not kinds.Seq c.wide-h.ensures.0 c.of.ensures c.in_default.not-Seq refl) (head_not kinds.Par c.wide-h.ensures.0 c.of.ensures c.in_default.not-Par refl) (head_not kinds.Scope c.wide-h.ensures.0 c.of.ensures c.in_default.not-Scope refl) (head_not kinds.Executor c.wide-h.ensures.0 c.of.ensures c.in_default.not-Executor refl) }
 
 pub executor-returns-then-body-eq0 : goal.executor-returns-then-body-eq0
 executor-returns-then-body-eq0 t c = as_ended_written (executor_none _ _ _ _ _ _ _ c.executor_own-body.ensures c.if-body-eq0.true)
 
 pub executor-returns : goal.executor-returns
 executor-returns t c = as_ended_written (executor_next _ _ _ _ _ _ _ _ _ c.executor_own-body.ensures c.if-body-eq0.false c.noted.ensures.ended c.noted.ensures.written)
-
-pub noted-returns : goal.noted-returns
-unfolding noting
-noted-returns t c = record { ended = c.note.ensures.ended ∙ c.enabled-e.ensures.ended; written = c.note.ensures.written ∙ same_note _ _ _ _ _ (c.enabled-e.ensures.ended) (c.enabled-e.ensures.written) }
 
 pub par-returns-then-a-eq0 : goal.par-returns-then-a-eq0
 par-returns-then-a-eq0 t c = record { ended = two_none _ (notes_w (c.args.depth) (c.args.ws.now) (c.args.bound)) _ _ _ _ (c.noted-a.ensures.ended) (c.noted-a.ensures.written) _ (c.if-a-eq0.true); written = par_none _ _ _ _ _ _ (c.noted-a.ensures.ended) (c.noted-a.ensures.written) (c.if-a-eq0.true) }

@@ -7,6 +7,3 @@ use Rattle.noting.proofs.enabled.listed.Goals as goal
 
 pub returns-then-h-fault-eq0 : goal.returns-then-h-fault-eq0
 returns-then-h-fault-eq0 c = bare_list _ _ _ _ _ _ (c.requires) (c.wide-fault.ensures.0) (c.wide.ensures.0) (c.if-h-fault-eq0.true)
-
-pub returns : goal.returns
-returns c = c.marked.ensures ∙ ap (λ v. marked_end (process_end (c.args.depth) (c.args.ws.now) (c.args.bound)) (c.args.ws.now) (c.args.h) v (c.args.at + 2)) (c.wide-fault.ensures.0)

@@ -10,9 +10,6 @@ use Rattle.noting.proofs.Notes.{notes_short, notes_all, notes_none, notes_next}
 use borrow.Author.Rules.{rules}
 use Rattle.noting.proofs.survey.engines.Goals as goal
 
-pub loop-e-init : goal.loop-e-init
-loop-e-init c = (rw sub-zero refl, rw sub-zero refl, omega arith, omega arith, refl)
-
 pub returns-then-ws-at-lt-VALUES : goal.returns-then-ws-at-lt-VALUES
 returns-then-ws-at-lt-VALUES c = record { answered = no_values _ _ _ _ _ _ _ (c.loop-e.invariant.0) _ (c.loop-e-test.true) (c.if-ws-at-lt-VALUES.true) (c.unreadable.ensures); written = notes_short _ _ _ _ _ _ _ _ (c.loop-e.invariant.1) (c.loop-e-test.true) (c.if-ws-at-lt-VALUES.true) }
 

@@ -1,10 +1,15 @@
 -- `look`, `seq` and `turn` of `pending::look` meet their contracts. The invariant: the mirror's loop from here on gives what it gives from the start;
 -- its measure is the turns left. The measure of the calls is three times the depth, which falls from a process to the first of a seq in it, and
 -- for the same depth who calls whom.
-use mathlib.Core.Path.{◌∙◌}
+use mathlib.Core.Path.{refl, ◌∙◌}
+use Rattle.layout.specs.declared.kind.Kind.TheVariants as kinds
+use Rattle.layout.proofs.Named.{not_kind}
+use Prim.Native.Nat.{ℕ}
+use lib.ListN.{get_or}
+use Rattle.sock.specs.Words.{kind_of}
 use Rattle.sock.proofs.Tests.{tests}
-use Rattle.pending.specs.Looking.{seq_on, seq_w, kind_w, turn_w}
-use Rattle.pending.proofs.Turns.{no_depth, look_start, loop_done, loop_out, loop_ends, loop_turn}
+use Rattle.pending.specs.Looking.{kind_w, turn_w}
+use Rattle.pending.proofs.Turns.{behind_named, no_depth, look_start, loop_done, loop_out, loop_ends, loop_turn}
 use Rattle.pending.proofs.look.+look_seq_turn.Goals as goal
 
 pub look-returns-then-depth-eq0 : goal.look-returns-then-depth-eq0
@@ -25,42 +30,13 @@ look-loop-i-preserved t c = loop_turn _ _ _ _ _ _ c.loop-i-test.true c.if-turns-
 pub look-returns : goal.look-returns
 look-returns t c = loop_done _ _ _ _ _ c.loop-i-test.false ∙ c.loop-i.invariant
 
-pub seq-returns-then-first-eq0 : goal.seq-returns-then-first-eq0
-unfolding seq_w seq_on
-seq-returns-then-first-eq0 t c =
-    simp (tests, ← c.pass.ensures, ← c.look-first.ensures, c.if-first-eq0.true)
-
-pub seq-returns : goal.seq-returns
-unfolding seq_w seq_on
-seq-returns t c =
-    simp (tests, ← c.pass.ensures, ← c.look-first.ensures, c.if-first-eq0.false, ← c.pass-2.ensures)
-
-pub turn-returns-then-ws-at : goal.turn-returns-then-ws-at
-unfolding turn_w kind_w
-turn-returns-then-ws-at t c =
-    simp (tests, ← c.stop.ensures, c.if-ws-at.true)
-
-pub turn-returns-in-2 : goal.turn-returns-in-2
-unfolding turn_w kind_w
-turn-returns-in-2 t c =
-    simp (tests, c.if-ws-at.false, ← c.further-n.ensures, ← c.kind_of-k.ensures.0, c.in-2.is, ← c.seq.ensures)
-
-pub turn-returns-in-11 : goal.turn-returns-in-11
-unfolding turn_w kind_w
-turn-returns-in-11 t c =
-    simp (tests, c.if-ws-at.false, ← c.further-n.ensures, ← c.kind_of-k.ensures.0, c.in-11.is, ← c.scope.ensures)
-
-pub turn-returns-in-12 : goal.turn-returns-in-12
-unfolding turn_w kind_w
-turn-returns-in-12 t c =
-    simp (tests, c.if-ws-at.false, ← c.further-n.ensures, ← c.kind_of-k.ensures.0, c.in-12.is, ← c.stop-in-12.ensures)
-
-pub turn-returns-in-16 : goal.turn-returns-in-16
-unfolding turn_w kind_w
-turn-returns-in-16 t c =
-    simp (tests, c.if-ws-at.false, ← c.further-n.ensures, ← c.kind_of-k.ensures.0, c.in-16.is, ← c.own_end.ensures)
-
 pub turn-returns-in_default : goal.turn-returns-in_default
 unfolding turn_w kind_w
 turn-returns-in_default t c =
-    simp (tests, c.if-ws-at.false, ← c.further-n.ensures, ← c.kind_of-k.ensures.0, c.in_default.in_default-own.rest.0.0.0.1, c.in_default.in_default-own.rest.0.0.1, c.in_default.in_default-own.rest.0.1, c.in_default.in_default-own.rest.1, ← c.pass.ensures, ← c.behind.ensures)
+    let d = c.in_default in
+    let k : ℕ = kind_of (get_or c.args.ws.now c.args.at 0) in
+    let seq = not_kind kinds.Seq {k = k} c.of-k.ensures d.not-Seq refl in
+    let scope = not_kind kinds.Scope {k = k} c.of-k.ensures d.not-Scope refl in
+    let inst = not_kind kinds.Inst {k = k} c.of-k.ensures d.not-Inst refl in
+    let executor = not_kind kinds.Executor {k = k} c.of-k.ensures d.not-Executor refl in
+    simp (tests, c.if-ws-at.false, ← c.further-n.ensures, seq, scope, inst, executor, ← c.pass.ensures, c.behind.ensures ∙ behind_named k c.of-k.ensures _ _)

@@ -5,15 +5,6 @@ use mathlib.Core.Path.{refl, ◌∙◌}
 use Rattle.reading.proofs.Freshness.{nil_met, nil_passed, nil_none}
 use Rattle.reading.proofs.calls.none_nil.Goals as goal
 
-pub loop-e-init : goal.loop-e-init
-loop-e-init c = (rw sub-zero refl, omega arith)
-
-pub offset_bounds-ws-at : goal.offset_bounds-ws-at
-offset_bounds-ws-at c = omega (arith, c.requires.1 c.loop-e.e c.loop-e-test.true)
-
-pub bounds-ws-at : goal.bounds-ws-at
-bounds-ws-at c = c.requires.1 c.loop-e.e c.loop-e-test.true
-
 pub returns-then-ws-at-eq0 : goal.returns-then-ws-at-eq0
 returns-then-ws-at-eq0 c = nil_met _ _ _ _ c.loop-e-test.true c.if-ws-at-eq0.true ∙ c.loop-e.invariant.0
 

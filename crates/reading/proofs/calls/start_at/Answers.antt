@@ -2,9 +2,6 @@
 use Rattle.reading.proofs.Checks.{start_fresh, start_stale, start_unread}
 use Rattle.reading.proofs.calls.start_at.Goals as goal
 
-pub returns-then-is_fresh : goal.returns-then-is_fresh
-returns-then-is_fresh c = start_fresh _ c.args.ws.now _ c.is_fresh.ensures c.if-is_fresh.true
-
 pub returns-then-readable_at-eq0 : goal.returns-then-readable_at-eq0
 returns-then-readable_at-eq0 c = start_stale _ c.args.ws.now _ _ c.is_fresh.ensures c.if-is_fresh.false c.readable_at.ensures c.if-readable_at-eq0.true
 

@@ -31,11 +31,6 @@ overflow_mul-n c =
     let k = known (goal.at.overflow_mul-n c).Else-n-eq0 in
     omega (arith, few_engines k)
 
-pub bounds-ws-1-2 : goal.bounds-ws-1-2
-bounds-ws-1-2 c =
-    let k = known (goal.at.bounds-ws-1-2 c).Else-n-eq0 in
-    omega (arith, (known_length k).0)
-
 pub overflow_add-n : goal.overflow_add-n
 overflow_add-n c =
     let k = known (goal.at.overflow_add-n c).Else-n-eq0 in

@@ -7,9 +7,6 @@ use lib.ListN.{get_or}
 use Rattle.reading.proofs.Counting.{tally_bounded, counts_below, total_turn, total_end}
 use Rattle.reading.proofs.ends.total.Goals as goal
 
-pub loop-e-init : goal.loop-e-init
-loop-e-init c = (rw sub-zero refl, omega arith, omega arith, omega arith)
-
 pub overflow_add-waiters : goal.overflow_add-waiters
 overflow_add-waiters c =
     let b = counts_below (rw (← c.tally-t.ensures) at (tally_bounded c.args.ws.now (λ i. (c.type_inv.ws i).fits) c.args.serial c.args.bound c.args.depth (get_or c.args.starts c.loop-e.e 0))) in

@@ -4,9 +4,6 @@ use borrow.Author.Tests.{lt-ltb, le-ltb}
 use Rattle.reading.proofs.VariableWalks.{distinct_step, distinct_end}
 use Rattle.reading.proofs.reader.distinct.Goals as goal
 
-pub loop-n-init : goal.loop-n-init
-loop-n-init c = refl
-
 pub returns-then-is_among : goal.returns-then-is_among
 returns-then-is_among c =
     simp (← c.loop-n.invariant, distinct_step c.args.ws.now c.loop-n.n c.loop-n.x c.loop-n.a c.loop-n-test.true, ← c.is_among.ensures, c.if-is_among.true)

@@ -6,9 +6,6 @@ use Rattle.reading.specs.Walk.{when}
 use Rattle.reading.proofs.VariableWalks.{further_step, further_end_lem}
 use Rattle.reading.proofs.reader.further_variables.Goals as goal
 
-pub loop-n-init : goal.loop-n-init
-loop-n-init c = refl
-
 pub returns-then-ws-a : goal.returns-then-ws-a
 unfolding when
 returns-then-ws-a c =

@@ -6,9 +6,6 @@ use Rattle.sock.proofs.Tests.{tests}
 use Rattle.reading.proofs.VariableWalks.{among_step, among_end}
 use Rattle.reading.proofs.reader.is_among.Goals as goal
 
-pub loop-n-init : goal.loop-n-init
-loop-n-init c = refl
-
 pub returns-then-ws-a : goal.returns-then-ws-a
 returns-then-ws-a c =
     let h = c.loop-n-test.true in

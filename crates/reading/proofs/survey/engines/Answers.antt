@@ -8,9 +8,6 @@ use Rattle.reading.proofs.Beyond.{read_inside}
 use Rattle.reading.proofs.Surveys.{no_values, no_process, next_engine, more_words, all_read}
 use Rattle.reading.proofs.survey.engines.Goals as goal
 
-pub loop-e-init : goal.loop-e-init
-loop-e-init c = (rw sub-zero refl, omega arith, omega arith)
-
 pub returns-then-ws-at-lt-VALUES : goal.returns-then-ws-at-lt-VALUES
 returns-then-ws-at-lt-VALUES c = no_values _ _ _ _ _ _ _ (c.loop-e.invariant.0) _ c.loop-e-test.true c.if-ws-at-lt-VALUES.true c.unreadable.ensures
 

@@ -4,13 +4,10 @@ use Prim.Native.Nat.{◌/◌}
 use mathlib.Core.Path.{refl, sym, ap, ◌∙◌}
 use borrow.Author.Rules.{rules}
 use Rattle.skipping.specs.Skip.{expr_form, expr_skip}
+use Rattle.layout.specs.Kinds.{tag_number}
+use Rattle.skipping.proofs.Forms.{expr_named}
 use Rattle.skipping.proofs.Turns.{expr_last, expr_over, expr_out, expr_turn}
 use Rattle.skipping.proofs.skip.skip_expression.Goals as goal
-
-pub loop-left-init : goal.loop-left-init
-unfolding expr_skip
-loop-left-init c =
-    (search rules, refl)
 
 pub returns-then-left-eq0 : goal.returns-then-left-eq0
 returns-then-left-eq0 c =
@@ -25,7 +22,7 @@ loop-left-preserved c = (
   search rules,
   expr_turn c.args.ws.now c.loop-left.turns c.loop-left.left c.loop-left.a c.expression_form-f.result c.if-left-eq0.false c.loop-left-test.true
       c.if-ws-a.false
-      (c.expression_form-f.ensures.0 ∙ ap (λ w. expr_form (w / 8192)) c.wide.ensures.0)
+      (c.expression_form-f.ensures.0 ∙ ap (λ t. expr_form (tag_number t)) c.of.ensures ∙ expr_named _)
       ∙ c.loop-left.invariant.1,
 )
 

@@ -1,0 +1,82 @@
+// What a call refuses with, by name and by number.
+ghost use Rattle.std.specs.Prelude.{◌≡◌};
+ghost use Rattle.layout.specs.Refusals.{refusal_number};
+
+use std::error::Error;
+use std::fmt;
+
+#[derive(Clone, Copy, Debug, PartialEq, Eq)]
+pub enum Refusal {
+    // The configuration is not readable.
+    Unreadable = 1,
+    // No such engine, or no enabled process begins at the position.
+    NoProcess = 2,
+    // The process cannot move so.
+    NoMove = 3,
+    // As `NoProcess`, for the second engine and position.
+    NoPartner = 4,
+    // The two do not fit each other, or the branch does not.
+    NoFit = 5,
+    // The fault meets a side that cannot be killed yet.
+    Pending = 6,
+    // A solicit when all serials are issued.
+    SerialsSpent = 7,
+    // The result would be too deep.
+    TooDeep = 8,
+    // The result would be too long.
+    TooLong = 9,
+    // The output is shorter than the result.
+    OutputShort = 10,
+    // Readable, but not a start; a newcomer that is not readable and fresh.
+    NotFresh = 11,
+    // The serial is 0 or above issued.
+    NoSerial = 12,
+    // An operand of a decimal operator has a digit above 9.
+    NotDecimal = 13,
+    // The journal is cut or does not match, or what it restores is not readable.
+    Unmatched = 15,
+    // The journal lent is too short.
+    JournalShort = 16,
+    // The index is too short or not in order.
+    NoIndex = 17,
+    // There are as many engines as there may be.
+    Full = 21,
+    // The last engine is the only one, is not at its end, or is named elsewhere.
+    AtWork = 22,
+}
+
+// The number that the calls for C answer.
+impl From<Refusal> for u8 {
+    ghost from_gives = { λ refusal n. n ≡ refusal_number refusal };
+
+    fn from(refusal: Refusal) -> u8 {
+        refusal as u8
+    }
+}
+
+impl fmt::Display for Refusal {
+    fn fmt<W: fmt::Write>(&self, f: &mut fmt::Formatter<W>) -> fmt::Result {
+        f.write_str(match self {
+            Refusal::Unreadable => "unreadable",
+            Refusal::NoProcess => "no process there",
+            Refusal::NoMove => "no move",
+            Refusal::NoPartner => "no partner",
+            Refusal::NoFit => "no fit",
+            Refusal::Pending => "a pending process beside the throw",
+            Refusal::SerialsSpent => "serials spent",
+            Refusal::TooDeep => "too deep",
+            Refusal::TooLong => "too long",
+            Refusal::OutputShort => "output too short",
+            Refusal::NotFresh => "not fresh",
+            Refusal::NoSerial => "no such serial",
+            Refusal::NotDecimal => "not decimal",
+            Refusal::Unmatched => "journal does not match",
+            Refusal::JournalShort => "journal too short",
+            Refusal::NoIndex => "index not in order",
+            Refusal::Full => "no room for an engine",
+            Refusal::AtWork => "the engine is at work",
+        })
+    }
+}
+
+impl Error for Refusal {}

@@ -1,7 +1,0 @@
--- `refuse` of `rules::edit` meets its contract: the code is its mirror in specs/.
-use Rattle.sock.proofs.Tests.{tests}
-use Rattle.rules.proofs.edit.refuse.Goals as goal
-
-pub returns : goal.returns
-returns c =
-    simp (tests, ← c.nothing.ensures)
