@@ -1,16 +1,19 @@
 -- The words held are the definitions' words of the bytes, laid over what was there, and what is not held is read by no call.
 -- Assumes nothing.
-use Prim.Native.Nat.{ℕ, zero, suc, ◌+◌, ◌*◌, ◌≤◌, ◌<◌}
+use Prim.Native.Nat.{ℕ, zero, suc, ◌+◌, ◌*◌, ◌/◌, ◌≤◌, ◌<◌}
 use native.Mathlib.Omega.{arith}
 use mathlib.Core.Path.{◌≡◌, refl, sym, ap, ◌∙◌}
 use mathlib.Core.Bool.{Bool, true, false, cond, ◌&&◌}
 use mathlib.Core.Option.{Option}
-use mathlib.Core.List.{List, [], ◌∷◌, ◌++◌}
+use mathlib.Core.List.{List, [], ◌∷◌, map}
 use lib.Dec.{ltb, leb}
 use lib.ListN.{length, get_or, set, take, drop}
-use lib.Seq.{length-take-le, take_all, take_at, drop_at, get_or-take}
+use lib.Seq.{take_all, take_at}
 use borrow.Author.Tests.{lt-ltb, le-ltb, ltb-true}
-use Rattle.sock.specs.Bytes.{words_of, words_or_none, byte_check_readable, byte_check_start, byte_ends, packed_ends, packed_part, byte_process}
+use Rattle.std.specs.Int.{w16, from_be_bytes, from_bool}
+use Rattle.std.specs.Simd.{first_chunks}
+use Rattle.std.proofs.lemmas.List.{nil_from_length}
+use Rattle.sock.specs.Bytes.{words_of, words_or_none, words_in, byte_check_readable, byte_check_start, byte_ends, packed_ends, packed_part, byte_process}
 use Rattle.sock.specs.Words.{bit}
 use Rattle.sock.specs.Pending.{Pending as Search, side_at, searched, pending_at, packed_pending, byte_pending}
 use Rattle.searching.specs.declared.call.Pending.{Pending}
@@ -20,24 +23,31 @@ use Rattle.sock.specs.Configuration.{Config, Limits, standard, read_config, fres
 use Rattle.sock.proofs.ByteWords.{words_next, words_length, words_of_odd, length_words, no_words, long_unread}
 use Rattle.reading.specs.declared.ends.EndCounts.{EndCounts}
 use Rattle.reading.specs.Answers.{end_counts}
-use Rattle.bytewise.specs.Held.{round_word, rounds, held, pair_at}
+use Rattle.bytewise.specs.Held.{held}
 
-pair_next : (h l j : ℕ) (bytes : List ℕ) → pair_at (h ∷ l ∷ bytes) (suc j) ≡ pair_at bytes j
-pair_next h l j bytes =
-    let a : suc j * 2 ≡ suc (suc (j * 2)) = omega arith in
-    let b : suc j * 2 + 1 ≡ suc (suc (j * 2 + 1)) = omega arith in
-    let x : get_or (h ∷ l ∷ bytes) (suc j * 2) 0 ≡ get_or bytes (j * 2) 0 = ap (λ (m : ℕ). get_or (h ∷ l ∷ bytes) m 0) a in
-    let y : get_or (h ∷ l ∷ bytes) (suc j * 2 + 1) 0 ≡ get_or bytes (j * 2 + 1) 0 = ap (λ (m : ℕ). get_or (h ∷ l ∷ bytes) m 0) b in
-    ap (λ (m : ℕ). m * 256 + get_or (h ∷ l ∷ bytes) (suc j * 2 + 1) 0) x ∙ ap (λ (m : ℕ). get_or bytes (j * 2) 0 * 256 + m) y
+-- ---- pairs of bytes as words
 
-pub words_at : (n : ℕ) (bytes : List ℕ) → length bytes ≡ n * 2 → (j : ℕ) → j < n → pair_at bytes j ≡ get_or (words_or_none (words_of bytes)) j 0
-words_at zero bytes e j q = absurd (omega arith)
-words_at (suc n) [] e j q = absurd (omega arith)
-words_at (suc n) (h ∷ []) e j q = absurd (omega arith)
-words_at (suc n) (h ∷ l ∷ bytes) e zero q = sym (ap (λ (us : List ℕ). get_or us 0 0) (words_next n h l bytes (omega arith)))
-words_at (suc n) (h ∷ l ∷ bytes) e (suc j) q =
+pub words_count : (bytes : List ℕ) → length (words_in bytes) ≡ length bytes / 2
+unfolding words_in
+words_count [] = refl
+words_count (h ∷ []) = refl
+words_count (h ∷ l ∷ bytes) = omega (arith, words_count bytes)
+
+pub paired : (bytes : List ℕ) (n : ℕ) → n ≡ length bytes / 2 → map (from_be_bytes w16) (first_chunks 2 n bytes) ≡ words_in bytes
+unfolding words_in
+paired bytes zero q = sym (nil_from_length (words_in bytes) (words_count bytes ∙ sym q))
+paired [] (suc n) q = absurd (omega arith)
+paired (h ∷ []) (suc n) q = absurd (omega arith)
+paired (h ∷ l ∷ bytes) (suc n) q = ap (λ (us : List ℕ). (h * 256 + l) ∷ us) (paired bytes n (omega arith))
+
+even_words : (n : ℕ) (bytes : List ℕ) → length bytes ≡ n * 2 → words_in bytes ≡ words_or_none (words_of bytes)
+unfolding words_in words_of words_or_none
+even_words n [] e = refl
+even_words n (h ∷ []) e = absurd (omega arith)
+even_words zero (h ∷ l ∷ bytes) e = absurd (omega arith)
+even_words (suc n) (h ∷ l ∷ bytes) e =
     let rest : length bytes ≡ n * 2 = omega arith in
-    pair_next h l j bytes ∙ words_at n bytes rest j (omega arith) ∙ sym (ap (λ (us : List ℕ). get_or us (suc j) 0) (words_next n h l bytes rest))
+    ap (λ (us : List ℕ). (h * 256 + l) ∷ us) (even_words n bytes rest) ∙ sym (words_next n h l bytes rest)
 
 -- one more word is over the others
 laid_next : (i : ℕ) (us ws : List ℕ) → i < length us → i < length ws → set (over (take i us) ws) i (get_or us i 0) ≡ over (take (suc i) us) ws
@@ -60,87 +70,6 @@ pub laid_end : (us ws ws₀ : List ℕ) (i : ℕ) → i ≡ length us → ws ≡
 laid_end us ws ws₀ i p f =
     let all : take i us ≡ us = take_all i us (omega arith) in
     f ∙ ap (λ (l : List ℕ). over l ws₀) all
-
--- behind those that are over it, a list is as it was
-pub laid_behind : (us ws ws₀ : List ℕ) (i : ℕ) → i < length us → i < length ws₀ → ws ≡ over (take i us) ws₀ → get_or ws i 0 ≡ get_or ws₀ i 0
-laid_behind us ws ws₀ i a b f = ap (λ (l : List ℕ). get_or l i 0) f ∙ go i us ws₀ a b
-  where
-    go : (i : ℕ) (us ws : List ℕ) → i < length us → i < length ws → get_or (over (take i us) ws) i 0 ≡ get_or ws i 0
-    go i [] ws a b = absurd (omega arith)
-    go i (u ∷ us) [] a b = absurd (omega arith)
-    go zero (u ∷ us) (w ∷ ws) a b = refl
-    go (suc i) (u ∷ us) (w ∷ ws) a b = go i us ws (omega arith) (omega arith)
-
--- ---- words with their bytes the other way round
-
-pub rounds_length : (ws : List ℕ) → length (rounds ws) ≡ length ws
-unfolding rounds
-rounds_length [] = refl
-rounds_length (w ∷ ws) = ap suc (rounds_length ws)
-
-pub rounds_at : (ws : List ℕ) (i : ℕ) → i < length ws → get_or (rounds ws) i 0 ≡ round_word (get_or ws i 0)
-unfolding rounds
-rounds_at [] i h = absurd (omega arith)
-rounds_at (w ∷ ws) zero h = refl
-rounds_at (w ∷ ws) (suc i) h = rounds_at ws i (omega arith)
-
--- the first n words turned, one more of them
-pub turn_length : (n : ℕ) (ws : List ℕ) → n ≤ length ws → length (rounds (take n ws)) ≡ n
-turn_length n ws h = rounds_length (take n ws) ∙ length-take-le n ws h
-
-pub turn_next :
-    (n i w : ℕ) (ws ws₀ : List ℕ) → n ≤ length ws₀ → i < n → w ≡ round_word (get_or ws i 0) → ws ≡ over (take i (rounds (take n ws₀))) ws₀ →
-    set ws i w ≡ over (take (i + 1) (rounds (take n ws₀))) ws₀
-turn_next n i w ws ws₀ h a q f =
-    let us = rounds (take n ws₀) in
-    let inside : i < length us = omega (arith, turn_length n ws₀ h) in
-    let first : i < length (take n ws₀) = omega (arith, length-take-le n ws₀ h) in
-    laid_turn us ws ws₀ i w inside (omega arith)
-    (q ∙ ap round_word (laid_behind us ws ws₀ i inside (omega arith) f ∙ sym (get_or-take n ws₀ i 0 a)) ∙ sym (rounds_at (take n ws₀) i first)) f
-
--- what is made of two bytes so
-pub round_pair :
-    (n : ℕ) (bytes : List ℕ) (i w : ℕ) → length bytes ≡ n * 2 → i < n → get_or bytes (i * 2) 0 < 256 → get_or bytes (i * 2 + 1) 0 < 256 →
-    w ≡ get_or bytes (i * 2 + 1) 0 * 256 + get_or bytes (i * 2) 0 → w ≡ get_or (rounds (words_or_none (words_of bytes))) i 0
-round_pair n bytes i w e a high low q =
-    let inside : i < length (words_or_none (words_of bytes)) = omega (arith, words_length n bytes e) in
-    let same : get_or bytes (i * 2 + 1) 0 * 256 + get_or bytes (i * 2) 0 ≡ round_word (pair_at bytes i) = omega arith in
-    q ∙ same ∙ ap round_word (words_at n bytes e i a) ∙ sym (rounds_at (words_or_none (words_of bytes)) i inside)
-
-twice : (n : ℕ) (bytes : List ℕ) → length bytes ≡ n * 2 → ((j : ℕ) → get_or bytes j 0 < 256) → rounds (rounds (words_or_none (words_of bytes))) ≡ words_or_none (words_of bytes)
-unfolding rounds words_of words_or_none
-twice n [] e small = refl
-twice n (h ∷ []) e small = absurd (omega arith)
-twice zero (h ∷ l ∷ bytes) e small = absurd (omega arith)
-twice (suc n) (h ∷ l ∷ bytes) e small =
-    let a : h < 256 = small 0 in
-    let b : l < 256 = small 1 in
-    let rest : length bytes ≡ n * 2 = omega arith in
-    let same : round_word (round_word (h * 256 + l)) ≡ h * 256 + l = omega arith in
-    let others = twice n bytes rest (λ j. small (suc (suc j))) in
-    ap (λ (us : List ℕ). rounds (rounds us)) (words_next n h l bytes rest)
-    ∙ ap (λ (w : ℕ). w ∷ rounds (rounds (words_or_none (words_of bytes)))) same
-    ∙ ap (λ (us : List ℕ). (h * 256 + l) ∷ us) others
-    ∙ sym (words_next n h l bytes rest)
-
-over_again : (us vs ws : List ℕ) → length vs ≡ length us → over us (over vs ws) ≡ over us ws
-over_again us vs ws e =
-    ap (λ (n : ℕ). us ++ drop n (vs ++ drop (length vs) ws)) (sym e)
-    ∙ ap (λ (l : List ℕ). us ++ l) (drop_at vs (drop (length vs) ws) (length vs) refl ∙ ap (λ (n : ℕ). drop n ws) e)
-
-pub rounds_back :
-    (n : ℕ) (bytes ws mid out : List ℕ) → length bytes ≡ n * 2 → ((j : ℕ) → get_or bytes j 0 < 256) →
-    mid ≡ over (rounds (words_or_none (words_of bytes))) ws → out ≡ over (rounds (take n mid)) mid →
-    out ≡ over (words_or_none (words_of bytes)) ws
-rounds_back n bytes ws mid out e small p q =
-    let us = words_or_none (words_of bytes) in
-    let long : length (rounds us) ≡ n = rounds_length us ∙ words_length n bytes e in
-    let first : take n mid ≡ rounds us = ap (take n) p ∙ take_at (rounds us) (drop (length (rounds us)) ws) n long in
-    q
-    ∙ ap (λ (l : List ℕ). over (rounds l) mid) first
-    ∙ ap (λ (l : List ℕ). over l mid) (twice n bytes e small)
-    ∙ ap (over us) p
-    ∙ over_again us (rounds us) ws (rounds_length us)
 
 held_as : (room : ℕ) (bytes : List ℕ) (b : Bool) → ltb (room * 2) (length bytes) ≡ b → held room bytes ≡ cond b [] (words_or_none (words_of bytes))
 unfolding held
@@ -169,12 +98,13 @@ pub none_laid : (us ws : List ℕ) → [] ≡ us → (0 ≡ length us) × (ws �
 none_laid us ws e = (ap length e, ap (λ (l : List ℕ). over l ws) e, omega arith)
 
 pub all_laid :
-    (r n room : ℕ) (bytes ws out : List ℕ) → length bytes ≡ n * 2 → n ≤ room → room ≡ length ws →
-    r ≡ n → out ≡ over (words_or_none (words_of bytes)) ws →
-    (r ≡ length (held room bytes)) × (out ≡ over (held room bytes) ws) × (r ≤ length ws)
-all_laid r n room bytes ws out e h s p q =
+    (n room : ℕ) (bytes ws out : List ℕ) (pairs : List (List ℕ)) → length bytes ≡ n * 2 → n ≤ room → room ≡ length ws →
+    pairs ≡ first_chunks 2 (length bytes / 2) bytes → out ≡ over (map (from_be_bytes w16) pairs) ws →
+    (n ≡ length (held room bytes)) × (out ≡ over (held room bytes) ws) × (n ≤ length ws)
+all_laid n room bytes ws out pairs e h s p q =
     let same = held_all room n bytes e h in
-    (p ∙ sym (words_length n bytes e) ∙ ap length same, q ∙ ap (λ (l : List ℕ). over l ws) same, omega arith)
+    let words = ap (map (from_be_bytes w16)) p ∙ paired bytes (length bytes / 2) refl ∙ even_words n bytes e ∙ same in
+    (sym (words_length n bytes e) ∙ ap length same, q ∙ ap (λ (l : List ℕ). over l ws) words, omega arith)
 
 -- the first of them are the words held
 pub first_held : (room m : ℕ) (bytes ws out : List ℕ) (r : ℕ) → room ≡ m → r ≡ length (held room bytes) → out ≡ over (held room bytes) ws → take r out ≡ held m bytes
@@ -226,6 +156,10 @@ module _ (bytes ws : List ℕ) (e : ws ≡ held 8192 bytes) where
   pub process_as : (e : ℕ) → packed_part (process_part standard ws e) ≡ byte_process bytes e
   unfolding process_part byte_process
   process_as e = ap (λ (o : Option Config). packed_part (part_in e o)) read_large
+
+pub found_bit : (b : Bool) (n : ℕ) → n ≡ from_bool b → n ≡ bit b
+found_bit true n e = e
+found_bit false n e = e
 
 pub pending_packed :
     (r : Pending) (p : Search) (f : ℕ) → r ≡ pending_as p → f ≡ bit r.found → r.number * 72057594037927936 + f * 281474976710656 + r.count ≡ packed_pending p

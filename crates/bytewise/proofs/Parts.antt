@@ -1,62 +1,42 @@
 -- As many words of some bytes as there is room for, an odd last byte left out.
 -- Assumes nothing.
-use Prim.Native.Nat.{ℕ, zero, suc, ◌+◌, ◌*◌, ◌/◌, ◌≤◌}
+use Prim.Native.Nat.{ℕ, ◌/◌, ◌≤◌, min}
 use native.Mathlib.Omega.{arith}
 use mathlib.Core.Path.{◌≡◌, refl, sym, ap, ◌∙◌}
 use mathlib.Core.Bool.{Bool, true, false}
-use mathlib.Core.List.{List, [], ◌∷◌}
+use mathlib.Core.List.{List, map}
 use lib.Dec.{ltb}
 use lib.ListN.{length, take, drop}
 use lib.Seq.{length-take-le, take_all, take_at}
-use borrow.Author.Tests.{ltb-false}
+use borrow.Author.Tests.{ltb-true, ltb-false}
+use Rattle.std.specs.Int.{w16, from_be_bytes}
+use Rattle.std.specs.Simd.{first_chunks}
+use Rattle.std.proofs.lemmas.List.{take-map}
 use Rattle.sock.specs.Calls.{over}
-use Rattle.sock.specs.Bytes.{words_of, words_or_none, words_in}
-use Rattle.sock.proofs.ByteWords.{words_next, words_length}
-use Rattle.bytewise.specs.Held.{held_part, room_of}
-use Rattle.bytewise.proofs.Stepping.{room_is}
-
-words_of_none : words_or_none (words_of []) ≡ []
-unfolding words_of words_or_none
-words_of_none = refl
-
-part_words : (n : ℕ) (bytes : List ℕ) → n * 2 ≤ length bytes → words_or_none (words_of (take (n * 2) bytes)) ≡ take n (words_in bytes)
-unfolding words_in
-part_words zero bytes h = words_of_none
-part_words (suc n) [] h = absurd (omega arith)
-part_words (suc n) (x ∷ []) h = absurd (omega arith)
-part_words (suc n) (x ∷ y ∷ bytes) h =
-    let d : suc n * 2 ≡ suc (suc (n * 2)) = omega arith in
-    let l : length (take (n * 2) bytes) ≡ n * 2 = length-take-le (n * 2) bytes (omega arith) in
-    ap (λ (k : ℕ). words_or_none (words_of (take k (x ∷ y ∷ bytes)))) d
-    ∙ words_next n x y (take (n * 2) bytes) l
-    ∙ ap (λ (u : List ℕ). (x * 256 + y) ∷ u) (part_words n bytes (omega arith))
-
-pub words_half : (bytes : List ℕ) → length (words_in bytes) * 2 ≤ length bytes
-unfolding words_in
-words_half [] = omega arith
-words_half (x ∷ []) = omega arith
-words_half (x ∷ y ∷ bytes) = omega (arith, words_half bytes)
+use Rattle.sock.specs.Bytes.{words_in}
+use Rattle.bytewise.specs.Held.{held_part}
+use Rattle.bytewise.proofs.Holding.{words_count, paired}
 
 -- as many as there is room for
-part_all : (room n : ℕ) (bytes : List ℕ) → n ≡ room_of room (length bytes) → take n (words_in bytes) ≡ take room (words_in bytes)
+part_all : (room n : ℕ) (bytes : List ℕ) → n ≡ min (length bytes / 2) room → take n (words_in bytes) ≡ take room (words_in bytes)
 part_all room n bytes e = by (ltb room (length bytes / 2)) refl
   where
     by : (b : Bool) → ltb room (length bytes / 2) ≡ b → take n (words_in bytes) ≡ take room (words_in bytes)
-    by true t = ap (λ (k : ℕ). take k (words_in bytes)) (e ∙ room_is room (length bytes) true t)
+    by true t = ap (λ (k : ℕ). take k (words_in bytes)) (omega (arith, e, ltb-true room (length bytes / 2) t))
     by false t =
-        let h : length (words_in bytes) ≤ length bytes / 2 = omega (arith, words_half bytes) in
-        take_all n (words_in bytes) (omega (arith, e, room_is room (length bytes) false t))
-        ∙ sym (take_all room (words_in bytes) (omega (arith, ltb-false room (length bytes / 2) t)))
+        let less : length bytes / 2 ≤ room = ltb-false room (length bytes / 2) t in
+        take_all n (words_in bytes) (omega (arith, e, words_count bytes)) ∙ sym (take_all room (words_in bytes) (omega (arith, words_count bytes)))
 
 pub part_held :
-    (r n room : ℕ) (bytes ws after : List ℕ) → room ≡ length ws → n ≡ room_of room (length bytes) → n * 2 ≤ length bytes → n ≤ room → r ≡ n →
-    after ≡ over (words_or_none (words_of (take (n * 2) bytes))) ws →
-    (r ≡ length (held_part room bytes)) × (after ≡ over (held_part room bytes) ws) × (r ≤ length ws)
+    (n room : ℕ) (bytes ws after : List ℕ) (pairs : List (List ℕ)) → room ≡ length ws → n ≡ min (length bytes / 2) room →
+    pairs ≡ first_chunks 2 (length bytes / 2) bytes → after ≡ over (map (from_be_bytes w16) (take n pairs)) ws →
+    (n ≡ length (held_part room bytes)) × (after ≡ over (held_part room bytes) ws) × (n ≤ length ws)
 unfolding held_part
-part_held r n room bytes ws after s e h g p q =
-    let same : words_or_none (words_of (take (n * 2) bytes)) ≡ take room (words_in bytes) = part_words n bytes h ∙ part_all room n bytes e in
-    let l : length (take (n * 2) bytes) ≡ n * 2 = length-take-le (n * 2) bytes h in
-    (p ∙ sym (words_length n (take (n * 2) bytes) l) ∙ ap length same, q ∙ ap (λ (u : List ℕ). over u ws) same, omega arith)
+part_held n room bytes ws after pairs s e p q =
+    let words : map (from_be_bytes w16) pairs ≡ words_in bytes = ap (map (from_be_bytes w16)) p ∙ paired bytes (length bytes / 2) refl in
+    let same : map (from_be_bytes w16) (take n pairs) ≡ take room (words_in bytes) = sym (take-map (from_be_bytes w16) n pairs) ∙ ap (take n) words ∙ part_all room n bytes e in
+    let long : length (take n (words_in bytes)) ≡ n = length-take-le n (words_in bytes) (omega (arith, e, words_count bytes)) in
+    (sym long ∙ ap length (part_all room n bytes e), q ∙ ap (λ (u : List ℕ). over u ws) same, omega arith)
 
 -- the first of them are the words held
 pub first_part :

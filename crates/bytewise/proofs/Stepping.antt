@@ -1,14 +1,11 @@
 -- The step on words with room for any result, and on the bytes' words, is the step on bytes.
 -- Assumes nothing.
-use Prim.Native.Nat.{ℕ, ◌*◌, ◌/◌, ◌≤◌, ◌<◌}
+use Prim.Native.Nat.{ℕ, ◌*◌, ◌/◌, ◌≤◌}
 use native.Mathlib.Omega.{arith}
 use mathlib.Core.Path.{◌≡◌, refl, sym, ap, ◌∙◌}
-use mathlib.Core.Bool.{Bool, true, false, cond}
 use mathlib.Core.List.{List}
-use lib.Dec.{ltb}
 use lib.ListN.{length, take}
 use lib.Seq.{length-take-le}
-use borrow.Author.Tests.{lt-ltb, le-ltb, ltb-true}
 use Rattle.sock.specs.Configuration.{Limits, standard, encode, read_config}
 use Rattle.sock.specs.Calls.{unreadable, Result, ◌!◌, Numbers, Stepped, step, answer_of, over, step_answer, step_output}
 use Rattle.sock.specs.Bytes.{bytes_of, words_of, words_or_none, byte_step, packed, byte_answer, bytes_after, byte_output}
@@ -20,24 +17,12 @@ use Rattle.bytewise.proofs.Holding.{held_short, read_as}
 
 -- ---- the room
 
-pub room_is : (most bytes : ℕ) (b : Bool) → ltb most (bytes / 2) ≡ b → room_of most bytes ≡ cond b most (bytes / 2)
-unfolding room_of
-room_is most bytes b e = ap (λ (t : Bool). cond t most (bytes / 2)) e
-
 -- either all that a result may have, or all that the output has
-pub room_either : (most bytes : ℕ) → (m : ℕ) → m ≤ most → m ≤ bytes / 2 → m ≤ room_of most bytes
-room_either most bytes m h g = by (ltb most (bytes / 2)) refl
-  where
-    by : (b : Bool) → ltb most (bytes / 2) ≡ b → m ≤ room_of most bytes
-    by true e = omega (arith, room_is most bytes true e)
-    by false e = omega (arith, room_is most bytes false e)
+room_either : (most bytes m : ℕ) → m ≤ most → m ≤ bytes / 2 → m ≤ room_of most bytes
+room_either most bytes m h g = omega arith
 
-pub room_below : (most bytes : ℕ) → room_of most bytes ≤ bytes / 2
-room_below most bytes = by (ltb most (bytes / 2)) refl
-  where
-    by : (b : Bool) → ltb most (bytes / 2) ≡ b → room_of most bytes ≤ bytes / 2
-    by true e = omega (arith, room_is most bytes true e, ltb-true most (bytes / 2) e)
-    by false e = omega (arith, room_is most bytes false e)
+room_below : (most bytes : ℕ) → room_of most bytes ≤ bytes / 2
+room_below most bytes = omega arith
 
 -- with scratch for every result
 pub large_same : (limits : Limits) (most : ℕ) → limits.longest ≤ most → (bytes : ℕ) (ws : List ℕ) (k : Numbers) → step limits ws k (room_of most bytes) ≡ step limits ws k (bytes / 2)
@@ -68,12 +53,6 @@ unfolding byte_step
 step_held limits most all bytes ws e k room = step_words limits ws (words_of bytes) k room (read_as limits most all bytes ws e)
 
 -- ---- in the code's terms
-
-pub room_most : (most bytes : ℕ) → most < bytes / 2 → most ≡ room_of most bytes
-room_most most bytes h = sym (room_is most bytes true (lt-ltb most (bytes / 2) h))
-
-pub room_half : (most bytes : ℕ) → bytes / 2 ≤ most → bytes / 2 ≡ room_of most bytes
-room_half most bytes h = sym (room_is most bytes false (le-ltb most (bytes / 2) h))
 
 -- a part of so many words
 pub part_fits : {bytes : ℕ} (room : ℕ) (l : List ℕ) → room ≤ length l → room * 2 ≤ bytes → length (take room l) * 2 ≤ bytes
@@ -108,35 +87,46 @@ module _ (limits : Limits) (ws : List ℕ) (k : Numbers) (r0 out : List ℕ) (a 
       ∙ ap (λ (r : List ℕ). over (bytes_of (take (answer_of x).length r)) out) q
       ∙ bytes_done x (sym same_number ∙ h) r0 out
 
+-- with other words that are the same, and room that is the same
+module _ (limits : Limits) {ws us : List ℕ} (same-words : ws ≡ us) (k : Numbers) {m room : ℕ} (same-room : m ≡ room) where
+  sized : step limits ws k m ≡ step limits us k room
+  sized = ap (λ (v : List ℕ). step limits v k m) same-words ∙ ap (step limits us k) same-room
+
+  pub sized_answer : answer_as (answer_of (step limits ws k m)) ≡ answer_as (answer_of (step limits us k room))
+  sized_answer = ap (λ (y : Result Stepped). answer_as (answer_of y)) sized
+
+  pub sized_output : (out : List ℕ) → bytes_after (step limits ws k m) out ≡ bytes_after (step limits us k room) out
+  sized_output out = ap (λ (y : Result Stepped). bytes_after y out) sized
+
 -- with scratch for every result
-module _ (limits : Limits) (most : ℕ) (all : limits.longest ≤ most) (bytes ws : List ℕ) (e : ws ≡ held most bytes) (k : Numbers) (out : List ℕ) (m : ℕ) (room : m ≡ room_of most (length out)) where
-  whole : step limits ws k m ≡ byte_step limits bytes k (length out / 2)
-  whole = ap (step limits ws k) room ∙ large_same limits most all (length out) ws k ∙ step_held limits most all bytes ws e k (length out / 2)
+module _ (limits : Limits) (most : ℕ) (all : limits.longest ≤ most) (bytes : List ℕ) (k : Numbers) (out : List ℕ) where
+  whole : step limits (held most bytes) k (room_of most (length out)) ≡ byte_step limits bytes k (length out / 2)
+  whole = large_same limits most all (length out) (held most bytes) k ∙ step_held limits most all bytes (held most bytes) refl k (length out / 2)
 
-  pub large_answer : packed_as (answer_as (answer_of (step limits ws k m))) ≡ byte_answer limits bytes k out
+  pub large_answer : packed_as (answer_as (answer_of (step limits (held most bytes) k (room_of most (length out))))) ≡ byte_answer limits bytes k out
   unfolding byte_answer
-  large_answer = packed_as_lem (step limits ws k m) ∙ ap (λ (y : Result Stepped). packed (answer_of y)) whole
+  large_answer = packed_as_lem (step limits (held most bytes) k (room_of most (length out))) ∙ ap (λ (y : Result Stepped). packed (answer_of y)) whole
 
-  pub large_output : bytes_after (step limits ws k m) out ≡ byte_output limits bytes k out
+  pub large_output : bytes_after (step limits (held most bytes) k (room_of most (length out))) out ≡ byte_output limits bytes k out
   unfolding byte_output
   large_output = ap (λ (y : Result Stepped). bytes_after y out) whole
 
 -- with scratch for a short configuration
-module _ (bytes ws : List ℕ) (short : length bytes ≤ 1024) (e : ws ≡ held 512 bytes) (k : Numbers) (m : ℕ) {room : ℕ} (same-room : m ≡ room) where
-  small_step : step standard ws k m ≡ byte_step standard bytes k room
-  small_step = ap (step standard ws k) same-room ∙ step_words_in standard bytes ws (e ∙ held_short 512 bytes (omega arith)) k room
-
-  pub tried_answer : answer_as (answer_of (step standard ws k m)) ≡ answer_as (answer_of (byte_step standard bytes k room))
-  tried_answer = ap (λ (y : Result Stepped). answer_as (answer_of y)) small_step
-
-  pub tried_output : (out : List ℕ) → bytes_after (step standard ws k m) out ≡ bytes_after (byte_step standard bytes k room) out
-  tried_output out = ap (λ (y : Result Stepped). bytes_after y out) small_step
+short_step :
+    (bytes : List ℕ) → length bytes ≤ 1024 → (k : Numbers) (room : ℕ) → step standard (held 512 bytes) k room ≡ byte_step standard bytes k room
+short_step bytes short k room = step_words_in standard bytes (held 512 bytes) (held_short 512 bytes (omega arith)) k room
 
 -- a step in a short room that is not refused for that
-module _ (bytes : List ℕ) (k : Numbers) (out : List ℕ) (a : Answer)
-    (p : a ≡ answer_as (answer_of (byte_step standard bytes k (room_of 1024 (length out))))) where
+module _ (bytes : List ℕ) (short : length bytes ≤ 1024) (k : Numbers) (out : List ℕ) (a : Answer)
+    (q : a ≡ answer_as (answer_of (step standard (held 512 bytes) k (room_of 1024 (length out))))) where
   abbrev tried : Result Stepped
   tried = byte_step standard bytes k (room_of 1024 (length out))
+
+  tried_is : step standard (held 512 bytes) k (room_of 1024 (length out)) ≡ tried
+  tried_is = short_step bytes short k (room_of 1024 (length out))
+
+  p : a ≡ answer_as (answer_of tried)
+  p = q ∙ ap (λ (x : Result Stepped). answer_as (answer_of x)) tried_is
 
   agree : Agree 8192 (room_of 1024 (length out)) (length out / 2) tried (byte_step standard bytes k (length out / 2))
   unfolding byte_step
@@ -155,10 +145,10 @@ module _ (bytes : List ℕ) (k : Numbers) (out : List ℕ) (a : Answer)
   unfolding byte_answer
   small_answer n = ap packed_as p ∙ packed_as_lem tried ∙ ap (λ (x : Result Stepped). packed (answer_of x)) (same n)
 
-  pub small_output : (a.number ≡ 10 → ⊥) → bytes_after tried out ≡ byte_output standard bytes k out
+  pub small_output : (a.number ≡ 10 → ⊥) → bytes_after (step standard (held 512 bytes) k (room_of 1024 (length out))) out ≡ byte_output standard bytes k out
   unfolding byte_output
-  small_output n = ap (λ (x : Result Stepped). bytes_after x out) (same n)
+  small_output n = ap (λ (x : Result Stepped). bytes_after x out) (tried_is ∙ same n)
 
   -- refused, it has changed no byte
-  pub small_keeps : a.number ≡ 10 → bytes_after tried out ≡ out
-  small_keeps e = sym (bytes_refused tried (omega (arith, its_number, e)) out)
+  pub small_keeps : a.number ≡ 10 → bytes_after (step standard (held 512 bytes) k (room_of 1024 (length out))) out ≡ out
+  small_keeps e = ap (λ (x : Result Stepped). bytes_after x out) tried_is ∙ sym (bytes_refused tried (omega (arith, its_number, e)) out)

@@ -1,5 +1,5 @@
 -- The words that the calls are handed: those of the bytes, none where there is no room for them, as there is for every configuration.
-use Rattle.std.specs.Prelude.{ℕ, ◌+◌, ◌*◌, ◌/◌, ◌%◌, cond, List, [], ◌∷◌, ltb, length, get_or, take}
+use Rattle.std.specs.Prelude.{ℕ, ◌+◌, ◌*◌, ◌/◌, min, cond, List, [], ltb, length, get_or, take}
 use Rattle.sock.specs.Bytes.{words_of, words_or_none, words_in}
 use Rattle.stepping.specs.declared.answer.Answer.{Answer}
 
@@ -14,19 +14,11 @@ held_part room bytes = take room (words_in bytes)
 abbrev pub pair_at : List ℕ → ℕ → ℕ
 pair_at bytes i = get_or bytes (i * 2) 0 * 256 + get_or bytes (i * 2 + 1) 0
 
--- words with their bytes the other way round
-abbrev pub round_word : ℕ → ℕ
-round_word w = w % 256 * 256 + w / 256
-
-unfoldable pub rounds : List ℕ → List ℕ
-rounds [] = []
-rounds (w ∷ ws) = round_word w ∷ rounds ws
-
 -- the answer of a step in 64 bits, from the type that the code declares
 abbrev pub packed_as : Answer → ℕ
 packed_as a =
     a.number * 72057594037927936 + a.kind * 281474976710656 + a.fault * 1099511627776 + a.serial * 65536 + a.length
 
 -- how many words the result may have, at most so many and what an output of so many bytes has room for
-unfoldable pub room_of : ℕ → ℕ → ℕ
-room_of most bytes = cond (ltb most (bytes / 2)) most (bytes / 2)
+abbrev pub room_of : ℕ → ℕ → ℕ
+room_of most bytes = min most (bytes / 2)

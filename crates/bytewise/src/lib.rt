@@ -2,5 +2,6 @@
 #![tactic(auto)]
 
 pub mod calls;
+pub mod packing;
 pub mod stepping_bytes;
 pub mod words;

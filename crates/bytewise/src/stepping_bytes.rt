@@ -1,61 +1,35 @@
 // The step on bytes.
-ghost use Rattle.std.specs.Prelude.{◌≡◌, ◌≤◌, ◌*◌, ◌/◌, ◌%◌, length, take};
+ghost use Rattle.std.specs.Prelude.{◌≡◌, ◌≤◌, ◌<◌, ◌*◌, ◌^◌, length};
 ghost use Rattle.sock.specs.Configuration.{standard};
-ghost use Rattle.sock.specs.Calls.{answer_of, over, step_output};
+ghost use Rattle.sock.specs.Calls.{answer_of, over};
 ghost use Rattle.sock.specs.Calls as calls;
 ghost use Rattle.sock.specs.Bytes.{bytes_of, bytes_after, byte_step, byte_answer, byte_output};
 ghost use Rattle.layout.specs.Limits.{figures};
 ghost use Rattle.stepping.specs.Answers.{answer_as, numbers};
 ghost use Rattle.stepping.specs.Bundles.{numbers_as};
 ghost use Rattle.stepping.specs.Lent.{Modest, Blank};
-ghost use Rattle.bytewise.specs.Held.{packed_as, room_of};
+ghost use Rattle.bytewise.specs.Held.{held, room_of};
 
-use crate::words::hold;
+use crate::packing::pack;
+use crate::words::held;
 use layout::limit::{LONGEST, Limits, STANDARD};
 use stepping::answer::Answer;
 use stepping::bundles::Numbers;
 use stepping::steps::{FEW, MANY, SHORT, step_at};
 
 // How many words a result may have in the short scratch, and the bytes of a short configuration.
-pub const TWICE: usize = 1024;
+pub const TWICE: usize = 2 * SHORT;
 
-pub const SHORT_BYTES: usize = 1024;
+pub const SHORT_BYTES: usize = 2 * SHORT;
 
-fn high(w: u16) -> u8
-    ensures { result ≡ w / 256 }
+// The bytes of the words, over the output.
+pub fn spread(words: &[u16], out: &mut [u8])
+    requires { length words.now * 2 ≤ length out.old }
+    ensures { out.new ≡ over (bytes_of words.now) out.old }
 {
-    (w / 256) as u8
-}
-
-fn low(w: u16) -> u8
-    ensures { result ≡ w % 256 }
-{
-    (w % 256) as u8
-}
-
-// The bytes of the first `n` words, over the output.
-pub fn spread(ws: &[u16], n: usize, out: &mut [u8]) -> usize
-    requires { (n ≤ length ws.now) × (n * 2 ≤ length out.old) }
-    ensures { (result ≡ n) × (out.new ≡ over (bytes_of (take n ws.now)) out.old) }
-{
-    let mut i = 0;
-    while i < n {
-        let w = ws[i];
-        out[i * 2] = high(w);
-        out[i * 2 + 1] = low(w);
-        i = i + 1;
+    for (i, word) in words.iter().enumerate() {
+        out[2 * i..2 * i + 2].copy_from_slice(&word.to_be_bytes());
     }
-    i
-}
-
-pub fn pack(a: Answer) -> u64
-    ensures { result ≡ packed_as a }
-{
-    (a.number as u64) * 72057594037927936
-        + (a.kind as u64) * 281474976710656
-        + (a.fault as u64) * 1099511627776
-        + (a.serial as u64) * 65536
-        + (a.length as u64)
 }
 
 // How many words the result may have, `most` or what the output has room for.
@@ -63,7 +37,7 @@ pub fn room_of(bytes: usize, most: usize) -> usize
     ensures { (result ≡ room_of most bytes) × (result ≤ most) × (result * 2 ≤ bytes) }
 {
     let half = bytes / 2;
-    if most < half { most } else { half }
+    most.min(half)
 }
 
 // The step on words at the limits given, its result written to `result` first. The notes are the step's, all 0.
@@ -81,48 +55,42 @@ pub fn written(
 {
     let a = step_at(ws, k, limits, notes, res);
     if a.number == 0 {
-        spread(res, a.length as usize, out);
+        spread(&res[..usize::from(a.length)], out);
     }
     a
 }
 
-// The step with scratch for every configuration and every result.
-fn large(k: Numbers, config: &[u8], out: &mut [u8]) -> u64
-    ensures { (result ≡ byte_answer standard config.now (numbers_as k) out.old) × (out.new ≡ byte_output standard config.now (numbers_as k) out.old) }
+// The step with scratch for so many words of a configuration, so many notes and so many words of a result.
+pub fn step_in<const WORDS: usize, const NOTES: usize, const RESULT: usize>(
+    k: Numbers,
+    limits: Limits,
+    config: &[u8],
+    out: &mut [u8],
+) -> Answer
+    requires modest { Modest limits }
+    requires sizes { (WORDS < 2 ^ 32) × (NOTES < 2 ^ 32) × (RESULT < 2 ^ 32) }
+    ensures answered { result ≡ answer_as (answer_of (calls.step (figures limits) (held WORDS config.now) (numbers_as k) (room_of RESULT (length out.old)))) }
+    ensures wrote { out.new ≡ bytes_after (calls.step (figures limits) (held WORDS config.now) (numbers_as k) (room_of RESULT (length out.old))) out.old }
 {
-    let mut scratch = [0u16; LONGEST];
-    let n = hold(config, &mut scratch);
-    let mut notes = [0u16; MANY];
-    let mut result = [0u16; LONGEST];
-    let room = room_of(out.len(), LONGEST);
-    pack(written(
-        &scratch[..n],
-        k,
-        STANDARD,
-        &mut notes,
-        &mut result[..room],
-        out,
-    ))
-}
-
-// The step of a short configuration, with room for a result twice as long.
-fn short(k: Numbers, config: &[u8], out: &mut [u8]) -> Answer
-    requires { length config.now ≤ 1024 }
-    ensures { (result ≡ answer_as (answer_of (byte_step standard config.now (numbers_as k) (room_of 1024 (length out.old))))) × (out.new ≡ bytes_after (byte_step standard config.now (numbers_as k) (room_of 1024 (length out.old))) out.old) }
-{
-    let mut scratch = [0u16; SHORT];
-    let n = hold(config, &mut scratch);
-    let mut notes = [0u16; FEW];
-    let mut result = [0u16; TWICE];
-    let room = room_of(out.len(), TWICE);
+    let mut scratch = [0u16; WORDS];
+    let mut notes = [0u16; NOTES];
+    let mut result = [0u16; RESULT];
+    let room = room_of(out.len(), RESULT);
     written(
-        &scratch[..n],
+        held(config, &mut scratch),
         k,
-        STANDARD,
+        limits,
         &mut notes,
         &mut result[..room],
         out,
     )
+}
+
+// With scratch for every configuration and every result.
+fn large(k: Numbers, config: &[u8], out: &mut [u8]) -> u64
+    ensures { (result ≡ byte_answer standard config.now (numbers_as k) out.old) × (out.new ≡ byte_output standard config.now (numbers_as k) out.old) }
+{
+    pack(step_in::<LONGEST, MANY, LONGEST>(k, STANDARD, config, out))
 }
 
 // Step: from the top, the number, kind and fault in 8 bits each, 8 zero, serial and length in 16 each. A refusal changes no byte.
@@ -148,7 +116,7 @@ pub fn step(
     if SHORT_BYTES < config.len() {
         return large(k, config, out);
     }
-    let a = short(k, config, out);
+    let a = step_in::<SHORT, FEW, TWICE>(k, STANDARD, config, out);
     if a.number == 10 {
         return large(k, config, out);
     }

@@ -1,77 +1,56 @@
-// From bytes to words.
-ghost use Rattle.std.specs.Prelude.{◌≡◌, ◌≤◌, ◌+◌, ◌*◌, length, take};
-ghost use Rattle.sock.specs.Bytes.{words_of, words_or_none};
+// From bytes to words, each the high byte first.
+ghost use Rattle.std.specs.Prelude.{◌≡◌, ◌≤◌, length, map};
 ghost use Rattle.sock.specs.Calls.{over};
-ghost use Rattle.bytewise.specs.Held.{round_word, rounds, held, held_part};
+ghost use Rattle.std.specs.Int.{w16, from_be_bytes};
+ghost use Rattle.bytewise.specs.Held.{held, held_part};
 
-use crate::stepping_bytes::room_of;
-
-fn word(high: u8, low: u8) -> u16
-    ensures { result ≡ high * 256 + low }
+// The words of the pairs, over the first of `ws`.
+fn fill(pairs: &[[u8; 2]], ws: &mut [u16])
+    requires { length pairs.now ≤ length ws.old }
+    ensures { ws.new ≡ over (map (from_be_bytes w16) pairs.now) ws.old }
 {
-    (high as u16) * 256 + (low as u16)
-}
-
-// A word with its bytes the other way round.
-fn round(w: u16) -> u16
-    ensures { result ≡ round_word w }
-{
-    w % 256 * 256 + w / 256
-}
-
-// The words of `n` pairs of bytes, each the other way round: so it is a plain copy in memory.
-fn fill_round(bytes: &[u8], n: usize, ws: &mut [u16]) -> usize
-    requires { (length bytes.now ≡ n * 2) × (n ≤ length ws.old) }
-    ensures { (result ≡ n) × (ws.new ≡ over (rounds (words_or_none (words_of bytes.now))) ws.old) }
-{
-    let mut i = 0;
-    while i < n {
-        ws[i] = word(bytes[i * 2 + 1], bytes[i * 2]);
-        i = i + 1;
+    for (i, pair) in pairs.iter().enumerate() {
+        ws[i] = u16::from_be_bytes(*pair);
     }
-    i
-}
-
-// The first `n` words the other way round.
-fn turn(ws: &mut [u16], n: usize) -> usize
-    requires { n ≤ length ws.old }
-    ensures { (result ≡ n) × (ws.new ≡ over (rounds (take n ws.old)) ws.old) }
-{
-    let mut i = 0;
-    while i < n {
-        ws[i] = round(ws[i]);
-        i = i + 1;
-    }
-    i
-}
-
-// The words of `n` pairs of bytes. Two passes that take many words at once are faster than one that makes each word of its two bytes.
-fn fill(bytes: &[u8], n: usize, ws: &mut [u16]) -> usize
-    requires { (length bytes.now ≡ n * 2) × (n ≤ length ws.old) }
-    ensures { (result ≡ n) × (ws.new ≡ over (words_or_none (words_of bytes.now)) ws.old) }
-{
-    fill_round(bytes, n, ws);
-    turn(ws, n)
 }
 
 // How many words the bytes are, and the words over the first of `ws`; none where the length is odd, or `ws` has too little room for them.
 pub fn hold(bytes: &[u8], ws: &mut [u16]) -> usize
     ensures { (result ≡ length (held (length ws.old) bytes.now)) × (ws.new ≡ over (held (length ws.old) bytes.now) ws.old) × (result ≤ length ws.old) }
 {
-    let n = bytes.len() / 2;
-    if n * 2 != bytes.len() {
+    let (pairs, odd) = bytes.as_chunks::<2>();
+    if !odd.is_empty() {
         return 0;
     }
-    if ws.len() < n {
+    if ws.len() < pairs.len() {
         return 0;
     }
-    fill(bytes, n, ws)
+    fill(pairs, ws);
+    pairs.len()
+}
+
+// The same words alone.
+pub fn held<'a>(bytes: &[u8], scratch: &'a mut [u16]) -> &'a [u16]
+    ensures { result.now ≡ held (length scratch.old) bytes.now }
+{
+    let n = hold(bytes, scratch);
+    &scratch[..n]
 }
 
 // As many words of the bytes as `ws` has room for, an odd last byte left out: how many, and the words over the first of `ws`.
 pub fn hold_part(bytes: &[u8], ws: &mut [u16]) -> usize
     ensures { (result ≡ length (held_part (length ws.old) bytes.now)) × (ws.new ≡ over (held_part (length ws.old) bytes.now) ws.old) × (result ≤ length ws.old) }
 {
-    let n = room_of(bytes.len(), ws.len());
-    fill(&bytes[..n * 2], n, ws)
+    let (pairs, _) = bytes.as_chunks::<2>();
+    let n = pairs.len().min(ws.len());
+    fill(&pairs[..n], ws);
+    n
+}
+
+// The same words alone.
+pub fn held_part<'a>(bytes: &[u8], scratch: &'a mut [u16]) -> &'a [u16]
+    ensures { result.now ≡ held_part (length scratch.old) bytes.now }
+{
+    let n = hold_part(bytes, scratch);
+    &scratch[..n]
 }

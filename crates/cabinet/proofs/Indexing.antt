@@ -8,7 +8,7 @@ use mathlib.Core.Option.{Option, none, some}
 use mathlib.Core.List.{List, [], ◌∷◌, ◌++◌, append-nil}
 use lib.Dec.{eqb}
 use lib.ListN.{length, get_or, take, drop, replicate, take-append-drop, drop_of_length-le}
-use lib.Seq.{take_all, take_at, get_or-take}
+use lib.Seq.{take_at, get_or-take}
 use Rattle.sock.specs.Kind
 use Rattle.sock.specs.Configuration.{Config, standard, read_config}
 use Rattle.sock.specs.Calls.{index_short, Result, refused, done, ◌>>=◌, ◌!◌, passed, Numbers, Stepped, answer_of, over, start, check_start}
@@ -31,7 +31,7 @@ use Rattle.index.proofs.Forming.{listed_is, unlisted_is}
 use Rattle.index.proofs.Answering.{answer_is, short_is, begins, begun_passed}
 use Rattle.bytewise.specs.Held.{packed_as, held_part}
 use Rattle.bytewise.proofs.Stepping.{packed_as_lem}
-use Rattle.bytewise.proofs.Parts.{words_half}
+use Rattle.bytewise.proofs.Holding.{words_count as words_half}
 
 -- ---- an index's own words
 
@@ -104,10 +104,8 @@ module _ (ix ss s0 : List ℕ) (e : listed ix ≡ some ss) (n : length s0 ≡ 20
   relaid ts h = over_whole (index_of ts) (over (take 2049 ix) s0) (held_long ∙ sym (index_of_length ts h))
 
 -- the bytes of an index in scratch
-pub spread_index : (ts s2 index : List ℕ) → length ts ≤ 2048 → s2 ≡ index_of ts → over (bytes_of (take 2049 s2)) index ≡ over (bytes_of (index_of ts)) index
-spread_index ts s2 index h e =
-    let all : take 2049 (index_of ts) ≡ index_of ts = take_all 2049 (index_of ts) (omega (arith, index_of_length ts h)) in
-    ap (λ us. over (bytes_of us) index) (ap (take 2049) e ∙ all)
+spread_index : (ts s2 index : List ℕ) → s2 ≡ index_of ts → over (bytes_of s2) index ≡ over (bytes_of (index_of ts)) index
+spread_index ts s2 index e = ap (λ us. over (bytes_of us) index) e
 
 -- ---- whether the index lent is in order
 
@@ -184,10 +182,10 @@ module _ (config index : List ℕ) where
     laid_by (refused r) e z = absurd (let g = refusal_number r in omega (arith, e, z))
     laid_by (done c) e z = refl
 
-    pub begin_lays : n ≡ 0 → (blank : List ℕ) → blank ≡ replicate 2049 0 → over (bytes_of (take 2049 blank)) index ≡ byte_begin_index config index
+    pub begin_lays : n ≡ 0 → (blank : List ℕ) → blank ≡ replicate 2049 0 → over (bytes_of blank) index ≡ byte_begin_index config index
     unfolding byte_begin_index
     begin_lays z blank e =
-        spread_index [] blank index (omega arith) (e ∙ blank_index)
+        spread_index [] blank index (e ∙ blank_index)
         ∙ laid_by (start standard ws) (p ∙ check_is) z
         ∙ sym (ap (λ x. index_bytes_after x index) (enough h))
 
@@ -278,7 +276,7 @@ module _ (config : List ℕ) (k : Numbers) (out journal index : List ℕ) where
       pub index_opens :
           a.number ≡ 0 → (s0 s1 s2 : List ℕ) → length s0 ≡ 2049 → s1 ≡ over (take 2049 (words_in index)) s0 →
           s2 ≡ over (index_of (open_by a.kind a.serial (serials_in s1))) s1 →
-          over (bytes_of (take 2049 s2)) index ≡ byte_indexed_index config k out journal index
+          over (bytes_of s2) index ≡ byte_indexed_index config k out journal index
       index_opens h s0 s1 s2 n q w =
           let l = listed_lists (words_in index) ss e in
           let few = opened_few a.kind a.serial ss l.few in
@@ -288,7 +286,7 @@ module _ (config : List ℕ) (k : Numbers) (out journal index : List ℕ) where
           ∙ ap (λ us. over (index_of (open_by a.kind a.serial us)) s1) same
           ∙ ap (over (index_of (open_by a.kind a.serial ss))) q
           ∙ relaid (words_in index) ss s0 e n (open_by a.kind a.serial ss) few in
-          spread_index (open_by a.kind a.serial ss) s2 index few now ∙ done_opens plain step_some p h
+          spread_index (open_by a.kind a.serial ss) s2 index now ∙ done_opens plain step_some p h
 
 -- ---- taking back
 
@@ -360,12 +358,12 @@ module _ (config journal out index : List ℕ) where
       pub index_lists :
           t.number ≡ 0 → (r0 r1 : List ℕ) → r1 ≡ restored_over plainly r0 → (s0 s1 s2 : List ℕ) → length s0 ≡ 2049 →
           s1 ≡ over (take 2049 (words_in index)) s0 → s2 ≡ over (index_of (open_of (read_config standard (take t.length r1)))) s1 →
-          over (bytes_of (take 2049 s2)) index ≡ byte_indexed_relisted config journal out index
+          over (bytes_of s2) index ≡ byte_indexed_relisted config journal out index
       index_lists h r0 r1 z s0 s1 s2 n q w =
           let ts : List ℕ = open_of (read_config standard (take t.length r1)) in
           let few : length ts ≤ 2048 = omega (arith, open_few (take t.length r1)) in
           let now : s2 ≡ index_of ts = w ∙ ap (over (index_of ts)) q ∙ relaid (words_in index) ss s0 e n ts few in
-          spread_index ts s2 index few now ∙ done_lists plainly back_some p h r0 r1 z
+          spread_index ts s2 index now ∙ done_lists plainly back_some p h r0 r1 z
 
 -- ---- the two questions
 

@@ -8,7 +8,7 @@ use mathlib.Core.Option.{Option, none, some}
 use mathlib.Core.List.{List, [], ◌∷◌}
 use lib.Dec.{leb, ltb}
 use lib.ListN.{length, take, drop}
-use lib.Seq.{take_at}
+use lib.Seq.{length-take-le, take_at}
 use borrow.Author.Tests.{le-leb, ltb-true, ltb-false}
 use Rattle.sock.specs.Configuration.{Limits, Config, standard, encode, also, read_config}
 use Rattle.sock.specs.Calls.{Refusal, unreadable, journal_short, short, Result, refused, done, ◌>>=◌, ◌>>◌, ◌!◌, ◌unless◌, Numbers, Stepped, step, answer_of, step_output, over}
@@ -27,7 +27,7 @@ use Rattle.writers.proofs.Over.{over_length}
 use Rattle.journal.proofs.Stepping.{short_old, short_new, kept, Wrote, wrote, scratch_fits, scratch_length, scratch_words, noted_end, noted_words}
 use Rattle.bytewise.specs.Held.{held, packed_as, room_of}
 use Rattle.bytewise.proofs.Holding.{held_short, read_as}
-use Rattle.bytewise.proofs.Stepping.{room_is, room_below, large_same, packed_as_lem}
+use Rattle.bytewise.proofs.Stepping.{large_same, packed_as_lem}
 
 -- ---- what the code makes of a step in scratch
 
@@ -57,7 +57,7 @@ module _ (limits : Limits) (low : limits.longest ≤ 8192) (ws : List ℕ) (k : 
       let n : 0 < (answer_of (journal_step limits ws k (length r0) (length words))).number = omega (arith, ap (λ (b : Answer). b.number) a, h) in
       record { answer = a; out_kept = bytes_refused _ n out; journal_kept = journal_refused ws _ n journal }
 
-  module _ (z : c.answer.number ≡ 0) (r1 : List ℕ) (q : r1 ≡ step_output limits ws k r0) where
+  module _ (z : c.answer.number ≡ 0) (r1 : List ℕ) (q : r1 ≡ step_output limits ws k r0) (size : ℕ) (same-size : size ≡ c.answer.length) where
     w : Wrote limits low ws k r0 [] words c e
     w = wrote limits low ws k r0 [] words c e z
 
@@ -71,28 +71,32 @@ module _ (limits : Limits) (low : limits.longest ≤ 8192) (ws : List ℕ) (k : 
     pub made_answer : c.answer ≡ answer_as (answer_of (journal_step limits ws k (length r0) (length words)))
     made_answer = w.answer
 
-    pub fits_scratch : c.answer.length ≤ length r1
+    pub fits_scratch : size ≤ length r1
     fits_scratch = omega (arith, scratch_fits limits low ws k r0 [] words c e w r1 q, scratch_length limits low ws k r0 [] words c e w r1 q)
 
-    pub fits_out : length r0 * 2 ≤ length out → c.answer.length * 2 ≤ length out
-    fits_out h = omega (arith, scratch_fits limits low ws k r0 [] words c e w r1 q)
+    -- the result's words of the scratch
+    made_length : length (take size r1) ≡ size
+    made_length = length-take-le size r1 fits_scratch
 
-    pub made_out : over (bytes_of (take c.answer.length r1)) out ≡ bytes_after (journal_step limits ws k (length r0) (length words)) out
-    made_out = ap (λ (u : List ℕ). over (bytes_of u) out) (scratch_words limits low ws k r0 [] words c e w r1 q) ∙ bytes_of_done out whole
+    pub fits_out : length r0 * 2 ≤ length out → length (take size r1) * 2 ≤ length out
+    fits_out h = omega (arith, made_length, scratch_fits limits low ws k r0 [] words c e w r1 q)
 
-    module _ (m : ℕ) (words1 : List ℕ) (l : m ≡ lay_end ws (take c.answer.length r1) c.first c.last)
-        (y : words1 ≡ lay_w ws (take c.answer.length r1) c.first c.last words) where
+    pub made_out : over (bytes_of (take size r1)) out ≡ bytes_after (journal_step limits ws k (length r0) (length words)) out
+    made_out = ap (λ (i : ℕ). over (bytes_of (take i r1)) out) same-size ∙ ap (λ (u : List ℕ). over (bytes_of u) out) (scratch_words limits low ws k r0 [] words c e w r1 q) ∙ bytes_of_done out whole
+
+    module _ (m : ℕ) (words1 : List ℕ) (l : m ≡ lay_end ws (take size r1) c.first c.last)
+        (y : words1 ≡ lay_w ws (take size r1) c.first c.last words) where
       count : m ≡ length (journal_of ws (encode w.next.config))
-      count = l ∙ noted_end limits low ws k r0 [] words c e w r1 q
+      count = l ∙ ap (λ (i : ℕ). lay_end ws (take i r1) c.first c.last) same-size ∙ noted_end limits low ws k r0 [] words c e w r1 q
 
       laid : words1 ≡ over (journal_of ws (encode w.next.config)) words
-      laid = y ∙ noted_words limits low ws k r0 [] words c e w r1 q
+      laid = y ∙ ap (λ (i : ℕ). lay_w ws (take i r1) c.first c.last words) same-size ∙ noted_words limits low ws k r0 [] words c e w r1 q
 
       pub fits_words : m ≤ length words1
       fits_words = omega (arith, count, w.room, ap length laid ∙ over_length (journal_of ws (encode w.next.config)) words w.room)
 
-      pub fits_journal : length words * 2 ≤ length journal → m * 2 ≤ length journal
-      fits_journal h = omega (arith, count, w.room)
+      pub fits_journal : length words * 2 ≤ length journal → length (take m words1) * 2 ≤ length journal
+      fits_journal h = omega (arith, length-take-le m words1 fits_words, count, w.room)
 
       pub made_journal : over (bytes_of (take m words1)) journal ≡ journal_bytes_after ws (journal_step limits ws k (length r0) (length words)) journal
       made_journal =
@@ -166,8 +170,8 @@ leb_room most bytes j h = by (ltb most (bytes / 2)) refl
     by : (b : Bool) → ltb most (bytes / 2) ≡ b → leb j (room_of most bytes) ≡ leb j (bytes / 2)
     by true e =
         let g = ltb-true most (bytes / 2) e in
-        ap (leb j) (room_is most bytes true e) ∙ le-leb j most h ∙ sym (le-leb j (bytes / 2) (omega arith))
-    by false e = ap (leb j) (room_is most bytes false e)
+        le-leb j (room_of most bytes) (omega arith) ∙ sym (le-leb j (bytes / 2) (omega arith))
+    by false e = ap (leb j) (let q : room_of most bytes ≡ bytes / 2 = omega (arith, ltb-false most (bytes / 2) e) in q)
 
 -- what becomes of a step's result in two rooms for its journal
 unfoldable lent : ℕ → List ℕ → Result Stepped → Result Stepped
@@ -225,32 +229,49 @@ module _ (limits : Limits) (low : limits.longest ≤ 8192) (most both : ℕ) (al
   large_journal_written =
       after_held limits most all bytes ws e k m n journal ∙ ap (λ (x : Result Stepped). journal_bytes_after (words_or_none (words_of bytes)) x journal) all_bytes
 
+-- with other words that are the same, and room that is the same
+module _ (limits : Limits) {ws us : List ℕ} (same-words : ws ≡ us) (k : Numbers) {m n room most : ℕ} (same-room : m ≡ room) (same-most : n ≡ most) where
+  sized : journal_step limits ws k m n ≡ journal_step limits us k room most
+  sized =
+      ap (λ (v : List ℕ). journal_step limits v k m n) same-words
+      ∙ ap (λ (i : ℕ). journal_step limits us k i n) same-room
+      ∙ ap (journal_step limits us k room) same-most
+
+  pub sized_answer : answer_as (answer_of (journal_step limits ws k m n)) ≡ answer_as (answer_of (journal_step limits us k room most))
+  sized_answer = ap (λ (x : Result Stepped). answer_as (answer_of x)) sized
+
+  pub sized_output : (out : List ℕ) → bytes_after (journal_step limits ws k m n) out ≡ bytes_after (journal_step limits us k room most) out
+  sized_output out = ap (λ (x : Result Stepped). bytes_after x out) sized
+
+  pub sized_journal : (journal : List ℕ) → journal_bytes_after ws (journal_step limits ws k m n) journal ≡ journal_bytes_after us (journal_step limits us k room most) journal
+  sized_journal journal =
+      ap (λ (v : List ℕ). journal_bytes_after v (journal_step limits ws k m n) journal) same-words
+      ∙ ap (λ (x : Result Stepped). journal_bytes_after us x journal) sized
+
 -- with scratch for a short configuration
-module _ (bytes ws : List ℕ) (few : length bytes ≤ 1024) (e : ws ≡ held 512 bytes) (k : Numbers) (m n : ℕ) {room most : ℕ}
-    (same-room : m ≡ room) (same-most : n ≡ most) where
-  words_are : ws ≡ words_or_none (words_of bytes)
-  words_are = e ∙ held_short 512 bytes (omega arith)
+module _ (bytes : List ℕ) (few : length bytes ≤ 1024) (k : Numbers) (room most : ℕ) where
+  words_are : held 512 bytes ≡ words_or_none (words_of bytes)
+  words_are = held_short 512 bytes (omega arith)
 
-  pub small_journal_step : journal_step standard ws k m n ≡ byte_journal_step standard bytes k room most
+  small_step : journal_step standard (held 512 bytes) k room most ≡ byte_journal_step standard bytes k room most
   unfolding byte_journal_step
-  small_journal_step =
-      ap (λ (i : ℕ). journal_step standard ws k i n) same-room
-      ∙ ap (journal_step standard ws k room) same-most
-      ∙ by_words standard k room most (words_of bytes) ws words_are
+  small_step = by_words standard k room most (words_of bytes) (held 512 bytes) words_are
 
-  pub small_journal_after : (journal : List ℕ) → journal_bytes_after ws (journal_step standard ws k m n) journal ≡ journal_bytes_after (words_or_none (words_of bytes)) (byte_journal_step standard bytes k room most) journal
-  small_journal_after journal =
-      ap (λ (us : List ℕ). journal_bytes_after us (journal_step standard ws k m n) journal) words_are
-      ∙ ap (λ (x : Result Stepped). journal_bytes_after (words_or_none (words_of bytes)) x journal) small_journal_step
+  pub small_given : answer_as (answer_of (journal_step standard (held 512 bytes) k room most)) ≡ answer_as (answer_of (byte_journal_step standard bytes k room most))
+  small_given = ap (λ (x : Result Stepped). answer_as (answer_of x)) small_step
+
+  pub small_output : (out : List ℕ) → bytes_after (journal_step standard (held 512 bytes) k room most) out ≡ bytes_after (byte_journal_step standard bytes k room most) out
+  small_output out = ap (λ (x : Result Stepped). bytes_after x out) small_step
+
+  pub small_noted :
+      (journal : List ℕ) →
+      journal_bytes_after (held 512 bytes) (journal_step standard (held 512 bytes) k room most) journal
+      ≡ journal_bytes_after (words_or_none (words_of bytes)) (byte_journal_step standard bytes k room most) journal
+  small_noted journal =
+      ap (λ (us : List ℕ). journal_bytes_after us (journal_step standard (held 512 bytes) k room most) journal) words_are
+      ∙ ap (λ (x : Result Stepped). journal_bytes_after (words_or_none (words_of bytes)) x journal) small_step
 
 -- a step in short scratch that is not refused for that
-room_most : (most bytes : ℕ) → room_of most bytes ≤ most
-room_most most bytes = by (ltb most (bytes / 2)) refl
-  where
-    by : (b : Bool) → ltb most (bytes / 2) ≡ b → room_of most bytes ≤ most
-    by true e = omega (arith, room_is most bytes true e)
-    by false e = omega (arith, room_is most bytes false e, ltb-false most (bytes / 2) e)
-
 ten : (n : ℕ) (ws : List ℕ) → (answer_of (lent n ws (refused short))).number ≡ 10
 unfolding lent ◌>>=◌ answer_of
 ten n ws = refl
@@ -262,7 +283,7 @@ module _ (us : List ℕ) (few : length us ≤ 512) (k : Numbers) (o j : ℕ) whe
   agreed (both_refuse r) h = lent_refused (room_of 1540 j) us r ∙ sym (lent_refused (j / 2) us r)
   agreed (both_do s g) h =
       lent_same (room_of 1540 j) (j / 2) us s
-      (leb_room 1540 j (length (journal_of us (encode s.config))) (omega (arith, journal_length us (encode s.config), room_most 1024 o)))
+      (leb_room 1540 j (length (journal_of us (encode s.config))) (omega (arith, journal_length us (encode s.config))))
   agreed (one_short s g i l) h = absurd (h (ten (room_of 1540 j) us))
 
   same_in_words :
@@ -270,7 +291,7 @@ module _ (us : List ℕ) (few : length us ≤ 512) (k : Numbers) (o j : ℕ) whe
       journal_step standard us k (room_of 1024 o) (room_of 1540 j) ≡ journal_step standard us k (o / 2) (j / 2)
   same_in_words h =
       lent_is standard us k (room_of 1024 o) (room_of 1540 j)
-      ∙ agreed (step_agrees standard (room_of 1024 o) (o / 2) (room_below 1024 o) us k)
+      ∙ agreed (step_agrees standard (room_of 1024 o) (o / 2) (omega arith) us k)
       (λ z. h (ap (λ (x : Result Stepped). (answer_of x).number) (lent_is standard us k (room_of 1024 o) (room_of 1540 j)) ∙ z))
       ∙ sym (lent_is standard us k (o / 2) (j / 2))
 

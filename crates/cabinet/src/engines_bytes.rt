@@ -7,8 +7,9 @@ ghost use Rattle.sock.specs.Engines.{join, leave};
 ghost use Rattle.sock.specs.EnginesBytes.{byte_join_answer, byte_join_output, byte_leave_answer, byte_leave_output};
 ghost use Rattle.cabinet.specs.Handed.{handed_out, too_long};
 
+use bytewise::packing::{NUMBER, numbered};
 use bytewise::stepping_bytes::{room_of, spread};
-use bytewise::words::hold;
+use bytewise::words::held;
 use engines::answer::Written;
 use engines::join::{admit, join};
 use engines::leave::leave;
@@ -17,28 +18,19 @@ use layout::limit::LONGEST;
 // How many words of a newcomer are read, and their bytes: no configuration has so many.
 const NEWCOMER: usize = 16384;
 
-const NEWCOMER_BYTES: usize = 32768;
-
-// The number's place in an answer.
-const NUMBER: u64 = 72057594037927936;
-
-fn pack_written(w: Written) -> u64
-    ensures { result ≡ w.number * 72057594037927936 + w.length }
-{
-    (w.number as u64) * NUMBER + (w.length as u64)
-}
+const NEWCOMER_BYTES: usize = 2 * NEWCOMER;
 
 // What was written to scratch, if it was, as bytes over the output; the answer packed.
 fn hand_out(w: Written, res: &[u16], out: &mut [u8]) -> u64
     requires { w.number ≡ 0 → (w.length ≤ length res.now) × (w.length * 2 ≤ length out.old) }
-    ensures answered { result ≡ w.number * 72057594037927936 + w.length }
+    ensures answered { result ≡ w.number * NUMBER + w.length }
     ensures wrote { out.new ≡ handed_out w res.now out.old }
 {
     if w.number != 0 {
-        return pack_written(w);
+        return numbered(w.number, w.length);
     }
-    spread(res, w.length as usize, out);
-    pack_written(w)
+    spread(&res[..usize::from(w.length)], out);
+    numbered(w.number, w.length)
 }
 
 // Joining on words, the result written to scratch first.
@@ -67,9 +59,9 @@ fn unread(ws: &[u16]) -> u64
 {
     let number = admit(ws);
     if number != 0 {
-        return (number as u64) * NUMBER;
+        return numbered(number, 0);
     }
-    9 * NUMBER
+    numbered(9, 0)
 }
 
 // Joining: from the top, the number in 8 bits, 40 zero, the length in 16. A refusal changes no byte.
@@ -78,15 +70,15 @@ pub fn sock_join(config: &[u8], newcomer: &[u8], out: &mut [u8]) -> u64
     ensures wrote { out.new ≡ byte_join_output config.now newcomer.now out.old }
 {
     let mut scratch = [0u16; LONGEST];
-    let n = hold(config, &mut scratch);
+    let ws = held(config, &mut scratch);
     if NEWCOMER_BYTES < newcomer.len() {
-        return unread(&scratch[..n]);
+        return unread(ws);
     }
     let mut engine = [0u16; NEWCOMER];
-    let m = hold(newcomer, &mut engine);
+    let news = held(newcomer, &mut engine);
     let mut result = [0u16; LONGEST];
     let room = room_of(out.len(), LONGEST);
-    let_in(&scratch[..n], &engine[..m], &mut result[..room], out)
+    let_in(ws, news, &mut result[..room], out)
 }
 
 // Leaving, packed as joining is. A refusal changes no byte.
@@ -95,8 +87,8 @@ pub fn sock_leave(config: &[u8], out: &mut [u8]) -> u64
     ensures wrote { out.new ≡ byte_leave_output config.now out.old }
 {
     let mut scratch = [0u16; LONGEST];
-    let n = hold(config, &mut scratch);
+    let ws = held(config, &mut scratch);
     let mut result = [0u16; LONGEST];
     let room = room_of(out.len(), LONGEST);
-    let_go(&scratch[..n], &mut result[..room], out)
+    let_go(ws, &mut result[..room], out)
 }

@@ -1,6 +1,6 @@
 // The calls with an index on bytes (document 02, g). An index is half its bytes in words; it is held in scratch, and written back once the call is
 // accepted.
-ghost use Rattle.std.specs.Prelude.{◌≡◌, ◌+◌, ◌*◌, length, take};
+ghost use Rattle.std.specs.Prelude.{◌≡◌, length, take};
 ghost use Rattle.sock.specs.IndexBytes.{byte_begin_answer, byte_begin_index, byte_indexed_answer, byte_indexed_output, byte_indexed_journal, byte_indexed_index, byte_indexed_taken, byte_indexed_restored, byte_indexed_relisted, byte_open_count, byte_oldest};
 ghost use Rattle.stepping.specs.Answers.{numbers};
 ghost use Rattle.sock.specs.Bytes.{words_in};
@@ -9,13 +9,13 @@ ghost use Rattle.index.specs.Form.{in_order};
 
 use crate::calls::sock_check_start;
 use crate::journal_bytes::{step_journal, take_back_bytes};
-use bytewise::stepping_bytes::{pack, spread};
-use bytewise::words::hold_part;
+use bytewise::packing::{numbered, pack};
+use bytewise::stepping_bytes::spread;
+use bytewise::words::{held_part, hold_part};
 use index::form::{WORDS, in_order};
-use index::questions::{Told, oldest, open_count};
+use index::questions::{oldest, open_count};
 use index::steps::follow;
 use index::waiters::list_anew;
-use journal::back::Taken;
 use layout::limit::LONGEST;
 use stepping::answer::refuse;
 use stepping::bundles::Numbers;
@@ -43,7 +43,7 @@ pub fn sock_begin_index(config: &[u8], index: &mut [u8]) -> u8
         return n;
     }
     let none = [0u16; WORDS];
-    spread(&none, WORDS, index);
+    spread(&none, index);
     0
 }
 
@@ -78,16 +78,10 @@ pub fn sock_step_indexed(
             return pack(a);
         }
         follow(&mut serials, a.kind, a.serial);
-        spread(&serials, WORDS, index);
+        spread(&serials, index);
         return pack(a);
     }
     pack(refuse(17))
-}
-
-fn pack_taken(t: Taken) -> u64
-    ensures { result ≡ t.number * 72057594037927936 + t.length }
-{
-    (t.number as u64) * 72057594037927936 + (t.length as u64)
 }
 
 // Taking back with an index: 17 before all others; the serials of the waiters in what was restored are listed anew.
@@ -106,22 +100,13 @@ pub fn sock_take_back_indexed(
         let mut result = [0u16; LONGEST];
         let t = take_back_bytes(config, journal, &mut result, out);
         if t.number != 0 {
-            return pack_taken(t);
+            return numbered(t.number, t.length);
         }
-        list_anew(&result[..t.length as usize], &mut serials);
-        spread(&serials, WORDS, index);
-        return pack_taken(t);
+        list_anew(&result[..usize::from(t.length)], &mut serials);
+        spread(&serials, index);
+        return numbered(t.number, t.length);
     }
-    pack_taken(Taken {
-        number: 17,
-        length: 0,
-    })
-}
-
-fn pack_told(t: Told) -> u64
-    ensures { result ≡ t.number * 72057594037927936 + t.value }
-{
-    (t.number as u64) * 72057594037927936 + (t.value as u64)
+    numbered(17, 0)
 }
 
 // How many serials are open: from the top, the number in 8 bits, 40 zero, the count in 16.
@@ -129,8 +114,8 @@ pub fn sock_open_count(index: &[u8]) -> u64
     ensures { result ≡ byte_open_count index.now }
 {
     let mut serials = [0u16; WORDS];
-    let n = hold_part(index, &mut serials);
-    pack_told(open_count(&serials[..n]))
+    let t = open_count(held_part(index, &mut serials));
+    numbered(t.number, t.value)
 }
 
 // The oldest open serial, packed as the count; 0 if none is open.
@@ -138,6 +123,6 @@ pub fn sock_oldest(index: &[u8]) -> u64
     ensures { result ≡ byte_oldest index.now }
 {
     let mut serials = [0u16; WORDS];
-    let n = hold_part(index, &mut serials);
-    pack_told(oldest(&serials[..n]))
+    let t = oldest(held_part(index, &mut serials));
+    numbered(t.number, t.value)
 }

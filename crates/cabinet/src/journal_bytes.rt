@@ -1,18 +1,19 @@
 // The step with a journal, and taking back, on bytes. A journal's space, or its words, are half its bytes, rounded down.
-ghost use Rattle.std.specs.Prelude.{◌≡◌, ◌≤◌, ◌*◌, ◌/◌, length};
+ghost use Rattle.std.specs.Prelude.{◌≡◌, ◌≤◌, ◌<◌, ◌*◌, ◌/◌, ◌^◌, length};
 ghost use Rattle.sock.specs.Configuration.{standard};
 ghost use Rattle.sock.specs.Calls.{answer_of};
 ghost use Rattle.sock.specs.Journal.{journal_step, taken_of, take_back, take_back_output, restored_over};
-ghost use Rattle.sock.specs.Bytes.{bytes_after, journal_bytes_after, words_of, words_or_none, byte_journal_step, byte_journal_answer, byte_journal_output, byte_journal_written, restored_bytes, byte_take_back, byte_taken, byte_restored};
+ghost use Rattle.sock.specs.Bytes.{bytes_after, journal_bytes_after, byte_journal_step, byte_journal_answer, byte_journal_output, byte_journal_written, restored_bytes, byte_take_back, byte_taken, byte_restored};
 ghost use Rattle.layout.specs.Limits.{figures};
 ghost use Rattle.stepping.specs.Answers.{answer_as, numbers};
 ghost use Rattle.stepping.specs.Bundles.{numbers_as};
 ghost use Rattle.stepping.specs.Lent.{Modest, Blank};
 ghost use Rattle.journal.specs.Back.{taken_as};
-ghost use Rattle.bytewise.specs.Held.{packed_as, room_of};
+ghost use Rattle.bytewise.specs.Held.{held, room_of};
 
-use bytewise::stepping_bytes::{SHORT_BYTES, TWICE, pack, room_of, spread};
-use bytewise::words::{hold, hold_part};
+use bytewise::packing::{numbered, pack};
+use bytewise::stepping_bytes::{SHORT_BYTES, TWICE, room_of, spread};
+use bytewise::words::{held, held_part};
 use journal::back::{Taken, take_back};
 use journal::lay::lay;
 use journal::steps::compare;
@@ -21,10 +22,13 @@ use stepping::answer::Answer;
 use stepping::bundles::Numbers;
 use stepping::steps::{FEW, MANY, SHORT};
 
-// Words for the journal of any step: its four counts and two configurations; and of a step of a short one.
-const JOURNAL: usize = 16388;
+// The counts at the head of a journal.
+pub(crate) const COUNTS: usize = 4;
 
-const SHORT_JOURNAL: usize = 1540;
+// Words for the journal of any step: its four counts and two configurations; and of a step of a short one.
+const JOURNAL: usize = COUNTS + 2 * LONGEST;
+
+const SHORT_JOURNAL: usize = COUNTS + SHORT + TWICE;
 
 // The step on words at the limits given, its result and its journal written to scratch first. The notes are the step's, all 0.
 pub(crate) fn journaled(
@@ -47,11 +51,42 @@ pub(crate) fn journaled(
     if given.number != 0 {
         return given;
     }
-    let n = given.length as usize;
-    spread(res, n, out);
+    let n = usize::from(given.length);
+    spread(&res[..n], out);
     let m = lay(ws, &res[..n], c.first, c.last, words);
-    spread(words, m, journal);
+    spread(&words[..m], journal);
     given
+}
+
+// With scratch for so many words of a configuration, so many notes, and so many words of a result and of a journal.
+pub(crate) fn journal_in<
+    const WORDS: usize,
+    const NOTES: usize,
+    const RESULT: usize,
+    const JOURNAL: usize,
+>(k: Numbers, limits: Limits, config: &[u8], out: &mut [u8], journal: &mut [u8]) -> Answer
+    requires modest { Modest limits }
+    requires sizes { (WORDS < 2 ^ 32) × (NOTES < 2 ^ 32) × (RESULT < 2 ^ 32) × (JOURNAL < 2 ^ 32) }
+    ensures answered { result ≡ answer_as (answer_of (journal_step (figures limits) (held WORDS config.now) (numbers_as k) (room_of RESULT (length out.old)) (room_of JOURNAL (length journal.old)))) }
+    ensures wrote { out.new ≡ bytes_after (journal_step (figures limits) (held WORDS config.now) (numbers_as k) (room_of RESULT (length out.old)) (room_of JOURNAL (length journal.old))) out.old }
+    ensures noted { journal.new ≡ journal_bytes_after (held WORDS config.now) (journal_step (figures limits) (held WORDS config.now) (numbers_as k) (room_of RESULT (length out.old)) (room_of JOURNAL (length journal.old))) journal.old }
+{
+    let mut scratch = [0u16; WORDS];
+    let mut notes = [0u16; NOTES];
+    let mut result = [0u16; RESULT];
+    let room = room_of(out.len(), RESULT);
+    let mut words = [0u16; JOURNAL];
+    let most = room_of(journal.len(), JOURNAL);
+    journaled(
+        held(config, &mut scratch),
+        k,
+        limits,
+        &mut notes,
+        &mut result[..room],
+        &mut words[..most],
+        out,
+        journal,
+    )
 }
 
 // With scratch for every configuration, every result and every journal.
@@ -60,49 +95,7 @@ fn large_journal(k: Numbers, config: &[u8], out: &mut [u8], journal: &mut [u8]) 
     ensures wrote { out.new ≡ byte_journal_output standard config.now (numbers_as k) out.old journal.old }
     ensures noted { journal.new ≡ byte_journal_written standard config.now (numbers_as k) out.old journal.old }
 {
-    let mut scratch = [0u16; LONGEST];
-    let n = hold(config, &mut scratch);
-    let mut notes = [0u16; MANY];
-    let mut result = [0u16; LONGEST];
-    let room = room_of(out.len(), LONGEST);
-    let mut words = [0u16; JOURNAL];
-    let most = room_of(journal.len(), JOURNAL);
-    journaled(
-        &scratch[..n],
-        k,
-        STANDARD,
-        &mut notes,
-        &mut result[..room],
-        &mut words[..most],
-        out,
-        journal,
-    )
-}
-
-// For a short configuration, with room for a result twice as long.
-fn short_journal(k: Numbers, config: &[u8], out: &mut [u8], journal: &mut [u8]) -> Answer
-    requires { length config.now ≤ 1024 }
-    ensures answered { result ≡ answer_as (answer_of (byte_journal_step standard config.now (numbers_as k) (room_of 1024 (length out.old)) (room_of 1540 (length journal.old)))) }
-    ensures wrote { out.new ≡ bytes_after (byte_journal_step standard config.now (numbers_as k) (room_of 1024 (length out.old)) (room_of 1540 (length journal.old))) out.old }
-    ensures noted { journal.new ≡ journal_bytes_after (words_or_none (words_of config.now)) (byte_journal_step standard config.now (numbers_as k) (room_of 1024 (length out.old)) (room_of 1540 (length journal.old))) journal.old }
-{
-    let mut scratch = [0u16; SHORT];
-    let n = hold(config, &mut scratch);
-    let mut notes = [0u16; FEW];
-    let mut result = [0u16; TWICE];
-    let room = room_of(out.len(), TWICE);
-    let mut words = [0u16; SHORT_JOURNAL];
-    let most = room_of(journal.len(), SHORT_JOURNAL);
-    journaled(
-        &scratch[..n],
-        k,
-        STANDARD,
-        &mut notes,
-        &mut result[..room],
-        &mut words[..most],
-        out,
-        journal,
-    )
+    journal_in::<LONGEST, MANY, LONGEST, JOURNAL>(k, STANDARD, config, out, journal)
 }
 
 // The step with a journal. As in the step, a short configuration is first tried with short scratch; 10 may then be for that alone.
@@ -114,7 +107,7 @@ pub(crate) fn step_journal(k: Numbers, config: &[u8], out: &mut [u8], journal: &
     if SHORT_BYTES < config.len() {
         return large_journal(k, config, out, journal);
     }
-    let a = short_journal(k, config, out, journal);
+    let a = journal_in::<SHORT, FEW, TWICE, SHORT_JOURNAL>(k, STANDARD, config, out, journal);
     if a.number == 10 {
         return large_journal(k, config, out, journal);
     }
@@ -157,7 +150,7 @@ fn taken_back(ws: &[u16], words: &[u16], res: &mut [u16], out: &mut [u8]) -> Tak
     if t.number != 0 {
         return t;
     }
-    spread(res, t.length as usize, out);
+    spread(&res[..usize::from(t.length)], out);
     t
 }
 
@@ -175,11 +168,11 @@ pub(crate) fn take_back_bytes(
     ensures held { res.new ≡ restored_over (byte_take_back config.now journal.now (length out.old / 2)) res.old }
 {
     let mut scratch = [0u16; LONGEST];
-    let n = hold(config, &mut scratch);
+    let ws = held(config, &mut scratch);
     let mut words = [0u16; JOURNAL];
-    let m = hold_part(journal, &mut words);
+    let noted = held_part(journal, &mut words);
     let room = room_of(out.len(), LONGEST);
-    taken_back(&scratch[..n], &words[..m], &mut res[..room], out)
+    taken_back(ws, noted, &mut res[..room], out)
 }
 
 // Taking back: from the top, the number in 8 bits, 40 zero, the length in 16. A refusal changes no byte.
@@ -189,5 +182,5 @@ pub fn sock_take_back(config: &[u8], journal: &[u8], out: &mut [u8]) -> u64
 {
     let mut result = [0u16; LONGEST];
     let t = take_back_bytes(config, journal, &mut result, out);
-    (t.number as u64) * 72057594037927936 + (t.length as u64)
+    numbered(t.number, t.length)
 }

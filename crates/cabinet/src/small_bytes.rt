@@ -4,25 +4,25 @@ ghost use Rattle.sock.specs.Cabinets.{small};
 ghost use Rattle.sock.specs.Bytes.{byte_answer, byte_output, byte_check_readable, byte_check_start, byte_journal_answer, byte_journal_output, byte_journal_written};
 ghost use Rattle.stepping.specs.Answers.{numbers};
 
-use crate::journal_bytes::journaled;
-use bytewise::stepping_bytes::{pack, room_of, written};
-use bytewise::words::hold;
+use crate::journal_bytes::{COUNTS, journal_in};
+use bytewise::packing::pack;
+use bytewise::stepping_bytes::step_in;
+use bytewise::words::held;
 use layout::limit::{SMALL, SMALL_LONGEST};
 use reading::calls::{readable_at, start_at};
 use stepping::bundles::Numbers;
 
 // Notes for every configuration, two words for each of its words; words for the journal of any step.
-const NOTES: usize = 4096;
+const NOTES: usize = 2 * SMALL_LONGEST;
 
-const JOURNAL: usize = 4100;
+const JOURNAL: usize = COUNTS + 2 * SMALL_LONGEST;
 
 // Readable check.
 pub fn sock_check_readable_small(config: &[u8]) -> u8
     ensures { result ≡ byte_check_readable small config.now }
 {
     let mut scratch = [0u16; SMALL_LONGEST];
-    let n = hold(config, &mut scratch);
-    readable_at(&scratch[..n], SMALL)
+    readable_at(held(config, &mut scratch), SMALL)
 }
 
 // Start check.
@@ -30,8 +30,7 @@ pub fn sock_check_start_small(config: &[u8]) -> u8
     ensures { result ≡ byte_check_start small config.now }
 {
     let mut scratch = [0u16; SMALL_LONGEST];
-    let n = hold(config, &mut scratch);
-    start_at(&scratch[..n], SMALL)
+    start_at(held(config, &mut scratch), SMALL)
 }
 
 // Step, packed as the large cabinet's.
@@ -53,19 +52,7 @@ pub fn sock_step_small(
         second_position: place,
         branch,
     };
-    let mut scratch = [0u16; SMALL_LONGEST];
-    let n = hold(config, &mut scratch);
-    let mut notes = [0u16; NOTES];
-    let mut result = [0u16; SMALL_LONGEST];
-    let room = room_of(out.len(), SMALL_LONGEST);
-    pack(written(
-        &scratch[..n],
-        k,
-        SMALL,
-        &mut notes,
-        &mut result[..room],
-        out,
-    ))
+    pack(step_in::<SMALL_LONGEST, NOTES, SMALL_LONGEST>(k, SMALL, config, out))
 }
 
 // Step with a journal.
@@ -90,21 +77,5 @@ pub fn sock_step_journal_small(
         second_position: place,
         branch,
     };
-    let mut scratch = [0u16; SMALL_LONGEST];
-    let n = hold(config, &mut scratch);
-    let mut notes = [0u16; NOTES];
-    let mut result = [0u16; SMALL_LONGEST];
-    let room = room_of(out.len(), SMALL_LONGEST);
-    let mut words = [0u16; JOURNAL];
-    let most = room_of(journal.len(), JOURNAL);
-    pack(journaled(
-        &scratch[..n],
-        k,
-        SMALL,
-        &mut notes,
-        &mut result[..room],
-        &mut words[..most],
-        out,
-        journal,
-    ))
+    pack(journal_in::<SMALL_LONGEST, NOTES, SMALL_LONGEST, JOURNAL>(k, SMALL, config, out, journal))
 }

@@ -1,6 +1,11 @@
--- What is printed of a number: its decimal digits, and the end of the line or a space behind it.
+-- What is printed of a number: its decimal digits, and the end of the line or a space behind it; and a line of numbers.
 use Rattle.std.specs.Prelude.{ℕ, Bool, cond, List, [], ◌∷◌, ◌++◌}
 use Rattle.std.specs.Fmt.{decimal}
 
 abbrev pub printed : ℕ → Bool → List ℕ
 printed n last = decimal n ++ (cond last 10 32 ∷ [])
+
+abbrev pub line : List ℕ → List ℕ
+line [] = 10 ∷ []
+line (n ∷ []) = decimal n ++ 10 ∷ []
+line (n ∷ m ∷ ns) = decimal n ++ 32 ∷ line (m ∷ ns)

@@ -13,23 +13,14 @@ use std::io::{Read, Write};
 pub fn word(high: u8, low: u8) -> u16
     ensures { result ≡ high * 256 + low }
 {
-    (high as u16) * 256 + (low as u16)
+    u16::from_be_bytes([high, low])
 }
 
 // A sum in which the order of the words counts.
 pub fn sum(ws: &[u16]) -> u16
     ensures { result ≡ summed 0 ws.now }
 {
-    let mut s: u16 = 0;
-    let mut i = 0;
-    while i < ws.len() {
-        s = std::num::wrapping_add_u16(
-            std::num::wrapping_add_u16(std::num::wrapping_add_u16(s, s), s),
-            ws[i],
-        );
-        i = i + 1;
-    }
-    s
+    ws.iter().fold(0, |s, w| s.wrapping_mul(3).wrapping_add(*w))
 }
 
 // A number, and a space or the end of the line behind it.
@@ -51,6 +42,7 @@ pub fn read_full<R: Read>(input: &mut R, bytes: &mut [u8]) -> io::Result<usize>
     ensures ended { IfOk result (λ n. n < length bytes.old → IsAtEnd (R.remaining input.new)) }
 {
     let mut done = 0;
+    // How many bytes each read gives is the reader's to say, hence no `for`.
     while done < bytes.len() {
         let n = input.read(&mut bytes[done..])?;
         if n == 0 {

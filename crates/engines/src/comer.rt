@@ -22,5 +22,8 @@ pub(crate) fn begins(engine: &[u16], n: usize) -> bool
     if word(engine, VALUES) == 0 {
         return false;
     }
-    read(engine, VALUES, DEEPEST, FRESH_ROOT, n * WORD) == engine.len()
+    match read(engine, VALUES, DEEPEST, FRESH_ROOT, n * WORD) {
+        None => false,
+        Some(end) => end == engine.len(),
+    }
 }

@@ -20,12 +20,10 @@ fn among(ws: &[u16], starts: [usize; 9], n: usize, bound: usize) -> bool
     requires { n < 9 }
     ensures { result ≡ all_read (process_end 64 ws.now bound 11) starts n 0 }
 {
-    let mut e = 0;
-    while e < n {
-        if read(ws, starts[e], DEEPEST, ROOT, bound) == 0 {
+    for e in 0..n {
+        if read(ws, starts[e], DEEPEST, ROOT, bound).is_none() {
             return false;
         }
-        e = e + 1;
     }
     true
 }

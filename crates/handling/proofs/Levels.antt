@@ -34,29 +34,27 @@ unfolding code_levels
 code_levels_step zero ws i h = absurd (h refl)
 code_levels_step (suc d) ws i h = rw (sub-one (suc d))
 
-pub parts_levels_step :
-    (sub : ℕ → Measured) (n deepest i : ℕ) → 0 < n → parts_levels sub n deepest i ≡ parts_levels sub (n - 1) (max deepest (sub i).levels) (sub i).end
+pub parts_levels_turn :
+    (sub : ℕ → Measured) (n i deepest a : ℕ) →
+    i < n →
+    parts_levels sub (n - i) deepest a ≡ parts_levels sub (n - (i + 1)) (max deepest (sub a).levels) (sub a).end
 unfolding parts_levels
-parts_levels_step sub zero deepest i h = absurd (omega arith)
-parts_levels_step sub (suc n) deepest i h = rw (sub-one (suc n))
+parts_levels_turn sub n i deepest a h = let e : n - i ≡ suc (n - (i + 1)) = omega arith in rw e
 
-pub parts_levels_end : (sub : ℕ → Measured) (n deepest i : ℕ) → n ≤ 0 → parts_levels sub n deepest i ≡ measured i (onward deepest 1)
+pub parts_levels_end : (sub : ℕ → Measured) (n i deepest a : ℕ) → n ≤ i → parts_levels sub (n - i) deepest a ≡ measured a (onward deepest 1)
 unfolding parts_levels
-parts_levels_end sub zero deepest i h = refl
-parts_levels_end sub (suc n) deepest i h = absurd (omega arith)
+parts_levels_end sub n i deepest a h = let e : n - i ≡ 0 = omega arith in rw e
 
-pub entries_levels_step :
-    (sub : ℕ → Measured) (n deepest i : ℕ) →
-    0 < n →
-    entries_levels sub n deepest i ≡ entries_levels sub (n - 1) (max deepest (sub (onward i 1)).levels) (sub (onward i 1)).end
+pub entries_levels_turn :
+    (sub : ℕ → Measured) (n i deepest a : ℕ) →
+    i < n →
+    entries_levels sub (n - i) deepest a ≡ entries_levels sub (n - (i + 1)) (max deepest (sub (onward a 1)).levels) (sub (onward a 1)).end
 unfolding entries_levels
-entries_levels_step sub zero deepest i h = absurd (omega arith)
-entries_levels_step sub (suc n) deepest i h = rw (sub-one (suc n))
+entries_levels_turn sub n i deepest a h = let e : n - i ≡ suc (n - (i + 1)) = omega arith in rw e
 
-pub entries_levels_end : (sub : ℕ → Measured) (n deepest i : ℕ) → n ≤ 0 → entries_levels sub n deepest i ≡ measured i (onward deepest 1)
+pub entries_levels_end : (sub : ℕ → Measured) (n i deepest a : ℕ) → n ≤ i → entries_levels sub (n - i) deepest a ≡ measured a (onward deepest 1)
 unfolding entries_levels
-entries_levels_end sub zero deepest i h = refl
-entries_levels_end sub (suc n) deepest i h = absurd (omega arith)
+entries_levels_end sub n i deepest a h = let e : n - i ≡ 0 = omega arith in rw e
 
 -- a kind whose parts and lists are none
 pub own_levels :

@@ -1,5 +1,5 @@
 // How deep expressions and code are.
-ghost use Rattle.std.specs.Prelude.{◌≡◌, ◌<◌, max, length};
+ghost use Rattle.std.specs.Prelude.{◌≡◌};
 ghost use Rattle.layout.specs.Own.{own_end};
 ghost use Rattle.layout.specs.Positions.{onward};
 ghost use Rattle.handling.specs.Measuring.{measured, expression_levels, code_levels, parts_levels, expressed_levels, list_levels};
@@ -15,12 +15,6 @@ use layout::tag::Tag;
 pub struct Measured {
     pub end: usize,
     pub levels: usize,
-}
-
-pub fn larger(a: usize, b: usize) -> usize
-    ensures { result ≡ max a b }
-{
-    if a < b { b } else { a }
 }
 
 // A level of so many words.
@@ -49,7 +43,7 @@ fn nowhere() -> Measured
     Measured { end: 0, levels: 0 }
 }
 
-#[tactic(auto, using(crate::proofs::Levels::expression_levels_step), unfolding(crate::specs::Measuring::operand_levels))]
+#[tactic(auto, unfolding(crate::specs::Measuring::expression_levels, crate::specs::Measuring::operand_levels))]
 pub fn expression_levels(ws: &[u16], at: usize, depth: usize) -> Measured
     ensures { result ≡ expression_levels depth ws.now at }
 {
@@ -70,7 +64,7 @@ pub fn expression_levels(ws: &[u16], at: usize, depth: usize) -> Measured
             let b = expression_levels(ws, a.end, depth - 1);
             Measured {
                 end: b.end,
-                levels: further(larger(a.levels, b.levels), 1),
+                levels: further(a.levels.max(b.levels), 1),
             }
         }
     }
@@ -78,7 +72,7 @@ pub fn expression_levels(ws: &[u16], at: usize, depth: usize) -> Measured
 
 // The process at `at`, of at most `depth` levels.
 #[cycle(code_levels_expressed_list_levels_parts)]
-#[tactic(auto, unfolding(crate::specs::Measuring::code_levels, crate::specs::Measuring::node_levels, crate::specs::Measuring::expressed_levels, crate::specs::Measuring::list_levels))]
+#[tactic(auto, unfolding(crate::specs::Measuring::code_levels, crate::specs::Measuring::node_levels))]
 pub fn code_levels(ws: &[u16], at: usize, depth: usize) -> Measured
     ensures { result ≡ code_levels depth ws.now at }
 {
@@ -104,7 +98,7 @@ pub fn code_levels(ws: &[u16], at: usize, depth: usize) -> Measured
 
 // An expression, then `count` processes.
 #[cycle(code_levels_expressed_list_levels_parts)]
-#[tactic(auto, unfolding(crate::specs::Measuring::code_levels, crate::specs::Measuring::node_levels, crate::specs::Measuring::expressed_levels, crate::specs::Measuring::list_levels))]
+#[tactic(auto, unfolding(crate::specs::Measuring::expressed_levels))]
 fn expressed(ws: &[u16], at: usize, count: usize, depth: usize) -> Measured
     ensures { result ≡ expressed_levels (expression_levels depth ws.now) (code_levels depth ws.now) count at }
 {
@@ -114,18 +108,16 @@ fn expressed(ws: &[u16], at: usize, count: usize, depth: usize) -> Measured
 
 // `count` processes below a node whose other parts have `levels` levels.
 #[cycle(code_levels_expressed_list_levels_parts)]
-#[tactic(auto, unfolding(crate::specs::Measuring::code_levels, crate::specs::Measuring::node_levels, crate::specs::Measuring::expressed_levels, crate::specs::Measuring::list_levels))]
+#[tactic(auto, using(crate::proofs::Levels::parts_levels_turn, crate::proofs::Levels::parts_levels_end))]
 fn parts(ws: &[u16], at: usize, levels: usize, count: usize, depth: usize) -> Measured
     ensures { result ≡ parts_levels (code_levels depth ws.now) count levels at }
 {
     let mut a = at;
     let mut deepest = levels;
-    let mut left = count;
-    while 0 < left {
+    for _ in 0..count {
         let p = code_levels(ws, a, depth);
         a = p.end;
-        deepest = larger(deepest, p.levels);
-        left = left - 1;
+        deepest = deepest.max(p.levels);
     }
     Measured {
         end: a,
@@ -135,7 +127,7 @@ fn parts(ws: &[u16], at: usize, levels: usize, count: usize, depth: usize) -> Me
 
 // The list whose count is at `at`, of a node.
 #[cycle(code_levels_expressed_list_levels_parts)]
-#[tactic(auto, unfolding(crate::specs::Measuring::code_levels, crate::specs::Measuring::node_levels, crate::specs::Measuring::expressed_levels, crate::specs::Measuring::list_levels))]
+#[tactic(auto, using(crate::proofs::Levels::entries_levels_turn, crate::proofs::Levels::entries_levels_end), unfolding(crate::specs::Measuring::list_levels))]
 fn list_levels(ws: &[u16], at: usize, depth: usize) -> Measured
     ensures { result ≡ list_levels (code_levels depth ws.now) ws.now at }
 {
@@ -144,12 +136,11 @@ fn list_levels(ws: &[u16], at: usize, depth: usize) -> Measured
     }
     let mut a = at + 1;
     let mut deepest = 0;
-    let mut left = wide(ws[at]);
-    while 0 < left {
+    let count = wide(ws[at]);
+    for _ in 0..count {
         let p = code_levels(ws, further(a, 1), depth);
         a = p.end;
-        deepest = larger(deepest, p.levels);
-        left = left - 1;
+        deepest = deepest.max(p.levels);
     }
     Measured {
         end: a,

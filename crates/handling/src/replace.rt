@@ -3,7 +3,7 @@ ghost use Rattle.std.specs.Prelude.{◌≡◌};
 ghost use Rattle.handling.specs.Measuring.{expression_levels, code_levels};
 ghost use Rattle.handling.specs.Replacing.{old_end, old_out, replace_w, seq_w, par_w, close_par, condition_w, kept_w, other_w, c_hw, nil_w, missing};
 
-use crate::measure::{Measured, code_levels, expression_levels, larger, level, own};
+use crate::measure::{Measured, code_levels, expression_levels, level, own};
 use layout::field::count_of;
 use layout::head;
 use layout::kind::Kind;
@@ -35,9 +35,7 @@ fn put_old(ws: &[u16], old: Old, out: &mut [u16], to: usize) -> usize
     if old.nil {
         return put(out, to, head::NIL);
     }
-    let from = old.from;
-    let upto = old.upto;
-    copy(ws, from, upto, out, to)
+    copy(ws, old.from, old.upto, out, to)
 }
 
 // Of what is not there nothing is written.
@@ -54,7 +52,7 @@ fn nowhere() -> Rebuilt
 
 // The process at `at`, of at most `depth` levels.
 #[cycle(condition_in_par_in_seq_kept_replace)]
-#[tactic(auto, unfolding(crate::specs::Replacing::replace_w, crate::specs::Replacing::node_w, crate::specs::Replacing::seq_w, crate::specs::Replacing::after_first, crate::specs::Replacing::par_w, crate::specs::Replacing::par_after, crate::specs::Replacing::close_par, crate::specs::Replacing::condition_w, crate::specs::Replacing::kept_w, crate::specs::Replacing::nil_w))]
+#[tactic(auto, unfolding(crate::specs::Replacing::replace_w, crate::specs::Replacing::node_w))]
 pub fn replace(ws: &[u16], at: usize, old: Old, depth: usize, out: &mut [u16], to: usize) -> Rebuilt
     ensures { (result ≡ (replace_w depth ws.now old at out.old to).answer) × (out.new ≡ (replace_w depth ws.now old at out.old to).out) }
 {
@@ -122,7 +120,7 @@ fn other(ws: &[u16], at: usize, depth: usize, out: &mut [u16], to: usize) -> Reb
 }
 
 #[cycle(condition_in_par_in_seq_kept_replace)]
-#[tactic(auto, unfolding(crate::specs::Replacing::seq_w, crate::specs::Replacing::after_first, crate::specs::Replacing::par_w, crate::specs::Replacing::par_after, crate::specs::Replacing::close_par, crate::specs::Replacing::condition_w, crate::specs::Replacing::kept_w))]
+#[tactic(auto, unfolding(crate::specs::Replacing::seq_w, crate::specs::Replacing::after_first))]
 fn in_seq(ws: &[u16], at: usize, old: Old, depth: usize, out: &mut [u16], to: usize) -> Rebuilt
     ensures { (result ≡ (seq_w (replace_w depth ws.now old) at out.old to).answer) × (out.new ≡ (seq_w (replace_w depth ws.now old) at out.old to).out) }
 {
@@ -138,12 +136,12 @@ fn in_seq(ws: &[u16], at: usize, old: Old, depth: usize, out: &mut [u16], to: us
         end: q.end,
         to: q.to,
         nil: false,
-        levels: further(larger(p.levels, q.levels), 1),
+        levels: further(p.levels.max(q.levels), 1),
     }
 }
 
 #[cycle(condition_in_par_in_seq_kept_replace)]
-#[tactic(auto, unfolding(crate::specs::Replacing::seq_w, crate::specs::Replacing::after_first, crate::specs::Replacing::par_w, crate::specs::Replacing::par_after, crate::specs::Replacing::close_par, crate::specs::Replacing::condition_w, crate::specs::Replacing::kept_w))]
+#[tactic(auto, unfolding(crate::specs::Replacing::par_w, crate::specs::Replacing::par_after, crate::specs::Replacing::close_par))]
 fn in_par(ws: &[u16], at: usize, old: Old, depth: usize, out: &mut [u16], to: usize) -> Rebuilt
     ensures { (result ≡ (par_w (replace_w depth ws.now old) at out.old to).answer) × (out.new ≡ (par_w (replace_w depth ws.now old) at out.old to).out) }
 {
@@ -168,13 +166,13 @@ fn in_par(ws: &[u16], at: usize, old: Old, depth: usize, out: &mut [u16], to: us
         end: q.end,
         to: q.to,
         nil: false,
-        levels: further(larger(p.levels, q.levels), 1),
+        levels: further(p.levels.max(q.levels), 1),
     }
 }
 
 // An if or a while: its condition, then its parts.
 #[cycle(condition_in_par_in_seq_kept_replace)]
-#[tactic(auto, unfolding(crate::specs::Replacing::seq_w, crate::specs::Replacing::after_first, crate::specs::Replacing::par_w, crate::specs::Replacing::par_after, crate::specs::Replacing::close_par, crate::specs::Replacing::condition_w, crate::specs::Replacing::kept_w))]
+#[tactic(auto, unfolding(crate::specs::Replacing::condition_w))]
 fn condition(
     ws: &[u16],
     at: usize,
@@ -196,7 +194,7 @@ fn condition(
 
 // The words from `at` to the end of `own` stay, then come `count` parts.
 #[cycle(condition_in_par_in_seq_kept_replace)]
-#[tactic(auto, unfolding(crate::specs::Replacing::kept_w))]
+#[tactic(auto, using(crate::proofs::Replacements::parts_turn, crate::proofs::Replacements::parts_end), unfolding(crate::specs::Replacing::kept_w))]
 fn kept(
     ws: &[u16],
     at: usize,
@@ -212,13 +210,11 @@ fn kept(
     let mut a = own.end;
     let mut t = copy(ws, at, a, out, to);
     let mut deepest = own.levels;
-    let mut left = count;
-    while 0 < left {
+    for _ in 0..count {
         let p = replace(ws, a, old, depth, out, t);
         a = p.end;
         t = p.to;
-        deepest = larger(deepest, further(p.levels, 1));
-        left = left - 1;
+        deepest = deepest.max(further(p.levels, 1));
     }
     Rebuilt {
         end: a,

@@ -28,10 +28,7 @@ pub struct Passing {
 fn less_if(n: u16, upto: usize) -> u16
     ensures { result ≡ less_if n upto }
 {
-    if upto == 0 {
-        return n;
-    }
-    if n == 0 { 0 } else { n - 1 }
+    if upto == 0 { n } else { n.saturating_sub(1) }
 }
 
 // The next entry stays, or is the one taken out.
@@ -39,46 +36,37 @@ fn less_if(n: u16, upto: usize) -> u16
 fn pass(ws: &[u16], s: Passing, key: usize, depth: usize, out: &mut [u16]) -> Passing
     ensures { (result ≡ (pass_w depth ws.now key s out.old).state) × (out.new ≡ (pass_w depth ws.now key s out.old).out) }
 {
-    let at = s.at;
-    let to = s.to;
-    let from = further(at, 1);
+    let from = further(s.at, 1);
     let e = skip(ws, from, depth);
-    if key_of(word(ws, at)) == key {
+    if key_of(word(ws, s.at)) == key {
         return Passing {
             at: e,
-            to,
             from,
             upto: e,
+            ..s
         };
     }
-    let t = copy(ws, at, e, out, to);
-    Passing {
-        at: e,
-        to: t,
-        from: s.from,
-        upto: s.upto,
-    }
+    let t = copy(ws, s.at, e, out, s.to);
+    Passing { at: e, to: t, ..s }
 }
 
 // The list whose count is at `list`, from 0 on.
-#[tactic(auto, unfolding(crate::specs::Taking::take_w, crate::specs::Taking::took_w))]
+#[tactic(auto, using(crate::proofs::Turns::passes_turn, crate::proofs::Turns::passes_end), unfolding(crate::specs::Taking::take_w, crate::specs::Taking::took_w))]
 pub fn take(ws: &[u16], list: usize, key: usize, depth: usize, out: &mut [u16]) -> Taken
     ensures { (result ≡ (take_w depth ws.now list key out.old).answer) × (out.new ≡ (take_w depth ws.now list key out.old).out) }
 {
     let count = word(ws, list);
-    let mut left = wide(count);
+    let n = wide(count);
     let mut s = Passing {
         at: further(list, 1),
         to: 1,
         from: 0,
         upto: 0,
     };
-    while 0 < left {
+    for _ in 0..n {
         s = pass(ws, s, key, depth, out);
-        left = left - 1;
     }
-    let w = less_if(count, s.upto);
-    put(out, 0, w);
+    put(out, 0, less_if(count, s.upto));
     Taken {
         to: s.to,
         from: s.from,

@@ -1,29 +1,24 @@
--- Lines put together from parts.
+-- The lines, with the decimals that std prints.
 -- Assumes nothing.
-use Prim.Native.Nat.{ℕ, suc, ◌+◌, ◌<◌}
-use native.Mathlib.Omega.{arith}
-use native.Mathlib.Numerals.{add-one}
-use mathlib.Core.Path.{◌≡◌, sym, ap, ◌∙◌}
-use mathlib.Core.List.{List, [], ◌∷◌, ◌++◌, append_assoc, append-nil}
-use lib.ListN.{length, get_or, set, take}
-use lib.Seq.{take-suc, take-suc-set, take-length}
+use Rattle.std.proofs.Common.{ℕ, ◌≡◌, ◌<◌, ◌^◌, [], ◌∷◌, ◌++◌, append_assoc, refl}
+use Rattle.std.specs.Fmt as fmt
+use Rattle.sock.specs.Calls.{Answer}
+use Rattle.sock.specs.Bytes.{start_text, start_line, end_text, end_line, step_line}
+use Rattle.handover.proofs.Decimals.{decimal_is}
 
--- one more byte is in its place
-pub put_turn :
-    (text line line₀ : List ℕ) (at i : ℕ) → take (at + i) line ≡ take at line₀ ++ take i text → at + i < length line → i < length text →
-    take (at + (i + 1)) (set line (at + i) (get_or text i 0)) ≡ take at line₀ ++ take (i + 1) text
-put_turn text line line₀ at i e b h =
-    let s : at + (i + 1) ≡ suc (at + i) = omega arith in
-    ap (λ (m : ℕ). take m (set line (at + i) (get_or text i 0))) s
-    ∙ take-suc-set line (at + i) (get_or text i 0) b
-    ∙ ap (λ (l : List ℕ). l ++ (get_or text i 0 ∷ [])) e
-    ∙ append_assoc (take at line₀) (take i text) (get_or text i 0 ∷ [])
-    ∙ ap (λ (l : List ℕ). take at line₀ ++ l) (sym (take-suc text i 0 h))
-    ∙ ap (λ (m : ℕ). take at line₀ ++ take m text) (sym (add-one i))
+pub start_is : (n : ℕ) → n < 2 ^ 64 → start_line n ≡ (115 ∷ 116 ∷ 97 ∷ 114 ∷ 116 ∷ 32 ∷ []) ++ fmt.decimal n ++ 10 ∷ []
+unfolding start_line start_text
+start_is n h = rw (decimal_is n h) refl
 
-pub put_none : (text line : List ℕ) (at : ℕ) → take (at + 0) line ≡ take at line ++ take 0 text
-put_none text line at = let s : at + 0 ≡ at = omega arith in ap (λ (m : ℕ). take m line) s ∙ sym (append-nil (take at line))
+pub end_is : (n : ℕ) → n < 2 ^ 64 → end_line n ≡ (101 ∷ 110 ∷ 100 ∷ 32 ∷ []) ++ fmt.decimal n ++ 10 ∷ []
+unfolding end_line end_text
+end_is n h = rw (decimal_is n h) refl
 
-pub put_all :
-    (text line line₀ : List ℕ) (at i : ℕ) → take (at + i) line ≡ take at line₀ ++ take i text → i ≡ length text → take (at + i) line ≡ take at line₀ ++ text
-put_all text line line₀ at i e h = e ∙ ap (λ (m : ℕ). take at line₀ ++ take m text) h ∙ ap (λ (l : List ℕ). take at line₀ ++ l) (take-length text)
+-- grouped as std prints it
+pub step_is :
+    (i : ℕ) (a : Answer) → i < 2 ^ 64 → a.number < 2 ^ 64 → a.kind < 2 ^ 64 → a.serial < 2 ^ 64 → a.fault < 2 ^ 64 →
+    step_line i a
+    ≡ fmt.decimal i ++ (32 ∷ (fmt.decimal a.number ++ (32 ∷ (fmt.decimal a.kind ++ (32 ∷ (fmt.decimal a.serial ++ (32 ∷ (fmt.decimal a.fault ++ 10 ∷ []))))))))
+unfolding step_line
+step_is i a h n k s f =
+    rw (decimal_is i h, decimal_is a.number n, decimal_is a.kind k, decimal_is a.serial s, decimal_is a.fault f) (simp append_assoc)

@@ -6,12 +6,12 @@ use mathlib.Core.Path.{◌≡◌, refl, sym, ap, ◌∙◌}
 use mathlib.Core.Bool.{Bool, true, false, cond, ◌||◌}
 use mathlib.Core.List.{List, [], ◌∷◌}
 use lib.Dec.{ltb}
-use lib.ListN.{length, get_or, take}
+use lib.ListN.{length, get_or, take, drop}
 use lib.Seq.{length-take-le}
 use borrow.Author.Tests.{lt-ltb, le-ltb}
 use Rattle.sock.specs.Bytes.{words_of, words_or_none}
 use Rattle.bytewise.specs.Held.{held}
-use Rattle.handover.specs.Printed.{count_in, wanted_for, start_words}
+use Rattle.handover.specs.Printed.{count_in, wanted_for, start_words, words_read, left_behind_words}
 
 pub count_missing : (head : List ℕ) → length head < 2 → 8193 ≡ count_in head
 unfolding count_in
@@ -63,3 +63,16 @@ held_there n bytes h l =
     let e : length (take (n * 2) bytes) ≡ n * 2 = length-take-le (n * 2) bytes l in
     ap (λ (b : Bool). cond b [] (words_or_none (words_of (take (n * 2) bytes)))) (le-ltb 16384 (length (take (n * 2) bytes)) (omega (arith, e)))
     ∙ sym (all_there n bytes h l)
+
+-- ---- the words that are read
+
+module _ (bytes head : List ℕ) (size : ℕ) (front : head ≡ take 2 bytes) (wanted : size ≡ wanted_for (count_in head)) where
+  pub read_is : (got : List ℕ) → got ≡ take size (drop 2 bytes) → start_words (count_in head) got ≡ words_read bytes
+  unfolding words_read
+  read_is got second =
+      ap (start_words (count_in head)) (second ∙ ap (λ n. take n (drop 2 bytes)) wanted)
+      ∙ ap (λ h. start_words (count_in h) (take (wanted_for (count_in h)) (drop 2 bytes))) front
+
+  pub left_is : drop size (drop 2 bytes) ≡ left_behind_words bytes
+  unfolding left_behind_words
+  left_is = ap (λ n. drop n (drop 2 bytes)) wanted ∙ ap (λ h. drop (wanted_for (count_in h)) (drop 2 bytes)) front

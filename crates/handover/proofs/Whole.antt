@@ -1,5 +1,5 @@
--- The program's way over its input, with the lines and words that the contracts give, prints the definitions' text. That `main` goes this
--- way is to be read: reading and writing have no contract. Its turns are 2^64 - 2.
+-- The program's way over its input, with the lines and words that the contracts give, prints the definitions' text. The contract of
+-- `handover` says that the program goes this way. Its turns are 2^64 - 2.
 -- Assumes nothing.
 use Prim.Native.Nat.{ℕ, zero, suc, ◌+◌, ◌-◌, ◌*◌, ◌≤◌, ◌<◌}
 use native.Mathlib.Omega.{arith}
@@ -14,21 +14,11 @@ use borrow.Author.Tests.{lt-ltb, le-ltb}
 use Rattle.sock.specs.Configuration.{standard, read_config}
 use Rattle.sock.specs.Calls.{step, answer_of, check_start, start, passed, ◌!◌, ◌>>=◌}
 use Rattle.sock.specs.Bytes.{words_of, words_or_none, numbers_in, words_after, start_line, step_line, step_lines, started, configured, handover}
-use Rattle.handover.specs.Printed.{count_in, wanted_for, start_words, last_line, turn_line, turn_words}
+use Rattle.handover.specs.Printed.{count_in, wanted_for, start_words, last_line, turn_line, turn_words, steps_text, words_read, left_behind_words}
 use Rattle.handover.proofs.Starting.{some_wanted, too_many, some_missing, all_there}
 use Rattle.handover.proofs.Turning.{numbers_as}
 
 -- ---- the program's way
-
--- what is printed once the start is: ten bytes, or what is left, are read for each line
-unfoldable pub steps_text : ℕ → ℕ → List ℕ → List ℕ → List ℕ
-steps_text zero i ws input = []
-steps_text (suc turns) i ws input =
-    turn_line i ws (take 10 input)
-    ++ elim (ltb (length (take 10 input)) 10) [
-      | true ↦ []
-      | false ↦ steps_text turns (suc i) (turn_words ws (take 10 input)) (drop 10 input)
-    ]
 
 -- it ends if the check's number is not 0
 unfoldable pub unless_refused : ℕ → List ℕ → List ℕ
@@ -41,8 +31,7 @@ begun turns ws input = start_line (check_start standard ws) ++ unless_refused (c
 -- two bytes are read, then as many as the word that they are wants
 unfoldable pub main_text : ℕ → List ℕ → List ℕ
 main_text turns input =
-    begun turns (start_words (count_in (take 2 input)) (take (wanted_for (count_in (take 2 input))) (drop 2 input)))
-    (drop (wanted_for (count_in (take 2 input))) (drop 2 input))
+    begun turns (words_read input) (left_behind_words input)
 
 -- ---- the steps
 
@@ -50,7 +39,7 @@ pair_of : (input : List ℕ) (i j : ℕ) → i < 10 → j < 10 → get_or (take 
 pair_of input i j a b =
     ap (λ (x : ℕ). x * 256 + get_or (take 10 input) j 0) (get_or-take 10 input i 0 a) ∙ ap (λ (x : ℕ). get_or input i 0 * 256 + x) (get_or-take 10 input j 0 b)
 
-ten_numbers : (input : List ℕ) → numbers_in (take 10 input) ≡ numbers_in input
+pub ten_numbers : (input : List ℕ) → numbers_in (take 10 input) ≡ numbers_in input
 unfolding numbers_in
 ten_numbers input =
     numbers_as input _ _ _ _ _ (pair_of input 0 1 (omega arith) (omega arith)) (pair_of input 2 3 (omega arith) (omega arith))
@@ -59,7 +48,7 @@ ten_numbers input =
     (pair_of input 8 9 (omega arith) (omega arith))
 
 -- less than ten bytes are left
-last_is : (turns i : ℕ) (ws input : List ℕ) → length input < 10 → steps_text (suc turns) i ws input ≡ last_line (length ws) input
+pub last_is : (turns i : ℕ) (ws input : List ℕ) → length input < 10 → steps_text (suc turns) i ws input ≡ last_line (length ws) input
 unfolding steps_text turn_line
 last_is turns i ws input h =
     let t : take 10 input ≡ input = take_all 10 input (omega (arith, h)) in
@@ -84,7 +73,7 @@ ten_words : (ws input : List ℕ) → 10 ≤ length input → turn_words ws (tak
 unfolding turn_words
 ten_words ws input h = rw (ten_below input h, ten_numbers input) refl
 
-next_is :
+pub next_is :
     (turns i : ℕ) (ws input : List ℕ) → 10 ≤ length input →
     steps_text (suc turns) i ws input
     ≡ step_line i (answer_of (step standard ws (numbers_in input) 8192))
@@ -194,7 +183,7 @@ begun_is turns n bytes t = by (dec_le n 8192) (dec_le (n * 2) (length bytes))
         ∙ sym (configured_by n bytes false false (le-ltb 8192 n h) (le-ltb (length bytes) (2 * n) (omega (arith, l))))
 
 pub main_is : (turns : ℕ) (input : List ℕ) → length input < turns → main_text turns input ≡ handover input
-unfolding main_text handover count_in
+unfolding main_text words_read left_behind_words handover count_in
 main_is turns [] h = refused_is turns (start_words 8193 _) _ (too_many 8193 _ (omega arith))
 main_is turns (high ∷ []) h = refused_is turns (start_words 8193 _) _ (too_many 8193 _ (omega arith))
 main_is turns (high ∷ low ∷ bytes) h = begun_is turns (high * 256 + low) bytes (omega (arith, h))

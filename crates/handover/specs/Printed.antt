@@ -1,18 +1,13 @@
 -- What the program prints, part by part, from the bytes that it has read.
-use Rattle.std.specs.Prelude.{ℕ, ◌+◌, ◌*◌, cond, ◌||◌, List, [], ◌∷◌, ◌++◌, ltb, length, take}
+use Rattle.std.specs.Prelude.{ℕ, zero, suc, ◌+◌, ◌*◌, true, false, cond, ◌||◌, List, [], ◌∷◌, ◌++◌, ltb, length, take, drop}
 use Rattle.sock.specs.Configuration.{standard}
 use Rattle.sock.specs.Calls.{Answer, step, answer_of}
-use Rattle.sock.specs.Bytes.{words_of, words_or_none, numbers_in, words_after, decimal, end_line, cut_line, step_line}
+use Rattle.sock.specs.Bytes.{words_of, words_or_none, numbers_in, words_after, end_line, cut_line, step_line}
 use Rattle.stepping.specs.declared.answer.Answer.{Answer as Declared}
 
 -- the answer of a step, from the type that the code declares
 abbrev pub defined_as : Declared → Answer
 defined_as a = record { number = a.number; kind = a.kind; serial = a.serial; fault = a.fault; length = a.length }
-
--- a line with an answer behind it
-unfoldable pub answered : List ℕ → Answer → List ℕ
-answered line a =
-    line ++ decimal a.number ++ 32 ∷ [] ++ decimal a.kind ++ 32 ∷ [] ++ decimal a.serial ++ 32 ∷ [] ++ decimal a.fault ++ 10 ∷ []
 
 -- the word L; one more than a configuration may have where it is missing
 unfoldable pub count_in : List ℕ → ℕ
@@ -41,3 +36,26 @@ turn_line i ws bytes =
 -- and the words that the next step reads
 unfoldable pub turn_words : List ℕ → List ℕ → List ℕ
 turn_words ws bytes = cond (ltb (length bytes) 10) ws (words_after (step standard ws (numbers_in bytes) 8192) ws)
+
+-- ---- the program's way over its input
+
+-- two bytes are read, then as many as the word that they are wants
+unfoldable pub words_read : List ℕ → List ℕ
+words_read input = start_words (count_in (take 2 input)) (take (wanted_for (count_in (take 2 input))) (drop 2 input))
+
+unfoldable pub left_behind_words : List ℕ → List ℕ
+left_behind_words input = drop (wanted_for (count_in (take 2 input))) (drop 2 input)
+
+-- the step number never comes to its largest value
+unfoldable pub most_steps : ℕ
+most_steps = 18446744073709551614
+
+-- what is printed once the start is: ten bytes, or what is left, are read for each line
+unfoldable pub steps_text : ℕ → ℕ → List ℕ → List ℕ → List ℕ
+steps_text zero i ws input = []
+steps_text (suc turns) i ws input =
+    turn_line i ws (take 10 input)
+    ++ elim (ltb (length (take 10 input)) 10) [
+      | true ↦ []
+      | false ↦ steps_text turns (suc i) (turn_words ws (take 10 input)) (drop 10 input)
+    ]

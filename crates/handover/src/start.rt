@@ -1,66 +1,74 @@
-// The start: how many words the configuration has, and what the start check says of them.
-ghost use Rattle.std.specs.Prelude.{◌≡◌, ◌+◌, ◌*◌, ◌≤◌, not, eqb, length, take};
+// The start: the configuration's words, and what the start check says of them.
+ghost use Rattle.std.specs.Prelude.{◌≡◌, ◌≤◌, ◌<◌, ◌↔◌, Some, IfOk, IfSome, OnOk, IsTrue, MatchOption, drop, take};
+ghost use Rattle.std.specs.Io.KnownBytes.{Appends};
 ghost use Rattle.sock.specs.Configuration.{standard};
-ghost use Rattle.sock.specs.Calls.{check_start, over};
+ghost use Rattle.sock.specs.Calls.{check_start};
 ghost use Rattle.sock.specs.Bytes.{start_line};
-ghost use Rattle.handover.specs.Printed.{count_in, wanted_for, start_words};
+ghost use Rattle.handover.specs.Printed.{count_in, wanted_for, start_words, words_read, left_behind_words};
 
-use crate::state::Next;
+use crate::state::Words;
 use crate::text::start_line;
-use bytewise::words::hold;
+use cases::{read_full, word};
+use layout::limit::LONGEST;
 use reading::calls::check_start;
+use std::io;
+use std::io::{Read, Write};
 
-pub fn word(high: u8, low: u8) -> u16
-    ensures { result ≡ high * 256 + low }
+const MOST_BYTES: usize = 2 * LONGEST;
+
+// The word L, where it is there and no more than the words that a configuration may have.
+fn count(head: &[u8]) -> Option<usize>
+    ensures { MatchOption result (8192 < count_in head.now) (λ n. (n ≡ count_in head.now) × (n ≤ 8192)) }
 {
-    (high as u16) * 256 + (low as u16)
+    let [high, low, ..] = head else {
+        return None;
+    };
+    let n = usize::from(word(*high, *low));
+    if n <= LONGEST { Some(n) } else { None }
 }
 
-// The word L from the bytes read, or one more than a configuration may have where they are missing.
-pub fn count(head: &[u8]) -> usize
-    ensures { result ≡ count_in head.now }
+// How many bytes of words stand behind it; none where it is missing or too large.
+fn size(head: &[u8]) -> usize
+    ensures bytes { result ≡ wanted_for (count_in head.now) }
+    ensures within { result ≤ 16384 }
 {
-    if head.len() < 2 {
-        return 8193;
+    match count(head) {
+        Some(n) => 2 * n,
+        None => 0,
     }
-    word(head[0], head[1]) as usize
 }
 
-// How many bytes a configuration of `n` words has; none where `n` is too large.
-pub fn wanted(n: usize) -> usize
-    ensures { (result ≡ wanted_for n) × (result ≤ 16384) }
+// The words that those bytes are; none where they are too many, or some are missing.
+fn words_in(head: &[u8], bytes: &[u8]) -> Words
+    ensures { result ≡ start_words (count_in head.now) bytes.now }
 {
-    if 8192 < n { 0 } else { n * 2 }
+    let Some(n) = count(head) else {
+        return Words::none();
+    };
+    if bytes.len() < 2 * n {
+        return Words::none();
+    }
+    Words::of(&bytes[..2 * n])
 }
 
-// How many words there are, and the words; none where they are too many or some are missing.
-fn words_in(n: usize, bytes: &[u8], ws: &mut [u16]) -> usize
-    requires { length ws.old ≡ 8192 }
-    ensures { (result ≤ 8192) × (take result ws.new ≡ start_words n bytes.now) × (ws.new ≡ over (start_words n bytes.now) ws.old) }
+// The word L and the words behind it are read.
+pub(crate) fn read_words<R: Read>(input: &mut R) -> io::Result<Words>
+    ensures { IfOk result (λ words. IfSome (R.remaining input.old) (λ bytes. (words ≡ words_read bytes) × (R.remaining input.new ≡ Some (left_behind_words bytes)))) }
 {
-    if 8192 < n {
-        return 0;
-    }
-    let size = n * 2;
-    if bytes.len() < size {
-        return 0;
-    }
-    hold(&bytes[..size], ws)
+    let mut head = [0u8; 2];
+    let got = read_full(input, &mut head)?;
+    let mut bytes = [0u8; MOST_BYTES];
+    let wanted = size(&head[..got]);
+    let have = read_full(input, &mut bytes[..wanted])?;
+    Ok(words_in(&head[..got], &bytes[..have]))
 }
 
-// From the word L and the bytes read behind it to the configuration's words and the first line, which is the last unless the check's
-// number is 0. No words are not readable, hence the number 1 where words are missing or too many.
-pub(crate) fn begin(n: usize, bytes: &[u8], ws: &mut [u16], line: &mut [u8]) -> Next
-    requires { (length ws.old ≡ 8192) × (length line.old ≡ 128) }
-    ensures { (result.last ≡ not (eqb (check_start standard (start_words n bytes.now)) 0)) × (result.number ≡ 1) × (result.length ≤ 8192) × (take result.length ws.new ≡ start_words n bytes.now) × (result.text ≤ 128) × (take result.text line.new ≡ start_line (check_start standard (start_words n bytes.now))) × (ws.new ≡ over (start_words n bytes.now) ws.old) }
+// The first line; whether steps follow it. No words are not readable, hence the number 1 where words are missing or too many.
+pub(crate) fn begin<W: Write>(output: &mut W, words: &Words) -> io::Result<bool>
+    ensures printed { OnOk result (Appends (W.contents output.old) (W.contents output.new) (start_line (check_start standard words.now))) }
+    ensures goes_on { IfOk result (λ goes_on. IsTrue goes_on ↔ (check_start standard words.now ≡ 0)) }
 {
-    let length = words_in(n, bytes, ws);
-    let number = check_start(&ws[..length]);
-    let text = start_line(number, line);
-    Next {
-        text,
-        length,
-        number: 1,
-        last: number != 0,
-    }
+    let number = check_start(words.as_slice());
+    start_line(output, number)?;
+    Ok(number == 0)
 }

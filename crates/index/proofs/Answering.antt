@@ -20,7 +20,7 @@ use Rattle.stepping.specs.Answering.{refusing}
 use Rattle.journal.specs.declared.back.Taken.{Taken}
 use Rattle.journal.specs.Back.{taken_as}
 use Rattle.index.specs.Form.{in_order, serials_in, cleared, open_by, told_as}
-use Rattle.index.proofs.Forming.{listed_is, unlisted_is, cleared_is, laid_as}
+use Rattle.index.proofs.Forming.{listed_is, unlisted_is, laid_as}
 
 -- ---- the questions
 
@@ -46,11 +46,11 @@ module _ (index : List ℕ) where
 never_zero : (n : ℕ) → eqb n 0 ≡ false → n ≡ 0 → ⊥
 never_zero n e = eqb-false n 0 e
 
-none_laid : (m : ℕ) (index : List ℕ) → suc m ≤ length index → cleared (suc m) 0 index ≡ 0 ∷ (replicate m 0 ++ drop (suc m) index)
-none_laid m index h = cleared_is (suc m) [] index h
+none_laid : (m : ℕ) (index : List ℕ) → replicate (suc m) 0 ++ drop (suc m) index ≡ 0 ∷ (replicate m 0 ++ drop (suc m) index)
+none_laid m index = refl
 
-pub all_cleared : (index : List ℕ) → 2049 ≤ length index → cleared 2049 0 index ≡ over (index_of []) index
-all_cleared index h = none_laid 2048 index h ∙ sym (laid_as [] index (omega arith))
+pub all_cleared : (index : List ℕ) → cleared 0 index ≡ over (index_of []) index
+all_cleared index = none_laid 2048 index ∙ sym (laid_as [] index (omega arith))
 
 as_passed : (x : Result (List ℕ)) → elim x [ refused r ↦ number r | done serials ↦ 0 ] ≡ passed x
 unfolding passed

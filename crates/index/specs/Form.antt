@@ -1,5 +1,5 @@
 -- An index as the code has it: whether it is in order, the serials that it then lists, and its words set to 0.
-use Rattle.std.specs.Prelude.{ℕ, zero, suc, ◌+◌, Bool, true, false, ◌||◌, cond, List, eqb, get_or, set, take, drop}
+use Rattle.std.specs.Prelude.{ℕ, ◌-◌, Bool, true, false, ◌||◌, cond, List, ◌++◌, eqb, get_or, replicate, take, drop}
 use Rattle.std.proofs.Math.Option.{Option, none, some}
 use Rattle.sock.specs.Kind
 use Rattle.sock.specs.Index.{listed, put_in, take_out, Told as Defined}
@@ -16,10 +16,9 @@ in_order index = present (listed index)
 unfoldable pub serials_in : List ℕ → List ℕ
 serials_in index = take (get_or index 0 0) (drop 1 index)
 
--- `left` words from i on are 0
-unfoldable pub cleared : ℕ → ℕ → List ℕ → List ℕ
-cleared zero i index = index
-cleared (suc left) i index = cleared left (i + 1) (set index i 0)
+-- 0 from a place on to the index's end
+abbrev pub cleared : ℕ → List ℕ → List ℕ
+cleared from index = take from index ++ (replicate (2049 - from) 0 ++ drop (2049 - from) (drop from index))
 
 -- by the kind and the serial answered
 unfoldable pub open_by : ℕ → ℕ → List ℕ → List ℕ

@@ -1,8 +1,8 @@
 // An index begun with a start: no serial is open.
-ghost use Rattle.std.specs.Prelude.{◌≡◌, ◌-◌, ◌≤◌, length};
+ghost use Rattle.std.specs.Prelude.{◌≡◌, ◌≤◌, length};
+ghost use Rattle.index.specs.Form.{cleared};
 ghost use Rattle.sock.specs.Configuration.{standard};
 ghost use Rattle.sock.specs.Index.{begin_answer, begin_index};
-ghost use Rattle.index.specs.Form.{cleared};
 
 use crate::form::WORDS;
 use reading::calls::check_start;
@@ -10,13 +10,9 @@ use reading::calls::check_start;
 // The words from there to the index's end are 0.
 pub(crate) fn clear(index: &mut [u16], from: usize)
     requires { (from ≤ 2049) × (2049 ≤ length index.old) }
-    ensures { index.new ≡ cleared (2049 - from) from index.old }
+    ensures { index.new ≡ cleared from index.old }
 {
-    let mut i = from;
-    while i < WORDS {
-        index[i] = 0;
-        i = i + 1;
-    }
+    index[from..WORDS].fill(0);
 }
 
 // 17 if fewer than 2,049 words are lent, then 1 and 11 as the start check; else 0, and the 2,049 words are zeros. A refusal changes no word.

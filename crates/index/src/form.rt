@@ -1,7 +1,7 @@
 // Whether words are an index in order: the count, so many serials that rise strictly from above 0, and zeros behind them.
-ghost use Rattle.std.specs.Prelude.{◌≡◌, ◌≤◌, ◌<◌, length, take, drop};
+ghost use Rattle.std.specs.Prelude.{◌≡◌, ◌==◌};
+ghost use Rattle.std.specs.List.{list_all};
 ghost use Rattle.sock.specs.Index.{rising};
-ghost use Rattle.sock.specs.Index as sock;
 ghost use Rattle.index.specs.Form.{in_order};
 
 use layout::number::wide;
@@ -11,36 +11,25 @@ pub const WORDS: usize = 2049;
 
 pub const MOST: usize = 2047;
 
-// Whether the words 1 to n rise strictly from above 0.
-fn rises(index: &[u16], n: usize) -> bool
-    requires { n < length index.now }
-    ensures { result ≡ rising 0 (take n (drop 1 index.now)) }
+// Whether words rise strictly from above 0.
+fn rises(words: &[u16]) -> bool
+    ensures { result ≡ rising 0 words.now }
 {
     let mut last = 0;
-    let mut i = 1;
-    while i <= n {
-        if index[i] <= last {
+    for word in words {
+        if *word <= last {
             return false;
         }
-        last = index[i];
-        i = i + 1;
+        last = *word;
     }
     true
 }
 
-// Whether the words from there to the index's end are all 0.
-fn zeros(index: &[u16], from: usize) -> bool
-    requires { (2049 ≤ length index.now) × (from ≤ 2049) }
-    ensures { result ≡ sock.zeros (drop from (take 2049 index.now)) }
+// Whether all words are 0.
+fn zeros(words: &[u16]) -> bool
+    ensures { result ≡ list_all (λ w. w == 0) words.now }
 {
-    let mut i = from;
-    while i < WORDS {
-        if index[i] != 0 {
-            return false;
-        }
-        i = i + 1;
-    }
-    true
+    words.iter().all(|word| *word == 0)
 }
 
 pub fn in_order(index: &[u16]) -> bool
@@ -53,8 +42,8 @@ pub fn in_order(index: &[u16]) -> bool
     if MOST < n {
         return false;
     }
-    if !rises(index, n) {
+    if !rises(&index[1..n + 1]) {
         return false;
     }
-    zeros(index, n + 1)
+    zeros(&index[n + 1..WORDS])
 }

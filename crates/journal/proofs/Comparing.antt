@@ -1,9 +1,9 @@
 -- Words alike, counted on from any place: by blocks and word by word, from the front and from the back.
 -- Assumes nothing.
-use Prim.Native.Nat.{ℕ, zero, suc, ◌+◌, ◌-◌, ◌≤◌, ◌<◌}
+use Prim.Native.Nat.{ℕ, zero, suc, ◌+◌, ◌-◌, ◌≤◌, ◌<◌, min}
 use native.Mathlib.Omega.{arith}
 use mathlib.Core.Path.{◌≡◌, refl, sym, ap, subst, ◌∙◌}
-use mathlib.Core.Bool.{Bool, true, false, ◌&&◌, cond}
+use mathlib.Core.Bool.{Bool, true, false, ◌&&◌}
 use mathlib.Core.List.{List, [], ◌∷◌, ◌++◌, append_assoc, reverse, reverse-append, reverse-cons}
 use lib.Dec.{eqb, ltb}
 use lib.ListN.{length, get_or, take, drop, length-drop, length-reverse, take-append-drop, drop_of_length-le, get_or-append}
@@ -11,25 +11,7 @@ use lib.Seq.{length-take-le, take_all, take_at, drop_at, drop-drop, drop-cons, g
 use borrow.Author.Tests.{eq-eqb, ne_eqb, ltb-true, ltb-false}
 use Rattle.sock.specs.Journal.{alike, alike_behind, same_words}
 use Rattle.sock.proofs.Journal.{same_words_lem}
-use Rattle.journal.specs.Comparing.{least_of, both_of}
-
--- ---- the lesser length
-
-pub least_left : (a b : ℕ) → least_of a b ≤ a
-unfolding least_of
-least_left a b = by (ltb a b) refl
-  where
-    by : (t : Bool) → ltb a b ≡ t → cond t a b ≤ a
-    by true e = omega arith
-    by false e = ltb-false a b e
-
-pub least_right : (a b : ℕ) → least_of a b ≤ b
-unfolding least_of
-least_right a b = by (ltb a b) refl
-  where
-    by : (t : Bool) → ltb a b ≡ t → cond t a b ≤ b
-    by true e = let h = ltb-true a b e in omega arith
-    by false e = omega arith
+use Rattle.journal.specs.Comparing.{both_of}
 
 -- ---- counted on
 
@@ -82,13 +64,16 @@ module _ (a b : List ℕ) (k : ℕ) where
         ∙ alike_differs (get_or a k 0) (get_or b k 0) (drop (suc k) a) (drop (suc k) b) e
 
   -- no word is left in one of them
-  pub word_none : least_of (length a) (length b) ≤ k → alike (drop k a) (drop k b) ≡ 0
-  unfolding least_of
-  word_none h = by (ltb (length a) (length b)) refl h
+  pub word_none : min (length a) (length b) ≤ k → alike (drop k a) (drop k b) ≡ 0
+  word_none h = by (ltb (length a) (length b)) refl
     where
-      by : (t : Bool) → ltb (length a) (length b) ≡ t → cond t (length a) (length b) ≤ k → alike (drop k a) (drop k b) ≡ 0
-      by true e h = ap (λ (c : List ℕ). alike c (drop k b)) (drop_of_length-le a h) ∙ none_alike (drop k b)
-      by false e h = ap (alike (drop k a)) (drop_of_length-le b h) ∙ alike_none (drop k a)
+      by : (t : Bool) → ltb (length a) (length b) ≡ t → alike (drop k a) (drop k b) ≡ 0
+      by true e =
+          let less : length a ≤ k = omega (arith, ltb-true (length a) (length b) e) in
+          ap (λ (c : List ℕ). alike c (drop k b)) (drop_of_length-le a less) ∙ none_alike (drop k b)
+      by false e =
+          let less : length b ≤ k = omega (arith, ltb-false (length a) (length b) e) in
+          ap (alike (drop k a)) (drop_of_length-le b less) ∙ alike_none (drop k a)
 
   pub block_same :
       (n : ℕ) → k + n ≤ length a → k + n ≤ length b → take n (drop k a) ≡ take n (drop k b) →
@@ -236,7 +221,7 @@ module _ (a b : List ℕ) where
   first_stop i k h g e inv = omega (arith, word_differs a b k h g e)
 
   pub first_end :
-      (i k : ℕ) → least_of (length a) (length b) ≤ k → i + alike (drop i a) (drop i b) ≡ k + alike (drop k a) (drop k b) →
+      (i k : ℕ) → min (length a) (length b) ≤ k → i + alike (drop i a) (drop i b) ≡ k + alike (drop k a) (drop k b) →
       k ≡ i + alike (drop i a) (drop i b)
   first_end i k h inv = omega (arith, word_none a b k h)
 
@@ -262,13 +247,13 @@ module _ (a b : List ℕ) where
       omega (arith, word_differs (reverse a) (reverse b) k (omega (arith, length-reverse a)) (omega (arith, length-reverse b)) differ)
 
   pub last_end :
-      (i k : ℕ) → least_of (length a) (length b) ≤ k →
+      (i k : ℕ) → min (length a) (length b) ≤ k →
       i + alike (drop i (reverse a)) (drop i (reverse b)) ≡ k + alike (drop k (reverse a)) (drop k (reverse b)) →
       k ≡ i + alike (drop i (reverse a)) (drop i (reverse b))
   last_end i k h inv =
-      let l : least_of (length (reverse a)) (length (reverse b)) ≤ k =
-      subst (λ (n : ℕ). least_of n (length (reverse b)) ≤ k) (sym (length-reverse a))
-      (subst (λ (n : ℕ). least_of (length a) n ≤ k) (sym (length-reverse b)) h) in
+      let l : min (length (reverse a)) (length (reverse b)) ≤ k =
+      subst (λ (n : ℕ). min n (length (reverse b)) ≤ k) (sym (length-reverse a))
+      (subst (λ (n : ℕ). min (length a) n ≤ k) (sym (length-reverse b)) h) in
       omega (arith, word_none (reverse a) (reverse b) k l)
 
 -- all words from a place on

@@ -1,6 +1,6 @@
 -- The step with a journal: with its result in scratch and compared; written; and in a short scratch first.
 -- Assumes nothing.
-use Prim.Native.Nat.{ℕ, ◌+◌, ◌-◌, ◌≤◌, ◌<◌}
+use Prim.Native.Nat.{ℕ, ◌+◌, ◌-◌, ◌≤◌, ◌<◌, min}
 use native.Mathlib.Omega.{arith}
 use mathlib.Core.Path.{◌≡◌, refl, sym, ap, subst, ◌∙◌}
 use mathlib.Core.Bool.{Bool, true, false, cond}
@@ -8,7 +8,7 @@ use mathlib.Core.List.{List}
 use lib.Dec.{leb, ltb}
 use lib.ListN.{length, take, drop}
 use lib.Seq.{length-take-le, take-append_seam}
-use borrow.Author.Tests.{le-leb, lt-leb, leb-true, lt-ltb, le-ltb, ltb-true}
+use borrow.Author.Tests.{le-leb, lt-leb, leb-true, ltb-true, ltb-false}
 use Rattle.sock.specs.Configuration.{Limits, encode}
 use Rattle.sock.specs.Calls.{Refusal, journal_short, short, Result, refused, done, ◌>>=◌, ◌>>◌, ◌unless◌, Numbers as Asked, Stepped, step, answer_of, output_of, step_answer, step_output, over}
 use Rattle.sock.specs.Journal.{alike, alike_behind, journal_of, journal_step, journal_after, journal_answer, journal_output, journal_written}
@@ -32,13 +32,13 @@ use Rattle.journal.proofs.Laying.{journal_words, laid_journal, ends_new}
 
 -- ---- room in scratch
 
-pub room_most : (most room : ℕ) → most < room → most ≡ room_in most room
+pub room_least : (most room : ℕ) → min most room ≡ room_in most room
 unfolding room_in
-room_most most room h = sym (rw (lt-ltb most room h))
-
-pub room_all : (most room : ℕ) → room ≤ most → room ≡ room_in most room
-unfolding room_in
-room_all most room h = sym (rw (le-ltb most room h))
+room_least most room = by (ltb most room) refl
+  where
+    by : (b : Bool) → ltb most room ≡ b → min most room ≡ cond b most room
+    by true e = let h = ltb-true most room e in omega arith
+    by false e = let h = ltb-false most room e in omega arith
 
 -- a part of scratch
 pub part_fits : {n : ℕ} (room : ℕ) (l : List ℕ) → room ≤ length l → room ≤ n → length (take room l) ≤ n
@@ -456,3 +456,7 @@ module _ (limits : Limits) (few : limits.longest ≤ 8192) where
 
     pub again_journal : journal_written limits ws k out' journal' ≡ journal_written limits ws k out journal
     again_journal = rw (o, j)
+
+-- what the result's words have alike, by the number of its length
+pub alike_words : (ws out : List ℕ) {n m : ℕ} {alike : Alike} → n ≡ m → alike ≡ both_of ws (take n out) → alike ≡ both_of ws (take m out)
+alike_words ws out e q = q ∙ ap (λ (n : ℕ). both_of ws (take n out)) e

@@ -5,8 +5,10 @@ ghost use Rattle.sock.specs.Journal.{left, put_back, taken_of, restored_over, ta
 ghost use Rattle.journal.specs.Back.{taken_as, counts_of, said, sound_by, Fits, put_w, checked_back};
 
 use crate::compare::first_alike;
+use layout::limit::LONGEST;
 use layout::number::{wide, word};
 use reading::calls::check_readable;
+use stepping::steps::SHORT;
 use writers::write::copy;
 
 // A refusal's number, or 0; the words of the configuration restored.
@@ -121,14 +123,14 @@ fn restore(ws: &[u16], journal: &[u16], c: Counts, out: &mut [u16]) -> Taken
     ensures wrote { out.new ≡ restored_over (checked_back standard (put_back (said c journal.now) ws.now) (length out.old)) out.old }
 {
     let n = wide(c.old);
-    if 8192 < n {
+    if LONGEST < n {
         return refuse(15);
     }
-    if 512 < n {
-        let mut scratch = [0u16; 8192];
+    if SHORT < n {
+        let mut scratch = [0u16; LONGEST];
         return checked(ws, journal, c, &mut scratch, out);
     }
-    let mut scratch = [0u16; 512];
+    let mut scratch = [0u16; SHORT];
     checked(ws, journal, c, &mut scratch, out)
 }
 

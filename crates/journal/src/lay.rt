@@ -4,8 +4,8 @@ ghost use Rattle.journal.specs.Laying.{lay_w, lay_end};
 
 use writers::write::{copy, put};
 
-// A number as a word; lengths of configurations and counts of their words are words.
-fn word_of(n: usize) -> u16
+// A number as a word; lengths of configurations, counts of their words and serials are words.
+pub fn word_of(n: usize) -> u16
     ensures { result ≡ n % 65536 }
 {
     (n % 65536) as u16

@@ -1,5 +1,5 @@
 // The step that fills a journal. Its result is worked out in scratch, where it can be compared before anything lent is written.
-ghost use Rattle.std.specs.Prelude.{◌≡◌, ◌+◌, ◌≤◌, length};
+ghost use Rattle.std.specs.Prelude.{◌≡◌, ◌+◌, ◌≤◌, ◌<◌, ◌^◌, length};
 ghost use Rattle.sock.specs.Configuration.{standard};
 ghost use Rattle.sock.specs.Calls.{answer_of, output_of, step_output};
 ghost use Rattle.sock.specs.Calls as calls;
@@ -19,7 +19,7 @@ use stepping::steps::{FEW, MANY, SHORT, step_at};
 use writers::write::copy;
 
 // How long a result may be in the short scratch.
-const TWICE: usize = 1024;
+const TWICE: usize = 2 * SHORT;
 
 // As many words as the journal of any step has at most (`Events.journal-enough`).
 pub const JOURNAL_ENOUGH: usize = 16386;
@@ -62,7 +62,7 @@ pub fn compare(
             last: 0,
         };
     }
-    let n = a.length as usize;
+    let n = usize::from(a.length);
     let alike = both(ws, &res[..n]);
     if room < needed(ws.len(), n, alike.first, alike.last) {
         return Compared {
@@ -98,7 +98,7 @@ pub fn written(
     if given.number != 0 {
         return given;
     }
-    let n = given.length as usize;
+    let n = usize::from(given.length);
     copy(res, 0, n, out, 0);
     lay(ws, &res[..n], c.first, c.last, journal);
     given
@@ -108,7 +108,33 @@ pub fn written(
 pub fn room_in(most: usize, room: usize) -> usize
     ensures { (result ≡ room_in most room) × (result ≤ most) × (result ≤ room) }
 {
-    if most < room { most } else { room }
+    most.min(room)
+}
+
+// With scratch for so many notes and so many words of a result.
+fn step_in<const NOTES: usize, const RESULT: usize>(
+    ws: &[u16],
+    k: Numbers,
+    out: &mut [u16],
+    journal: &mut [u16],
+) -> Answer
+    requires { (NOTES < 2 ^ 32) × (RESULT < 2 ^ 32) }
+    ensures answered { result ≡ answer_as (answer_of (journal_step standard ws.now (numbers_as k) (room_in RESULT (length out.old)) (length journal.old))) }
+    ensures wrote { out.new ≡ output_of (journal_step standard ws.now (numbers_as k) (room_in RESULT (length out.old)) (length journal.old)) out.old }
+    ensures noted { journal.new ≡ journal_after ws.now (journal_step standard ws.now (numbers_as k) (room_in RESULT (length out.old)) (length journal.old)) journal.old }
+{
+    let mut notes = [0u16; NOTES];
+    let mut result = [0u16; RESULT];
+    let room = room_in(RESULT, out.len());
+    written(
+        ws,
+        k,
+        STANDARD,
+        &mut notes,
+        &mut result[..room],
+        out,
+        journal,
+    )
 }
 
 // With scratch for every result.
@@ -117,38 +143,7 @@ fn large(ws: &[u16], k: Numbers, out: &mut [u16], journal: &mut [u16]) -> Answer
     ensures wrote { out.new ≡ journal_output standard ws.now (numbers_as k) out.old journal.old }
     ensures noted { journal.new ≡ journal_written standard ws.now (numbers_as k) out.old journal.old }
 {
-    let mut notes = [0u16; MANY];
-    let mut result = [0u16; LONGEST];
-    let room = room_in(LONGEST, out.len());
-    written(
-        ws,
-        k,
-        STANDARD,
-        &mut notes,
-        &mut result[..room],
-        out,
-        journal,
-    )
-}
-
-// With scratch for the notes of a short configuration, and for a result twice as long.
-fn small(ws: &[u16], k: Numbers, out: &mut [u16], journal: &mut [u16]) -> Answer
-    ensures answered { result ≡ answer_as (answer_of (journal_step standard ws.now (numbers_as k) (room_in 1024 (length out.old)) (length journal.old))) }
-    ensures wrote { out.new ≡ output_of (journal_step standard ws.now (numbers_as k) (room_in 1024 (length out.old)) (length journal.old)) out.old }
-    ensures noted { journal.new ≡ journal_after ws.now (journal_step standard ws.now (numbers_as k) (room_in 1024 (length out.old)) (length journal.old)) journal.old }
-{
-    let mut notes = [0u16; FEW];
-    let mut result = [0u16; TWICE];
-    let room = room_in(TWICE, out.len());
-    written(
-        ws,
-        k,
-        STANDARD,
-        &mut notes,
-        &mut result[..room],
-        out,
-        journal,
-    )
+    step_in::<MANY, LONGEST>(ws, k, out, journal)
 }
 
 // The step with a journal: the next configuration's words in the output, and in the journal what it takes to go back. A refusal changes no
@@ -178,7 +173,7 @@ pub fn step(
     if SHORT < ws.len() {
         return large(ws, k, out, journal);
     }
-    let a = small(ws, k, out, journal);
+    let a = step_in::<FEW, TWICE>(ws, k, out, journal);
     if a.number == 10 {
         return large(ws, k, out, journal);
     }

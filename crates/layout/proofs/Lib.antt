@@ -1,4 +1,5 @@
 pub mod Named
 pub mod Others
 pub mod Owns
+pub mod Refusing
 pub mod Units

@@ -1,5 +1,5 @@
 -- The refusals by their numbers.
-use Rattle.std.specs.Prelude.{ℕ}
+use Rattle.std.specs.Prelude.{ℕ, Result, Ok, Err}
 use Rattle.layout.specs.declared.refusal.Refusal.{Refusal}
 use Rattle.layout.specs.declared.refusal.Refusal.TheVariants.{Unreadable, NoProcess, NoMove, NoPartner, NoFit, Pending, SerialsSpent, TooDeep, TooLong, OutputShort, NotFresh, NoSerial, NotDecimal, Unmatched, JournalShort, NoIndex, Full, AtWork}
 
@@ -22,3 +22,8 @@ refusal_number JournalShort = 16
 refusal_number NoIndex = 17
 refusal_number Full = 21
 refusal_number AtWork = 22
+
+-- the number of what was refused, or 0
+abbrev pub number_in : {A : Type 0} → Result A Refusal → ℕ
+number_in (Ok a) = 0
+number_in (Err r) = refusal_number r

@@ -60,8 +60,8 @@ module _ (ws : List ℕ) where
   unfolding note_w note_at list_note_at
   note_right m i e low noted r =
       record {
-        of_process = λ j. at_set (RightNote ws j) m (i * 2) (j * 2) (e % 65536) (r.of_process j) (λ q. let same : i ≡ j = omega arith in rw (← same, small_rest e low) noted);
-        of_list = λ j. at_set (RightListNote ws j) m (i * 2) (j * 2 + 1) (e % 65536) (r.of_list j) (λ q. absurd (omega arith));
+        of_process = λ j. at_set (RightNote ws j) m (i * 2 + 0) (j * 2) (e % 65536) (r.of_process j) (λ q. let same : i ≡ j = omega arith in rw (← same, small_rest e low) noted);
+        of_list = λ j. at_set (RightListNote ws j) m (i * 2 + 0) (j * 2 + 1) (e % 65536) (r.of_list j) (λ q. absurd (omega arith));
       }
 
   note_list_right : (m : List ℕ) (i e : ℕ) → e < 65536 → RightListNote ws i e → Right ws m → Right ws (note_list_w m i e)

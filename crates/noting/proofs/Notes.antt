@@ -6,33 +6,16 @@ use native.Mathlib.Numerals.{sub-one}
 use mathlib.Core.Path.{◌≡◌, refl, sym, ◌∙◌}
 use mathlib.Core.Bool.{Bool, true, false, true≢false, ◌&&◌, cond}
 use mathlib.Core.List.{List}
-use borrow.Author.Tests.{eqb-true, eqb-false, ltb-true, ltb-false, leb-false, lt-ltb, le-ltb, lt-leb, le-leb, eq-eqb, ne_eqb}
+use borrow.Author.Tests.{eqb-true, eqb-false, ltb-true, ltb-false, leb-false, lt-ltb, le-ltb, lt-leb, le-leb, ne_eqb}
 use lib.Bits.{bit_and, and_mask}
 use lib.Dec.{leb, ltb, eqb}
 use lib.ListN.{length}
-use lib.Seq.{set_out}
-use Rattle.sock.specs.Configuration.{Limits}
 use Rattle.sock.specs.Kind.{rows, row_of}
 use Rattle.sock.specs.Reading.{allowed, placed}
-use Rattle.reading.specs.Survey.{opens}
 use Rattle.reading.specs.Tables.{spare_of, head_mask}
 use Rattle.reading.specs.Walk.{on, when, at, expr_end, process_end, two_end, rest_of, entries_end, list_end, marked_end, scope_end, executor_own, executor_end, node_end}
 use Rattle.reading.proofs.Walks.{process_node, process_refused}
-use Rattle.noting.specs.Noting.{Noting, note_w, note_list_w, plain_par, plain_leaf, seq_notes, par_notes, body_notes, scope_notes, executor_notes, node_notes, enabled_notes, notes_w, engines_notes, survey_notes}
-
--- ---- one note
-
--- behind the notes nothing is noted
-pub note_behind : (m : List ℕ) (i e : ℕ) → length m ≤ i → m ≡ note_w m i e
-unfolding note_w
-note_behind m i e h = let behind : length m ≤ i * 2 = omega arith in sym (set_out m (i * 2) (e % 65536) behind)
-
-pub note_list_behind : (m : List ℕ) (i e : ℕ) → length m ≤ i → m ≡ note_list_w m i e
-unfolding note_list_w
-note_list_behind m i e h = let behind : length m ≤ i * 2 + 1 = omega arith in sym (set_out m (i * 2 + 1) (e % 65536) behind)
-
-pub same_note : (m x : List ℕ) (i e f : ℕ) → e ≡ f → x ≡ m → note_w x i e ≡ note_w m i f
-same_note m x i e f p q = rw (p, q)
+use Rattle.noting.specs.Noting.{Noting, note_w, note_list_w, plain_par, plain_leaf, seq_notes, par_notes, body_notes, scope_notes, executor_notes, node_notes, enabled_notes, notes_w, engines_notes}
 
 -- ---- parts, by what is known of the first
 
@@ -290,51 +273,15 @@ leaf_ends d ws bound c i h m some inside same low high is =
 
 -- ---- engines
 
-engines_step :
-    (deepest : ℕ) (ws : List ℕ) (bound left i : ℕ) (m : List ℕ) → 0 < left →
-    engines_notes deepest ws bound left i m
+pub engines_turn :
+    (deepest : ℕ) (ws : List ℕ) (bound n e i : ℕ) (m : List ℕ) → e < n →
+    engines_notes deepest ws bound (n - e) i m
     ≡ cond (ltb (length ws - i) 64) m
     (cond (eqb (process_end deepest ws bound 11 (i + 64)) 0) (notes_w deepest ws bound 11 (i + 64) m)
-    (engines_notes deepest ws bound (left - 1) (process_end deepest ws bound 11 (i + 64)) (notes_w deepest ws bound 11 (i + 64) m)))
+    (engines_notes deepest ws bound (n - (e + 1)) (process_end deepest ws bound 11 (i + 64)) (notes_w deepest ws bound 11 (i + 64) m)))
 unfolding engines_notes
-engines_step deepest ws bound zero i m h = absurd (omega arith)
-engines_step deepest ws bound (suc left) i m h = rw (sub-one (suc left))
+engines_turn deepest ws bound n e i m h = let f : n - e ≡ suc (n - (e + 1)) = omega arith in rw f
 
-engines_end : (deepest : ℕ) (ws : List ℕ) (bound left i : ℕ) (m : List ℕ) → left ≤ 0 → engines_notes deepest ws bound left i m ≡ m
+pub engines_done : (deepest : ℕ) (ws : List ℕ) (bound n e i : ℕ) (m : List ℕ) → n ≤ e → engines_notes deepest ws bound (n - e) i m ≡ m
 unfolding engines_notes
-engines_end deepest ws bound zero i m h = refl
-engines_end deepest ws bound (suc left) i m h = absurd (omega arith)
-
-module _
-    (deepest : ℕ) (ws : List ℕ) (bound n e i : ℕ) (m whole : List ℕ) (same : engines_notes deepest ws bound (n - e) i m ≡ whole)
-  where
-    pub notes_short : e < n → length ws - i < 64 → m ≡ whole
-    notes_short h p = sym (engines_step deepest ws bound (n - e) i m (omega arith) ∙ simp (lt-ltb _ _ p)) ∙ same
-
-    pub notes_all : n ≤ e → m ≡ whole
-    notes_all h = sym (engines_end deepest ws bound (n - e) i m (omega arith)) ∙ same
-
-    module _ (h : e < n) (p : 64 ≤ length ws - i) (f : ℕ) (x : List ℕ) (ended : f ≡ process_end deepest ws bound 11 (i + 64)) (noted : x ≡ notes_w deepest ws bound 11 (i + 64) m) where
-      pub notes_none : f ≡ 0 → x ≡ whole
-      notes_none z =
-          noted ∙ (sym (engines_step deepest ws bound (n - e) i m (omega arith) ∙ rw (le-ltb (length ws - i) 64 p, eq-eqb (process_end deepest ws bound 11 (i + 64)) 0 (sym ended ∙ z))) ∙ same)
-
-      pub notes_next : (f ≡ 0 → ⊥) → engines_notes deepest ws bound (n - (e + 1)) f x ≡ whole
-      notes_next some =
-          let less : n - e - 1 ≡ n - (e + 1) = omega arith in
-          sym
-          (engines_step deepest ws bound (n - e) i m (omega arith)
-          ∙ rw (le-ltb (length ws - i) 64 p, ← ended, ← noted, ne_eqb f 0 some, less))
-          ∙ same
-
--- ---- the whole
-
-module _ (limits : Limits) (ws : List ℕ) (b : Bool) (same : b ≡ opens limits ws) (m : List ℕ) where
-  pub survey_notes_lem :
-      (n w : ℕ) → b ≡ true → n ≡ at ws 0 → w ≡ at ws 1 → engines_notes limits.deepest ws (n * 65536 + w) n 2 m ≡ survey_notes limits ws m
-  unfolding survey_notes
-  survey_notes_lem n w e p q = rw (← same, e, p, q)
-
-  pub survey_none : b ≡ false → m ≡ survey_notes limits ws m
-  unfolding survey_notes
-  survey_none e = rw (← same, e)
+engines_done deepest ws bound n e i m h = let f : n - e ≡ 0 = omega arith in rw f

@@ -11,11 +11,15 @@ use Rattle.reading.specs.Survey.{opens}
 use Rattle.reading.specs.Tables.{head_mask}
 use Rattle.reading.specs.Walk.{at, process_end, marked_end, executor_own}
 
+-- the first or the second of a word's notes
+abbrev pub noted_w : ℕ → List ℕ → ℕ → ℕ → List ℕ
+noted_w which m i e = set m (i * 2 + which) (e % 65536)
+
 unfoldable pub note_w : List ℕ → ℕ → ℕ → List ℕ
-note_w m i e = set m (i * 2) (e % 65536)
+note_w m i e = noted_w 0 m i e
 
 unfoldable pub note_list_w : List ℕ → ℕ → ℕ → List ℕ
-note_list_w m i e = set m (i * 2 + 1) (e % 65536)
+note_list_w m i e = noted_w 1 m i e
 
 -- the head of a par, in a context where one may stand
 unfoldable pub plain_par : ℕ → ℕ → Bool

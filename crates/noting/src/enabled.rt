@@ -3,7 +3,7 @@
 ghost use Rattle.std.specs.Prelude.{◌≡◌, ◌+◌, ◌*◌, ◌≤◌, ◌<◌, length, get_or};
 ghost use Rattle.layout.specs.Contexts.{code, running, contexts};
 ghost use Rattle.reading.specs.Walk.{process_end, two_end, marked_end, scope_end, executor_end};
-ghost use Rattle.noting.specs.Noting.{enabled, note_w, note_list_w, plain_par, plain_leaf, notes_w, enabled_notes, seq_notes, par_notes, scope_notes, executor_notes};
+ghost use Rattle.noting.specs.Noting.{enabled, noted_w, plain_par, plain_leaf, notes_w, enabled_notes, seq_notes, par_notes, scope_notes, executor_notes};
 
 use layout::context::{CODE, NOT_NIL, RECEIVER, RUNNING};
 use layout::field::second_of;
@@ -14,43 +14,28 @@ use layout::{head, unit};
 use reading::reader::{executor_own, marked, read};
 use reading::tables::head_mask;
 
-// The process at `at` ends at `e`.
-#[tactic(auto, unfolding(crate::specs::Noting::note_w))]
-fn note(notes: &mut [u16], at: usize, e: usize) -> usize
-    ensures ended { result ≡ e }
-    ensures written { notes.new ≡ note_w notes.old at e }
-{
-    if notes.len() <= at {
-        return e;
-    }
-    let place = at * 2;
-    if notes.len() <= place {
-        return e;
-    }
-    notes[place] = (e % WORD) as u16;
-    e
-}
+// Which of a word's two notes: that of the process that begins there, or that of the list.
+const PROCESS: usize = 0;
 
-// The list at `at` ends at `e`.
-#[tactic(auto, unfolding(crate::specs::Noting::note_list_w))]
-fn note_list(notes: &mut [u16], at: usize, e: usize) -> usize
-    ensures ended { result ≡ e }
-    ensures written { notes.new ≡ note_list_w notes.old at e }
+const LIST: usize = 1;
+
+// What begins at `at` ends at `e`.
+fn note<const WHICH: usize>(notes: &mut [u16], at: usize, e: usize)
+    requires { WHICH < 2 }
+    ensures { notes.new ≡ noted_w WHICH notes.old at e }
 {
     if notes.len() <= at {
-        return e;
+        return;
     }
-    let place = at * 2 + 1;
-    if notes.len() <= place {
-        return e;
+    let place = at * 2 + WHICH;
+    if place < notes.len() {
+        notes[place] = (e % WORD) as u16;
     }
-    notes[place] = (e % WORD) as u16;
-    e
 }
 
 // An enabled process, in a context of those that run.
 #[cycle(enabled_executor_noted_par_scope_seq)]
-#[tactic(auto, unfolding(crate::specs::Noting::noting))]
+#[tactic(auto, unfolding(crate::specs::Noting::noting, crate::specs::Noting::note_w))]
 pub(crate) fn noted(
     ws: &[u16],
     at: usize,
@@ -64,7 +49,8 @@ pub(crate) fn noted(
     ensures written { notes.new ≡ notes_w depth ws.now bound context at notes.old }
 {
     let e = enabled(ws, at, depth, context, bound, notes);
-    note(notes, at, e)
+    note::<PROCESS>(notes, at, e);
+    e
 }
 
 // The same, but for its own note. A process of one word is read here, since calls would take longer.
@@ -106,7 +92,7 @@ fn enabled(
         Kind::Par => par(ws, at + 1, d, bound, notes),
         Kind::Scope => scope(ws, at, d, h, bound, notes),
         Kind::Executor => executor(ws, at, d, bound, notes),
-        _ => read(ws, at, depth, context, bound),
+        _ => read(ws, at, depth, context, bound).unwrap_or(0),
     }
 }
 
@@ -121,10 +107,7 @@ const ENABLED: usize = RUNNING + NOT_NIL;
 fn plain_par(head: u16, context: usize) -> bool
     ensures { result ≡ plain_par head context }
 {
-    if ABOVE <= context {
-        return false;
-    }
-    head == head::PAR
+    context < ABOVE && head == head::PAR
 }
 
 // Whether a head is a throw's or a comp's with no bit that it does not use, and may stand in the context. Many of the other half are these.
@@ -132,13 +115,7 @@ fn plain_par(head: u16, context: usize) -> bool
 fn plain_leaf(head: u16, context: usize) -> bool
     ensures { result ≡ plain_leaf head context }
 {
-    if ABOVE <= context {
-        return false;
-    }
-    if second_of(head) != 0 {
-        return false;
-    }
-    matches!(Kind::of(head), Kind::Throw | Kind::Comp)
+    context < ABOVE && second_of(head) == 0 && matches!(Kind::of(head), Kind::Throw | Kind::Comp)
 }
 
 // The parts of a seq: the first is enabled.
@@ -151,8 +128,9 @@ fn seq(ws: &[u16], at: usize, depth: usize, bound: usize, notes: &mut [u16]) -> 
     if a == 0 {
         return 0;
     }
-    let e = read(ws, a, depth, CODE, bound);
-    note(notes, a, e)
+    let e = read(ws, a, depth, CODE, bound).unwrap_or(0);
+    note::<PROCESS>(notes, a, e);
+    e
 }
 
 // The sides of a par.
@@ -169,6 +147,7 @@ fn par(ws: &[u16], at: usize, depth: usize, bound: usize, notes: &mut [u16]) -> 
 }
 
 // Where the list of the scope at `at`, whose head is `h`, ends. An empty one of a scope with no mark takes no call.
+#[tactic(auto, using(crate::proofs::Notes::bare_list, reading::proofs::Given::unwrap_end))]
 fn listed(ws: &[u16], at: usize, depth: usize, h: usize, bound: usize) -> usize
     requires { at + 2 < length ws.now }
     ensures { result ≡ marked_end (process_end depth ws.now bound) ws.now h (get_or ws.now (at + 1) 0) (at + 2) }
@@ -177,7 +156,7 @@ fn listed(ws: &[u16], at: usize, depth: usize, h: usize, bound: usize) -> usize
     if h / unit::MARK % unit::MARKS + fault + wide(ws[at + 2]) == 0 {
         return at + 3;
     }
-    marked(ws, at + 2, depth, h, fault, bound)
+    marked(ws, at + 2, depth, h, fault, bound).unwrap_or(0)
 }
 
 // A scope whose head is `h`.
@@ -194,7 +173,7 @@ fn scope(ws: &[u16], at: usize, depth: usize, h: usize, bound: usize, notes: &mu
     if e == 0 {
         return 0;
     }
-    note_list(notes, at + 2, e);
+    note::<LIST>(notes, at + 2, e);
     noted(ws, e, depth, RUNNING, bound, notes)
 }
 
@@ -203,9 +182,8 @@ fn executor(ws: &[u16], at: usize, depth: usize, bound: usize, notes: &mut [u16]
     ensures ended { result ≡ executor_end (process_end depth ws.now bound) ws.now bound at }
     ensures written { notes.new ≡ executor_notes (notes_w depth ws.now bound) ws.now bound at notes.old }
 {
-    let body = executor_own(ws, at, bound);
-    if body == 0 {
-        return 0;
+    match executor_own(ws, at, bound) {
+        None => 0,
+        Some(body) => noted(ws, body, depth, RUNNING, bound, notes),
     }
-    noted(ws, body, depth, RUNNING, bound, notes)
 }

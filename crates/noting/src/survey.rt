@@ -14,17 +14,21 @@ use layout::unit::WORD;
 use reading::survey::{Starts, opened, unreadable};
 
 // As `reading::survey`, for processes that run.
+#[tactic(auto, unfolding(reading::specs::Survey::surveyed, reading::specs::Survey::opens, crate::specs::Noting::survey_notes))]
 pub fn survey(ws: &[u16], limits: Limits, notes: &mut [u16]) -> Starts
     ensures answered { result ≡ surveyed (figures limits) root ws.now }
     ensures written { notes.new ≡ survey_notes (figures limits) ws.now notes.old }
 {
     if opened(ws, limits) {
         let n = wide(ws[0]);
-        return engines(ws, limits.deepest, n, n * WORD + wide(ws[1]), notes);
+        engines(ws, limits.deepest, n, n * WORD + wide(ws[1]), notes)
+    } else {
+        unreadable()
     }
-    unreadable()
 }
 
+// The loop of `reading::survey` again, and not that one with a closure, whose contract would have to tell what each call leaves in the notes.
+#[tactic(auto, using(reading::proofs::Surveys::engines_turn, reading::proofs::Surveys::engines_done, reading::proofs::Surveys::process_inside, crate::proofs::Notes::engines_turn, crate::proofs::Notes::engines_done))]
 fn engines(ws: &[u16], deepest: usize, n: usize, bound: usize, notes: &mut [u16]) -> Starts
     requires { (2 ≤ length ws.now) × (n ≤ 8) }
     ensures answered { result ≡ engines_from (process_end deepest ws.now bound root) ws.now n n 0 2 (replicate 9 0) }
@@ -32,8 +36,7 @@ fn engines(ws: &[u16], deepest: usize, n: usize, bound: usize, notes: &mut [u16]
 {
     let mut starts = [0usize; 9];
     let mut at = HEADER;
-    let mut e = 0;
-    while e < n {
+    for e in 0..n {
         if ws.len() - at < VALUES {
             return unreadable();
         }
@@ -42,7 +45,6 @@ fn engines(ws: &[u16], deepest: usize, n: usize, bound: usize, notes: &mut [u16]
         if at == 0 {
             return unreadable();
         }
-        e = e + 1;
     }
     if at != ws.len() {
         return unreadable();

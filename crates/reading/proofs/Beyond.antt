@@ -1,6 +1,6 @@
 -- In what is no context, from 12 on, nothing is read, and nothing stands behind the words.
 -- Assumes nothing.
-use Prim.Native.Nat.{ℕ, zero, suc, ◌+◌, ◌-◌, ◌/◌, ◌%◌, ◌<◌, ◌≤◌}
+use Prim.Native.Nat.{ℕ, zero, suc, ◌+◌, ◌/◌, ◌%◌, ◌≤◌}
 use native.Mathlib.Omega.{arith}
 use mathlib.Core.Path.{◌≡◌, refl, sym, ◌∙◌}
 use mathlib.Core.Bool.{Bool, true, false, cond}
@@ -9,11 +9,10 @@ use lib.Bits.{bit_and, and_mask}
 use lib.Dec.{ltb, eqb}
 use lib.ListN.{length, get_or-eq_default}
 use borrow.Author.Tests.{eqb-true, ltb-true, ltb-false}
-use Rattle.reading.specs.Walk.{at, when, expr_end, end_after, process_end, node_end}
+use Rattle.reading.specs.Walk.{at, when, expr_end, process_end, node_end}
 use Rattle.reading.proofs.Combining.{Words}
 use Rattle.reading.proofs.Masks.{no_context}
 use Rattle.reading.proofs.Surveys.{process_inside}
-use Rattle.sock.proofs.Tests.{tests}
 
 -- a number from 65,536 on has no kind
 node_beyond : (ex : ℕ → ℕ) (sub : ℕ → ℕ → ℕ) (ws : List ℕ) (c bound h i : ℕ) → 65536 ≤ h → node_end ex sub ws c bound h i ≡ 0
@@ -40,7 +39,3 @@ read_inside ws ok d bound c i = by (ltb c 12) refl
     by : (b : Bool) → ltb c 12 ≡ b → process_end d ws bound c i ≤ length ws
     by true e = process_inside ws ok d bound c (ltb-true c 12 e) i
     by false e = rw (← read_beyond d ws bound c i (ltb-false c 12 e)) (omega arith)
-
-pub no_end : (ws : List ℕ) (i m bound : ℕ) → length ws ≤ i → false ≡ end_after ws i m bound
-unfolding end_after
-no_end ws i m bound h = let short : length ws - i < 3 = omega arith in simp (tests, short)

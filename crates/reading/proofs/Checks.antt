@@ -11,7 +11,7 @@ use mathlib.Core.List.{List, [], ◌∷◌}
 use lib.Dec.{T, eqb}
 use lib.ListN.{length, get_or, drop}
 use lib.Seq.{drop-cons, drop-length}
-use borrow.Author.Tests.{eq-eqb, ne_eqb, eqb-true}
+use borrow.Author.Tests.{eq-eqb, ne_eqb}
 use Rattle.sock.specs.Configuration.{Limits, Engine, Config, read_config, fresh_run, is_scope, fresh_engines, fresh}
 use Rattle.sock.specs.Calls.{done, unreadable, not_fresh, engine_at, ◌!◌, ◌>>=◌, ◌>>◌, ◌unless◌, passed, check_readable, start, check_start}
 use Rattle.sock.proofs.Logic.{and_left, and_right, and_both, test_true}
@@ -168,9 +168,6 @@ unread_by stale q = absurd (q refl)
 unread_by begins q = absurd (q refl)
 
 module _ (limits : Limits) (ws : List ℕ) where
-  pub start_fresh : (b : Bool) → b ≡ eqb (check_start limits ws) 0 → b ≡ true → 0 ≡ check_start limits ws
-  start_fresh b p q = sym (eqb-true (check_start limits ws) 0 (sym p ∙ q))
-
   pub start_stale : (b : Bool) (r : ℕ) → b ≡ eqb (check_start limits ws) 0 → b ≡ false → r ≡ check_readable limits ws → r ≡ 0 → 11 ≡ check_start limits ws
   start_stale b r p q t z = stale_by (started limits ws) (sym q ∙ p) (sym z ∙ t)
 

@@ -207,15 +207,20 @@ own_below ws bound i e t q some h b = by (rw (← q) at (own_forward ws bound i)
 -- ---- one turn of the loop over the engines
 
 pub total_turn :
-    (tal : ℕ → Counted) (starts : List ℕ) (n e waiters workers : ℕ) (t : Counted) →
-    e < n →
-    t ≡ tal (get_or starts e 0) →
-    total_from tal starts (n - (e + 1)) (e + 1) (waiters + t.waiters) (workers + t.workers) ≡ total_from tal starts (n - e) e waiters workers
+    (tal : ℕ → Counted) (starts : List ℕ) (n i e waiters workers : ℕ) →
+    i < n →
+    total_from tal starts (n - i) e waiters workers
+    ≡ total_from tal starts (n - (i + 1)) (e + 1) (waiters + (tal (get_or starts e 0)).waiters) (workers + (tal (get_or starts e 0)).workers)
 unfolding total_from
-total_turn tal starts n e waiters workers t h q = let more : n - e ≡ suc (n - (e + 1)) = omega arith in rw (more, q)
+total_turn tal starts n i e waiters workers h = let more : n - i ≡ suc (n - (i + 1)) = omega arith in rw more
 
 pub total_end :
-    (tal : ℕ → Counted) (starts : List ℕ) (n e waiters workers : ℕ) → n ≤ e →
-    record { end = 0; waiters = waiters; workers = workers } ≡ total_from tal starts (n - e) e waiters workers
+    (tal : ℕ → Counted) (starts : List ℕ) (n i e waiters workers : ℕ) → n ≤ i →
+    total_from tal starts (n - i) e waiters workers ≡ record { end = 0; waiters = waiters; workers = workers }
 unfolding total_from
-total_end tal starts n e waiters workers h = let no : n - e ≡ 0 = omega arith in rw no
+total_end tal starts n i e waiters workers h = let no : n - i ≡ 0 = omega arith in rw no
+
+pub tally_below :
+    (ws : List ℕ) (serial bound d i : ℕ) → Words ws →
+    ((tally_at d ws serial bound i).waiters ≤ length ws) × ((tally_at d ws serial bound i).workers ≤ length ws)
+tally_below ws serial bound d i ok = counts_below (tally_bounded ws ok serial bound d i)

@@ -1,24 +1,28 @@
--- The mirrored test that no engine's process is nil: one turn of its loop.
+-- The mirrored test that no engine's process is nil: it is one of all places where engines begin.
 -- Assumes nothing.
-use Prim.Native.Nat.{ℕ, suc, ◌+◌, ◌-◌, ◌<◌, ◌≤◌}
+use Prim.Native.Nat.{ℕ, zero, suc, ◌+◌, ◌≤◌}
 use native.Mathlib.Omega.{arith}
-use mathlib.Core.Path.{◌≡◌}
-use mathlib.Core.Bool.{true, false}
+use native.Mathlib.Numerals.{add-one}
+use mathlib.Core.Path.{◌≡◌, refl}
+use mathlib.Core.Bool.{Bool, true, false, not, cond, ◌&&◌}
 use mathlib.Core.List.{List}
-use lib.ListN.{get_or}
-use borrow.Author.Tests.{eq-eqb, ne_eqb}
+use lib.Dec.{eqb}
+use lib.ListN.{length, get_or, take, drop}
+use lib.Seq.{drop-cons}
+use Rattle.std.specs.List.{list_all}
 use Rattle.reading.specs.Walk.{at}
 use Rattle.reading.specs.Tally.{none_nil}
 
-module _ (ws starts : List ℕ) (n e : ℕ) where
-  pub nil_met : e < n → at ws (get_or starts e 0) ≡ 0 → false ≡ none_nil ws starts (n - e) e
+module _ (ws starts : List ℕ) where
+  nil_from : (n e : ℕ) → e + n ≤ length starts → none_nil ws starts n e ≡ list_all (λ i. not (eqb (at ws i) 0)) (take n (drop e starts))
   unfolding none_nil
-  nil_met h z = let more : n - e ≡ suc (n - (e + 1)) = omega arith in rw (more, eq-eqb _ _ z)
+  nil_from zero e h = refl
+  nil_from (suc n) e h =
+      rw (drop-cons starts e 0 (omega arith), nil_from n (e + 1) (omega arith), add-one e) (by (eqb (at ws (get_or starts e 0)) 0) _)
+    where
+      by : (a b : Bool) → cond a false b ≡ (not a && b)
+      by true b = refl
+      by false b = refl
 
-  pub nil_passed : e < n → (at ws (get_or starts e 0) ≡ 0 → ⊥) → none_nil ws starts (n - (e + 1)) (e + 1) ≡ none_nil ws starts (n - e) e
-  unfolding none_nil
-  nil_passed h z = let more : n - e ≡ suc (n - (e + 1)) = omega arith in rw (more, ne_eqb _ _ z)
-
-  pub nil_none : n ≤ e → true ≡ none_nil ws starts (n - e) e
-  unfolding none_nil
-  nil_none h = let no : n - e ≡ 0 = omega arith in rw no
+  pub nil_all : (n : ℕ) → n ≤ length starts → none_nil ws starts n 0 ≡ list_all (λ i. not (eqb (at ws i) 0)) (take n starts)
+  nil_all n h = nil_from n 0 (omega arith)

@@ -13,7 +13,7 @@ use Rattle.sock.specs.Configuration.{Limits, Config, encode, read_config}
 use Rattle.sock.specs.Calls.{engine_at}
 use Rattle.sock.proofs.Fits.{Readable}
 use Rattle.sock.proofs.Configuration.{config_found}
-use Rattle.sock.proofs.Located.{start_of, size_positive}
+use Rattle.sock.proofs.Located.{start_of}
 use Rattle.sock.proofs.Running.{awake_as_node'}
 use Rattle.reading.specs.declared.survey.Starts.{Starts}
 use Rattle.reading.specs.Walk.{at}
@@ -67,14 +67,7 @@ module _ {limits : Limits} {ws : List ℕ} {s : Starts} (k : Known limits ws s) 
   pub known_issued : at ws 1 ≡ k.config.issued
   unfolding encode
   known_issued = rw (← k.same)
-
   -- a process begins and ends within the words
-  pub start_below : (e : ℕ) → e < s.engines → get_or s.starts e 0 < length ws
-  start_below e h =
-      let c : Config = k.config in
-      let b : e < length c.engines = rw k.engines at h in
-      let inside : start_of c e + size (engine_at c e).process ≤ length ws = rw k.same at (start_inside c k.readable.fitting e b) in
-      omega (arith, k.starts e (omega arith), size_positive (engine_at c e).process)
 
 -- the survey as code: known, and every process fresh
 module _ (limits : Limits) (ws : List ℕ) where

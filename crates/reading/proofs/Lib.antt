@@ -8,6 +8,7 @@ pub mod Ended
 pub mod Ending
 pub mod Expressions
 pub mod Fitting
+pub mod Given
 pub mod Following
 pub mod Fresh
 pub mod Freshness

@@ -97,10 +97,6 @@ module _ (ws : List ℕ) (ok : Words ws) (i m : ℕ) where
   unfolding fixed_words and_then
   fixed_two = words_then []
 
-pub fixed_inside : (ws : List ℕ) (i m : ℕ) → T (fixed_after ws i m) → i + 2 ≤ length ws
-unfolding fixed_after
-fixed_inside ws i m t = let t = split (leb 2 (length ws - i)) (clear m (at ws (i + 1))) t in omega tests
-
 -- ---- expressions
 
 pub one_expr : (ws : List ℕ) → Words ws → (d i j : ℕ) → i ≤ j → Ends ws i (exprs (expr d) 1 (drop j ws)) (expr_end d ws j)

@@ -22,7 +22,7 @@ use Rattle.reading.specs.Walk.{context_of, rest_of, slot_of, fits_at, part_of, i
 use Rattle.reading.proofs.Combining.{Words}
 use Rattle.reading.proofs.Fitting.{Fit, fits_known, slot_process, shape_mask, shape_kind}
 use Rattle.reading.proofs.Fitting.{part_kept, part_rest, part_expression, rest_below}
-use Rattle.reading.proofs.Walks.{process_node, expr_step, entries_end_lem}
+use Rattle.reading.proofs.Walks.{process_node, expr_step, entries_done}
 
 -- parts one after the other: the first, then the others, all in one context
 abbrev pub parts_end : (ℕ → ℕ → ℕ) → ℕ → ℕ → ℕ → ℕ → ℕ
@@ -69,7 +69,7 @@ module _ (ws : List ℕ) (ok : Words ws) (bound d c i : ℕ) (hc : c < 12) where
   no_entries j e b z q =
       rw z
       (ap (λ t. cond t (entries_end (process_end d ws bound) ws 4 128 0 0 (leb 128 128) (j + 1)) 0) (lt-ltb j (length ws) b)
-      ∙ entries_end_lem (process_end d ws bound) ws 4 128 0 0 true (j + 1) (omega arith)
+      ∙ entries_done (process_end d ws bound) ws 4 128 0 0 0 true (j + 1) (omega arith)
       ∙ q)
 
   leaf_0 : Step 0

@@ -4,7 +4,7 @@ use Prim.Native.Nat.{ℕ, zero, suc, ◌+◌, ◌-◌, ◌/◌, ◌<◌, ◌≤�
 use native.Mathlib.Omega.{arith}
 use native.Mathlib.Numerals.{sub-one}
 use mathlib.Core.Path.{◌≡◌, refl, sym, ap, ◌∙◌}
-use borrow.Author.Tests.{lt-ltb, ltb-true, ne_eqb}
+use borrow.Author.Tests.{lt-ltb, le-leb, ltb-true, ne_eqb}
 use mathlib.Core.Bool.{Bool, true, false, ◌||◌, cond}
 use mathlib.Core.List.{List, [], ◌∷◌}
 use lib.Bits.{bit_and}
@@ -13,7 +13,7 @@ use lib.ListN.{length, get_or}
 use Rattle.sock.specs.Words.{clear, tag_of}
 use Rattle.layout.specs.Units
 use Rattle.reading.specs.Tables.{head_mask}
-use Rattle.reading.specs.Walk.{when, on, at, constant_end, operation_end, expr_at, expr_end, two_end, branches_end, key_at, entry_context, entries_end, node_end, process_end}
+use Rattle.reading.specs.Walk.{when, on, at, constant_end, operation_end, expr_at, expr_end, two_end, branches_end, choice_end, key_at, entry_context, entries_end, node_end, process_end}
 
 pub expr_step : (d : ℕ) (ws : List ℕ) (i : ℕ) → (d ≡ 0 → ⊥) → expr_end d ws i ≡ when (ltb i (length ws)) (expr_at (expr_end (d - 1) ws) ws i (at ws i))
 unfolding expr_end
@@ -65,32 +65,33 @@ process_step (suc d) ws bound c i h = rw (sub-one (suc d))
 
 -- ---- one turn of a loop
 
-pub branches_step :
-    (sub : ℕ → ℕ → ℕ) (c n i : ℕ) → 0 < n → branches_end sub c n i ≡ on (two_end sub (c + 2) c i) (branches_end sub c (n - 1))
+pub branches_turn :
+    (sub : ℕ → ℕ → ℕ) (c n i a : ℕ) → i < n → branches_end sub c (n - i) a ≡ on (two_end sub (c + 2) c a) (branches_end sub c (n - (i + 1)))
 unfolding branches_end
-branches_step sub c zero i h = absurd (omega arith)
-branches_step sub c (suc n) i h = rw (sub-one (suc n))
+branches_turn sub c n i a h = let e : n - i ≡ suc (n - (i + 1)) = omega arith in rw e
 
-pub entries_step :
-    (sub : ℕ → ℕ → ℕ) (ws : List ℕ) (c wanted n least : ℕ) (met : Bool) (i : ℕ) →
-    0 < n →
-    entries_end sub ws c wanted n least met i
-    ≡ cond (eqb (key_at ws i least) 128) 0
-    (on (sub (entry_context c (key_at ws i least)) (i + 1))
-    (entries_end sub ws c wanted (n - 1) (key_at ws i least + 1) (met || eqb (key_at ws i least) wanted)))
-unfolding entries_end
-entries_step sub ws c wanted zero least met i h = absurd (omega arith)
-entries_step sub ws c wanted (suc n) least met i h = rw (sub-one (suc n))
-
-pub branches_end_lem : (sub : ℕ → ℕ → ℕ) (c n i : ℕ) → n ≤ 0 → branches_end sub c n i ≡ i
+pub branches_done : (sub : ℕ → ℕ → ℕ) (c n i a : ℕ) → n ≤ i → branches_end sub c (n - i) a ≡ a
 unfolding branches_end
-branches_end_lem sub c zero i h = refl
-branches_end_lem sub c (suc n) i h = absurd (omega arith)
+branches_done sub c n i a h = let e : n - i ≡ 0 = omega arith in rw e
 
-pub entries_end_lem : (sub : ℕ → ℕ → ℕ) (ws : List ℕ) (c wanted n least : ℕ) (met : Bool) (i : ℕ) → n ≤ 0 → entries_end sub ws c wanted n least met i ≡ when met i
+pub choice_in : (sub : ℕ → ℕ → ℕ) (c n a : ℕ) → 0 < n → n ≤ 8 → branches_end sub c n a ≡ choice_end sub c n a
+unfolding choice_end when
+choice_in sub c n a p q = simp (lt-ltb 0 n p, le-leb n 8 q)
+
+pub entries_turn :
+    (sub : ℕ → ℕ → ℕ) (ws : List ℕ) (c wanted n i least : ℕ) (met : Bool) (a : ℕ) →
+    i < n →
+    entries_end sub ws c wanted (n - i) least met a
+    ≡ cond (eqb (key_at ws a least) 128) 0
+    (on (sub (entry_context c (key_at ws a least)) (a + 1))
+    (entries_end sub ws c wanted (n - (i + 1)) (key_at ws a least + 1) (met || eqb (key_at ws a least) wanted)))
 unfolding entries_end
-entries_end_lem sub ws c wanted zero least met i h = refl
-entries_end_lem sub ws c wanted (suc n) least met i h = absurd (omega arith)
+entries_turn sub ws c wanted n i least met a h = let e : n - i ≡ suc (n - (i + 1)) = omega arith in rw e
+
+pub entries_done :
+    (sub : ℕ → ℕ → ℕ) (ws : List ℕ) (c wanted n i least : ℕ) (met : Bool) (a : ℕ) → n ≤ i → entries_end sub ws c wanted (n - i) least met a ≡ when met a
+unfolding entries_end
+entries_done sub ws c wanted n i least met a h = let e : n - i ≡ 0 = omega arith in rw e
 
 -- ---- what the code knows where it goes on
 
@@ -124,17 +125,3 @@ key_inside ws i least key e h = by (ltb i (length ws)) refl
     by : (b : Bool) → ltb i (length ws) ≡ b → i < length ws
     by true t = ltb-true i (length ws) t
     by false t = absurd (h (e ∙ simp t))
-
-pub entries_turn :
-    (sub : ℕ → ℕ → ℕ) (ws : List ℕ) (c wanted n least : ℕ) (met : Bool) (i key x e : ℕ) (m : Bool) →
-    0 < n →
-    key ≡ key_at ws i least →
-    (key ≡ 128 → ⊥) →
-    x ≡ entry_context c key →
-    e ≡ sub x (i + 1) →
-    (e ≡ 0 → ⊥) →
-    m ≡ (met || eqb key wanted) →
-    entries_end sub ws c wanted (n - 1) (key + 1) m e ≡ entries_end sub ws c wanted n least met i
-unfolding on
-entries_turn sub ws c wanted n least met i key x e m p q r s t u v =
-    sym (entries_step sub ws c wanted n least met i p ∙ simp (← q, ne_eqb key 128 r, ← s, ← t, ne_eqb e 0 u, ← v))

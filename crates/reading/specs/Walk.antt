@@ -1,12 +1,16 @@
 -- The reader on positions, as the code goes: where what begins at a position ends, or 0 if it does not fit. The proofs show that this is
 -- the definitions' reader; no contract of a call names it.
-use Rattle.std.specs.Prelude.{ℕ, zero, suc, ◌+◌, ◌-◌, ◌*◌, ◌/◌, ◌%◌, Bool, true, false, not, ◌&&◌, ◌||◌, cond, List, [], ◌∷◌, leb, ltb, eqb, length, get_or}
+use Rattle.std.specs.Prelude.{ℕ, zero, suc, Option, Some, None, ◌+◌, ◌-◌, ◌*◌, ◌/◌, ◌%◌, Bool, true, false, not, ◌&&◌, ◌||◌, cond, List, [], ◌∷◌, leb, ltb, eqb, length, get_or}
 use Rattle.std.specs.Int.Bits.{bit_and}
 use Rattle.sock.specs.Words.{clear, kind_of, count_of, second_of, mark_of, zombie_of, first_variable, next_variable, first_name, key_of, tag_of}
 use Rattle.layout.specs.Contexts.{code, handlers, running, not_nil, receiver, expression}
 use Rattle.layout.specs.Keys.{no_key, scope_keys}
 use Rattle.layout.specs.Units
 use Rattle.reading.specs.Tables.{head_mask, bit_of}
+
+-- where something ends, by the code: none where it does not fit
+abbrev pub end_as : ℕ → Option ℕ
+end_as e = cond (eqb e 0) None (Some e)
 
 -- on to what follows, unless this failed
 unfoldable pub on : ℕ → (ℕ → ℕ) → ℕ

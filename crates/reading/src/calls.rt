@@ -1,5 +1,5 @@
 // The calls that only read: readable check, start check, process of an engine.
-ghost use Rattle.std.specs.Prelude.{◌≡◌, ℕ, ◌<◌, eqb, length, get_or};
+ghost use Rattle.std.specs.Prelude.{◌≡◌, ◌<◌, eqb};
 ghost use Rattle.sock.specs.Configuration.{standard};
 ghost use Rattle.sock.specs.Calls.{check_readable, check_start, process_of};
 ghost use Rattle.layout.specs.Limits.{figures};
@@ -8,9 +8,10 @@ ghost use Rattle.reading.specs.Tally.{none_nil};
 use crate::survey::survey;
 use layout::context::{FRESH_ROOT, ROOT};
 use layout::limit::{Limits, STANDARD, VALUES};
-use layout::number::wide;
+use layout::number::{wide, word};
 
 // Readable check at the limits given: 0, or 1 if the configuration is not readable.
+#[tactic(auto, using(crate::proofs::Checks::not_readable, crate::proofs::Checks::is_readable))]
 pub fn readable_at(ws: &[u16], limits: Limits) -> u8
     ensures { result ≡ check_readable (figures limits) ws.now }
 {
@@ -26,19 +27,12 @@ pub fn check_readable(ws: &[u16]) -> u8
 }
 
 // Whether no engine's process is nil.
+#[tactic(auto, using(crate::proofs::Freshness::nil_all))]
 fn none_nil(ws: &[u16], starts: [usize; 9], n: usize) -> bool
-    requires { (n < 9) × ((e : ℕ) → e < n → get_or starts e 0 < length ws.now) }
+    requires { n < 9 }
     ensures { result ≡ none_nil ws.now starts n 0 }
 {
-    let mut e = 0;
-    while e < n {
-        let at = starts[e];
-        if ws[at] == 0 {
-            return false;
-        }
-        e = e + 1;
-    }
-    true
+    starts[..n].iter().all(|at| word(ws, *at) != 0)
 }
 
 // Whether every engine's process is a scope that has not begun, and no serial is issued.
@@ -58,6 +52,7 @@ fn is_fresh(ws: &[u16], limits: Limits) -> bool
 }
 
 // Start check at the limits given: 1 if the configuration is not readable, 11 if it is not fresh, else 0.
+#[tactic(auto, using(crate::proofs::Checks::start_stale, crate::proofs::Checks::start_unread))]
 pub fn start_at(ws: &[u16], limits: Limits) -> u8
     ensures { result ≡ check_start (figures limits) ws.now }
 {

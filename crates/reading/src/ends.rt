@@ -1,6 +1,6 @@
 // Ends: how many waiting and working ends a serial has. They stand only enabled, so the walk goes where processes are enabled and
 // passes over code by reading it.
-ghost use Rattle.std.specs.Prelude.{◌≡◌, ◌<◌, ◌≤◌, length};
+ghost use Rattle.std.specs.Prelude.{unwrap_or, ◌≡◌, ◌<◌, ◌≤◌, length};
 ghost use Rattle.sock.specs.Configuration.{standard};
 ghost use Rattle.sock.specs.Calls as calls;
 ghost use Rattle.reading.specs.Walk.{executor_own, process_end};
@@ -44,16 +44,16 @@ fn not_counted() -> Counted
 }
 
 #[tactic(auto, unfolding(crate::specs::Tally::counted))]
-fn count(end: usize, waiters: usize, workers: usize) -> Counted
-    ensures { result ≡ counted end waiters workers }
+fn count(end: Option<usize>, waiters: usize, workers: usize) -> Counted
+    ensures { result ≡ counted (unwrap_or end 0) waiters workers }
 {
-    if end == 0 {
-        return not_counted();
-    }
-    Counted {
-        end,
-        waiters,
-        workers,
+    match end {
+        None | Some(0) => not_counted(),
+        Some(end) => Counted {
+            end,
+            waiters,
+            workers,
+        },
     }
 }
 
@@ -126,7 +126,7 @@ fn tally_par(ws: &[u16], at: usize, depth: usize, serial: usize, bound: usize) -
         return not_counted();
     }
     let q = tally(ws, e, depth, serial, bound);
-    count(q.end, p.waiters + q.waiters, p.workers + q.workers)
+    count(Some(q.end), p.waiters + q.waiters, p.workers + q.workers)
 }
 
 // A scope's list, and its body.
@@ -135,11 +135,10 @@ fn tally_par(ws: &[u16], at: usize, depth: usize, serial: usize, bound: usize) -
 fn tally_scope(ws: &[u16], at: usize, depth: usize, serial: usize, bound: usize) -> Counted
     ensures { result ≡ scope_tally (tally_at depth ws.now serial bound) (process_end depth ws.now bound) ws.now at }
 {
-    let e = list(ws, at, depth, CODE, NO_KEY, bound);
-    if e == 0 {
-        return not_counted();
+    match list(ws, at, depth, CODE, NO_KEY, bound) {
+        None => not_counted(),
+        Some(e) => tally(ws, e, depth, serial, bound),
     }
-    tally(ws, e, depth, serial, bound)
 }
 
 #[cycle(tally_tally_executor_tally_par_tally_scope_tally_seq)]
@@ -148,15 +147,19 @@ fn tally_executor(ws: &[u16], at: usize, depth: usize, serial: usize, bound: usi
     requires { at < length ws.now }
     ensures { result ≡ executor_tally (tally_at depth ws.now serial bound) ws.now serial at (executor_own ws.now bound at) }
 {
-    let body = executor_own(ws, at, bound);
-    if body == 0 {
+    let Some(body) = executor_own(ws, at, bound) else {
         return not_counted();
-    }
+    };
     let p = tally(ws, body, depth, serial, bound);
-    count(p.end, p.waiters, p.workers + serial_at(ws, at, serial))
+    count(
+        Some(p.end),
+        p.waiters,
+        p.workers + serial_at(ws, at, serial),
+    )
 }
 
 // The ends of a serial in all engines.
+#[tactic(auto, using(crate::proofs::Counting::tally_below, crate::proofs::Counting::total_turn, crate::proofs::Counting::total_end))]
 fn total(
     ws: &[u16],
     starts: [usize; 9],
@@ -170,12 +173,10 @@ fn total(
 {
     let mut waiters = 0;
     let mut workers = 0;
-    let mut e = 0;
-    while e < n {
+    for e in 0..n {
         let t = tally(ws, starts[e], depth, serial, bound);
-        waiters = waiters + t.waiters;
-        workers = workers + t.workers;
-        e = e + 1;
+        waiters += t.waiters;
+        workers += t.workers;
     }
     Counted {
         end: 0,

@@ -1,8 +1,8 @@
 // The reader: where the process, list or expression that begins at a position ends, or 0 if it does not fit. One pass over the words;
 // depth falls with every level. A context (`layout::context`) is where a process stands. `bound` is n times 65,536 plus issued.
-ghost use Rattle.std.specs.Prelude.{◌≡◌, ◌+◌, ◌%◌, ◌<◌, ◌&&◌, ◌||◌, leb, eqb, length};
+ghost use Rattle.std.specs.Prelude.{◌≡◌, ◌+◌, ◌%◌, ◌<◌, ◌≤◌, ◌&&◌, ◌||◌, leb, eqb, length};
 ghost use Rattle.layout.specs.Contexts.{running, receiver, contexts};
-ghost use Rattle.reading.specs.Walk.{expr_end, constant_end, operation_end, context_of, rest_of, process_end, two_end, branch_end, repeat_end};
+ghost use Rattle.reading.specs.Walk.{end_as, expr_end, constant_end, operation_end, context_of, rest_of, process_end, two_end, branch_end, repeat_end};
 ghost use Rattle.reading.specs.Walk.{further_end, variables_end, among, distinct_from, receiving_end, one_way_end};
 ghost use Rattle.reading.specs.Walk.{choice_end, fixed_after, request_end, notify_end, solicit_end, list_end, key_at, entry_context};
 ghost use Rattle.reading.specs.Walk.{scope_end, resting_end, marked_end, end_after, executor_own, executor_end, waiter_end, notice_end};
@@ -24,56 +24,47 @@ use layout::unit::WORD;
 // An expression of at most `depth` levels.
 #[cycle(expression_operation)]
 #[tactic(auto, unfolding(crate::specs::Walk::expr_end, crate::specs::Walk::expr_at, crate::specs::Walk::operation_end, crate::specs::Walk::on, crate::specs::Walk::when))]
-pub fn expression(ws: &[u16], at: usize, depth: usize) -> usize
-    ensures { result ≡ expr_end depth ws.now at }
+pub fn expression(ws: &[u16], at: usize, depth: usize) -> Option<usize>
+    ensures { result ≡ end_as (expr_end depth ws.now at) }
 {
     if depth == 0 {
-        return 0;
+        return None;
     }
     if ws.len() <= at {
-        return 0;
+        return None;
     }
     let head = ws[at];
     let w = wide(head);
     match Tag::of(head) {
         Tag::Constant => constant(ws, at, w),
-        Tag::Variable => {
-            if w % unit::READ_VARIABLE == 0 {
-                at + 1
-            } else {
-                0
-            }
-        }
+        Tag::Variable => (w % unit::READ_VARIABLE == 0).then_some(at + 1),
         _ => operation(ws, at, depth - 1, w),
     }
 }
 
 // A constant: two words follow.
 #[tactic(auto, unfolding(crate::specs::Walk::constant_end, crate::specs::Walk::when))]
-fn constant(ws: &[u16], at: usize, w: usize) -> usize
+fn constant(ws: &[u16], at: usize, w: usize) -> Option<usize>
     requires { at < length ws.now }
-    ensures { result ≡ constant_end ws.now at w }
+    ensures { result ≡ end_as (constant_end ws.now at w) }
 {
     if w != 0 {
-        return 0;
+        return None;
     }
-    if 2 < ws.len() - at { at + 3 } else { 0 }
+    (2 < ws.len() - at).then_some(at + 3)
 }
 
 // Two operands.
 #[cycle(expression_operation)]
 #[tactic(auto, unfolding(crate::specs::Walk::expr_end, crate::specs::Walk::expr_at, crate::specs::Walk::operation_end, crate::specs::Walk::on, crate::specs::Walk::when))]
-fn operation(ws: &[u16], at: usize, depth: usize, w: usize) -> usize
+fn operation(ws: &[u16], at: usize, depth: usize, w: usize) -> Option<usize>
     requires { at < length ws.now }
-    ensures { result ≡ operation_end (expr_end depth ws.now) at w }
+    ensures { result ≡ end_as (operation_end (expr_end depth ws.now) at w) }
 {
     if w % unit::TAG != 0 {
-        return 0;
+        return None;
     }
-    let e = expression(ws, at + 1, depth);
-    if e == 0 {
-        return 0;
-    }
+    let e = expression(ws, at + 1, depth)?;
     expression(ws, e, depth)
 }
 
@@ -157,11 +148,17 @@ fn part(context: usize, how: usize) -> usize
 }
 
 // A process in a context, node by node: the parts of a node that its shape tells are kept for later, the first is read next. Any other
-// node is read whole.
+// node is read whole. The loop goes by the words that are left to read, and no counter or iterator has these.
 #[cycle(branch_choice_executor_list_marked_node_process_repeat_request_resting_scope_solicit_two_waiter_whole)]
-pub(crate) fn process(ws: &[u16], at: usize, depth: usize, context: usize, bound: usize) -> usize
+pub(crate) fn process(
+    ws: &[u16],
+    at: usize,
+    depth: usize,
+    context: usize,
+    bound: usize,
+) -> Option<usize>
     requires { context < contexts }
-    ensures { result ≡ process_end depth ws.now bound context at }
+    ensures { result ≡ end_as (process_end depth ws.now bound context at) }
 {
     let mut later = [0usize; 16];
     let mut n = 0;
@@ -170,7 +167,7 @@ pub(crate) fn process(ws: &[u16], at: usize, depth: usize, context: usize, bound
     let mut c = context;
     while a < ws.len() {
         if d == 0 {
-            return 0;
+            return None;
         }
         let t = shape(slot(c, wide(ws[a])));
         if ready(ws, a, d, c, n, t) {
@@ -178,7 +175,7 @@ pub(crate) fn process(ws: &[u16], at: usize, depth: usize, context: usize, bound
             a = a + t % tables::WIDTHS;
             if p == 0 {
                 if n == 0 {
-                    return a;
+                    return Some(a);
                 }
                 d = later[n] / KEPT;
                 c = later[n] % KEPT;
@@ -192,27 +189,24 @@ pub(crate) fn process(ws: &[u16], at: usize, depth: usize, context: usize, bound
                 n = n + p - 1;
             }
         } else {
-            a = whole(ws, a, d, c, bound);
-            if a == 0 {
-                return 0;
-            }
+            a = whole(ws, a, d, c, bound)?;
             if n == 0 {
-                return a;
+                return Some(a);
             }
             d = later[n] / KEPT;
             c = later[n] % KEPT;
             n = n - 1;
         }
     }
-    0
+    None
 }
 
 // The same for whoever does not know that there is such a context: nothing stands in one from `CONTEXTS` on.
-pub fn read(ws: &[u16], at: usize, depth: usize, context: usize, bound: usize) -> usize
-    ensures { result ≡ process_end depth ws.now bound context at }
+pub fn read(ws: &[u16], at: usize, depth: usize, context: usize, bound: usize) -> Option<usize>
+    ensures { result ≡ end_as (process_end depth ws.now bound context at) }
 {
     if CONTEXTS <= context {
-        return 0;
+        return None;
     }
     process(ws, at, depth, context, bound)
 }
@@ -220,9 +214,9 @@ pub fn read(ws: &[u16], at: usize, depth: usize, context: usize, bound: usize) -
 // A process or an expression.
 #[cycle(branch_choice_executor_list_marked_node_process_repeat_request_resting_scope_solicit_two_waiter_whole)]
 #[tactic(auto, unfolding(crate::specs::Walk::item_end))]
-fn whole(ws: &[u16], at: usize, depth: usize, context: usize, bound: usize) -> usize
+fn whole(ws: &[u16], at: usize, depth: usize, context: usize, bound: usize) -> Option<usize>
     requires { context < 13 }
-    ensures { result ≡ item_end ws.now bound depth context at }
+    ensures { result ≡ end_as (item_end ws.now bound depth context at) }
 {
     if context == EXPRESSION {
         expression(ws, at, depth)
@@ -233,26 +227,26 @@ fn whole(ws: &[u16], at: usize, depth: usize, context: usize, bound: usize) -> u
 
 // A process in a context, by its kind.
 #[cycle(branch_choice_executor_list_marked_node_process_repeat_request_resting_scope_solicit_two_waiter_whole)]
-#[tactic(auto, unfolding(crate::specs::Walk::on, crate::specs::Walk::when, crate::specs::Walk::process_end, crate::specs::Walk::two_end, crate::specs::Walk::branch_end, crate::specs::Walk::repeat_end, crate::specs::Walk::branches_end, crate::specs::Walk::choice_end, crate::specs::Walk::request_end, crate::specs::Walk::entries_end, crate::specs::Walk::list_end, crate::specs::Walk::solicit_end, crate::specs::Walk::marked_end, crate::specs::Walk::resting_end, crate::specs::Walk::scope_end, crate::specs::Walk::executor_end, crate::specs::Walk::waiter_end, crate::specs::Walk::node_end))]
-fn node(ws: &[u16], at: usize, depth: usize, context: usize, bound: usize) -> usize
+#[tactic(auto, unfolding(crate::specs::Walk::when, crate::specs::Walk::process_end, crate::specs::Walk::node_end))]
+fn node(ws: &[u16], at: usize, depth: usize, context: usize, bound: usize) -> Option<usize>
     requires { context < contexts }
-    ensures { result ≡ process_end depth ws.now bound context at }
+    ensures { result ≡ end_as (process_end depth ws.now bound context at) }
 {
     if depth == 0 {
-        return 0;
+        return None;
     }
     if ws.len() <= at {
-        return 0;
+        return None;
     }
     let head = ws[at];
     let h = wide(head);
     if (h + WORD) & head_mask(context, h / unit::KIND) != 0 {
-        return 0;
+        return None;
     }
     let d = depth - 1;
     let c = rest_context(context);
     match Kind::of(head) {
-        Kind::Nil => at + 1,
+        Kind::Nil => Some(at + 1),
         Kind::Assign => expression(ws, at + 1, d),
         Kind::Seq => two(ws, at + 1, d, same_context(context) + NOT_NIL, c, bound),
         Kind::Par => two(
@@ -272,78 +266,75 @@ fn node(ws: &[u16], at: usize, depth: usize, context: usize, bound: usize) -> us
         Kind::Solicit => solicit(ws, at, d, bound),
         Kind::Scope => scope(ws, at, d, context, h, bound),
         Kind::Inst => list(ws, at + 1, d, HANDLERS, NO_KEY, bound),
-        Kind::Throw | Kind::Comp | Kind::Ch => at + 1,
+        Kind::Throw | Kind::Comp | Kind::Ch => Some(at + 1),
         Kind::Executor => executor(ws, at, d, bound),
         Kind::Waiter => waiter(ws, at, d, h, bound),
         Kind::Notice => notice(ws, at, bound),
-        Kind::Unused => 0,
+        Kind::Unused => None,
     }
 }
 
 // Two processes, one after the other.
 #[cycle(branch_choice_executor_list_marked_node_process_repeat_request_resting_scope_solicit_two_waiter_whole)]
-#[tactic(auto, unfolding(crate::specs::Walk::on, crate::specs::Walk::when, crate::specs::Walk::process_end, crate::specs::Walk::two_end, crate::specs::Walk::branch_end, crate::specs::Walk::repeat_end, crate::specs::Walk::branches_end, crate::specs::Walk::choice_end, crate::specs::Walk::request_end, crate::specs::Walk::entries_end, crate::specs::Walk::list_end, crate::specs::Walk::solicit_end, crate::specs::Walk::marked_end, crate::specs::Walk::resting_end, crate::specs::Walk::scope_end, crate::specs::Walk::executor_end, crate::specs::Walk::waiter_end, crate::specs::Walk::node_end))]
-fn two(ws: &[u16], at: usize, depth: usize, first: usize, second: usize, bound: usize) -> usize
+#[tactic(auto, unfolding(crate::specs::Walk::on, crate::specs::Walk::two_end))]
+fn two(
+    ws: &[u16],
+    at: usize,
+    depth: usize,
+    first: usize,
+    second: usize,
+    bound: usize,
+) -> Option<usize>
     requires { (first < contexts) × (second < contexts) }
-    ensures { result ≡ two_end (process_end depth ws.now bound) first second at }
+    ensures { result ≡ end_as (two_end (process_end depth ws.now bound) first second at) }
 {
-    let a = process(ws, at, depth, first, bound);
-    if a == 0 {
-        return 0;
-    }
+    let a = process(ws, at, depth, first, bound)?;
     process(ws, a, depth, second, bound)
 }
 
 // What follows the head of an if, and of a while.
 #[cycle(branch_choice_executor_list_marked_node_process_repeat_request_resting_scope_solicit_two_waiter_whole)]
-#[tactic(auto, unfolding(crate::specs::Walk::on, crate::specs::Walk::when, crate::specs::Walk::process_end, crate::specs::Walk::two_end, crate::specs::Walk::branch_end, crate::specs::Walk::repeat_end, crate::specs::Walk::branches_end, crate::specs::Walk::choice_end, crate::specs::Walk::request_end, crate::specs::Walk::entries_end, crate::specs::Walk::list_end, crate::specs::Walk::solicit_end, crate::specs::Walk::marked_end, crate::specs::Walk::resting_end, crate::specs::Walk::scope_end, crate::specs::Walk::executor_end, crate::specs::Walk::waiter_end, crate::specs::Walk::node_end))]
-fn branch(ws: &[u16], at: usize, depth: usize, context: usize, bound: usize) -> usize
+#[tactic(auto, unfolding(crate::specs::Walk::on, crate::specs::Walk::branch_end))]
+fn branch(ws: &[u16], at: usize, depth: usize, context: usize, bound: usize) -> Option<usize>
     requires { context < contexts }
-    ensures { result ≡ branch_end (expr_end depth ws.now) (process_end depth ws.now bound) context at }
+    ensures { result ≡ end_as (branch_end (expr_end depth ws.now) (process_end depth ws.now bound) context at) }
 {
-    let e = expression(ws, at, depth);
-    if e == 0 {
-        return 0;
-    }
+    let e = expression(ws, at, depth)?;
     two(ws, e, depth, context, context, bound)
 }
 
 #[cycle(branch_choice_executor_list_marked_node_process_repeat_request_resting_scope_solicit_two_waiter_whole)]
-#[tactic(auto, unfolding(crate::specs::Walk::on, crate::specs::Walk::when, crate::specs::Walk::process_end, crate::specs::Walk::two_end, crate::specs::Walk::branch_end, crate::specs::Walk::repeat_end, crate::specs::Walk::branches_end, crate::specs::Walk::choice_end, crate::specs::Walk::request_end, crate::specs::Walk::entries_end, crate::specs::Walk::list_end, crate::specs::Walk::solicit_end, crate::specs::Walk::marked_end, crate::specs::Walk::resting_end, crate::specs::Walk::scope_end, crate::specs::Walk::executor_end, crate::specs::Walk::waiter_end, crate::specs::Walk::node_end))]
-fn repeat(ws: &[u16], at: usize, depth: usize, context: usize, bound: usize) -> usize
+#[tactic(auto, unfolding(crate::specs::Walk::on, crate::specs::Walk::repeat_end))]
+fn repeat(ws: &[u16], at: usize, depth: usize, context: usize, bound: usize) -> Option<usize>
     requires { context < contexts }
-    ensures { result ≡ repeat_end (expr_end depth ws.now) (process_end depth ws.now bound) context at }
+    ensures { result ≡ end_as (repeat_end (expr_end depth ws.now) (process_end depth ws.now bound) context at) }
 {
-    let e = expression(ws, at, depth);
-    if e == 0 {
-        return 0;
-    }
+    let e = expression(ws, at, depth)?;
     process(ws, e, depth, context, bound)
 }
 
 // The branches of a choice, 1 to 8.
 #[cycle(branch_choice_executor_list_marked_node_process_repeat_request_resting_scope_solicit_two_waiter_whole)]
-#[tactic(auto, unfolding(crate::specs::Walk::on, crate::specs::Walk::when, crate::specs::Walk::process_end, crate::specs::Walk::two_end, crate::specs::Walk::branch_end, crate::specs::Walk::repeat_end, crate::specs::Walk::branches_end, crate::specs::Walk::choice_end, crate::specs::Walk::request_end, crate::specs::Walk::entries_end, crate::specs::Walk::list_end, crate::specs::Walk::solicit_end, crate::specs::Walk::marked_end, crate::specs::Walk::resting_end, crate::specs::Walk::scope_end, crate::specs::Walk::executor_end, crate::specs::Walk::waiter_end, crate::specs::Walk::node_end))]
-fn choice(ws: &[u16], at: usize, depth: usize, context: usize, count: usize, bound: usize) -> usize
-    requires { context < running + receiver }
-    ensures { result ≡ choice_end (process_end depth ws.now bound) context count at }
+#[tactic(auto, using(crate::proofs::Walks::branches_turn, crate::proofs::Walks::branches_done), unfolding(crate::specs::Walk::on, crate::specs::Walk::when, crate::specs::Walk::choice_end))]
+fn choice(
+    ws: &[u16],
+    at: usize,
+    depth: usize,
+    context: usize,
+    count: usize,
+    bound: usize,
+) -> Option<usize>
+    requires { (0 < at) × (context < running + receiver) }
+    ensures { result ≡ end_as (choice_end (process_end depth ws.now bound) context count at) }
 {
-    if count == 0 {
-        return 0;
-    }
-    if BRANCHES < count {
-        return 0;
+    if count == 0 || BRANCHES < count {
+        return None;
     }
     let mut a = at;
-    let mut left = count;
-    while 0 < left {
-        a = two(ws, a, depth, context + RECEIVER, context, bound);
-        if a == 0 {
-            return 0;
-        }
-        left = left - 1;
+    for _ in 0..count {
+        a = two(ws, a, depth, context + RECEIVER, context, bound)?;
     }
-    a
+    Some(a)
 }
 
 // Whether a fixed word follows the head, with its bits below `spare` 0.
@@ -359,171 +350,140 @@ fn fixed(ws: &[u16], at: usize, spare: usize) -> bool
 }
 
 // `left` further variables of a list, from `at` on.
-#[tactic(auto, unfolding(crate::specs::Walk::when))]
-fn further_variables(ws: &[u16], at: usize, left: usize) -> usize
-    ensures { result ≡ further_end left ws.now at }
+#[tactic(auto, using(crate::proofs::VariableWalks::further_all, crate::proofs::VariableWalks::further_short), unfolding(crate::specs::Walk::when))]
+fn further_variables(ws: &[u16], at: usize, left: usize) -> Option<usize>
+    requires { (0 < at) × (at ≤ length ws.now) }
+    ensures { result ≡ end_as (further_end left ws.now at) }
 {
-    let mut a = at;
-    let mut n = left;
-    while 0 < n {
-        if ws.len() <= a {
-            return 0;
-        }
-        if wide(ws[a]) % unit::FIRST_VARIABLE != 0 {
-            return 0;
-        }
-        a = a + 1;
-        n = n - 1;
+    if ws.len() - at < left {
+        return None;
     }
-    a
+    let end = at + left;
+    ws[at..end]
+        .iter()
+        .all(|w| wide(*w) % unit::FIRST_VARIABLE == 0)
+        .then_some(end)
 }
 
 // A list of 1 to 4 variables, whose count is at `at`.
 #[tactic(auto, unfolding(crate::specs::Walk::when, crate::specs::Walk::variables_end))]
-fn variables(ws: &[u16], at: usize) -> usize
-    ensures { result ≡ variables_end ws.now at }
+fn variables(ws: &[u16], at: usize) -> Option<usize>
+    ensures { result ≡ end_as (variables_end ws.now at) }
 {
     if ws.len() <= at {
-        return 0;
+        return None;
     }
     let c = wide(ws[at]);
-    if c == 0 {
-        return 0;
-    }
-    if MESSAGE < c {
-        return 0;
+    if c == 0 || MESSAGE < c {
+        return None;
     }
     further_variables(ws, at + 1, c - 1)
 }
 
 // Whether the variable x is one of the `left` further ones from `at` on.
+#[tactic(auto, using(crate::proofs::VariableWalks::among_any))]
 fn is_among(ws: &[u16], at: usize, left: usize, x: usize) -> bool
+    requires { at ≤ length ws.now }
     ensures { result ≡ among left ws.now x at }
 {
-    let mut a = at;
-    let mut n = left;
-    while 0 < n {
-        if ws.len() <= a {
-            return false;
-        }
-        if x == wide(ws[a]) / unit::FIRST_VARIABLE {
-            return true;
-        }
-        a = a + 1;
-        n = n - 1;
-    }
-    false
+    ws[at..]
+        .iter()
+        .take(left)
+        .any(|w| x == wide(*w) / unit::FIRST_VARIABLE)
 }
 
 // Whether `first` and the `left` further variables from `at` on are all different.
+#[tactic(auto, using(crate::proofs::VariableWalks::distinct_turn, crate::proofs::VariableWalks::distinct_end))]
 fn distinct(ws: &[u16], at: usize, left: usize, first: usize) -> bool
+    requires { at ≤ length ws.now }
     ensures { result ≡ distinct_from left ws.now first at }
 {
-    let mut a = at;
-    let mut n = left;
     let mut x = first;
-    while 0 < n {
-        if is_among(ws, a, n, x) {
+    for i in 0..left {
+        if is_among(ws, at + i, left - i, x) {
             return false;
         }
-        if ws.len() <= a {
+        if ws.len() <= at + i {
             return true;
         }
-        x = wide(ws[a]) / unit::FIRST_VARIABLE;
-        a = a + 1;
-        n = n - 1;
+        x = wide(ws[at + i]) / unit::FIRST_VARIABLE;
     }
     true
 }
 
 // A list of variables that receive, the first of which stands elsewhere: none of them twice.
 #[tactic(auto, unfolding(crate::specs::Walk::on, crate::specs::Walk::when, crate::specs::Walk::variables_end, crate::specs::Walk::receiving_end))]
-fn receiving(ws: &[u16], at: usize, first: usize) -> usize
-    ensures { result ≡ receiving_end ws.now first at }
+fn receiving(ws: &[u16], at: usize, first: usize) -> Option<usize>
+    ensures { result ≡ end_as (receiving_end ws.now first at) }
 {
     if ws.len() <= at {
-        return 0;
+        return None;
     }
-    let e = variables(ws, at);
-    if e == 0 {
-        return 0;
-    }
+    let e = variables(ws, at)?;
     let left = wide(ws[at]).saturating_sub(1);
-    if distinct(ws, at + 1, left, first) {
-        e
-    } else {
-        0
-    }
+    distinct(ws, at + 1, left, first).then_some(e)
 }
 
 // A one-way whose head is `h`.
 #[tactic(auto, unfolding(crate::specs::Walk::one_way_end))]
-fn one_way(ws: &[u16], at: usize, h: usize) -> usize
+fn one_way(ws: &[u16], at: usize, h: usize) -> Option<usize>
     requires { at < length ws.now }
-    ensures { result ≡ one_way_end ws.now h at }
+    ensures { result ≡ end_as (one_way_end ws.now h at) }
 {
     receiving(ws, at + 1, h % unit::SECOND)
 }
 
 // A request whose head is `h`: x, y, and P.
 #[cycle(branch_choice_executor_list_marked_node_process_repeat_request_resting_scope_solicit_two_waiter_whole)]
-#[tactic(auto, unfolding(crate::specs::Walk::on, crate::specs::Walk::when, crate::specs::Walk::request_end, crate::specs::Walk::solicit_end, crate::specs::Walk::executor_end, crate::specs::Walk::waiter_end))]
-fn request(ws: &[u16], at: usize, depth: usize, context: usize, h: usize, bound: usize) -> usize
+#[tactic(auto, unfolding(crate::specs::Walk::on, crate::specs::Walk::when, crate::specs::Walk::request_end))]
+fn request(
+    ws: &[u16],
+    at: usize,
+    depth: usize,
+    context: usize,
+    h: usize,
+    bound: usize,
+) -> Option<usize>
     requires { (at < length ws.now) × (context < contexts) }
-    ensures { result ≡ request_end (process_end depth ws.now bound) ws.now context h at }
+    ensures { result ≡ end_as (request_end (process_end depth ws.now bound) ws.now context h at) }
 {
-    if fixed(ws, at, unit::FIRST_VARIABLE) {
-        let x = receiving(ws, at + 2, h % unit::SECOND);
-        if x == 0 {
-            return 0;
-        }
-        let y = variables(ws, x);
-        if y == 0 {
-            return 0;
-        }
-        process(ws, y, depth, context, bound)
-    } else {
-        0
+    if !fixed(ws, at, unit::FIRST_VARIABLE) {
+        return None;
     }
+    let x = receiving(ws, at + 2, h % unit::SECOND)?;
+    let y = variables(ws, x)?;
+    process(ws, y, depth, context, bound)
 }
 
 #[tactic(auto, unfolding(crate::specs::Walk::when, crate::specs::Walk::notify_end))]
-fn notify(ws: &[u16], at: usize) -> usize
+fn notify(ws: &[u16], at: usize) -> Option<usize>
     requires { at < length ws.now }
-    ensures { result ≡ notify_end ws.now at }
+    ensures { result ≡ end_as (notify_end ws.now at) }
 {
-    if fixed(ws, at, unit::FIRST_VARIABLE) {
-        variables(ws, at + 2)
-    } else {
-        0
+    if !fixed(ws, at, unit::FIRST_VARIABLE) {
+        return None;
     }
+    variables(ws, at + 2)
 }
 
 // A solicit: y, x, and its list.
 #[cycle(branch_choice_executor_list_marked_node_process_repeat_request_resting_scope_solicit_two_waiter_whole)]
-#[tactic(auto, unfolding(crate::specs::Walk::on, crate::specs::Walk::when, crate::specs::Walk::request_end, crate::specs::Walk::solicit_end, crate::specs::Walk::executor_end, crate::specs::Walk::waiter_end))]
-fn solicit(ws: &[u16], at: usize, depth: usize, bound: usize) -> usize
+#[tactic(auto, unfolding(crate::specs::Walk::on, crate::specs::Walk::when, crate::specs::Walk::solicit_end))]
+fn solicit(ws: &[u16], at: usize, depth: usize, bound: usize) -> Option<usize>
     requires { at < length ws.now }
-    ensures { result ≡ solicit_end (process_end depth ws.now bound) ws.now at }
+    ensures { result ≡ end_as (solicit_end (process_end depth ws.now bound) ws.now at) }
 {
-    if fixed(ws, at, unit::NEXT_VARIABLE) {
-        let y = variables(ws, at + 2);
-        if y == 0 {
-            return 0;
-        }
-        let x = receiving(ws, y, next_variable(word(ws, at + 1)));
-        if x == 0 {
-            return 0;
-        }
-        list(ws, x, depth, HANDLERS, NO_KEY, bound)
-    } else {
-        0
+    if !fixed(ws, at, unit::NEXT_VARIABLE) {
+        return None;
     }
+    let y = variables(ws, at + 2)?;
+    let x = receiving(ws, y, next_variable(word(ws, at + 1)))?;
+    list(ws, x, depth, HANDLERS, NO_KEY, bound)
 }
 
 // A list whose entries stand in a context; the key wanted has to be there, unless it is `NO_KEY`.
 #[cycle(branch_choice_executor_list_marked_node_process_repeat_request_resting_scope_solicit_two_waiter_whole)]
-#[tactic(auto, unfolding(crate::specs::Walk::on, crate::specs::Walk::when, crate::specs::Walk::process_end, crate::specs::Walk::two_end, crate::specs::Walk::branch_end, crate::specs::Walk::repeat_end, crate::specs::Walk::branches_end, crate::specs::Walk::choice_end, crate::specs::Walk::request_end, crate::specs::Walk::entries_end, crate::specs::Walk::list_end, crate::specs::Walk::solicit_end, crate::specs::Walk::marked_end, crate::specs::Walk::resting_end, crate::specs::Walk::scope_end, crate::specs::Walk::executor_end, crate::specs::Walk::waiter_end, crate::specs::Walk::node_end))]
+#[tactic(auto, using(crate::proofs::Walks::entries_turn, crate::proofs::Walks::entries_done, crate::proofs::Walks::key_inside), unfolding(crate::specs::Walk::on, crate::specs::Walk::when, crate::specs::Walk::list_end))]
 pub(crate) fn list(
     ws: &[u16],
     at: usize,
@@ -531,31 +491,27 @@ pub(crate) fn list(
     context: usize,
     wanted: usize,
     bound: usize,
-) -> usize
+) -> Option<usize>
     requires { context < contexts }
-    ensures { result ≡ list_end (process_end depth ws.now bound) ws.now context wanted at }
+    ensures { result ≡ end_as (list_end (process_end depth ws.now bound) ws.now context wanted at) }
 {
     if ws.len() <= at {
-        return 0;
+        return None;
     }
-    let mut left = wide(ws[at]);
+    let count = wide(ws[at]);
     let mut a = at + 1;
     let mut least = 0;
     let mut met = NO_KEY <= wanted;
-    while 0 < left {
+    for _ in 0..count {
         let key = key_at(ws, a, least);
         if key == NO_KEY {
-            return 0;
+            return None;
         }
-        a = process(ws, a + 1, depth, entry_context(context, key), bound);
-        if a == 0 {
-            return 0;
-        }
+        a = process(ws, a + 1, depth, entry_context(context, key), bound)?;
         met = met_by(met, key, wanted);
         least = key + 1;
-        left = left - 1;
     }
-    if met { a } else { 0 }
+    met.then_some(a)
 }
 
 // The key at a position, at least `least`; `NO_KEY` if there is none.
@@ -579,10 +535,7 @@ fn key_at(ws: &[u16], at: usize, least: usize) -> usize
 pub fn met_by(met: bool, key: usize, wanted: usize) -> bool
     ensures { result ≡ (met || eqb key wanted) }
 {
-    if met {
-        return true;
-    }
-    key == wanted
+    met || key == wanted
 }
 
 // Under a scope's key in a scope's list nil may not stand.
@@ -599,73 +552,71 @@ fn entry_context(context: usize, key: usize) -> usize
 
 // A scope whose head is `h`.
 #[cycle(branch_choice_executor_list_marked_node_process_repeat_request_resting_scope_solicit_two_waiter_whole)]
-#[tactic(auto, unfolding(crate::specs::Walk::on, crate::specs::Walk::when, crate::specs::Walk::process_end, crate::specs::Walk::two_end, crate::specs::Walk::branch_end, crate::specs::Walk::repeat_end, crate::specs::Walk::branches_end, crate::specs::Walk::choice_end, crate::specs::Walk::request_end, crate::specs::Walk::entries_end, crate::specs::Walk::list_end, crate::specs::Walk::solicit_end, crate::specs::Walk::marked_end, crate::specs::Walk::resting_end, crate::specs::Walk::scope_end, crate::specs::Walk::executor_end, crate::specs::Walk::waiter_end, crate::specs::Walk::node_end))]
-fn scope(ws: &[u16], at: usize, depth: usize, context: usize, h: usize, bound: usize) -> usize
+#[tactic(auto, unfolding(crate::specs::Walk::on, crate::specs::Walk::when, crate::specs::Walk::scope_end))]
+fn scope(
+    ws: &[u16],
+    at: usize,
+    depth: usize,
+    context: usize,
+    h: usize,
+    bound: usize,
+) -> Option<usize>
     requires { (at < length ws.now) × (context < contexts) }
-    ensures { result ≡ scope_end (process_end depth ws.now bound) ws.now context h at }
+    ensures { result ≡ end_as (scope_end (process_end depth ws.now bound) ws.now context h at) }
 {
     if ws.len() - at < 3 {
-        return 0;
+        return None;
     }
     let fault = wide(ws[at + 1]);
     if context < RUNNING {
         return resting(ws, at, depth, context, fault, bound);
     }
-    let e = marked(ws, at + 2, depth, h, fault, bound);
-    if e == 0 {
-        return 0;
-    }
+    let e = marked(ws, at + 2, depth, h, fault, bound)?;
     process(ws, e, depth, RUNNING, bound)
 }
 
 // A scope that is code: no marked fault and an empty list.
 #[cycle(branch_choice_executor_list_marked_node_process_repeat_request_resting_scope_solicit_two_waiter_whole)]
-#[tactic(auto, unfolding(crate::specs::Walk::on, crate::specs::Walk::when, crate::specs::Walk::process_end, crate::specs::Walk::two_end, crate::specs::Walk::branch_end, crate::specs::Walk::repeat_end, crate::specs::Walk::branches_end, crate::specs::Walk::choice_end, crate::specs::Walk::request_end, crate::specs::Walk::entries_end, crate::specs::Walk::list_end, crate::specs::Walk::solicit_end, crate::specs::Walk::marked_end, crate::specs::Walk::resting_end, crate::specs::Walk::scope_end, crate::specs::Walk::executor_end, crate::specs::Walk::waiter_end, crate::specs::Walk::node_end))]
-fn resting(ws: &[u16], at: usize, depth: usize, context: usize, fault: usize, bound: usize) -> usize
+#[tactic(auto, unfolding(crate::specs::Walk::when, crate::specs::Walk::resting_end))]
+fn resting(
+    ws: &[u16],
+    at: usize,
+    depth: usize,
+    context: usize,
+    fault: usize,
+    bound: usize,
+) -> Option<usize>
     requires { (at + 2 < length ws.now) × (context < contexts) }
-    ensures { result ≡ resting_end (process_end depth ws.now bound) ws.now context fault at }
+    ensures { result ≡ end_as (resting_end (process_end depth ws.now bound) ws.now context fault at) }
 {
-    if fault != 0 {
-        return 0;
-    }
-    if ws[at + 2] != 0 {
-        return 0;
+    if fault != 0 || ws[at + 2] != 0 {
+        return None;
     }
     process(ws, at + 3, depth, same_context(context), bound)
 }
 
 // The list of a scope that runs, by its mark.
 #[cycle(branch_choice_executor_list_marked_node_process_repeat_request_resting_scope_solicit_two_waiter_whole)]
-#[tactic(auto, unfolding(crate::specs::Walk::on, crate::specs::Walk::when, crate::specs::Walk::process_end, crate::specs::Walk::two_end, crate::specs::Walk::branch_end, crate::specs::Walk::repeat_end, crate::specs::Walk::branches_end, crate::specs::Walk::choice_end, crate::specs::Walk::request_end, crate::specs::Walk::entries_end, crate::specs::Walk::list_end, crate::specs::Walk::solicit_end, crate::specs::Walk::marked_end, crate::specs::Walk::resting_end, crate::specs::Walk::scope_end, crate::specs::Walk::executor_end, crate::specs::Walk::waiter_end, crate::specs::Walk::node_end))]
-pub fn marked(ws: &[u16], at: usize, depth: usize, h: usize, fault: usize, bound: usize) -> usize
-    ensures { result ≡ marked_end (process_end depth ws.now bound) ws.now h fault at }
+#[tactic(auto, unfolding(crate::specs::Walk::when, crate::specs::Walk::marked_end))]
+pub fn marked(
+    ws: &[u16],
+    at: usize,
+    depth: usize,
+    h: usize,
+    fault: usize,
+    bound: usize,
+) -> Option<usize>
+    ensures { result ≡ end_as (marked_end (process_end depth ws.now bound) ws.now h fault at) }
 {
     match Mark::numbered(h / unit::MARK % unit::MARKS) {
-        Mark::Unmarked => {
-            if fault == 0 {
-                list(ws, at, depth, CODE, NO_KEY, bound)
-            } else {
-                0
-            }
+        Mark::Unmarked if fault == 0 => list(ws, at, depth, CODE, NO_KEY, bound),
+        Mark::Faulted if fault % unit::FIRST_NAME == 0 => {
+            list(ws, at, depth, CODE, fault / unit::FIRST_NAME, bound)
         }
-        Mark::Faulted => {
-            if fault % unit::FIRST_NAME == 0 {
-                list(ws, at, depth, CODE, fault / unit::FIRST_NAME, bound)
-            } else {
-                0
-            }
+        Mark::OwnName if fault == 0 && h / unit::ZOMBIE % 2 == 1 => {
+            list(ws, at, depth, CODE, NO_KEY, bound)
         }
-        Mark::OwnName => {
-            if fault != 0 {
-                return 0;
-            }
-            if h / unit::ZOMBIE % 2 == 1 {
-                list(ws, at, depth, CODE, NO_KEY, bound)
-            } else {
-                0
-            }
-        }
-        Mark::Unused => 0,
+        _ => None,
     }
 }
 
@@ -697,57 +648,45 @@ fn end(ws: &[u16], at: usize, spare: usize, bound: usize) -> bool
 
 // The own words of the executor at `at`, wherever that is: where its body begins.
 #[tactic(auto, unfolding(crate::specs::Walk::when, crate::specs::Walk::executor_own))]
-pub fn executor_own(ws: &[u16], at: usize, bound: usize) -> usize
-    ensures { result ≡ executor_own ws.now bound at }
+pub fn executor_own(ws: &[u16], at: usize, bound: usize) -> Option<usize>
+    ensures { result ≡ end_as (executor_own ws.now bound at) }
 {
     if ws.len() <= at {
-        return 0;
+        return None;
     }
-    if end(ws, at, unit::EXECUTORS_CLIENT, bound) {
-        variables(ws, at + 3)
-    } else {
-        0
+    if !end(ws, at, unit::EXECUTORS_CLIENT, bound) {
+        return None;
     }
+    variables(ws, at + 3)
 }
 
 #[cycle(branch_choice_executor_list_marked_node_process_repeat_request_resting_scope_solicit_two_waiter_whole)]
-#[tactic(auto, unfolding(crate::specs::Walk::on, crate::specs::Walk::when, crate::specs::Walk::request_end, crate::specs::Walk::solicit_end, crate::specs::Walk::executor_end, crate::specs::Walk::waiter_end))]
-fn executor(ws: &[u16], at: usize, depth: usize, bound: usize) -> usize
-    ensures { result ≡ executor_end (process_end depth ws.now bound) ws.now bound at }
+#[tactic(auto, unfolding(crate::specs::Walk::on, crate::specs::Walk::executor_end))]
+fn executor(ws: &[u16], at: usize, depth: usize, bound: usize) -> Option<usize>
+    ensures { result ≡ end_as (executor_end (process_end depth ws.now bound) ws.now bound at) }
 {
-    let body = executor_own(ws, at, bound);
-    if body == 0 {
-        return 0;
-    }
+    let body = executor_own(ws, at, bound)?;
     process(ws, body, depth, RUNNING, bound)
 }
 
 // A waiter whose head is `h`.
 #[cycle(branch_choice_executor_list_marked_node_process_repeat_request_resting_scope_solicit_two_waiter_whole)]
-#[tactic(auto, unfolding(crate::specs::Walk::on, crate::specs::Walk::when, crate::specs::Walk::request_end, crate::specs::Walk::solicit_end, crate::specs::Walk::executor_end, crate::specs::Walk::waiter_end))]
-fn waiter(ws: &[u16], at: usize, depth: usize, h: usize, bound: usize) -> usize
+#[tactic(auto, unfolding(crate::specs::Walk::on, crate::specs::Walk::when, crate::specs::Walk::waiter_end))]
+fn waiter(ws: &[u16], at: usize, depth: usize, h: usize, bound: usize) -> Option<usize>
     requires { at < length ws.now }
-    ensures { result ≡ waiter_end (process_end depth ws.now bound) ws.now h bound at }
+    ensures { result ≡ end_as (waiter_end (process_end depth ws.now bound) ws.now h bound at) }
 {
-    if end(ws, at, unit::WAITERS_SERVER, bound) {
-        let x = receiving(ws, at + 3, h % unit::SECOND);
-        if x == 0 {
-            return 0;
-        }
-        list(ws, x, depth, HANDLERS, NO_KEY, bound)
-    } else {
-        0
+    if !end(ws, at, unit::WAITERS_SERVER, bound) {
+        return None;
     }
+    let x = receiving(ws, at + 3, h % unit::SECOND)?;
+    list(ws, x, depth, HANDLERS, NO_KEY, bound)
 }
 
 #[tactic(auto, unfolding(crate::specs::Walk::notice_end, crate::specs::Walk::when))]
-fn notice(ws: &[u16], at: usize, bound: usize) -> usize
+fn notice(ws: &[u16], at: usize, bound: usize) -> Option<usize>
     requires { at < length ws.now }
-    ensures { result ≡ notice_end ws.now bound at }
+    ensures { result ≡ end_as (notice_end ws.now bound at) }
 {
-    if end(ws, at, unit::NOTICES_CLIENT, bound) {
-        at + 3
-    } else {
-        0
-    }
+    end(ws, at, unit::NOTICES_CLIENT, bound).then_some(at + 3)
 }

@@ -31,47 +31,38 @@ pub fn unreadable() -> Starts
 pub fn opened(ws: &[u16], limits: Limits) -> bool
     ensures { result ≡ opens (figures limits) ws.now }
 {
-    if ws.len() < HEADER {
-        return false;
-    }
-    if limits.longest < ws.len() {
-        return false;
-    }
-    let n = wide(ws[0]);
-    if n == 0 {
-        return false;
-    }
-    n <= ENGINES
+    HEADER <= ws.len() && ws.len() <= limits.longest && (1..=ENGINES).contains(&wide(ws[0]))
 }
 
 // Every process in one context: an engine's root, that of one that has not begun; where no process stands, nothing is readable.
+#[tactic(auto, unfolding(crate::specs::Survey::surveyed, crate::specs::Survey::opens))]
 pub fn survey(ws: &[u16], limits: Limits, context: usize) -> Starts
     ensures { result ≡ surveyed (figures limits) context ws.now }
 {
     if opened(ws, limits) {
         let n = wide(ws[0]);
-        return engines(ws, limits.deepest, context, n, n * WORD + wide(ws[1]));
+        engines(ws, limits.deepest, context, n, n * WORD + wide(ws[1]))
+    } else {
+        unreadable()
     }
-    unreadable()
 }
 
+#[tactic(auto, using(crate::proofs::Surveys::engines_turn, crate::proofs::Surveys::engines_done, crate::proofs::Beyond::read_inside, crate::proofs::Given::some_end, crate::proofs::Given::none_end))]
 fn engines(ws: &[u16], deepest: usize, context: usize, n: usize, bound: usize) -> Starts
     requires { (2 ≤ length ws.now) × (n ≤ 8) }
     ensures { result ≡ engines_from (process_end deepest ws.now bound context) ws.now n n 0 2 (replicate 9 0) }
 {
     let mut starts = [0usize; 9];
     let mut at = HEADER;
-    let mut e = 0;
-    while e < n {
+    for e in 0..n {
         if ws.len() - at < VALUES {
             return unreadable();
         }
         starts[e] = at + VALUES;
-        at = read(ws, at + VALUES, deepest, context, bound);
-        if at == 0 {
-            return unreadable();
+        match read(ws, at + VALUES, deepest, context, bound) {
+            Some(end) => at = end,
+            None => return unreadable(),
         }
-        e = e + 1;
     }
     if at != ws.len() {
         return unreadable();

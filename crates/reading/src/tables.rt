@@ -84,6 +84,7 @@ const KINDS: usize = 32;
 const ALL: usize = 131071;
 
 // The bits of a head, with 65,536 added, that have to be 0. Where the kind may not stand, all of them.
+#[tactic(auto, using(crate::proofs::Masks::no_kind, crate::proofs::Masks::mask_none, crate::proofs::Masks::mask_kind))]
 pub fn head_mask(context: usize, kind: usize) -> usize
     ensures { result ≡ head_mask context kind }
 {

@@ -3,16 +3,24 @@
 // bytes, high first: the count of words, a serial, an engine, a position, then the words.
 #![tactic(auto)]
 
+ghost use Rattle.std.specs.Prelude.{OnOk};
+ghost use Rattle.std.specs.Io.KnownBytes.{Appends};
+ghost use Rattle.reading_cases.specs.Printed.{answers_line};
+
 use bytewise::words::hold;
-use cases::{print, sum, take, word};
+use cases::{sum, take, word};
+use reading::calls::{check_readable, check_start, process_of};
+use reading::ends::ends;
+use searching::call::pending_at;
 use std::io;
 use std::io::{Read, Write};
 
+// How many words a case has at most, and how many bytes they are; how many bytes stand before them.
 const MOST: usize = 8200;
 
-fn flag(is: bool) -> u64 {
-    if is { 1 } else { 0 }
-}
+const MOST_BYTES: usize = 2 * MOST;
+
+const HEAD: usize = 8;
 
 // What the calls answer on these words.
 fn answer<W: Write>(
@@ -21,38 +29,44 @@ fn answer<W: Write>(
     serial: u16,
     engine: u16,
     position: u16,
-) -> io::Result<()> {
-    print(output, reading::calls::check_readable(ws) as u64, false)?;
-    print(output, reading::calls::check_start(ws) as u64, false)?;
-    let e = reading::ends::ends(ws, serial);
-    print(output, e.number as u64, false)?;
-    print(output, e.waiters as u64, false)?;
-    print(output, e.workers as u64, false)?;
-    let p = reading::calls::process_of(ws, engine);
-    print(output, p.len() as u64, false)?;
-    print(output, sum(p) as u64, false)?;
-    let q = searching::call::pending_at(ws, engine, position);
-    print(output, q.number as u64, false)?;
-    print(output, flag(q.found), false)?;
-    print(output, q.count as u64, true)
+) -> io::Result<()>
+    ensures { OnOk result (Appends (W.contents output.old) (W.contents output.new) (answers_line ws.now serial engine position)) }
+{
+    let e = ends(ws, serial);
+    let process = process_of(ws, engine);
+    let p = pending_at(ws, engine, position);
+    writeln!(
+        output,
+        "{} {} {} {} {} {} {} {} {} {}",
+        check_readable(ws),
+        check_start(ws),
+        e.number,
+        e.waiters,
+        e.workers,
+        process.len(),
+        sum(process),
+        p.number,
+        u8::from(p.found),
+        p.count,
+    )
 }
 
 // One case; whether there was one.
 fn case<R: Read, W: Write>(input: &mut R, output: &mut W) -> io::Result<bool> {
-    let mut head = [0u8; 8];
-    if !take(input, &mut head, 8)? {
+    let mut head = [0u8; HEAD];
+    if !take(input, &mut head, HEAD)? {
         return Ok(false);
     }
-    let count = word(head[0], head[1]) as usize;
+    let count = usize::from(word(head[0], head[1]));
     if MOST < count {
         return Ok(false);
     }
-    let mut bytes = [0u8; 16400];
-    let size = count * 2;
+    let mut bytes = [0u8; MOST_BYTES];
+    let size = 2 * count;
     if !take(input, &mut bytes, size)? {
         return Ok(false);
     }
-    let mut ws = [0u16; 8200];
+    let mut ws = [0u16; MOST];
     let n = hold(&bytes[..size], &mut ws);
     answer(
         output,

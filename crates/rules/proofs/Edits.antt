@@ -18,8 +18,8 @@ use Rattle.finding.proofs.Edits.{part, edited, nil_plain, swap_plain, cut_order}
 use Rattle.layout.specs.Positions.{onward}
 use Rattle.writers.proofs.Laid.{Near, onward_near}
 use Rattle.rules.specs.declared.store.Store.{Store}
-use Rattle.rules.specs.declared.rewriting.Rewriting.{Rewriting}
-use Rattle.rules.specs.declared.edit.Edit.{Edit}
+use Rattle.rules.specs.Rewriting.{Rewriting}
+use Rattle.rules.specs.Editing.{Edit}
 use Rattle.rules.specs.Editing.{hollow_w, nil_w, plain_w}
 use Rattle.rules.proofs.Rewrites.{Pieces, Becomes, both_ways}
 
@@ -270,16 +270,16 @@ module _ (f target : ℕ) (r : Run) (start level : ℕ) (l : Located) (s : Site)
         onward_near s.at n (length ws) near (omega (arith, spotted.at, standing.1, process_size, inside)) ∙ ap (λ k. k + n) spotted.at
 
     pub swap_edits :
-        t.nil ≡ false →
+        t.number ≡ 0 → t.nil ≡ false →
         (let u = plain_w s start t fresh in
         Edits ws start (start + size r) u.edit u.fresh (plug l.frames q))
     unfolding plain_w
-    swap_edits z =
+    swap_edits ok z =
         let a = further_on t.from (omega (arith, p.upto, p.ends)) in
         let b = further_on t.upto (omega (arith, p.ends)) in
         let c = further_on t.end (omega arith) in
         let room = p.room in
-        rw (z, a, b, c, spotted.at)
+        rw (ok, z, a, b, c, spotted.at)
         (edits_of ws start (start + size r) _ fresh
         (record {
           l_in = omega arith;
@@ -309,5 +309,5 @@ module _ (f target : ℕ) (r : Run) (start level : ℕ) (l : Located) (s : Site)
           (d : Bool) → is_done q ≡ d →
           (let u = plain_w s start t fresh in
           Edits ws start (start + size r) u.edit u.fresh (plug l.frames q) × (u.edit.number ≡ 0) × (u.edit.store ≡ t.store))
-      by true e = rw (b.empty ∙ e, done_nil q e) (nil_edits t.store fresh some big, refl, refl)
-      by false e = (swap_edits q t fresh e (b.pieces e) (b.empty ∙ e), rw (b.empty ∙ e) b.accepted, rw (b.empty ∙ e) refl)
+      by true e = rw (b.accepted, b.empty ∙ e, done_nil q e) (nil_edits t.store fresh some big, refl, refl)
+      by false e = (swap_edits q t fresh e (b.pieces e) b.accepted (b.empty ∙ e), rw (b.accepted, b.empty ∙ e) refl, rw (b.accepted, b.empty ∙ e) refl)

@@ -25,7 +25,7 @@ use Rattle.layout.specs.Own.{variables_end}
 use Rattle.layout.specs.Positions.{onward}
 use Rattle.writers.proofs.Laid.{Near, onward_near, Laid, laid_put, laid_then}
 use Rattle.rules.specs.declared.store.Store.{Store}
-use Rattle.rules.specs.declared.rewriting.Rewriting.{Rewriting}
+use Rattle.rules.specs.Rewriting.{Rewriting}
 use Rattle.rules.specs.declared.pair.Offer.{Offer}
 use Rattle.rules.specs.Rewriting.{vanishing, keeping, at, part_w}
 use Rattle.layout.specs.Heads.{executor_head}

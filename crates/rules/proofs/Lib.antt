@@ -7,6 +7,7 @@ pub mod Messages
 pub mod Offers
 pub mod Outcomes
 pub mod Edits
+pub mod Refusals
 pub mod Shapes
 pub mod Rewrites
 pub mod Stores

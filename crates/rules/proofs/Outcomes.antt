@@ -16,8 +16,8 @@ use Rattle.sock.proofs.Shrinking.{NoLarger, plug_shrinks}
 use Rattle.finding.specs.declared.find.Site.{Site}
 use Rattle.finding.proofs.Spots.{Spotted}
 use Rattle.writers.proofs.Laid.{Near}
-use Rattle.rules.specs.declared.rewriting.Rewriting.{Rewriting}
-use Rattle.rules.specs.declared.edit.Edit.{Edit}
+use Rattle.rules.specs.Rewriting.{Rewriting}
+use Rattle.rules.specs.Editing.{Edit}
 use Rattle.rules.specs.Editing.{plain_w}
 use Rattle.rules.proofs.Rewrites.{Becomes, Outcome, deepens, becomes}
 use Rattle.rules.proofs.Edits.{Edits, done_nil, plain_edits}
@@ -56,5 +56,5 @@ module _ (f target : ℕ) (r : Run) (start : ℕ) (l : Located) (s : Site) (ws :
       (q : Run) (t : Rewriting) (fresh : List ℕ) → 0 < length fresh → Near (length fresh) → Outcome most l.process s.level q t fresh →
       (let u = plain_w s start t fresh in Ruled most ws start (start + size r) u.edit u.fresh (some (plug l.frames q)))
   unfolding plain_w
-  outcome_ruled q t fresh room big (deepens a e d h) = rw e (too_deep a (plug_too_deep frames q most d (omega (arith, spotted.level))))
+  outcome_ruled q t fresh room big (deepens a e d h) = rw a (too_deep refl (plug_too_deep frames q most d (omega (arith, spotted.level))))
   outcome_ruled q t fresh room big (becomes b x low) = (becomes_ruled q t fresh room big b low).0

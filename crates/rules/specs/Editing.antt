@@ -1,12 +1,29 @@
 -- What a rule makes of an engine's words, as the code goes.
-use Rattle.std.specs.Prelude.{ℕ, Bool, cond, List, set}
+use Rattle.std.specs.Prelude.{ℕ, Bool, cond, List, eqb, set}
 use Rattle.layout.specs.Positions.{onward}
 use Rattle.finding.specs.declared.find.Site.{Site}
-use Rattle.rules.specs.declared.rewriting.Rewriting.{Rewriting}
-use Rattle.rules.specs.declared.edit.Edit.{Edit}
+use Rattle.std.specs.Prelude as code
+use Rattle.std.specs.Prelude.{Ok, Err}
+use Rattle.layout.specs.declared.refusal.Refusal.{Refusal}
+use Rattle.layout.specs.Refusals.{refusal_number}
+use Rattle.rules.specs.declared.edit.Edit as code_edit
+use Rattle.rules.specs.Rewriting.{Rewriting}
 use Rattle.rules.specs.declared.store.Store.{Store}
 use Rattle.rules.specs.Storing.{unchanged}
 use Rattle.rules.specs.Offering.{Placed, placed}
+
+-- a refusal's number, or 0; the words list..past become the first `listed` fresh words, from..upto the fresh words listed..fresh, and gap..end go
+pub record Edit : Type 0 where
+  pub number : ℕ
+  pub list : ℕ
+  pub past : ℕ
+  pub listed : ℕ
+  pub from : ℕ
+  pub upto : ℕ
+  pub fresh : ℕ
+  pub gap : ℕ
+  pub end : ℕ
+  pub store : Store
 
 -- an edit, and the fresh words afterwards
 pub record Edited : Type 0 where
@@ -18,6 +35,26 @@ edited p fresh = record { edit = p; fresh = fresh }
 
 abbrev pub refused_edit : ℕ → Edit
 refused_edit n = record { number = n; list = 0; past = 0; listed = 0; from = 0; upto = 0; fresh = 0; gap = 0; end = 0; store = unchanged }
+
+-- the code's edit, and its refusal, as such
+abbrev pub made : code_edit.Edit → Edit
+made p =
+    record {
+      number = 0;
+      list = p.list;
+      past = p.past;
+      listed = p.listed;
+      from = p.from;
+      upto = p.upto;
+      fresh = p.fresh;
+      gap = p.gap;
+      end = p.end;
+      store = p.store;
+    }
+
+abbrev pub edit_of : code.Result code_edit.Edit Refusal → Edit
+edit_of (Ok p) = made p
+edit_of (Err r) = refused_edit (refusal_number r)
 
 unfoldable pub hollow_w : Bool → ℕ → List ℕ → Placed
 hollow_w hollow f fresh = cond hollow (placed (onward f 1) (set fresh f 0)) (placed f fresh)
@@ -31,7 +68,8 @@ nil_w s l m f store fresh =
 
 unfoldable pub plain_w : Site → ℕ → Rewriting → List ℕ → Edited
 plain_w s start t fresh =
-    cond t.nil (nil_w s start start 0 t.store fresh)
+    cond (eqb t.number 0)
+    (cond t.nil (nil_w s start start 0 t.store fresh)
     (edited
     (record {
       number = t.number;
@@ -45,4 +83,5 @@ plain_w s start t fresh =
       end = onward s.at t.end;
       store = t.store;
     })
-    fresh)
+    fresh))
+    (edited (refused_edit t.number) fresh)

@@ -1,14 +1,15 @@
 // Assign, if and while. A rule is handed the words from the process's position on, and its expression with the value that it has.
 ghost use Rattle.std.specs.Prelude.{◌≡◌};
-ghost use Rattle.rules.specs.Rewriting.{assign_w, branch_w, unroll_w, repeat_w};
+ghost use Rattle.rules.specs.Rewriting.{turned, rewriting_of, assign_w, branch_w, unroll_w, repeat_w};
 
-use crate::rewriting::{Rewriting, keep, refusal, to_nil, to_part};
+use crate::rewriting::{Rewriting, keep, to_nil, to_part};
 use crate::store::{nothing, one};
 use evaluating::evaluate::Valued;
 use layout::field::variable_of;
 use layout::head;
 use layout::limit::{FUEL, Limits};
 use layout::number::word;
+use layout::refusal::Refusal;
 use reading::reader::read;
 use skipping::skip::skip;
 use writers::write::{copy, put};
@@ -16,7 +17,7 @@ use writers::write::{copy, put};
 // x takes the expression's value.
 #[tactic(auto, unfolding(crate::specs::Rewriting::assign_w))]
 pub fn assign(part: &[u16], e: Valued) -> Rewriting
-    ensures { result ≡ assign_w part.now e }
+    ensures { turned result ≡ assign_w part.now e }
 {
     to_nil(one(variable_of(word(part, 0)), e.value))
 }
@@ -24,7 +25,7 @@ pub fn assign(part: &[u16], e: Valued) -> Rewriting
 // An if becomes its first process, or its second.
 #[tactic(auto, unfolding(crate::specs::Rewriting::branch_w))]
 pub fn branch(part: &[u16], e: Valued) -> Rewriting
-    ensures { result ≡ branch_w part.now e }
+    ensures { turned result ≡ branch_w part.now e }
 {
     let q = skip(part, e.end, FUEL);
     let end = skip(part, q, FUEL);
@@ -37,7 +38,7 @@ pub fn branch(part: &[u16], e: Valued) -> Rewriting
 // The body, from..end, then the while itself.
 #[tactic(auto, unfolding(crate::specs::Rewriting::unroll_w))]
 fn unroll(part: &[u16], from: usize, end: usize, fresh: &mut [u16]) -> Rewriting
-    ensures rewritten { result ≡ (unroll_w part.now from end fresh.old).rewriting }
+    ensures rewritten { turned result ≡ (unroll_w part.now from end fresh.old).rewriting }
     ensures fresh { fresh.new ≡ (unroll_w part.now from end fresh.old).fresh }
 {
     put(fresh, 0, head::SEQ);
@@ -54,20 +55,20 @@ pub fn repeat(
     bound: usize,
     limits: Limits,
     fresh: &mut [u16],
-) -> Rewriting
-    ensures rewritten { result ≡ (repeat_w limits level bound part.now e fresh.old).rewriting }
+) -> Result<Rewriting, Refusal>
+    ensures rewritten { rewriting_of result ≡ (repeat_w limits level bound part.now e fresh.old).rewriting }
     ensures fresh { fresh.new ≡ (repeat_w limits level bound part.now e fresh.old).fresh }
 {
     let body = e.end;
     let end = skip(part, body, FUEL);
     if e.value == 0 {
-        return to_nil(nothing());
+        return Ok(to_nil(nothing()));
     }
-    if word(part, body) == 0 {
-        return keep(0, 0, end, end, nothing());
+    if word(part, body) == head::NIL {
+        return Ok(keep(0, 0, end, end, nothing()));
     }
-    if read(part, 0, limits.deepest.saturating_sub(level), 0, bound) == 0 {
-        return refusal(8);
+    if read(part, 0, limits.deepest.saturating_sub(level), 0, bound).is_none() {
+        return Err(Refusal::TooDeep);
     }
-    unroll(part, body, end, fresh)
+    Ok(unroll(part, body, end, fresh))
 }

@@ -1,18 +1,18 @@
 // What a rule makes of an engine: the words of its process that change, and a value.
 ghost use Rattle.std.specs.Prelude.{◌≡◌};
-ghost use Rattle.rules.specs.Editing.{refused_edit, hollow_w, nil_w, plain_w};
+ghost use Rattle.rules.specs.Rewriting.{turned};
+ghost use Rattle.rules.specs.Editing.{made, hollow_w, nil_w, plain_w};
 
 use crate::rewriting::Rewriting;
-use crate::store::{Store, nothing};
+use crate::store::Store;
 use finding::find::Site;
 use layout::number::further;
 use writers::write::put;
 
-// A refusal's number, or 0. The words list..past become the first `listed` fresh words, from..upto the fresh words listed..fresh, and
+// The words list..past become the first `listed` fresh words, from..upto the fresh words listed..fresh, and
 // gap..end go; the engine's variables take what `store` says.
 #[derive(Clone, Copy)]
 pub struct Edit {
-    pub number: u8,
     pub list: usize,
     pub past: usize,
     pub listed: usize,
@@ -22,23 +22,6 @@ pub struct Edit {
     pub gap: usize,
     pub end: usize,
     pub store: Store,
-}
-
-pub fn refuse(number: u8) -> Edit
-    ensures { result ≡ refused_edit number }
-{
-    Edit {
-        number,
-        list: 0,
-        past: 0,
-        listed: 0,
-        from: 0,
-        upto: 0,
-        fresh: 0,
-        gap: 0,
-        end: 0,
-        store: nothing(),
-    }
 }
 
 // A nil behind the first `f` fresh words, if one is to stand there.
@@ -56,12 +39,11 @@ fn hollow(hollow: bool, f: usize, fresh: &mut [u16]) -> usize
 // The process becomes nil, and the list l..m the first `f` fresh words.
 #[tactic(auto, unfolding(crate::specs::Editing::nil_w))]
 pub fn become_nil(s: Site, l: usize, m: usize, f: usize, store: Store, fresh: &mut [u16]) -> Edit
-    ensures edited { result ≡ (nil_w s l m f store fresh.old).edit }
+    ensures edited { made result ≡ (nil_w s l m f store fresh.old).edit }
     ensures fresh { fresh.new ≡ (nil_w s l m f store fresh.old).fresh }
 {
     let g = hollow(s.hollow, f, fresh);
     Edit {
-        number: 0,
         list: l,
         past: m,
         listed: f,
@@ -77,15 +59,14 @@ pub fn become_nil(s: Site, l: usize, m: usize, f: usize, store: Store, fresh: &m
 // The process turns into what `t` says; no list changes. The engine's process begins at `start`.
 #[tactic(auto, unfolding(crate::specs::Editing::plain_w))]
 pub fn plain(s: Site, start: usize, t: Rewriting, fresh: &mut [u16]) -> Edit
-    ensures edited { result ≡ (plain_w s start t fresh.old).edit }
-    ensures fresh { fresh.new ≡ (plain_w s start t fresh.old).fresh }
+    ensures edited { made result ≡ (plain_w s start (turned t) fresh.old).edit }
+    ensures fresh { fresh.new ≡ (plain_w s start (turned t) fresh.old).fresh }
 {
     let store = t.store;
     if t.nil {
         return become_nil(s, start, start, 0, store, fresh);
     }
     Edit {
-        number: t.number,
         list: start,
         past: start,
         listed: 0,

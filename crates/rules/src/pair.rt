@@ -1,6 +1,7 @@
 // The rules between two engines: what is offered to a sender, whether the two fit, and what each of them turns into.
 ghost use Rattle.std.specs.Prelude.{◌≡◌, ◌<◌};
 ghost use Rattle.layout.specs.Kinds.{number_of};
+ghost use Rattle.rules.specs.Rewriting.{turned};
 ghost use Rattle.rules.specs.Offering.{no_offer, bare_w, branch_at, choice_w, offer_w, receives_w, fits_w, hear_w, seq_first, three_to, three_w, serve_w, ask_w, waits_w, awaits_w, answer_w, fail_w};
 
 use crate::rewriting::{Rewriting, keep, to_nil, to_part};
@@ -126,7 +127,7 @@ pub fn fits(part: &[u16], o: Offer, kind: Kind, h: u16) -> bool
 // A one-way hears, and its variables take what the message brings.
 #[tactic(auto, unfolding(crate::specs::Offering::hear_w))]
 pub fn hear(part: &[u16], o: Offer, store: Store) -> Rewriting
-    ensures { result ≡ hear_w part.now o store }
+    ensures { turned result ≡ hear_w part.now o store }
 {
     if o.next == 0 {
         return to_nil(store);
@@ -167,7 +168,7 @@ pub fn serve(
     store: Store,
     fresh: &mut [u16],
 ) -> Rewriting
-    ensures rewritten { result ≡ (serve_w part.now o client serial store fresh.old).rewriting }
+    ensures rewritten { turned result ≡ (serve_w part.now o client serial store fresh.old).rewriting }
     ensures fresh { fresh.new ≡ (serve_w part.now o client serial store fresh.old).fresh }
 {
     let h = word(part, o.guard);
@@ -187,7 +188,7 @@ pub fn serve(
 // A solicit becomes a waiter: of its own words it keeps those behind the first of its lists, which is y.
 #[tactic(auto, unfolding(crate::specs::Offering::ask_w))]
 pub fn ask(part: &[u16], server: u16, serial: u16, fresh: &mut [u16]) -> Rewriting
-    ensures rewritten { result ≡ (ask_w part.now server serial fresh.old).rewriting }
+    ensures rewritten { turned result ≡ (ask_w part.now server serial fresh.old).rewriting }
     ensures fresh { fresh.new ≡ (ask_w part.now server serial fresh.old).fresh }
 {
     let g = three(
@@ -237,7 +238,7 @@ pub fn awaits(
 // A reply: its variables take what the message brings, and the waiter becomes inst of its list.
 #[tactic(auto, unfolding(crate::specs::Offering::answer_w))]
 pub fn answer(part: &[u16], store: Store, fresh: &mut [u16]) -> Rewriting
-    ensures rewritten { result ≡ (answer_w part.now store fresh.old).rewriting }
+    ensures rewritten { turned result ≡ (answer_w part.now store fresh.old).rewriting }
     ensures fresh { fresh.new ≡ (answer_w part.now store fresh.old).fresh }
 {
     let g = put(fresh, 0, head::INST);
@@ -249,7 +250,7 @@ pub fn answer(part: &[u16], store: Store, fresh: &mut [u16]) -> Rewriting
 // A fault, from the word w of its notice: a live waiter becomes throw, a dead one nil.
 #[tactic(auto, unfolding(crate::specs::Offering::fail_w))]
 pub fn fail(part: &[u16], w: u16, fresh: &mut [u16]) -> Rewriting
-    ensures rewritten { result ≡ (fail_w part.now w fresh.old).rewriting }
+    ensures rewritten { turned result ≡ (fail_w part.now w fresh.old).rewriting }
     ensures fresh { fresh.new ≡ (fail_w part.now w fresh.old).fresh }
 {
     if is_dead(word(part, 1)) {

@@ -1,15 +1,14 @@
 // What a process turns into, in words: fresh ones, then a part of its own.
 ghost use Rattle.std.specs.Prelude.{◌≡◌, get_or};
-ghost use Rattle.rules.specs.Rewriting.{refused, vanishing, keeping, part_w};
+ghost use Rattle.rules.specs.Rewriting.{turned, vanishing, keeping, part_w};
 
-use crate::store::{Store, nothing};
+use crate::store::Store;
 use layout::number::word;
 
-// A refusal's number, or 0. The process turns into nil, or into the first `fresh` fresh words and, of its own `end` words, those
+// The process turns into nil, or into the first `fresh` fresh words and, of its own `end` words, those
 // from..upto. The engine's variables take what `store` says.
 #[derive(Clone, Copy)]
 pub struct Rewriting {
-    pub number: u8,
     pub nil: bool,
     pub fresh: usize,
     pub from: usize,
@@ -18,25 +17,10 @@ pub struct Rewriting {
     pub store: Store,
 }
 
-pub fn refusal(number: u8) -> Rewriting
-    ensures { result ≡ refused number }
-{
-    Rewriting {
-        number,
-        nil: false,
-        fresh: 0,
-        from: 0,
-        upto: 0,
-        end: 0,
-        store: nothing(),
-    }
-}
-
 pub fn to_nil(store: Store) -> Rewriting
-    ensures { result ≡ vanishing store }
+    ensures { turned result ≡ vanishing store }
 {
     Rewriting {
-        number: 0,
         nil: true,
         fresh: 0,
         from: 0,
@@ -47,10 +31,9 @@ pub fn to_nil(store: Store) -> Rewriting
 }
 
 pub fn keep(fresh: usize, from: usize, upto: usize, end: usize, store: Store) -> Rewriting
-    ensures { result ≡ keeping fresh from upto end store }
+    ensures { turned result ≡ keeping fresh from upto end store }
 {
     Rewriting {
-        number: 0,
         nil: false,
         fresh,
         from,
@@ -63,7 +46,7 @@ pub fn keep(fresh: usize, from: usize, upto: usize, end: usize, store: Store) ->
 // Its own process from..upto, which may be nil.
 #[tactic(auto, unfolding(crate::specs::Rewriting::part_w))]
 pub fn to_part(part: &[u16], from: usize, upto: usize, end: usize, store: Store) -> Rewriting
-    ensures { result ≡ part_w part.now from upto end store }
+    ensures { turned result ≡ part_w part.now from upto end store }
 {
     if word(part, from) == 0 {
         return to_nil(store);

@@ -20,7 +20,7 @@ use Rattle.finding.proofs.Spots.{Spotted}
 use Rattle.finding.proofs.Edits.{part, edited, nil_edited, cut_order, list_order, region_changed}
 use Rattle.writers.proofs.Laid.{Near, onward_near, Laid, laid_put, laid_under}
 use Rattle.rules.specs.Storing.{takes}
-use Rattle.rules.specs.declared.edit.Edit.{Edit}
+use Rattle.rules.specs.Editing.{Edit}
 use Rattle.rules.specs.Editing.{hollow_w, nil_w}
 use Rattle.rules.proofs.Edits.{Ordered, Edits, edited_words}
 use Rattle.rules.proofs.Depths.{Shallow}

@@ -10,7 +10,7 @@ use Rattle.writers.specs.Writing.{pasted, pasted_end}
 use Rattle.pending.specs.Looking.{sides_w}
 use Rattle.killing.specs.Killing.{Killed, kill_w}
 use Rattle.killing.specs.declared.kill.Moved.{Moved}
-use Rattle.rules.specs.declared.edit.Edit.{Edit}
+use Rattle.rules.specs.Editing.{Edit}
 use Rattle.rules.specs.Storing.{unchanged}
 use Rattle.rules.specs.Editing.{Edited, edited, refused_edit}
 

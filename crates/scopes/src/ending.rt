@@ -1,5 +1,6 @@
 // A scope whose body is nil: with a mark it runs the handler under its key, else it ends.
 ghost use Rattle.std.specs.Prelude.{◌≡◌};
+ghost use Rattle.rules.specs.Editing.{made};
 ghost use Rattle.scopes.specs.Ending.{resumed_head, key_at_w, take_behind_w, taken_to, taken_w, resumed_w, promoted_to, promoted_w, ending_w, unmarked_w, ended_w};
 
 use crate::installing::updated;
@@ -74,7 +75,7 @@ fn resumed(
     key: usize,
     fresh: &mut [u16],
 ) -> Edit
-    ensures edited { result ≡ (resumed_w ws.now notes.now start at key fresh.old).edit }
+    ensures edited { made result ≡ (resumed_w ws.now notes.now start at key fresh.old).edit }
     ensures fresh { fresh.new ≡ (resumed_w ws.now notes.now start at key fresh.old).fresh }
 {
     let h = resumed_head(word(ws, at));
@@ -86,7 +87,6 @@ fn resumed(
     let g = put_taken(ws, t, fresh, to);
     let end = further(pass_list(ws, notes, l, FUEL), 1);
     Edit {
-        number: 0,
         list: start,
         past: start,
         listed: 0,
@@ -115,7 +115,7 @@ fn promoted(ws: &[u16], l: usize, t: Taken, key: usize, fresh: &mut [u16]) -> us
 
 // The scope becomes nil, and the nearest is updated by its name and the handler under it.
 fn ending(ws: &[u16], notes: &[u16], s: Site, key: usize, fresh: &mut [u16]) -> Edit
-    ensures edited { result ≡ (ending_w ws.now notes.now s key fresh.old).edit }
+    ensures edited { made result ≡ (ending_w ws.now notes.now s key fresh.old).edit }
     ensures fresh { fresh.new ≡ (ending_w ws.now notes.now s key fresh.old).fresh }
 {
     let t = take(ws, further(s.at, 2), key, FUEL, fresh);
@@ -127,7 +127,7 @@ fn ending(ws: &[u16], notes: &[u16], s: Site, key: usize, fresh: &mut [u16]) -> 
 // The scope with no mark ends: it becomes nil, and hands its handler on where it was killed by nobody and stands in another scope.
 #[tactic(auto, unfolding(crate::specs::Ending::unmarked_w))]
 fn unmarked(ws: &[u16], notes: &[u16], start: usize, s: Site, key: usize, fresh: &mut [u16]) -> Edit
-    ensures edited { result ≡ (unmarked_w ws.now notes.now start s key fresh.old).edit }
+    ensures edited { made result ≡ (unmarked_w ws.now notes.now start s key fresh.old).edit }
     ensures fresh { fresh.new ≡ (unmarked_w ws.now notes.now start s key fresh.old).fresh }
 {
     if is_zombie(word(ws, s.at)) || s.scope == 0 {
@@ -139,7 +139,7 @@ fn unmarked(ws: &[u16], notes: &[u16], start: usize, s: Site, key: usize, fresh:
 // The scope with nil body at `s`, in the engine's process that begins at `start`.
 #[tactic(auto, unfolding(crate::specs::Ending::ended_w))]
 pub fn ended(ws: &[u16], notes: &[u16], start: usize, s: Site, fresh: &mut [u16]) -> Edit
-    ensures edited { result ≡ (ended_w ws.now notes.now start s fresh.old).edit }
+    ensures edited { made result ≡ (ended_w ws.now notes.now start s fresh.old).edit }
     ensures fresh { fresh.new ≡ (ended_w ws.now notes.now start s fresh.old).fresh }
 {
     let at = s.at;

@@ -1,12 +1,14 @@
 // inst: the nearest scope's list is updated by its own.
 ghost use Rattle.std.specs.Prelude.{◌≡◌};
+ghost use Rattle.rules.specs.Editing.{made, edit_of};
 ghost use Rattle.scopes.specs.Installing.{too_deep_w, updated_w, installed_w};
 
 use finding::find::Site;
 use handling::update::update;
 use layout::limit::{FUEL, Limits};
 use layout::number::further;
-use rules::edit::{Edit, become_nil, refuse};
+use layout::refusal::Refusal;
+use rules::edit::{Edit, become_nil};
 use rules::store::nothing;
 use skipping::pass::pass_list;
 
@@ -15,16 +17,13 @@ use skipping::pass::pass_list;
 fn too_deep(limits: Limits, level: usize, levels: usize) -> bool
     ensures { result ≡ too_deep_w limits level levels }
 {
-    if limits.deepest < levels {
-        return true;
-    }
-    limits.deepest < further(level, levels)
+    limits.deepest < levels || limits.deepest < further(level, levels)
 }
 
 // The list at `l` becomes the first `f` fresh words, the process nil.
 #[tactic(auto, unfolding(crate::specs::Installing::updated_w))]
 pub fn updated(ws: &[u16], notes: &[u16], s: Site, l: usize, f: usize, fresh: &mut [u16]) -> Edit
-    ensures edited { result ≡ (updated_w ws.now notes.now s l f fresh.old).edit }
+    ensures edited { made result ≡ (updated_w ws.now notes.now s l f fresh.old).edit }
     ensures fresh { fresh.new ≡ (updated_w ws.now notes.now s l f fresh.old).fresh }
 {
     let m = pass_list(ws, notes, l, FUEL);
@@ -40,19 +39,17 @@ pub fn installed(
     s: Site,
     limits: Limits,
     fresh: &mut [u16],
-) -> Edit
-    ensures edited { result ≡ (installed_w limits ws.now notes.now start s fresh.old).edit }
+) -> Result<Edit, Refusal>
+    ensures edited { edit_of result ≡ (installed_w limits ws.now notes.now start s fresh.old).edit }
     ensures fresh { fresh.new ≡ (installed_w limits ws.now notes.now start s fresh.old).fresh }
 {
     if s.scope == 0 {
-        return become_nil(s, start, start, 0, nothing(), fresh);
+        return Ok(become_nil(s, start, start, 0, nothing(), fresh));
     }
-    let scope = s.scope;
-    let l = further(scope, 2);
+    let l = further(s.scope, 2);
     let u = update(ws, l, further(s.at, 1), FUEL, fresh);
     if too_deep(limits, s.scope_level, u.levels) {
-        return refuse(8);
+        return Err(Refusal::TooDeep);
     }
-    let f = u.to;
-    updated(ws, notes, s, l, f, fresh)
+    Ok(updated(ws, notes, s, l, u.to, fresh))
 }

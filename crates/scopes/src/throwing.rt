@@ -1,6 +1,7 @@
 // Throw: its fault climbs from the position to the scope that stops it, or through all of the engine's process. Before anything is killed, the
 // sides that it meets are searched for a process that can't be.
 ghost use Rattle.std.specs.Prelude.{◌≡◌};
+ghost use Rattle.rules.specs.Editing.{edit_of};
 ghost use Rattle.scopes.specs.Throwing.{fault_w, cleared_w, listed_w, marked_w, body_w, opened_to, opened_w, uncaught_w, caught_w, thrown_w};
 
 use finding::find::Site;
@@ -9,8 +10,9 @@ use layout::field::fault_of;
 use layout::head;
 use layout::limit::FUEL;
 use layout::number::{further, wide, word};
+use layout::refusal::Refusal;
 use pending::sides::any_pending;
-use rules::edit::{Edit, refuse};
+use rules::edit::Edit;
 use rules::store::nothing;
 use skipping::pass::pass_list;
 use skipping::skip::skip_list;
@@ -26,14 +28,13 @@ fn fault_at(ws: &[u16], at: usize) -> u16
 
 // The words from `a` on that were killed become the fresh ones.
 #[tactic(auto, unfolding(crate::specs::Throwing::cleared_w))]
-fn cleared(start: usize, a: usize, k: Moved) -> Edit
-    ensures { result ≡ cleared_w start a k }
+fn cleared(start: usize, a: usize, k: Moved) -> Result<Edit, Refusal>
+    ensures { edit_of result ≡ cleared_w start a k }
 {
     if k.end == 0 {
-        return refuse(6);
+        return Err(Refusal::Pending);
     }
-    Edit {
-        number: 0,
+    Ok(Edit {
         list: start,
         past: start,
         listed: 0,
@@ -43,7 +44,7 @@ fn cleared(start: usize, a: usize, k: Moved) -> Edit
         gap: k.end,
         end: k.end,
         store: nothing(),
-    }
+    })
 }
 
 // No scope stops the fault. 6 if a side can't be killed.
@@ -55,12 +56,12 @@ fn uncaught(
     fault: u16,
     at: usize,
     fresh: &mut [u16],
-) -> Edit
-    ensures edited { result ≡ (uncaught_w ws.now notes.now start fault at fresh.old).edit }
+) -> Result<Edit, Refusal>
+    ensures edited { edit_of result ≡ (uncaught_w ws.now notes.now start fault at fresh.old).edit }
     ensures fresh { fresh.new ≡ (uncaught_w ws.now notes.now start fault at fresh.old).fresh }
 {
     if any_pending(ws, notes, start, at, FUEL) {
-        return refuse(6);
+        return Err(Refusal::Pending);
     }
     let k = kill(ws, notes, start, fault, at, FUEL, fresh, 0);
     cleared(start, start, k)
@@ -71,10 +72,7 @@ fn uncaught(
 fn listed(ws: &[u16], c: usize, fault: u16) -> bool
     ensures { result ≡ listed_w ws.now c fault }
 {
-    if skip_list(ws, further(c, 2), FUEL, wide(fault)) == 0 {
-        return false;
-    }
-    true
+    skip_list(ws, further(c, 2), FUEL, wide(fault)) != 0
 }
 
 // The first two words of the scope at `c`, which stops the fault: marked with it, if its list has it.
@@ -121,13 +119,13 @@ fn caught(
     fault: u16,
     at: usize,
     fresh: &mut [u16],
-) -> Edit
-    ensures edited { result ≡ (caught_w ws.now notes.now start c fault at fresh.old).edit }
+) -> Result<Edit, Refusal>
+    ensures edited { edit_of result ≡ (caught_w ws.now notes.now start c fault at fresh.old).edit }
     ensures fresh { fresh.new ≡ (caught_w ws.now notes.now start c fault at fresh.old).fresh }
 {
     let body = body_at(ws, notes, c);
     if any_pending(ws, notes, body, at, FUEL) {
-        return refuse(6);
+        return Err(Refusal::Pending);
     }
     let t = opened(ws, c, body, fault, fresh);
     let k = kill(ws, notes, body, fault, at, FUEL, fresh, t);
@@ -135,8 +133,14 @@ fn caught(
 }
 
 #[tactic(auto, unfolding(crate::specs::Throwing::thrown_w))]
-pub fn thrown(ws: &[u16], notes: &[u16], start: usize, s: Site, fresh: &mut [u16]) -> Edit
-    ensures edited { result ≡ (thrown_w ws.now notes.now start s fresh.old).edit }
+pub fn thrown(
+    ws: &[u16],
+    notes: &[u16],
+    start: usize,
+    s: Site,
+    fresh: &mut [u16],
+) -> Result<Edit, Refusal>
+    ensures edited { edit_of result ≡ (thrown_w ws.now notes.now start s fresh.old).edit }
     ensures fresh { fresh.new ≡ (thrown_w ws.now notes.now start s fresh.old).fresh }
 {
     let fault = fault_at(ws, s.at);

@@ -1,6 +1,5 @@
 pub mod Forms
 pub mod Notes
-pub mod Passes
 pub mod Passing
 pub mod Skips
 pub mod Turns

@@ -3,15 +3,13 @@
 use Prim.Native.Nat.{ℕ, zero, suc, ◌+◌, ◌-◌, ◌*◌, ◌/◌, ◌%◌, ◌≤◌, ◌<◌}
 use native.Mathlib.Omega.{arith}
 use native.Mathlib.Numerals.{sub-one}
-use native.Mathlib.Nat.{mul-le-mul_left}
 use mathlib.Core.Path.{◌≡◌, refl, ap, ◌∙◌}
 use mathlib.Core.Bool.{Bool, true, false, ◌||◌, cond}
 use mathlib.Core.List.{List}
-use borrow.Author.Tests.{lt-ltb, le-ltb, ne_eqb}
+use borrow.Author.Tests.{lt-ltb, le-ltb}
 use lib.Dec.{ltb, eqb}
 use lib.ListN.{length, get_or}
-use Rattle.layout.specs.Own.{lists_end}
-use Rattle.skipping.specs.Skip.{expr_form, expr_loop, entries_skip, list_by, after_by, behind_by, form_of, parts_by, turn_by, skip_loop, skip_end}
+use Rattle.skipping.specs.Skip.{expr_form, expr_loop, entries_skip, behind_by, form_of, parts_by, turn_by, skip_loop, skip_end}
 
 both_none : (b : Bool) → ◌≡◌ {A = ℕ} (cond b 0 0) 0
 both_none true = refl
@@ -60,27 +58,17 @@ module _ (ws : List ℕ) where
 -- ---- entries
 
 module _ (sub : ℕ → ℕ) (ws : List ℕ) (wanted : ℕ) where
-  pub entries_end_lem : (left : ℕ) (met : Bool) (i : ℕ) → left ≤ 0 → entries_skip sub ws wanted left met i ≡ cond met i 0
-  unfolding entries_skip
-  entries_end_lem zero met i h = refl
-  entries_end_lem (suc left) met i h = absurd (omega arith)
-
-  pub entries_out : (left : ℕ) (met : Bool) (i : ℕ) → 0 < left → length ws ≤ i → entries_skip sub ws wanted left met i ≡ 0
-  unfolding entries_skip
-  entries_out zero met i some h = absurd (omega arith)
-  entries_out (suc left) met i some h = rw (le-ltb i (length ws) h)
-
   pub entries_turn :
-      (left : ℕ) (met : Bool) (i k e : ℕ) (m : Bool) →
-      0 < left →
-      i < length ws →
-      k ≡ get_or ws i 0 →
-      m ≡ (met || eqb (k / 512) wanted) →
-      e ≡ sub (i + 1) →
-      entries_skip sub ws wanted (left - 1) m e ≡ entries_skip sub ws wanted left met i
+      (n i : ℕ) (met : Bool) (a : ℕ) →
+      i < n →
+      entries_skip sub ws wanted (n - i) met a
+      ≡ cond (ltb a (length ws)) (entries_skip sub ws wanted (n - (i + 1)) (met || eqb (get_or ws a 0 / 512) wanted) (sub (a + 1))) 0
   unfolding entries_skip
-  entries_turn zero met i k e m some inside w q r = absurd (omega arith)
-  entries_turn (suc left) met i k e m some inside w q r = rw (lt-ltb i (length ws) inside, q, r, w, sub-one (suc left))
+  entries_turn n i met a h = let e : n - i ≡ suc (n - (i + 1)) = omega arith in rw e
+
+  pub entries_done : (n i : ℕ) (met : Bool) (a : ℕ) → n ≤ i → entries_skip sub ws wanted (n - i) met a ≡ cond met a 0
+  unfolding entries_skip
+  entries_done n i met a h = let e : n - i ≡ 0 = omega arith in rw e
 
 -- ---- processes
 
@@ -132,22 +120,3 @@ module _ (sub : ℕ → ℕ) (ws : List ℕ) where
   skip_turn turns zero follows i e h f some m q inside hd fm = absurd (some refl)
   skip_turn zero (suc left) follows i e h f some m q inside hd fm = absurd (omega arith)
   skip_turn (suc turns) (suc left) follows i e h f some m q inside hd fm = rw (← q, lt-ltb e (length ws) inside, ← hd, ← fm, sub-one (suc turns), sub-one (suc left)) (ap (λ n. skip_loop turns sub ws n (f / 8 % 16) (e + f % 8)) (grouped left (f / 128 % 4) (h % 2048 * (f / 512))))
-
--- no more branches than a head can count
-pub branches_small : (h f : ℕ) → f < 1026 → h % 2048 * (f / 512) ≤ 4094
-branches_small h f small =
-    let two : f / 512 ≤ 2 = omega arith in
-    let most : h % 2048 * (f / 512) ≤ h % 2048 * 2 = mul-le-mul_left (h % 2048) two in
-    omega arith
-
--- behind an empty list, which stands at a behind the lists of variables
-pub empty_behind :
-    (sub : ℕ → ℕ) (ws : List ℕ) (follows i a : ℕ) →
-    (follows % 4 ≡ 0 → ⊥) →
-    (follows % 4 ≡ 1 → ⊥) →
-    a ≡ lists_end ws i (follows / 4) →
-    a < length ws →
-    get_or ws a 0 ≡ 0 →
-    a + 1 ≡ behind_by sub ws follows i
-unfolding behind_by after_by list_by entries_skip
-empty_behind sub ws follows i a n m e inside z = rw (← e, ne_eqb (follows % 4) 0 n, ne_eqb (follows % 4) 1 m, lt-ltb a (length ws) inside, z)

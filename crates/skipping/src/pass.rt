@@ -1,21 +1,11 @@
 // Passing over what was read, by notes: what was noted, while reading, of where processes and lists end. A word has two notes, one for the
 // process that begins there and one for the list; 0 where nothing was noted, and then the words are passed over.
-ghost use Rattle.std.specs.Prelude.{◌≡◌, ◌*◌, ◌<◌, get_or};
+ghost use Rattle.std.specs.Prelude.{◌≡◌};
 ghost use Rattle.skipping.specs.Pass.{note_at, pass_end, pass_entries, pass_list};
 
 use crate::skip::{skip, skip_list};
 use layout::key::NO_KEY;
-use layout::number::wide;
-
-// What is noted at a place of the notes; 0 behind them.
-fn noted(notes: &[u16], place: usize) -> usize
-    ensures { result ≡ get_or notes.now place 0 }
-{
-    if notes.len() <= place {
-        return 0;
-    }
-    wide(notes[place])
-}
+use layout::number::{wide, word};
 
 // Where the process at `at` ends, if it was noted.
 #[tactic(auto, unfolding(crate::specs::Pass::note_at))]
@@ -25,33 +15,32 @@ pub fn note_at(notes: &[u16], at: usize) -> usize
     if notes.len() <= at {
         return 0;
     }
-    noted(notes, at * 2)
+    wide(word(notes, at * 2))
 }
 
 // Where the process at `at` ends.
+#[tactic(auto, unfolding(crate::specs::Pass::pass_end))]
 pub fn pass(ws: &[u16], notes: &[u16], at: usize, depth: usize) -> usize
     ensures { result ≡ pass_end depth ws.now notes.now at }
 {
     let e = note_at(notes, at);
-    if e == 0 {
-        return skip(ws, at, depth);
-    }
-    e
+    if e == 0 { skip(ws, at, depth) } else { e }
 }
 
 // Where the list whose count is at `at` ends, unless it is empty.
-#[tactic(auto, unfolding(crate::specs::Pass::list_note_at))]
+#[tactic(auto, unfolding(crate::specs::Pass::list_note_at, crate::specs::Pass::pass_entries))]
 fn pass_entries(ws: &[u16], notes: &[u16], at: usize, depth: usize) -> usize
     ensures { result ≡ pass_entries depth ws.now notes.now at }
 {
     if notes.len() <= at {
         return skip_list(ws, at, depth, NO_KEY);
     }
-    let e = noted(notes, at * 2 + 1);
+    let e = wide(word(notes, at * 2 + 1));
     if e == 0 {
-        return skip_list(ws, at, depth, NO_KEY);
+        skip_list(ws, at, depth, NO_KEY)
+    } else {
+        e
     }
-    e
 }
 
 // Where the list whose count is at `at` ends. Most lists of scopes are empty, and the count tells it without a call.

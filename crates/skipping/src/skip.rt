@@ -74,6 +74,7 @@ pub fn skip(ws: &[u16], at: usize, depth: usize) -> usize
     let mut follows = 0;
     let mut left = 1;
     let mut turns = ws.len();
+    // it ends once more are to come than words are left, which keeps the sum below from overflowing; no range says that
     while left <= turns {
         a = behind(ws, a, follows, depth - 1);
         if left == 0 {
@@ -88,7 +89,7 @@ pub fn skip(ws: &[u16], at: usize, depth: usize) -> usize
         a = a + f % FOLLOWS;
         follows = f / FOLLOWS % FOLLOWING;
         left = left - 1 + f / PARTS % COUNTS + h % unit::KIND * (f / BRANCHES);
-        turns = turns - 1;
+        turns -= 1;
     }
     0
 }
@@ -120,23 +121,22 @@ fn behind(ws: &[u16], at: usize, follows: usize, depth: usize) -> usize
 
 // Where the list whose count is at `at` ends; 0 if no entry has the key wanted, unless that is `NO_KEY`.
 #[cycle(behind_skip_skip_list)]
-#[tactic(auto, unfolding(crate::specs::Skip::list_by, crate::specs::Skip::skip_list))]
+#[tactic(auto, using(crate::proofs::Turns::entries_turn, crate::proofs::Turns::entries_done), unfolding(crate::specs::Skip::list_by, crate::specs::Skip::skip_list))]
 pub fn skip_list(ws: &[u16], at: usize, depth: usize, wanted: usize) -> usize
     ensures { result ≡ skip_list depth ws.now wanted at }
 {
     if ws.len() <= at {
         return 0;
     }
-    let mut left = wide(ws[at]);
+    let count = wide(ws[at]);
     let mut a = at + 1;
     let mut met = NO_KEY <= wanted;
-    while 0 < left {
+    for _ in 0..count {
         if ws.len() <= a {
             return 0;
         }
         met = met_by(met, wide(ws[a]) / unit::KEY, wanted);
         a = skip(ws, a + 1, depth);
-        left = left - 1;
     }
     if met { a } else { 0 }
 }
@@ -163,6 +163,7 @@ fn skip_expression(ws: &[u16], at: usize) -> usize
     let mut a = at;
     let mut left = 1;
     let mut turns = ws.len();
+    // as in `skip`
     while left <= turns {
         if left == 0 {
             return a;
@@ -173,7 +174,7 @@ fn skip_expression(ws: &[u16], at: usize) -> usize
         let f = expression_form(Tag::of(ws[a]));
         a = a + f % OPERANDS;
         left = left - 1 + f / OPERANDS;
-        turns = turns - 1;
+        turns -= 1;
     }
     0
 }

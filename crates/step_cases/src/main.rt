@@ -3,22 +3,32 @@
 // length, then the words.
 #![tactic(auto)]
 
-ghost use Rattle.std.specs.Prelude.{◌≡◌};
+ghost use Rattle.std.specs.Prelude.{◌≡◌, OnOk};
+ghost use Rattle.std.specs.Io.KnownBytes.{Appends};
 ghost use Rattle.sock.specs.Configuration.{standard};
-ghost use Rattle.sock.specs.Calls.{step_output};
-ghost use Rattle.step_cases.specs.Lent.{numbers_of, lent_output};
+ghost use Rattle.sock.specs.Calls.{step_answer, step_output};
+ghost use Rattle.step_cases.specs.Lent.{numbers_of, lent_output, answer_line};
 
 use bytewise::words::hold;
-use cases::{print, sum, take, word};
+use cases::{sum, take, word};
 use std::io;
 use std::io::{Read, Write};
 
+// How many words a case has at most, and how many bytes they are; how many bytes stand before them.
 const MOST: usize = 8200;
+
+const MOST_BYTES: usize = 2 * MOST;
+
+const HEAD: usize = 14;
+
+// What the output holds before the step.
+const UNWRITTEN: u16 = 42405;
 
 // What the step answers on these words, and the sum over its output.
 #[tactic(auto, unfolding(crate::specs::Lent::numbers_of))]
-fn answer<W: Write>(output: &mut W, ws: &[u16], head: [u8; 14], out: &mut [u16]) -> io::Result<()>
-    ensures { out.new ≡ step_output standard ws.now (numbers_of head) out.old }
+fn answer<W: Write>(output: &mut W, ws: &[u16], head: [u8; HEAD], out: &mut [u16]) -> io::Result<()>
+    ensures out { out.new ≡ step_output standard ws.now (numbers_of head) out.old }
+    ensures printed { OnOk result (Appends (W.contents output.old) (W.contents output.new) (answer_line (step_answer standard ws.now (numbers_of head) out.old) (step_output standard ws.now (numbers_of head) out.old))) }
 {
     let a = stepping::steps::step(
         ws,
@@ -29,12 +39,16 @@ fn answer<W: Write>(output: &mut W, ws: &[u16], head: [u8; 14], out: &mut [u16])
         word(head[10], head[11]),
         out,
     );
-    print(output, a.number as u64, false)?;
-    print(output, a.kind as u64, false)?;
-    print(output, a.serial as u64, false)?;
-    print(output, a.fault as u64, false)?;
-    print(output, a.length as u64, false)?;
-    print(output, sum(out) as u64, true)
+    writeln!(
+        output,
+        "{} {} {} {} {} {}",
+        a.number,
+        a.kind,
+        a.serial,
+        a.fault,
+        a.length,
+        sum(out),
+    )
 }
 
 // The step with an output of `room` words; none, where there is no such room.
@@ -42,7 +56,7 @@ fn answer<W: Write>(output: &mut W, ws: &[u16], head: [u8; 14], out: &mut [u16])
 fn lend<W: Write>(
     output: &mut W,
     ws: &[u16],
-    head: [u8; 14],
+    head: [u8; HEAD],
     out: &mut [u16],
     room: usize,
 ) -> io::Result<()>
@@ -56,28 +70,28 @@ fn lend<W: Write>(
 
 // One case; whether there was one.
 fn case<R: Read, W: Write>(input: &mut R, output: &mut W) -> io::Result<bool> {
-    let mut head = [0u8; 14];
-    if !take(input, &mut head, 14)? {
+    let mut head = [0u8; HEAD];
+    if !take(input, &mut head, HEAD)? {
         return Ok(false);
     }
-    let count = word(head[0], head[1]) as usize;
+    let count = usize::from(word(head[0], head[1]));
     if MOST < count {
         return Ok(false);
     }
-    let mut bytes = [0u8; 16400];
-    let size = count * 2;
+    let mut bytes = [0u8; MOST_BYTES];
+    let size = 2 * count;
     if !take(input, &mut bytes, size)? {
         return Ok(false);
     }
-    let mut ws = [0u16; 8200];
+    let mut ws = [0u16; MOST];
     let n = hold(&bytes[..size], &mut ws);
-    let mut out = [42405u16; 8200];
+    let mut out = [UNWRITTEN; MOST];
     lend(
         output,
         &ws[..n],
         head,
         &mut out,
-        word(head[12], head[13]) as usize,
+        usize::from(word(head[12], head[13])),
     )?;
     Ok(true)
 }

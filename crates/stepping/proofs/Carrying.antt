@@ -5,10 +5,10 @@ use mathlib.Core.Path.{◌≡◌}
 use mathlib.Core.List.{List}
 use borrow.Author.Tests.{lt-ltb, le-ltb}
 use Rattle.rules.specs.declared.pair.Offer.{Offer}
-use Rattle.rules.specs.declared.edit.Edit.{Edit}
+use Rattle.rules.specs.Editing.{Edit}
 use Rattle.rules.specs.Rewriting.{at}
 use Rattle.layout.specs.declared.limit.Limits.{Limits}
-use Rattle.stepping.specs.declared.answer.Change.{Change}
+use Rattle.stepping.specs.Answering.{Change}
 use Rattle.stepping.specs.declared.answer.Told.{Told}
 use Rattle.stepping.specs.Bundles.{Encounter}
 use Rattle.stepping.specs.Answering.{changed, two_w}

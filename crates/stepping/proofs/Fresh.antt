@@ -13,13 +13,13 @@ use Rattle.writers.proofs.Laid.{Near, near_of}
 use Rattle.rules.specs.Storing.{unchanged}
 use Rattle.rules.specs.declared.store.Store.{Store}
 use Rattle.rules.specs.declared.pair.Offer.{Offer}
-use Rattle.rules.specs.declared.rewriting.Rewriting.{Rewriting}
+use Rattle.rules.specs.Rewriting.{Rewriting}
 use Rattle.finding.specs.declared.find.Site.{Site}
 use Rattle.rules.specs.Rewriting.{Rewritten, rewritten, vanishing, keeping, part_w, part_end}
 use Rattle.layout.specs.Heads.{throw_head}
 use Rattle.rules.specs.Messages.{heard_w, served_w, answered_w}
 use Rattle.rules.specs.Offering.{placed, hear_w, seq_first, three_w, serve_w, ask_w, answer_w, fail_w}
-use Rattle.rules.specs.Editing.{edited, hollow_w, nil_w, plain_w}
+use Rattle.rules.specs.Editing.{refused_edit, edited, hollow_w, nil_w, plain_w}
 use Rattle.rules.proofs.Exchanges.{three_to_lem, first_place}
 use Rattle.stepping.specs.Exchanging.{blank}
 use Rattle.stepping.specs.Meeting.{send_w, receive_w}
@@ -108,17 +108,20 @@ module _ (fresh : List ℕ) (near : Near (length fresh)) (room : 4 ≤ length fr
   -- an edit made of such a rewriting
   pub plain_few : (s : Site) (start : ℕ) (t : Rewriting) → t.fresh ≤ 4 → (plain_w s start t fresh).edit.fresh ≤ 4
   unfolding plain_w nil_w hollow_w
-  plain_few s start t h = by t.nil s.hollow
+  plain_few s start t h = by (eqb t.number 0) t.nil s.hollow
     where
       by :
-          (a b : Bool) →
+          (ok a b : Bool) →
+          (cond ok
           (cond a
           (edited
           (record { number = 0; list = start; past = start; listed = 0; from = s.from; upto = s.upto; fresh = (cond b (placed (onward 0 1) (set fresh 0 0)) (placed 0 fresh)).to; gap = s.gap; end = s.end; store = t.store })
           (cond b (placed (onward 0 1) (set fresh 0 0)) (placed 0 fresh)).fresh)
           (edited
           (record { number = t.number; list = start; past = start; listed = 0; from = s.at; upto = onward s.at t.from; fresh = t.fresh; gap = onward s.at t.upto; end = onward s.at t.end; store = t.store })
-          fresh)).edit.fresh ≤ 4
-      by true true = omega (arith, first_place)
-      by true false = omega arith
-      by false b = omega arith
+          fresh))
+          (edited (refused_edit t.number) fresh)).edit.fresh ≤ 4
+      by true true true = omega (arith, first_place)
+      by true true false = omega arith
+      by true false b = omega arith
+      by false a b = omega arith

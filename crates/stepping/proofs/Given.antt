@@ -11,7 +11,7 @@ use Rattle.sock.specs.Configuration.{Engine, Config, encode, engines_depth}
 use Rattle.sock.specs.Calls.{Stepped, engine_at, with_engine}
 use Rattle.sock.proofs.Fits.{FitsConfig}
 use Rattle.sock.proofs.Located.{start_of}
-use Rattle.rules.specs.declared.edit.Edit.{Edit}
+use Rattle.rules.specs.Editing.{Edit}
 use Rattle.rules.proofs.Edits.{Edits}
 use Rattle.rules.proofs.Stores.{stored}
 use Rattle.layout.specs.declared.limit.Limits.{Limits}

@@ -45,9 +45,10 @@ use Rattle.finding.proofs.Within.{within, within_locate}
 use Rattle.finding.proofs.Spots.{Spotted}
 use Rattle.finding.proofs.Edits.{part, process_at}
 use Rattle.rules.specs.Storing.{takes, unchanged}
-use Rattle.rules.specs.declared.rewriting.Rewriting.{Rewriting}
+use Rattle.rules.specs.Rewriting.{Rewriting}
 use Rattle.rules.specs.Rewriting.{rewritten, vanishing, keeping, refused, at, part_w, assign_w, part_end, branch_w, unroll_w, repeat_w}
-use Rattle.rules.specs.Editing.{Edited, plain_w}
+use Rattle.layout.specs.Positions.{onward}
+use Rattle.rules.specs.Editing.{Edited, edited, refused_edit, plain_w}
 use Rattle.rules.proofs.Rewrites.{Becomes, becomes_nil, Outcome, deepens, becomes, valued_at, expr_value, assign_rewrites, branch_rewrites, repeat_rewrites}
 use Rattle.rules.proofs.Edits.{done_nil}
 use Rattle.rules.proofs.Stores.{stored, stored_none, stored_one}
@@ -102,7 +103,22 @@ branch_none ws e = by (eqb e.value 0)
 
 plain_number : (s : Site) (start : ℕ) (t : Rewriting) (fresh : List ℕ) → t.nil ≡ false → (plain_w s start t fresh).edit.number ≡ t.number
 unfolding plain_w
-plain_number s start t fresh e = rw e
+plain_number s start t fresh e = rw e (by (eqb t.number 0))
+  where
+    by : (b : Bool) → (cond b (edited (record {
+      number = t.number;
+      list = start;
+      past = start;
+      listed = 0;
+      from = s.at;
+      upto = onward s.at t.from;
+      fresh = t.fresh;
+      gap = onward s.at t.upto;
+      end = onward s.at t.end;
+      store = t.store;
+    }) fresh) (edited (refused_edit t.number) fresh)).edit.number ≡ t.number
+    by true = refl
+    by false = refl
 
 -- a while keeps the scratch's length
 repeat_keeps : (limits : Limits) (level bound : ℕ) (ws : List ℕ) (e : Valued) (fresh : List ℕ) → length (repeat_w limits level bound ws e fresh).fresh ≡ length fresh

@@ -26,8 +26,8 @@ use Rattle.reading.proofs.Standing.{start_next}
 use Rattle.finding.specs.declared.find.Site.{Site}
 use Rattle.finding.specs.Find.{fault_at}
 use Rattle.writers.proofs.Laid.{Near}
-use Rattle.rules.specs.declared.rewriting.Rewriting.{Rewriting}
-use Rattle.rules.specs.declared.edit.Edit.{Edit}
+use Rattle.rules.specs.Rewriting.{Rewriting}
+use Rattle.rules.specs.Editing.{Edit}
 use Rattle.rules.specs.Rewriting.{at}
 use Rattle.rules.specs.Offering.{offer_w}
 use Rattle.rules.specs.Editing.{Edited, plain_w}

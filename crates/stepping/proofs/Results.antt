@@ -16,7 +16,7 @@ use Rattle.sock.proofs.Fits.{FitsConfig}
 use Rattle.sock.proofs.Located.{values_length, engines_split, engine_fits, start_of, words_before, words_after, encode_split, before_length}
 use Rattle.writers.proofs.Laid.{Near, near_of, near_below, onward_near}
 use Rattle.finding.proofs.Edits.{part}
-use Rattle.rules.specs.declared.edit.Edit.{Edit}
+use Rattle.rules.specs.Editing.{Edit}
 use Rattle.rules.proofs.Edits.{Ordered, Edits, part_first, fresh_room}
 use Rattle.rules.proofs.Stores.{stored, stored_length}
 use Rattle.layout.specs.declared.limit.Limits.{Limits}

@@ -14,7 +14,7 @@ use Rattle.sock.proofs.Fits.{FitsConfig}
 use Rattle.sock.proofs.Located.{values_length, engines_split, engine_fits, start_of, words_before, words_after, before_length}
 use Rattle.writers.proofs.Laid.{Near, near_of}
 use Rattle.finding.proofs.Edits.{part}
-use Rattle.rules.specs.declared.edit.Edit.{Edit}
+use Rattle.rules.specs.Editing.{Edit}
 use Rattle.rules.specs.declared.store.Store.{Store}
 use Rattle.rules.proofs.Edits.{Edits, part_first, fresh_room}
 use Rattle.rules.proofs.Stores.{stored, stored_length}

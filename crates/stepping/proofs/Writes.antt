@@ -16,7 +16,7 @@ use Rattle.sock.proofs.Located.{values_length}
 use Rattle.layout.specs.Positions.{onward}
 use Rattle.writers.proofs.Laid.{Near, onward_near}
 use Rattle.finding.proofs.Edits.{part}
-use Rattle.rules.specs.declared.edit.Edit.{Edit}
+use Rattle.rules.specs.Editing.{Edit}
 use Rattle.rules.specs.declared.store.Store.{Store}
 use Rattle.rules.proofs.Edits.{Ordered, Edits, part_first}
 use Rattle.rules.proofs.Stores.{valued, stored, valued_length, stored_length}

@@ -6,7 +6,7 @@ use mathlib.Core.List.{List}
 use borrow.Author.Tests.{lt-leb}
 use lib.ListN.{length, set}
 use Rattle.writers.specs.Writing.{pasted, pasted_end}
-use Rattle.rules.specs.declared.edit.Edit.{Edit}
+use Rattle.rules.specs.Editing.{Edit}
 use Rattle.rules.specs.declared.store.Store.{Store}
 use Rattle.stepping.specs.Writing.{copy_w, value_w, store_w, lent_w, engine_w}
 use Rattle.stepping.specs.Answering.{changed, write_two_w}

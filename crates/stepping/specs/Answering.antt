@@ -1,10 +1,11 @@
 -- The answer of a step and the result written, as the code goes.
 use Rattle.std.specs.Prelude.{ℕ, ◌-◌, ◌%◌, cond, List, ltb, eqb, length, set}
 use Rattle.layout.specs.Positions.{onward}
-use Rattle.rules.specs.declared.edit.Edit.{Edit}
+use Rattle.rules.specs.Editing.{Edit}
 use Rattle.layout.specs.declared.limit.Limits.{Limits}
 use Rattle.stepping.specs.declared.answer.Answer.{Answer}
-use Rattle.stepping.specs.declared.answer.Change.{Change}
+use Rattle.rules.specs.Editing.{made}
+use Rattle.stepping.specs.declared.answer.Change as code
 use Rattle.stepping.specs.declared.answer.Told.{Told}
 use Rattle.stepping.specs.Writing.{Written, copy_w, engine_w}
 
@@ -39,6 +40,16 @@ one_w limits ws start end p kind fresh out =
     (answered (accepting kind 0 0 (size % 65536)) (write_one_w ws start end p fresh out).out)
     (answered (refusing (length_of limits size (length out))) out))
     (answered (refusing p.number) out)
+
+-- a process start..end, and the edit of it
+pub record Change : Type 0 where
+  pub start : ℕ
+  pub end : ℕ
+  pub edit : Edit
+
+-- the code's as that
+abbrev pub changing : code.Change → Change
+changing p = record { start = p.start; end = p.end; edit = made p.edit }
 
 abbrev pub changed : ℕ → ℕ → Edit → Change
 changed start end p = record { start = start; end = end; edit = p }

@@ -2,7 +2,7 @@
 use Rattle.std.specs.Prelude.{ℕ, ◌+◌, ◌-◌, Bool, false, cond, List, ltb, eqb, length, replicate, take, drop}
 use Rattle.sock.specs.Kind
 use Rattle.rules.specs.declared.pair.Offer.{Offer}
-use Rattle.rules.specs.declared.edit.Edit.{Edit}
+use Rattle.rules.specs.Editing.{Edit}
 use Rattle.rules.specs.Rewriting.{at}
 use Rattle.rules.specs.Offering.{offer_w}
 use Rattle.rules.specs.Editing.{Edited, plain_w}

@@ -1,17 +1,20 @@
 // A step of one engine alone.
 ghost use Rattle.std.specs.Prelude.{◌≡◌};
 ghost use Rattle.layout.specs.Kinds.{number_of};
+ghost use Rattle.rules.specs.Editing.{edit_of};
+ghost use Rattle.rules.specs.Rewriting.{rewriting_of};
 ghost use Rattle.stepping.specs.Alone.{rewritten_w, valued_w, scoped_w, rule_w, lone_w, large, short_w, alone_w};
 
-use crate::answer::{Answer, one};
+use crate::answer::{Answer, one, refuse};
 use crate::bundles::Side;
 use evaluating::evaluate::{Valued, evaluate};
 use finding::find::Site;
 use layout::kind::Kind;
 use layout::limit::{FUEL, Limits, VALUES};
+use layout::refusal::Refusal;
 use rules::alone::{assign, branch, repeat};
 use rules::edit::{Edit, plain};
-use rules::rewriting::{Rewriting, refusal};
+use rules::rewriting::Rewriting;
 use scopes::compensating::compensated;
 use scopes::ending::ended;
 use scopes::installing::installed;
@@ -37,18 +40,16 @@ fn rewritten(
     bound: usize,
     limits: Limits,
     fresh: &mut [u16],
-) -> Rewriting
-    ensures rewritten { result ≡ (rewritten_w limits part.now values.now level (number_of kind) bound fresh.old).rewriting }
+) -> Result<Rewriting, Refusal>
+    ensures rewritten { rewriting_of result ≡ (rewritten_w limits part.now values.now level (number_of kind) bound fresh.old).rewriting }
     ensures fresh { fresh.new ≡ (rewritten_w limits part.now values.now level (number_of kind) bound fresh.old).fresh }
 {
     let e = evaluate(part, values, 1, FUEL);
-    let Some(value) = e.value else {
-        return refusal(13);
-    };
+    let value = e.value.ok_or(Refusal::NotDecimal)?;
     let v = Valued { end: e.end, value };
     match kind {
-        Kind::Assign => assign(part, v),
-        Kind::If => branch(part, v),
+        Kind::Assign => Ok(assign(part, v)),
+        Kind::If => Ok(branch(part, v)),
         _ => repeat(part, v, level, bound, limits, fresh),
     }
 }
@@ -63,19 +64,13 @@ fn valued(
     bound: usize,
     limits: Limits,
     fresh: &mut [u16],
-) -> Rewriting
-    ensures rewritten { result ≡ (valued_w limits ws.now start s (number_of kind) bound fresh.old).rewriting }
+) -> Result<Rewriting, Refusal>
+    ensures rewritten { rewriting_of result ≡ (valued_w limits ws.now start s (number_of kind) bound fresh.old).rewriting }
     ensures fresh { fresh.new ≡ (valued_w limits ws.now start s (number_of kind) bound fresh.old).fresh }
 {
     let at = s.at;
-    if start < VALUES {
-        return refusal(1);
-    }
-    if ws.len() < start {
-        return refusal(1);
-    }
-    if ws.len() < at {
-        return refusal(1);
+    if start < VALUES || ws.len() < start || ws.len() < at {
+        return Err(Refusal::Unreadable);
     }
     let from = start - VALUES;
     rewritten(
@@ -100,12 +95,12 @@ fn scoped(
     bound: usize,
     limits: Limits,
     fresh: &mut [u16],
-) -> Edit
-    ensures edited { result ≡ (scoped_w limits ws.now notes.now start s (number_of kind) bound fresh.old).edit }
+) -> Result<Edit, Refusal>
+    ensures edited { edit_of result ≡ (scoped_w limits ws.now notes.now start s (number_of kind) bound fresh.old).edit }
     ensures fresh { fresh.new ≡ (scoped_w limits ws.now notes.now start s (number_of kind) bound fresh.old).fresh }
 {
     match kind {
-        Kind::Scope => ended(ws, notes, start, s, fresh),
+        Kind::Scope => Ok(ended(ws, notes, start, s, fresh)),
         Kind::Inst => installed(ws, notes, start, s, limits, fresh),
         Kind::Throw => thrown(ws, notes, start, s, fresh),
         _ => compensated(ws, notes, start, s, bound, limits, fresh),
@@ -113,7 +108,7 @@ fn scoped(
 }
 
 // The rule of the kind given.
-#[tactic(auto, unfolding(crate::specs::Alone::rule_w))]
+#[tactic(auto, using(rules::proofs::Refusals::plain_refused), unfolding(crate::specs::Alone::rule_w))]
 fn rule(
     ws: &[u16],
     notes: &[u16],
@@ -122,23 +117,23 @@ fn rule(
     bound: usize,
     limits: Limits,
     fresh: &mut [u16],
-) -> Edit
-    ensures edited { result ≡ (rule_w limits ws.now notes.now m (number_of kind) bound fresh.old).edit }
+) -> Result<Edit, Refusal>
+    ensures edited { edit_of result ≡ (rule_w limits ws.now notes.now m (number_of kind) bound fresh.old).edit }
     ensures fresh { fresh.new ≡ (rule_w limits ws.now notes.now m (number_of kind) bound fresh.old).fresh }
 {
     let s = m.site;
     let start = m.start;
     match kind {
         Kind::Assign | Kind::If | Kind::While => {
-            let t = valued(ws, start, s, kind, bound, limits, fresh);
-            plain(s, start, t, fresh)
+            let t = valued(ws, start, s, kind, bound, limits, fresh)?;
+            Ok(plain(s, start, t, fresh))
         }
         _ => scoped(ws, notes, start, s, kind, bound, limits, fresh),
     }
 }
 
 // The rule worked out in scratch, then the answer.
-#[tactic(auto, unfolding(crate::specs::Alone::lone_w))]
+#[tactic(auto, using(layout::proofs::Refusing::never_zero), unfolding(crate::specs::Alone::lone_w, crate::specs::Answering::one_w))]
 fn lone(
     ws: &[u16],
     notes: &[u16],
@@ -151,8 +146,10 @@ fn lone(
 ) -> Answer
     ensures { (result ≡ (lone_w limits ws.now notes.now m (number_of kind) bound fresh.old out.old).answer) × (out.new ≡ (lone_w limits ws.now notes.now m (number_of kind) bound fresh.old out.old).out) × (fresh.new ≡ (rule_w limits ws.now notes.now m (number_of kind) bound fresh.old).fresh) }
 {
-    let p = rule(ws, notes, m, kind, bound, limits, fresh);
-    one(ws, m.start, m.end, p, u8::from(kind), limits, fresh, out)
+    match rule(ws, notes, m, kind, bound, limits, fresh) {
+        Err(refusal) => refuse(u8::from(refusal)),
+        Ok(p) => one(ws, m.start, m.end, p, u8::from(kind), limits, fresh, out),
+    }
 }
 
 // With scratch for every result.
@@ -174,7 +171,7 @@ fn roomy(
 
 // With the short scratch. Inst can make more words than that holds, counts also those that find no room, and wants 130 places to spare:
 // where it may have had too few, the edit is made again.
-#[tactic(auto, unfolding(crate::specs::Alone::short_w))]
+#[tactic(auto, using(layout::proofs::Refusing::never_zero), unfolding(crate::specs::Alone::short_w, crate::specs::Alone::lone_w, crate::specs::Answering::one_w))]
 fn short(
     ws: &[u16],
     notes: &[u16],
@@ -187,11 +184,15 @@ fn short(
 ) -> Answer
     ensures { (result ≡ (short_w limits ws.now notes.now m (number_of kind) bound fresh.old out.old).answer) × (out.new ≡ (short_w limits ws.now notes.now m (number_of kind) bound fresh.old out.old).out) × (fresh.new ≡ (rule_w limits ws.now notes.now m (number_of kind) bound fresh.old).fresh) }
 {
-    let p = rule(ws, notes, m, kind, bound, limits, fresh);
-    if SURELY < p.fresh {
-        return roomy(ws, notes, m, kind, bound, limits, out);
+    match rule(ws, notes, m, kind, bound, limits, fresh) {
+        Err(refusal) => refuse(u8::from(refusal)),
+        Ok(p) => {
+            if SURELY < p.fresh {
+                return roomy(ws, notes, m, kind, bound, limits, out);
+            }
+            one(ws, m.start, m.end, p, u8::from(kind), limits, fresh, out)
+        }
     }
-    one(ws, m.start, m.end, p, u8::from(kind), limits, fresh, out)
 }
 
 // To clear the long scratch would take more time than the step of a short configuration.

@@ -1,10 +1,13 @@
 // The answer of a step, and the result written if it fits.
 ghost use Rattle.std.specs.Prelude.{◌≡◌, ◌-◌};
-ghost use Rattle.stepping.specs.Answering.{refusing, accepting, sized_w, write_one_w, length_of, one_w, write_two_w, two_w};
+ghost use Rattle.layout.specs.Refusals.{number_in};
+ghost use Rattle.rules.specs.Editing.{made};
+ghost use Rattle.stepping.specs.Answering.{changing, refusing, accepting, sized_w, write_one_w, length_of, one_w, write_two_w, two_w};
 
 use crate::writing::engine;
 use layout::limit::Limits;
 use layout::number::further;
+use layout::refusal::Refusal;
 use rules::edit::Edit;
 use writers::write::{copy, put};
 
@@ -45,7 +48,7 @@ pub fn accept(kind: u8, serial: u16, fault: u8, length: u16) -> Answer
 // How many words there are once an edit is carried out on so many; too many where its fresh words alone are.
 #[tactic(auto, unfolding(crate::specs::Answering::sized_w))]
 fn sized(limits: Limits, words: usize, p: Edit) -> usize
-    ensures { result ≡ sized_w limits words p }
+    ensures { result ≡ sized_w limits words (made p) }
 {
     if limits.longest < p.fresh {
         return further(limits.longest, 1);
@@ -58,25 +61,25 @@ fn sized(limits: Limits, words: usize, p: Edit) -> usize
 
 #[tactic(auto, unfolding(crate::specs::Answering::write_one_w, crate::specs::Writing::copy_w))]
 fn write_one(ws: &[u16], start: usize, end: usize, p: Edit, fresh: &[u16], out: &mut [u16]) -> usize
-    ensures place { result ≡ (write_one_w ws.now start end p fresh.now out.old).to }
-    ensures written { out.new ≡ (write_one_w ws.now start end p fresh.now out.old).out }
+    ensures place { result ≡ (write_one_w ws.now start end (made p) fresh.now out.old).to }
+    ensures written { out.new ≡ (write_one_w ws.now start end (made p) fresh.now out.old).out }
 {
     let t = engine(ws, 0, start, end, p, fresh, out, 0);
     copy(ws, end, ws.len(), out, t)
 }
 
-// The refusal of a length, or 0.
+// Whether so many words are not too many, and find room.
 #[tactic(auto, unfolding(crate::specs::Answering::length_of))]
-fn fitting(limits: Limits, length: usize, room: usize) -> u8
-    ensures { result ≡ length_of limits length room }
+fn fitting(limits: Limits, length: usize, room: usize) -> Result<(), Refusal>
+    ensures { number_in result ≡ length_of limits length room }
 {
     if limits.longest < length {
-        return 9;
+        return Err(Refusal::TooLong);
     }
     if room < length {
-        return 10;
+        return Err(Refusal::OutputShort);
     }
-    0
+    Ok(())
 }
 
 // One engine's process start..end under an edit.
@@ -91,16 +94,12 @@ pub fn one(
     fresh: &[u16],
     out: &mut [u16],
 ) -> Answer
-    ensures answered { result ≡ (one_w limits ws.now start end p kind fresh.now out.old).answer }
-    ensures written { out.new ≡ (one_w limits ws.now start end p kind fresh.now out.old).out }
+    ensures answered { result ≡ (one_w limits ws.now start end (made p) kind fresh.now out.old).answer }
+    ensures written { out.new ≡ (one_w limits ws.now start end (made p) kind fresh.now out.old).out }
 {
-    if p.number != 0 {
-        return refuse(p.number);
-    }
     let length = sized(limits, ws.len(), p);
-    let n = fitting(limits, length, out.len());
-    if n != 0 {
-        return refuse(n);
+    if let Err(refusal) = fitting(limits, length, out.len()) {
+        return refuse(u8::from(refusal));
     }
     write_one(ws, start, end, p, fresh, out);
     accept(kind, 0, 0, (length % 65536) as u16)
@@ -133,7 +132,7 @@ fn write_two(
     out: &mut [u16],
 ) -> usize
     ensures nothing { result ≡ 0 }
-    ensures written { out.new ≡ write_two_w ws.now p fresh.now q fresh2.now issued out.old }
+    ensures written { out.new ≡ write_two_w ws.now (changing p) fresh.now (changing q) fresh2.now issued out.old }
 {
     let first = p.edit;
     let second = q.edit;
@@ -156,15 +155,14 @@ pub fn two(
     limits: Limits,
     out: &mut [u16],
 ) -> Answer
-    ensures answered { result ≡ (two_w limits ws.now p fresh.now q fresh2.now told out.old).answer }
-    ensures written { out.new ≡ (two_w limits ws.now p fresh.now q fresh2.now told out.old).out }
+    ensures answered { result ≡ (two_w limits ws.now (changing p) fresh.now (changing q) fresh2.now told out.old).answer }
+    ensures written { out.new ≡ (two_w limits ws.now (changing p) fresh.now (changing q) fresh2.now told out.old).out }
 {
     let first = p.edit;
     let second = q.edit;
     let length = sized(limits, sized(limits, ws.len(), first), second);
-    let n = fitting(limits, length, out.len());
-    if n != 0 {
-        return refuse(n);
+    if let Err(refusal) = fitting(limits, length, out.len()) {
+        return refuse(u8::from(refusal));
     }
     write_two(ws, p, fresh, q, fresh2, told.issued, out);
     accept(told.kind, told.serial, told.fault, (length % 65536) as u16)

@@ -1,7 +1,8 @@
 // A step between two different engines, the sender's and the receiver's.
 ghost use Rattle.std.specs.Prelude.{◌≡◌};
 ghost use Rattle.layout.specs.Kinds.{number_of};
-ghost use Rattle.stepping.specs.Answering.{changed};
+ghost use Rattle.rules.specs.Editing.{made};
+ghost use Rattle.stepping.specs.Answering.{changed, changing};
 ghost use Rattle.stepping.specs.Bundles.{met};
 ghost use Rattle.stepping.specs.Exchanging.{sender_w, receiver_w, next_of, issued_of, fault_of, carry_w, spent_w, meet_w, between_w};
 
@@ -19,7 +20,7 @@ const SCRATCH: usize = 64;
 
 #[tactic(auto, unfolding(crate::specs::Exchanging::sender_w))]
 fn sender(part: &[u16], x: Encounter, serial: u16, fresh: &mut [u16]) -> Edit
-    ensures edited { result ≡ (sender_w part.now (met x) serial fresh.old).edit }
+    ensures edited { made result ≡ (sender_w part.now (met x) serial fresh.old).edit }
     ensures fresh { fresh.new ≡ (sender_w part.now (met x) serial fresh.old).fresh }
 {
     let t = send(part, x.kind, x.second, serial, fresh);
@@ -38,7 +39,7 @@ fn receiver(
     serial: u16,
     fresh: &mut [u16],
 ) -> Edit
-    ensures edited { result ≡ (receiver_w part.now values.now other.now o (met x) serial fresh.old).edit }
+    ensures edited { made result ≡ (receiver_w part.now values.now other.now o (met x) serial fresh.old).edit }
     ensures fresh { fresh.new ≡ (receiver_w part.now values.now other.now o (met x) serial fresh.old).fresh }
 {
     let t = receive(part, values, other, o, x.kind, x.engine, serial, fresh);
@@ -49,7 +50,7 @@ fn receiver(
 
 // An edit of the process of one side.
 fn change(m: Side, edit: Edit) -> Change
-    ensures { result ≡ changed m.start m.end edit }
+    ensures { changing result ≡ changed m.start m.end (made edit) }
 {
     Change {
         start: m.start,

@@ -1,6 +1,7 @@
 // Between two engines: whether sender and receiver fit, and what each turns into.
 ghost use Rattle.std.specs.Prelude.{◌≡◌};
 ghost use Rattle.layout.specs.Kinds.{number_of};
+ghost use Rattle.rules.specs.Rewriting.{turned};
 ghost use Rattle.stepping.specs.Meeting.{addressed_w, replies_w, replied_w, taker_of, counts_w, takes_w, fit_w, send_w, receive_w, serial_w};
 
 use evaluating::evaluate::variable;
@@ -136,7 +137,7 @@ pub(crate) fn send(
     serial: u16,
     fresh: &mut [u16],
 ) -> Rewriting
-    ensures rewritten { result ≡ (send_w part.now (number_of kind) server serial fresh.old).rewriting }
+    ensures rewritten { turned result ≡ (send_w part.now (number_of kind) server serial fresh.old).rewriting }
     ensures fresh { fresh.new ≡ (send_w part.now (number_of kind) server serial fresh.old).fresh }
 {
     match kind {
@@ -157,7 +158,7 @@ pub(crate) fn receive(
     serial: u16,
     fresh: &mut [u16],
 ) -> Rewriting
-    ensures rewritten { result ≡ (receive_w part.now values.now other.now o (number_of kind) client serial fresh.old).rewriting }
+    ensures rewritten { turned result ≡ (receive_w part.now values.now other.now o (number_of kind) client serial fresh.old).rewriting }
     ensures fresh { fresh.new ≡ (receive_w part.now values.now other.now o (number_of kind) client serial fresh.old).fresh }
 {
     let guard = o.guard;

@@ -1,5 +1,6 @@
 // Writing the result, once it is known to fit: the words of the configuration, with an edit's in the place of an engine's process.
 ghost use Rattle.std.specs.Prelude.{◌≡◌};
+ghost use Rattle.rules.specs.Editing.{made};
 ghost use Rattle.stepping.specs.Writing.{front_w, back_w, process_w, value_w, store_w, lent_w, engine_w};
 
 use layout::field::{high_word, low_word};
@@ -12,8 +13,8 @@ use writers::write::{copy, put};
 // What an edit puts in front: up to its second fresh words.
 #[tactic(auto, unfolding(crate::specs::Writing::front_w, crate::specs::Writing::copy_w))]
 fn front(ws: &[u16], start: usize, p: Edit, fresh: &[u16], out: &mut [u16]) -> usize
-    ensures place { result ≡ (front_w ws.now start p fresh.now out.old).to }
-    ensures written { out.new ≡ (front_w ws.now start p fresh.now out.old).out }
+    ensures place { result ≡ (front_w ws.now start (made p) fresh.now out.old).to }
+    ensures written { out.new ≡ (front_w ws.now start (made p) fresh.now out.old).out }
 {
     let t = copy(ws, start, p.list, out, 0);
     let u = copy(fresh, 0, p.listed, out, t);
@@ -23,8 +24,8 @@ fn front(ws: &[u16], start: usize, p: Edit, fresh: &[u16], out: &mut [u16]) -> u
 // And behind, from a place on.
 #[tactic(auto, unfolding(crate::specs::Writing::back_w, crate::specs::Writing::copy_w))]
 fn back(ws: &[u16], end: usize, p: Edit, fresh: &[u16], out: &mut [u16], to: usize) -> usize
-    ensures place { result ≡ (back_w ws.now end p fresh.now out.old to).to }
-    ensures written { out.new ≡ (back_w ws.now end p fresh.now out.old to).out }
+    ensures place { result ≡ (back_w ws.now end (made p) fresh.now out.old to).to }
+    ensures written { out.new ≡ (back_w ws.now end (made p) fresh.now out.old to).out }
 {
     let t = copy(fresh, p.listed, p.fresh, out, to);
     let u = copy(ws, p.upto, p.gap, out, t);
@@ -41,8 +42,8 @@ pub fn process_words(
     fresh: &[u16],
     out: &mut [u16],
 ) -> usize
-    ensures place { result ≡ (process_w ws.now start end p fresh.now out.old).to }
-    ensures written { out.new ≡ (process_w ws.now start end p fresh.now out.old).out }
+    ensures place { result ≡ (process_w ws.now start end (made p) fresh.now out.old).to }
+    ensures written { out.new ≡ (process_w ws.now start end (made p) fresh.now out.old).out }
 {
     let t = front(ws, start, p, fresh, out);
     back(ws, end, p, fresh, out, t)
@@ -98,8 +99,8 @@ fn lend(
     out: &mut [u16],
     to: usize,
 ) -> usize
-    ensures place { result ≡ (lent_w ws.now start end p fresh.now out.old to).to }
-    ensures written { out.new ≡ (lent_w ws.now start end p fresh.now out.old to).out }
+    ensures place { result ≡ (lent_w ws.now start end (made p) fresh.now out.old to).to }
+    ensures written { out.new ≡ (lent_w ws.now start end (made p) fresh.now out.old to).out }
 {
     if out.len() < to {
         return to;
@@ -119,8 +120,8 @@ pub fn engine(
     out: &mut [u16],
     to: usize,
 ) -> usize
-    ensures place { result ≡ (engine_w ws.now from start end p fresh.now out.old to).to }
-    ensures written { out.new ≡ (engine_w ws.now from start end p fresh.now out.old to).out }
+    ensures place { result ≡ (engine_w ws.now from start end (made p) fresh.now out.old to).to }
+    ensures written { out.new ≡ (engine_w ws.now from start end (made p) fresh.now out.old to).out }
 {
     let t = copy(ws, from, start, out, to);
     store(out, t, p.store);

@@ -1,22 +1,16 @@
 -- `spread` of `bytewise::stepping_bytes` meets its contract. The loop's invariant: the bytes of the first i words are over the output.
-use Prim.Native.Nat.{ℕ, ◌+◌, ◌*◌, ◌<◌}
 use native.Mathlib.Omega.{arith}
-use mathlib.Core.Path.{◌≡◌, refl, ap, ◌∙◌}
-use lib.ListN.{length, take, length-set}
-use Rattle.sock.specs.Bytes.{bytes_of}
-use Rattle.sock.specs.Calls.{over}
-use Rattle.bytewise.proofs.Spreading.{spread_turn, spread_none}
-use borrow.Author.Rules.{Below-set}
+use mathlib.Core.Path.{◌∙◌}
+use Rattle.bytewise.proofs.Spreading.{spread_none, spread_turn, spread_end}
 use Rattle.bytewise.proofs.stepping_bytes.spread.Goals as goal
 
 pub loop-i-init : goal.loop-i-init
-loop-i-init c = (omega arith, spread_none c.args.ws.now c.args.out.now, refl)
+loop-i-init c = spread_none c.args.out.now
 
 pub loop-i-preserved : goal.loop-i-preserved
 loop-i-preserved c =
-    let a = c.args in
-    let l = c.loop-i in
-    let x : l.i < a.n = c.loop-i-test.true in
-    let y : l.i < length a.ws.now = omega arith in
-    let z : l.i * 2 + 1 < length a.out.now = omega arith in
-    (omega arith, spread_turn a.ws.now l.out a.out.now l.i _ _ l.invariant.1 c.high.ensures c.low.ensures y z, simp length-set l.invariant.2)
+    let i = c.loop-i.i in
+    spread_turn c.args.words.now c.loop-i.out c.args.out.now _ i c.loop-i.invariant c.loop-i-test.true (omega (arith, c.type_inv.words i)) (c.copy_from_slice.ensures.after ∙ c.to_be_bytes.ensures)
+
+pub returns : goal.returns
+returns c = spread_end c.args.words.now _ c.args.out.now c.loop-i.i c.loop-i-test.false c.loop-i.invariant

@@ -1,19 +1,14 @@
 -- `sock_join` of `cabinet::engines_bytes` meets its contract.
 use native.Mathlib.Omega.{arith}
-use mathlib.Core.Path.{sym, ◌∙◌}
+use mathlib.Core.Path.{◌∙◌}
 use lib.Seq.{length-take-le}
-use Rattle.bytewise.proofs.Holding.{first_held}
-use Rattle.bytewise.proofs.Stepping.{part_fits}
 use Rattle.cabinet.proofs.Engines.{join_bytes, too_long_bytes, join_answer_lem, join_output_lem, long_output}
-use borrow.Author.Rules.{rules}
 use Rattle.cabinet.proofs.engines_bytes.sock_join.Goals as goal
 
 pub returns-then-newcomer-gt-NEWCOMER_BYTES : goal.returns-then-newcomer-gt-NEWCOMER_BYTES
 returns-then-newcomer-gt-NEWCOMER_BYTES c =
-    let held = first_held _ 8192 _ _ _ _ (search rules) (c.hold-n.ensures.0) (c.hold-n.ensures.1) in
-    let same = too_long_bytes (c.args.config.now) _ held (c.args.newcomer.now) (c.args.out.now) (c.if-newcomer-gt-NEWCOMER_BYTES.true) in record { answered = join_answer_lem (c.args.config.now) (c.args.newcomer.now) (c.args.out.now) _ (c.unread.ensures) same; wrote = long_output (c.args.config.now) (c.args.newcomer.now) (c.args.out.now) _ same }
+    let same = too_long_bytes (c.args.config.now) _ c.held-ws.ensures (c.args.newcomer.now) (c.args.out.now) (c.if-newcomer-gt-NEWCOMER_BYTES.true) in record { answered = join_answer_lem (c.args.config.now) (c.args.newcomer.now) (c.args.out.now) _ (c.unread.ensures) same; wrote = long_output (c.args.config.now) (c.args.newcomer.now) (c.args.out.now) _ same }
 
 pub returns : goal.returns
 returns c =
-    let held = first_held _ 8192 _ _ _ _ (search rules) (c.hold-n.ensures.0) (c.hold-n.ensures.1) in
-    let news = first_held _ 16384 _ _ _ _ (search rules) (c.hold-m.ensures.0) (c.hold-m.ensures.1) in record { answered = join_answer_lem (c.args.config.now) (c.args.newcomer.now) (c.args.out.now) _ (c.let_in.ensures.answered) (join_bytes (c.args.config.now) _ held (c.args.newcomer.now) (c.args.out.now) (c.if-newcomer-gt-NEWCOMER_BYTES.false) _ news _ (length-take-le _ _ (omega (arith, c.room_of-room.ensures.1)) ∙ c.room_of-room.ensures.0)); wrote = join_output_lem (c.args.config.now) (c.args.newcomer.now) (c.args.out.now) _ (c.let_in.ensures.wrote) (join_bytes (c.args.config.now) _ held (c.args.newcomer.now) (c.args.out.now) (c.if-newcomer-gt-NEWCOMER_BYTES.false) _ news _ (length-take-le _ _ (omega (arith, c.room_of-room.ensures.1)) ∙ c.room_of-room.ensures.0)) }
+    record { answered = join_answer_lem (c.args.config.now) (c.args.newcomer.now) (c.args.out.now) _ (c.let_in.ensures.answered) (join_bytes (c.args.config.now) _ c.held-ws.ensures (c.args.newcomer.now) (c.args.out.now) (c.if-newcomer-gt-NEWCOMER_BYTES.false) _ c.held-news.ensures _ (length-take-le _ _ (omega (arith, c.room_of-room.ensures.1)) ∙ c.room_of-room.ensures.0)); wrote = join_output_lem (c.args.config.now) (c.args.newcomer.now) (c.args.out.now) _ (c.let_in.ensures.wrote) (join_bytes (c.args.config.now) _ c.held-ws.ensures (c.args.newcomer.now) (c.args.out.now) (c.if-newcomer-gt-NEWCOMER_BYTES.false) _ c.held-news.ensures _ (length-take-le _ _ (omega (arith, c.room_of-room.ensures.1)) ∙ c.room_of-room.ensures.0)) }

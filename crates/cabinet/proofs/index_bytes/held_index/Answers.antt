@@ -1,9 +1,7 @@
 -- `held_index` of `cabinet::index_bytes` meets its contract.
-use mathlib.Core.Path.{sym, ◌∙◌}
-use lib.Seq.{length-take-le}
+use mathlib.Core.Path.{◌∙◌}
 use Rattle.bytewise.proofs.Parts.{first_part}
 use Rattle.cabinet.proofs.Indexing.{order_held, words_held}
-use borrow.Author.Rules.{rules}
 use Rattle.cabinet.proofs.index_bytes.held_index.Goals as goal
 
 pub returns : goal.returns

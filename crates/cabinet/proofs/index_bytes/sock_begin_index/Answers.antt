@@ -14,4 +14,4 @@ pub returns-then-n-ne0 : goal.returns-then-n-ne0
 returns-then-n-ne0 c = record { answered = begin_answer_lem c.args.config.now c.args.index.now (omega (arith, c.if-index-lt-WORDS.false)) _ c.sock_check_start-n.ensures; begun = begin_keeps c.args.config.now c.args.index.now (omega (arith, c.if-index-lt-WORDS.false)) _ c.sock_check_start-n.ensures c.if-n-ne0.true }
 
 pub returns : goal.returns
-returns c = record { answered = sym c.if-n-ne0.false ∙ begin_answer_lem c.args.config.now c.args.index.now (omega (arith, c.if-index-lt-WORDS.false)) _ c.sock_check_start-n.ensures; begun = c.spread.ensures.1 ∙ begin_lays c.args.config.now c.args.index.now (omega (arith, c.if-index-lt-WORDS.false)) _ c.sock_check_start-n.ensures c.if-n-ne0.false _ refl }
+returns c = record { answered = sym c.if-n-ne0.false ∙ begin_answer_lem c.args.config.now c.args.index.now (omega (arith, c.if-index-lt-WORDS.false)) _ c.sock_check_start-n.ensures; begun = c.spread.ensures ∙ begin_lays c.args.config.now c.args.index.now (omega (arith, c.if-index-lt-WORDS.false)) _ c.sock_check_start-n.ensures c.if-n-ne0.false _ refl }

@@ -1,12 +1,7 @@
 -- `sock_open_count` of `cabinet::index_bytes` meets its contract.
-use mathlib.Core.Path.{sym, ◌∙◌}
-use lib.Seq.{length-take-le}
-use Rattle.bytewise.proofs.Parts.{first_part}
+use mathlib.Core.Path.{◌∙◌}
 use Rattle.cabinet.proofs.Indexing.{count_packed}
-use borrow.Author.Rules.{rules}
 use Rattle.cabinet.proofs.index_bytes.sock_open_count.Goals as goal
 
 pub returns : goal.returns
-returns c =
-    let h = c.hold_part-n.ensures in
-    c.pack_told.ensures ∙ count_packed c.args.index.now _ _ (first_part _ 2049 _ _ _ _ (search rules) h.0 h.1) c.open_count.ensures
+returns c = c.numbered.ensures ∙ count_packed c.args.index.now _ _ c.held_part.ensures c.open_count-t.ensures

@@ -1,12 +1,12 @@
 -- `sock_step_indexed` of `cabinet::index_bytes` meets its contract.
 use Prim.Native.Nat.{ℕ}
+use native.Mathlib.Omega.{arith}
 use mathlib.Core.Path.{sym, ap, ◌∙◌}
 use lib.ListN.{length-replicate}
 use Rattle.sock.specs.Bytes.{words_in}
 use Rattle.index.proofs.Forming.{listed_is}
 use Rattle.bytewise.specs.Held.{packed_as}
 use Rattle.cabinet.proofs.Indexing.{ordered_there, room_for, step_unlisted, step_answer, step_output, step_journal, index_same, index_opens}
-use borrow.Author.Rules.{rules}
 use Rattle.cabinet.proofs.index_bytes.sock_step_indexed.Goals as goal
 
 as_answered_wrote_noted_followed : {A B C D : Type 0} → A × (B × (C × D)) → record { answered : A; wrote : B; noted : C; followed : D }
@@ -23,13 +23,13 @@ follow-requires c =
     ordered_there c.args.index.now _ _ (sym c.held_index.ensures.ordered ∙ c.if-held_index.true) (length-replicate {A = ℕ} 2049 0) c.held_index.ensures.held
 
 pub spread-requires : goal.spread-requires
-spread-requires c = (search rules, room_for c.args.index.now (sym c.held_index.ensures.ordered ∙ c.if-held_index.true))
+spread-requires c = omega (arith, room_for c.args.index.now (sym c.held_index.ensures.ordered ∙ c.if-held_index.true), c.follow.auto, c.held_index.auto, length-replicate {A = ℕ} 2049 0)
 
 pub returns-then-held_index : goal.returns-then-held_index
 returns-then-held_index c =
     let t = sym c.held_index.ensures.ordered ∙ c.if-held_index.true in
     let e = listed_is (words_in c.args.index.now) t in
-    let p = c.step_journal-a.ensures.answered in record { answered = c.pack-then-held_index.ensures ∙ step_answer c.args.config.now _ c.args.out.now c.args.journal.now c.args.index.now _ e _ p; wrote = c.step_journal-a.ensures.wrote ∙ step_output c.args.config.now _ c.args.out.now c.args.journal.now c.args.index.now _ e; noted = c.step_journal-a.ensures.noted ∙ step_journal c.args.config.now _ c.args.out.now c.args.journal.now c.args.index.now _ e; followed = c.spread.ensures.1 ∙ index_opens c.args.config.now _ c.args.out.now c.args.journal.now c.args.index.now _ e _ p c.if-a-ne0.false _ _ _ (length-replicate {A = ℕ} 2049 0) c.held_index.ensures.held c.follow.ensures }
+    let p = c.step_journal-a.ensures.answered in record { answered = c.pack-then-held_index.ensures ∙ step_answer c.args.config.now _ c.args.out.now c.args.journal.now c.args.index.now _ e _ p; wrote = c.step_journal-a.ensures.wrote ∙ step_output c.args.config.now _ c.args.out.now c.args.journal.now c.args.index.now _ e; noted = c.step_journal-a.ensures.noted ∙ step_journal c.args.config.now _ c.args.out.now c.args.journal.now c.args.index.now _ e; followed = c.spread.ensures ∙ index_opens c.args.config.now _ c.args.out.now c.args.journal.now c.args.index.now _ e _ p c.if-a-ne0.false _ _ _ (length-replicate {A = ℕ} 2049 0) c.held_index.ensures.held c.follow.ensures }
 
 pub returns : goal.returns
 returns c =

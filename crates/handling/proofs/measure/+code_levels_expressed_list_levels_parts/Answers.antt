@@ -6,8 +6,8 @@ use Rattle.sock.specs.Words.{kind_of}
 use Rattle.layout.specs.declared.kind.Kind.TheVariants as kinds
 use Rattle.layout.proofs.Named.{not_kind}
 use mathlib.Core.Path.{refl}
-use Rattle.handling.specs.Measuring.{expression_levels, code_levels, node_levels, expressed_levels, list_levels}
-use Rattle.handling.proofs.Levels.{own_levels, code_levels_step, parts_levels_step, parts_levels_end, entries_levels_step, entries_levels_end}
+use Rattle.handling.specs.Measuring.{expression_levels, code_levels}
+use Rattle.handling.proofs.Levels.{own_levels, code_levels_step}
 use Rattle.sock.proofs.Tests.{tests}
 use Rattle.handling.proofs.measure.+code_levels_expressed_list_levels_parts.Goals as goal
 
@@ -29,29 +29,3 @@ code_levels-returns-in_default t c =
     let f14 = c.if-depth-eq0.false in
     let e = own_levels (expression_levels (c.args.depth - 1) c.args.ws.now) (code_levels (c.args.depth - 1) c.args.ws.now) c.args.ws.now h c.args.at not_1 not_2 not_3 not_4 not_5 not_6 not_8 not_10 not_11 not_12 in
     simp (tests, code_levels_step, f13, f14, e, ← c.own.ensures)
-
-pub list_levels-loop-left-preserved : goal.list_levels-loop-left-preserved
-unfolding code_levels node_levels expressed_levels list_levels
-list_levels-loop-left-preserved t c =
-    let f0 = c.loop-left-test.true in
-    let f1 = c.if-ws-at.false in
-    simp (entries_levels_step, ← c.larger-deepest.ensures, ← c.code_levels-p.ensures, ← c.further.ensures, f0, ← c.loop-left.invariant, ← c.wide-left.ensures.0, f1)
-
-pub list_levels-returns : goal.list_levels-returns
-unfolding code_levels node_levels expressed_levels list_levels
-list_levels-returns t c =
-    let f0 = c.loop-left-test.false in
-    let f1 = c.if-ws-at.false in
-    simp (tests, entries_levels_end, ← c.further-2.ensures, f0, ← c.loop-left.invariant, ← c.wide-left.ensures.0, f1)
-
-pub parts-loop-left-preserved : goal.parts-loop-left-preserved
-unfolding code_levels node_levels expressed_levels list_levels
-parts-loop-left-preserved t c =
-    let f0 = c.loop-left-test.true in
-    simp (parts_levels_step, ← c.larger-deepest.ensures, ← c.code_levels-p.ensures, f0, ← c.loop-left.invariant)
-
-pub parts-returns : goal.parts-returns
-unfolding code_levels node_levels expressed_levels list_levels
-parts-returns t c =
-    let f0 = c.loop-left-test.false in
-    simp (parts_levels_end, ← c.further.ensures, f0, ← c.loop-left.invariant)

@@ -10,19 +10,6 @@ use Rattle.layout.proofs.Named.{not_tag}
 use Rattle.sock.proofs.Tests.{tests}
 use Rattle.handling.proofs.measure.+expression_levels.Goals as goal
 
-pub returns-then-depth-eq0 : goal.returns-then-depth-eq0
-unfolding operand_levels expression_levels
-returns-then-depth-eq0 t c =
-    let f0 = c.if-depth-eq0.true in
-    simp (← c.nowhere.ensures, f0)
-
-pub returns-then-ws-at : goal.returns-then-ws-at
-unfolding operand_levels expression_levels
-returns-then-ws-at t c =
-    let f0 = c.if-ws-at.true in
-    let f1 = c.if-depth-eq0.false in
-    simp (tests, expression_levels_step, ← c.nowhere-then-ws-at.ensures, f0, f1)
-
 pub returns-in_default : goal.returns-in_default
 unfolding operand_levels expression_levels
 returns-in_default t c =
@@ -31,4 +18,4 @@ returns-in_default t c =
     let k : ℕ = tag_of (get_or c.args.ws.now c.args.at 0) in
     let g0 = not_tag tags.Constant {k = k} c.of.ensures c.in_default.not-Constant refl in
     let g1 = not_tag tags.Variable {k = k} c.of.ensures c.in_default.not-Variable refl in
-    simp (g0, g1, tests, expression_levels_step, ← c.further.ensures, ← c.larger.ensures, ← c.expression_levels-b.ensures, ← c.expression_levels-a.ensures, f0, f1)
+    simp (g0, g1, tests, expression_levels_step, ← c.further.ensures, ← c.max.ensures, ← c.expression_levels-b.ensures, ← c.expression_levels-a.ensures, f0, f1)

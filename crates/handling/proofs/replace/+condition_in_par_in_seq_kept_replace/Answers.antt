@@ -1,30 +1,17 @@
 -- `handling::replace::replace` and the functions for single kinds that it goes round with. The measure is the depth left, times 3. The invariant
 -- of the loop in `kept`: the parts left, written from here on, give what all give from the start, and the output keeps its length; its
 -- measure: the parts left.
-use mathlib.Core.Path.{refl, sym, ◌∙◌}
-use borrow.Author.Rules.{rules}
+use mathlib.Core.Path.{refl}
 use lib.ListN.{get_or}
 use Prim.Native.Nat.{ℕ, ◌-◌}
 use Rattle.sock.specs.Words.{kind_of}
 use Rattle.layout.specs.declared.kind.Kind.TheVariants as kinds
 use Rattle.layout.proofs.Named.{not_kind}
 use Rattle.sock.proofs.Tests.{tests}
-use Rattle.handling.proofs.Replacements.{other_kind, replace_step, parts_end, par_both, par_first, parts_turn}
+use Rattle.handling.proofs.Replacements.{other_kind, replace_step}
 use Rattle.handling.specs.Measuring.{expression_levels, code_levels}
-use Rattle.handling.specs.Replacing.{replace_w, node_w, seq_w, after_first, par_w, par_after, close_par, condition_w, kept_w, nil_w}
+use Rattle.handling.specs.Replacing.{replace_w}
 use Rattle.handling.proofs.replace.+condition_in_par_in_seq_kept_replace.Goals as goal
-
-pub kept-loop-left-preserved : goal.kept-loop-left-preserved
-kept-loop-left-preserved t c =
-    (parts_turn (replace_w c.args.depth c.args.ws.now c.args.old) _ _ _ _ _ _ _ _ _ c.loop-left-test.true c.replace-p.ensures.0 c.replace-p.ensures.1 c.further.ensures c.larger-deepest.ensures ∙ c.loop-left.invariant.0, search rules)
-
-pub kept-returns : goal.kept-returns
-unfolding kept_w
-kept-returns t c =
-    let e = sym c.loop-left.invariant.0 ∙ parts_end _ _ _ _ _ _ c.loop-left-test.false in
-    let x = c.copy-t.ensures.0 in
-    let y = c.copy-t.ensures.1 in
-    (simp (← x, ← y, e), simp (← x, ← y, e))
 
 pub replace-returns-in_default : goal.replace-returns-in_default
 replace-returns-in_default t c =

@@ -1,9 +1,7 @@
 -- `handling::replace::replace` and the functions for single kinds that it goes round with. The measure is the depth left, times 3. The invariant
--- of the loop in `kept`: the parts left, written from here on, give what all give from the start, and the output keeps its length; its
--- measure: the parts left.
-use Prim.Native.Nat.{◌+◌, ◌*◌}
+-- of the loop in `kept`: the parts left, written from here on, give what all give from the start.
+use Prim.Native.Nat.{◌+◌, ◌-◌, ◌*◌}
 use mathlib.Core.Path.{◌≡◌}
-use lib.ListN.{length}
 use Rattle.handling.specs.Replacing.{replace_w, parts_w}
 use Rattle.handling.proofs.replace.+condition_in_par_in_seq_kept_replace.Given as goal
 
@@ -22,9 +20,6 @@ decreases-kept l = l.depth * 3 + 1
 abbrev pub decreases-replace : goal.decreases-replace
 decreases-replace l = l.depth * 3
 
-abbrev pub invariant-kept-loop-left : goal.invariant-kept-loop-left
-invariant-kept-loop-left l =
-    (parts_w (replace_w l.depth l.ws l.old) l.left l.deepest l.a l.out l.t ≡ parts_w (replace_w l.depth l.ws l.old) l.initial.left l.initial.deepest l.initial.a l.initial.out l.initial.t) × (length l.out ≡ length l.initial.out)
-
-abbrev pub decreases-kept-loop-left : goal.decreases-kept-loop-left
-decreases-kept-loop-left l = l.left
+abbrev pub invariant-kept-loop : goal.invariant-kept-loop
+invariant-kept-loop l =
+    parts_w (replace_w l.depth l.ws l.old) (l.count - l.counter) l.deepest l.a l.out l.t ≡ parts_w (replace_w l.depth l.ws l.old) l.count l.initial.deepest l.initial.a l.initial.out l.initial.t

@@ -1,9 +1,17 @@
--- `count` of `handover::start` meets its contract.
+-- `count` meets its contract.
+use Rattle.std.proofs.Common.{arith, ◌∙◌}
 use Rattle.handover.proofs.Starting.{count_missing, count_found}
 use Rattle.handover.proofs.start.count.Goals as goal
 
-pub returns-then-head-lt2 : goal.returns-then-head-lt2
-returns-then-head-lt2 c = count_missing c.args.head.now c.if-head-lt2.true
+pub returns-in_default : goal.returns-in_default
+returns-in_default c = omega (arith, count_missing c.args.head.now c.in_default.len_below)
 
-pub returns : goal.returns
-returns c = count_found c.args.head.now c.word.result c.if-head-lt2.false c.word.ensures
+pub returns-then-n-le-LONGEST : goal.returns-then-n-le-LONGEST
+returns-then-n-le-LONGEST c =
+    let is = count_found c.args.head.now c.word.result c.in-len2-up.len_at_least c.word.ensures in
+    (c.from-n.ensures ∙ is, omega arith)
+
+pub returns-else-n-le-LONGEST : goal.returns-else-n-le-LONGEST
+returns-else-n-le-LONGEST c =
+    let is = count_found c.args.head.now c.word.result c.in-len2-up.len_at_least c.word.ensures in
+    omega (arith, is)

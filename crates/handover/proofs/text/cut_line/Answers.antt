@@ -1,9 +1,8 @@
--- `cut_line` of `handover::text` meets its contract.
-use native.Mathlib.Omega.{arith}
+-- `cut_line` prints what the definition says.
+use Rattle.std.proofs.Common.{rules}
 use Rattle.sock.specs.Bytes.{cut_line}
 use Rattle.handover.proofs.text.cut_line.Goals as goal
 
 pub returns : goal.returns
 unfolding cut_line
-returns c =
-    (omega (arith, c.put.ensures.0), c.put.ensures.1)
+returns g c = search rules

@@ -1,13 +1,9 @@
--- `start_line` of `handover::text` meets its contract.
-use Prim.Native.Nat.{ℕ}
-use native.Mathlib.Omega.{arith}
-use mathlib.Core.Path.{ap, ◌∙◌}
-use mathlib.Core.List.{List, [], ◌∷◌, ◌++◌}
-use Rattle.sock.specs.Bytes.{decimal, start_line, start_text}
+-- `start_line` prints what the definition says, whose digits are its own.
+use Rattle.std.proofs.Common.{rules, arith, ◌<◌, ◌^◌}
+use Rattle.handover.proofs.Lines.{start_is}
 use Rattle.handover.proofs.text.start_line.Goals as goal
 
 pub returns : goal.returns
-unfolding start_line start_text
-returns c =
-    let b = c.put_number-b.ensures.1 ∙ ap (λ (l : List ℕ). l ++ decimal c.args.number) c.put-a.ensures.1 in
-    (omega (arith, c.put-a.ensures.0, c.put_number-b.ensures.0, c.put.ensures.0), c.put.ensures.1 ∙ ap (λ (l : List ℕ). l ++ (10 ∷ [])) b)
+returns g c =
+    let small : c.args.number < 2 ^ 64 = omega arith in
+    rw (start_is c.args.number small) (search rules)

@@ -1,13 +1,15 @@
--- `step_line` of `handover::text` meets its contract.
-use Prim.Native.Nat.{ℕ}
-use native.Mathlib.Omega.{arith}
-use mathlib.Core.Path.{ap, ◌∙◌}
-use mathlib.Core.List.{List}
-use Rattle.sock.specs.Bytes.{step_line}
-use Rattle.handover.specs.Printed.{defined_as, answered}
+-- `step_line` prints what the definition says, whose digits are its own.
+use Rattle.std.proofs.Common.{rules, arith, ◌<◌, ◌^◌}
+use Rattle.handover.specs.Printed.{defined_as}
+use Rattle.handover.proofs.Lines.{step_is}
 use Rattle.handover.proofs.text.step_line.Goals as goal
 
 pub returns : goal.returns
-unfolding answered step_line
-returns c =
-    (omega (arith, c.put_field-p.ensures.0, c.put_answer.ensures.0), c.put_answer.ensures.1 ∙ ap (λ (l : List ℕ). answered l (defined_as c.args.a)) c.put_field-p.ensures.1)
+returns g c =
+    let a = c.args.answer in
+    let i : c.args.number < 2 ^ 64 = omega arith in
+    let n : a.number < 2 ^ 64 = omega arith in
+    let k : a.kind < 2 ^ 64 = omega arith in
+    let s : a.serial < 2 ^ 64 = omega arith in
+    let f : a.fault < 2 ^ 64 = omega arith in
+    rw (step_is c.args.number (defined_as a) i n k s f) (search rules)

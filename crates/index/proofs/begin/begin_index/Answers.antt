@@ -14,4 +14,4 @@ returns-then-n-ne0 c = as_answered_begun (begin_refused c.args.ws.now c.args.ind
 
 pub returns : goal.returns
 returns c =
-    let b = begin_done c.args.ws.now c.args.index.now c.if-index-lt-WORDS.false c.check_start-n.result c.check_start-n.ensures c.if-n-ne0.false in record { answered = b.0; begun = c.clear.ensures ∙ all_cleared c.args.index.now c.if-index-lt-WORDS.false ∙ b.1 }
+    let b = begin_done c.args.ws.now c.args.index.now c.if-index-lt-WORDS.false c.check_start-n.result c.check_start-n.ensures c.if-n-ne0.false in record { answered = b.0; begun = c.clear.ensures ∙ all_cleared c.args.index.now ∙ b.1 }

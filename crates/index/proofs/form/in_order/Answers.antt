@@ -13,4 +13,5 @@ pub returns-then-not-rises : goal.returns-then-not-rises
 returns-then-not-rises c = order_falls c.args.index.now c.if-index-lt-WORDS.false c.wide-n.result c.wide-n.ensures.0 c.if-n-gt-MOST.false (sym c.rises.ensures ∙ c.if-not-rises.true)
 
 pub returns : goal.returns
-returns c = order_rises c.args.index.now c.if-index-lt-WORDS.false c.wide-n.result c.wide-n.ensures.0 c.if-n-gt-MOST.false (sym c.rises.ensures ∙ c.if-not-rises.false) c.zeros.result c.zeros.ensures
+returns c =
+    order_rises c.args.index.now c.if-index-lt-WORDS.false c.wide-n.result c.wide-n.ensures.0 c.if-n-gt-MOST.false (sym c.rises.ensures ∙ c.if-not-rises.false) c.zeros.result c.zeros.ensures

@@ -1,17 +1,13 @@
--- `rises` of `index::form` meets its contract. The loop's invariant: the words before i rise, the last of them is `last`.
-use Prim.Native.Nat.{◌+◌, ◌-◌}
-use native.Mathlib.Omega.{arith}
-use mathlib.Core.Path.{◌≡◌, ap, ◌∙◌}
-use lib.ListN.{take, drop}
-use Rattle.sock.specs.Index.{rising}
+-- `rises` of `index::form` meets its contract. The loop's invariant: whether all rise is whether those from here on do, above the last.
+use mathlib.Core.Path.{◌∙◌}
 use Rattle.index.proofs.Forming.{rise_passes, rise_stops, rise_ends}
 use Rattle.index.proofs.form.rises.Goals as goal
 
-pub returns-then-index-i : goal.returns-then-index-i
-returns-then-index-i c = rise_stops c.args.index.now c.args.n c.loop-i.i c.loop-i.last c.loop-i-test.true c.requires c.if-index-i.true ∙ c.loop-i.invariant.2
+pub returns-then-word-last : goal.returns-then-word-last
+returns-then-word-last c = rise_stops c.args.words.now c.loop-word.word-index c.loop-word.last c.loop-word-test.true c.if-word-last.true ∙ c.loop-word.invariant
 
-pub loop-i-preserved : goal.loop-i-preserved
-loop-i-preserved c = (omega arith, omega arith, rise_passes c.args.index.now c.args.n c.loop-i.i c.loop-i.last c.loop-i-test.true c.requires c.if-index-i.false ∙ c.loop-i.invariant.2)
+pub loop-word-preserved : goal.loop-word-preserved
+loop-word-preserved c = rise_passes c.args.words.now c.loop-word.word-index c.loop-word.last c.loop-word-test.true c.if-word-last.false ∙ c.loop-word.invariant
 
 pub returns : goal.returns
-returns c = rise_ends c.args.index.now c.args.n c.loop-i.i c.loop-i.last c.loop-i-test.false ∙ c.loop-i.invariant.2
+returns c = rise_ends c.args.words.now c.loop-word.word-index c.loop-word.last c.loop-word-test.false ∙ c.loop-word.invariant

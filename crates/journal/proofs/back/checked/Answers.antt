@@ -4,7 +4,6 @@ use native.Mathlib.Omega.{arith}
 use mathlib.Core.Path.{◌≡◌, sym, ap, ◌∙◌}
 use mathlib.Core.List.{List}
 use lib.ListN.{length}
-use lib.Seq.{length-take-le}
 use Rattle.sock.specs.Calls.{check_readable, over}
 use Rattle.sock.specs.Configuration.{standard}
 use Rattle.sock.specs.Journal.{put_back}

@@ -6,7 +6,7 @@ use Rattle.journal.specs.Back.{said}
 use Rattle.journal.proofs.Restoring.{old_length, gives_refused, not_long}
 use Rattle.journal.proofs.back.restore.Goals as goal
 
-pub returns-then-n-gt8192 : goal.returns-then-n-gt8192
-returns-then-n-gt8192 c =
+pub returns-then-n-gt-LONGEST : goal.returns-then-n-gt-LONGEST
+returns-then-n-gt-LONGEST c =
     let l = old_length (c.args.c) (c.args.ws.now) (c.args.journal.now) (c.requires) in
-    let g = gives_refused _ (c.args.out.now) (not_long (put_back (said (c.args.c) (c.args.journal.now)) (c.args.ws.now)) (length (c.args.out.now)) (omega (arith, l, c.if-n-gt8192.true, c.wide-n.ensures.0))) (c.refuse.ensures) in record { answered = g.answer; wrote = g.output }
+    let g = gives_refused _ (c.args.out.now) (not_long (put_back (said (c.args.c) (c.args.journal.now)) (c.args.ws.now)) (length (c.args.out.now)) (omega (arith, l, c.if-n-gt-LONGEST.true, c.wide-n.ensures.0))) (c.refuse.ensures) in record { answered = g.answer; wrote = g.output }

@@ -1,12 +1,9 @@
--- `first_alike` of `journal::compare` meets its contract. The loop's invariant: the i words before are alike. Its measure: the words left.
-use Prim.Native.Nat.{◌+◌, ◌-◌, ◌≤◌}
+-- `first_alike` of `journal::compare` meets its contract. The loop's invariant: the words of the blocks before are alike.
+use Prim.Native.Nat.{◌+◌, ◌*◌}
 use mathlib.Core.Path.{◌≡◌}
-use lib.ListN.{length, drop}
+use lib.ListN.{drop}
 use Rattle.sock.specs.Journal.{alike}
 use Rattle.journal.proofs.compare.first_alike.Given as goal
 
-abbrev pub invariant-loop-i : goal.invariant-loop-i
-invariant-loop-i l = (l.i ≤ l.n) × (l.n ≤ length l.a) × (l.n ≤ length l.b) × (alike l.a l.b ≡ l.i + alike (drop l.i l.a) (drop l.i l.b))
-
-abbrev pub decreases-loop-i : goal.decreases-loop-i
-decreases-loop-i l = l.n - l.i
+abbrev pub invariant-loop-block : goal.invariant-loop-block
+invariant-loop-block l = alike l.a l.b ≡ l.block * 16 + alike (drop (l.block * 16) l.a) (drop (l.block * 16) l.b)

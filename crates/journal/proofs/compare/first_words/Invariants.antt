@@ -1,12 +1,9 @@
--- `first_words` of `journal::compare` meets its contract. The loop's invariant: the words up to k are alike. Its measure: the words left.
-use Prim.Native.Nat.{◌+◌, ◌-◌, ◌≤◌}
+-- `first_words` of `journal::compare` meets its contract. The loop's invariant: the words up to k are alike.
+use Prim.Native.Nat.{◌+◌}
 use mathlib.Core.Path.{◌≡◌}
-use lib.ListN.{length, drop}
+use lib.ListN.{drop}
 use Rattle.sock.specs.Journal.{alike}
 use Rattle.journal.proofs.compare.first_words.Given as goal
 
 abbrev pub invariant-loop-k : goal.invariant-loop-k
-invariant-loop-k l = (l.k ≤ l.n) × (l.n ≤ length l.a) × (l.n ≤ length l.b) × (l.i + alike (drop l.i l.a) (drop l.i l.b) ≡ l.k + alike (drop l.k l.a) (drop l.k l.b))
-
-abbrev pub decreases-loop-k : goal.decreases-loop-k
-decreases-loop-k l = l.n - l.k
+invariant-loop-k l = l.i + alike (drop l.i l.a) (drop l.i l.b) ≡ l.k + alike (drop l.k l.a) (drop l.k l.b)

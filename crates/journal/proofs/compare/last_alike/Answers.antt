@@ -1,23 +1,26 @@
--- `last_alike` of `journal::compare` meets its contract. The loop's invariant: the i last words are alike. Its measure: the words left.
-use Prim.Native.Nat.{◌-◌}
+-- `last_alike` of `journal::compare` meets its contract. The loop's invariant: the last words of the blocks before are alike.
+use Prim.Native.Nat.{ℕ, ◌+◌, ◌*◌}
 use native.Mathlib.Omega.{arith}
-use mathlib.Core.Path.{◌≡◌, sym, ◌∙◌}
-use mathlib.Core.Bool.{true}
+use mathlib.Core.Path.{◌≡◌, sym, ap, ◌∙◌}
 use mathlib.Core.List.{reverse}
-use lib.ListN.{length, take, drop}
-use Rattle.sock.specs.Journal.{same_words}
-use Rattle.journal.proofs.Comparing.{least_left, least_right, first_begin, last_turn}
+use lib.ListN.{drop}
+use Rattle.sock.specs.Journal.{alike}
+use Rattle.journal.proofs.Comparing.{first_begin, last_turn}
 use Rattle.journal.proofs.compare.last_alike.Goals as goal
 
-pub loop-i-init : goal.loop-i-init
-loop-i-init c =
+pub loop-block-init : goal.loop-block-init
+loop-block-init c =
     let a = c.args.a.now in
     let b = c.args.b.now in
-    (omega arith, omega (arith, c.least-n.ensures, least_left (length a) (length b)), omega (arith, c.least-n.ensures, least_right (length a) (length b)), first_begin (reverse a) (reverse b))
+    first_begin (reverse a) (reverse b)
 
-pub loop-i-preserved : goal.loop-i-preserved
-loop-i-preserved c =
-    let l = c.loop-i in
-    let x = c.args in
-    let s : true ≡ same_words (take 16 (drop (length x.a.now - l.i - 16) x.a.now)) (take 16 (drop (length x.b.now - l.i - 16) x.b.now)) = sym (c.if-not-same_block.false) ∙ c.same_block.ensures in
-    (omega arith, l.invariant.1, l.invariant.2, last_turn x.a.now x.b.now l.i (omega arith) (omega arith) s l.invariant.3)
+pub loop-block-preserved : goal.loop-block-preserved
+loop-block-preserved c =
+    let a = c.args.a.now in
+    let b = c.args.b.now in
+    let i = c.loop-block.block * 16 in
+    let taken = c.loop-block-test.true in
+    let n = c.min-n.ensures in
+    let next : i + 16 ≡ (c.loop-block.block + 1) * 16 = omega arith in
+    last_turn a b i (omega (arith, n)) (omega (arith, n)) (sym c.if-not-same_block.false ∙ c.same_block.ensures) c.loop-block.invariant
+    ∙ ap (λ (m : ℕ). m + alike (drop m (reverse a)) (drop m (reverse b))) next

@@ -2,10 +2,12 @@
 -- the depth that is left, and for the same depth who calls whom.
 use Prim.Native.Nat.{ℕ}
 use native.Mathlib.Omega.{arith}
-use mathlib.Core.Path.{refl, sym, ◌∙◌}
+use mathlib.Core.Path.{refl, sym, ap, ◌∙◌}
+use Rattle.std.specs.Prelude.{unwrap_or}
+use Rattle.reading.proofs.Given.{none_end, some_end, unwrap_end}
 use Rattle.reading.specs.Walk.{node_end}
-use Rattle.noting.specs.Noting.{noting, notes_w}
-use Rattle.noting.proofs.Notes.{Headed, none_deep, none_left, refused, others, one_word, a_seq, a_par, a_scope, an_executor, par_ends, leaf_ends, two_none, two_next, seq_none, seq_next, par_none, par_next, scope_short, scope_none, scope_next, executor_none, executor_next, same_note}
+use Rattle.noting.specs.Noting.{note_w, note_list_w, notes_w}
+use Rattle.noting.proofs.Notes.{Headed, none_deep, none_left, refused, others, one_word, a_seq, a_par, a_scope, an_executor, par_ends, leaf_ends, two_none, two_next, seq_none, seq_next, par_none, par_next, scope_short, scope_none, scope_next, executor_none, executor_next}
 use Rattle.layout.specs.declared.kind.Kind.TheVariants as kinds
 use Rattle.layout.proofs.Named.{head_kind, head_not}
 use Rattle.noting.proofs.enabled.+enabled_executor_noted_par_scope_seq.Goals as goal
@@ -61,13 +63,15 @@ pub enabled-returns-in-Executor : goal.enabled-returns-in-Executor
 enabled-returns-in-Executor t c = as_ended_written (an_executor _ _ _ _ _ _ _ _ (enabled_head t (goal.at.enabled-returns-in-Executor t c).Else-h-head_mask-ne0) _ _ (head_kind kinds.Executor c.wide-h.ensures.0 c.in-Executor.ensures (omega arith)) (c.executor.ensures.ended) (c.executor.ensures.written))
 
 pub enabled-returns-in_default : goal.enabled-returns-in_default
-enabled-returns-in_default t c = record { ended = c.read.ensures; written = others _ _ _ _ _ _ _ _ (enabled_head t (goal.at.enabled-returns-in_default t c).Else-h-head_mask-ne0) _ refl (head_not kinds.Seq c.wide-h.ensures.0 c.of.ensures c.in_default.not-Seq refl) (head_not kinds.Par c.wide-h.ensures.0 c.of.ensures c.in_default.not-Par refl) (head_not kinds.Scope c.wide-h.ensures.0 c.of.ensures c.in_default.not-Scope refl) (head_not kinds.Executor c.wide-h.ensures.0 c.of.ensures c.in_default.not-Executor refl) }
+enabled-returns-in_default t c = record { ended = c.unwrap_or.ensures ∙ ap (λ o. unwrap_or o 0) c.read.ensures ∙ unwrap_end _; written = others _ _ _ _ _ _ _ _ (enabled_head t (goal.at.enabled-returns-in_default t c).Else-h-head_mask-ne0) _ refl (head_not kinds.Seq c.wide-h.ensures.0 c.of.ensures c.in_default.not-Seq refl) (head_not kinds.Par c.wide-h.ensures.0 c.of.ensures c.in_default.not-Par refl) (head_not kinds.Scope c.wide-h.ensures.0 c.of.ensures c.in_default.not-Scope refl) (head_not kinds.Executor c.wide-h.ensures.0 c.of.ensures c.in_default.not-Executor refl) }
 
-pub executor-returns-then-body-eq0 : goal.executor-returns-then-body-eq0
-executor-returns-then-body-eq0 t c = as_ended_written (executor_none _ _ _ _ _ _ _ c.executor_own-body.ensures c.if-body-eq0.true)
+pub executor-returns-in-None : goal.executor-returns-in-None
+executor-returns-in-None t c = as_ended_written (executor_none _ _ _ _ _ _ 0 (sym (none_end _ c.in-None.ensures)) refl)
 
-pub executor-returns : goal.executor-returns
-executor-returns t c = as_ended_written (executor_next _ _ _ _ _ _ _ _ _ c.executor_own-body.ensures c.if-body-eq0.false c.noted.ensures.ended c.noted.ensures.written)
+pub executor-returns-in-Some : goal.executor-returns-in-Some
+executor-returns-in-Some t c =
+    let e = some_end _ _ c.in-Some.ensures in
+    as_ended_written (executor_next _ _ _ _ _ _ _ _ _ e.0 e.1 c.noted.ensures.ended c.noted.ensures.written)
 
 pub par-returns-then-a-eq0 : goal.par-returns-then-a-eq0
 par-returns-then-a-eq0 t c = record { ended = two_none _ (notes_w (c.args.depth) (c.args.ws.now) (c.args.bound)) _ _ _ _ (c.noted-a.ensures.ended) (c.noted-a.ensures.written) _ (c.if-a-eq0.true); written = par_none _ _ _ _ _ _ (c.noted-a.ensures.ended) (c.noted-a.ensures.written) (c.if-a-eq0.true) }
@@ -82,10 +86,14 @@ pub scope-returns-then-e-eq0 : goal.scope-returns-then-e-eq0
 scope-returns-then-e-eq0 t c = as_ended_written (scope_none _ _ _ _ _ _ _ _ (c.if-ws-at-lt3.false) refl (c.listed-e.ensures) (c.if-e-eq0.true))
 
 pub scope-returns : goal.scope-returns
-scope-returns t c = as_ended_written (scope_next _ _ _ _ _ _ _ _ (c.if-ws-at-lt3.false) refl (c.listed-e.ensures) _ _ _ (c.if-e-eq0.false) (c.note_list.ensures.written) (c.noted.ensures.ended) (c.noted.ensures.written))
+unfolding note_list_w
+scope-returns t c = as_ended_written (scope_next _ _ _ _ _ _ _ _ (c.if-ws-at-lt3.false) refl (c.listed-e.ensures) _ _ _ (c.if-e-eq0.false) c.note.ensures (c.noted.ensures.ended) (c.noted.ensures.written))
 
 pub seq-returns-then-a-eq0 : goal.seq-returns-then-a-eq0
 seq-returns-then-a-eq0 t c = record { ended = two_none _ (notes_w (c.args.depth) (c.args.ws.now) (c.args.bound)) _ _ _ _ (c.noted-a.ensures.ended) (c.noted-a.ensures.written) _ (c.if-a-eq0.true); written = seq_none _ _ _ _ _ _ (c.noted-a.ensures.ended) (c.noted-a.ensures.written) (c.if-a-eq0.true) }
 
 pub seq-returns : goal.seq-returns
-seq-returns t c = record { ended = two_next _ (notes_w (c.args.depth) (c.args.ws.now) (c.args.bound)) _ _ _ _ (c.noted-a.ensures.ended) (c.noted-a.ensures.written) _ _ (c.if-a-eq0.false) (c.note.ensures.ended ∙ c.read-e.ensures); written = seq_next _ _ _ _ _ _ (c.noted-a.ensures.ended) (c.noted-a.ensures.written) _ _ (c.if-a-eq0.false) (c.read-e.ensures) (c.note.ensures.written) }
+unfolding note_w
+seq-returns t c =
+    let read = c.unwrap_or-e.ensures ∙ ap (λ o. unwrap_or o 0) c.read.ensures ∙ unwrap_end _ in
+    record { ended = two_next _ (notes_w (c.args.depth) (c.args.ws.now) (c.args.bound)) _ _ _ _ (c.noted-a.ensures.ended) (c.noted-a.ensures.written) _ _ (c.if-a-eq0.false) read; written = seq_next _ _ _ _ _ _ (c.noted-a.ensures.ended) (c.noted-a.ensures.written) _ _ (c.if-a-eq0.false) read c.note.ensures }

@@ -1,5 +1,4 @@
 -- `engines` of `noting::survey` meets its contract. The loop's invariant: the walk and the notes from here give what they give from the start.
--- The measure is the engines left.
 use Prim.Native.Nat.{◌-◌, ◌≤◌}
 use mathlib.Core.Path.{◌≡◌}
 use lib.ListN.{length, replicate}
@@ -13,8 +12,3 @@ invariant-loop-e l =
     (engines_from (process_end l.deepest l.ws l.bound 11) l.ws l.n (l.n - l.e) l.e l.at l.starts ≡ engines_from (process_end l.deepest l.ws l.bound 11) l.ws l.n l.n 0 2 (replicate 9 0))
     × (engines_notes l.deepest l.ws l.bound (l.n - l.e) l.at l.notes ≡ engines_notes l.deepest l.ws l.bound l.n 2 l.initial.notes)
     × (l.at ≤ length l.ws)
-    × (l.e ≤ l.n)
-    × (length l.notes ≡ length l.initial.notes)
-
-abbrev pub decreases-loop-e : goal.decreases-loop-e
-decreases-loop-e l = l.n - l.e

@@ -1,5 +1,5 @@
 -- `is_fresh` of `reading::calls` meets its contract: what is read as code, with nothing issued and no nil root, is what is fresh.
-use Rattle.reading.proofs.Known.{Known, code_known, known_length, few_engines, start_below}
+use Rattle.reading.proofs.Known.{Known, code_known, known_length, few_engines}
 use Rattle.reading.proofs.Checks.{not_code, some_issued, none_issued}
 use Rattle.layout.specs.Limits.{figures}
 use native.Mathlib.Omega.{arith}
@@ -26,7 +26,7 @@ returns-then-ws-ne0 c = some_issued (figures c.args.limits) c.args.ws.now (λ i.
 pub none_nil-requires : goal.none_nil-requires
 none_nil-requires c =
     let k = known (goal.at.none_nil-requires c).Else-n-eq0 in
-    (omega (arith, few_engines k), start_below k)
+    omega (arith, few_engines k)
 
 pub returns : goal.returns
 returns c = none_issued (figures c.args.limits) c.args.ws.now (λ i. (c.type_inv.ws i).fits) c.survey-s.result c.survey-s.ensures _ c.if-n-eq0.false c.if-ws-ne0.false c.none_nil.ensures

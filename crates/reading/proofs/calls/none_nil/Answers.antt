@@ -1,15 +1,19 @@
--- `calls::none_nil` meets its contract. The loop's invariant: the walk from here gives what it gives from the start. The measure is the engines left.
+-- `reading::calls::none_nil`: all of the places lent are tested as `none_nil` tests them.
 use native.Mathlib.Omega.{arith}
-use native.Mathlib.Nat.{sub-zero}
-use mathlib.Core.Path.{refl, ◌∙◌}
-use Rattle.reading.proofs.Freshness.{nil_met, nil_passed, nil_none}
+use mathlib.Core.Path.{sym, ◌∙◌}
+use mathlib.Core.Bool.{not}
+use borrow.Author.Rules.{rules}
+use lib.Dec.{eqb}
+use lib.ListN.{take}
+use Rattle.sock.proofs.Tests.{tests}
+use Rattle.std.proofs.lemmas.Iterator.{YieldsList-from_slice}
+use Rattle.std.proofs.lemmas.Iterator.Search.{all_from_yields_List}
+use Rattle.reading.specs.Walk.{at}
+use Rattle.reading.proofs.Freshness.{nil_all}
 use Rattle.reading.proofs.calls.none_nil.Goals as goal
 
-pub returns-then-ws-at-eq0 : goal.returns-then-ws-at-eq0
-returns-then-ws-at-eq0 c = nil_met _ _ _ _ c.loop-e-test.true c.if-ws-at-eq0.true ∙ c.loop-e.invariant.0
-
-pub loop-e-preserved : goal.loop-e-preserved
-loop-e-preserved c = (nil_passed _ _ _ _ c.loop-e-test.true c.if-ws-at-eq0.false ∙ c.loop-e.invariant.0, omega arith)
-
 pub returns : goal.returns
-returns c = nil_none _ _ _ _ c.loop-e-test.false ∙ c.loop-e.invariant.0
+returns c =
+    let a = c.args in
+    all_from_yields_List (λ i. not (eqb (at a.ws.now i) 0)) _ _ c.all.result c.all.ensures.ran (YieldsList-from_slice (take a.n a.starts) (search rules)) (λ x b q k. search (rules, tests))
+    ∙ sym (nil_all a.ws.now a.starts a.n (omega arith))

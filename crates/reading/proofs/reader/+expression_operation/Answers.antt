@@ -1,11 +1,10 @@
 -- `expression` and `operation` of `reading::reader` meet their contracts. The measure is twice the depth, and one more for an operation, which
 -- reads its operands one level down.
 use Prim.Native.Nat.{◌-◌}
-use native.Mathlib.Omega.{arith}
 use mathlib.Core.Path.{refl}
 use Rattle.layout.specs.declared.tag.Tag.TheVariants as tags
-use Rattle.layout.proofs.Named.{head_tag, not_tag}
-use Rattle.reading.specs.Walk.{expr_end, expr_at, operation_end, on, when}
+use Rattle.layout.proofs.Named.{not_tag}
+use Rattle.reading.specs.Walk.{expr_end, when}
 use Rattle.reading.proofs.Walks.{expr_step, operation_at}
 use Rattle.sock.proofs.Tests.{tests}
 use Rattle.reading.proofs.reader.+expression_operation.Goals as goal

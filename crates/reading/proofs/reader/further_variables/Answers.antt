@@ -1,31 +1,19 @@
--- `further_variables` of `reading::reader` meets its contract. The invariant: the variables that are left end where all do. The measure is how many are left.
-use mathlib.Core.Path.{refl}
-use borrow.Author.Tests.{lt-ltb, le-ltb}
+-- `reading::reader::further_variables`: all of the words lent are what `further_end` tests.
+use Prim.Native.Nat.{◌+◌, ◌%◌}
+use native.Mathlib.Omega.{arith}
+use mathlib.Core.Path.{◌∙◌}
+use borrow.Author.Rules.{rules}
+use lib.Dec.{eqb}
+use lib.ListN.{take, drop}
 use Rattle.sock.proofs.Tests.{tests}
-use Rattle.reading.specs.Walk.{when}
-use Rattle.reading.proofs.VariableWalks.{further_step, further_end_lem}
+use Rattle.std.proofs.lemmas.Iterator.{YieldsList-from_slice}
+use Rattle.std.proofs.lemmas.Iterator.Search.{all_from_yields_List}
+use Rattle.reading.proofs.Given.{as_when}
+use Rattle.reading.proofs.VariableWalks.{further_all}
 use Rattle.reading.proofs.reader.further_variables.Goals as goal
-
-pub returns-then-ws-a : goal.returns-then-ws-a
-unfolding when
-returns-then-ws-a c =
-    let h = c.loop-n-test.true in
-    simp (← c.loop-n.invariant, further_step c.args.ws.now c.loop-n.n c.loop-n.a h, le-ltb _ _ c.if-ws-a.true)
-
-pub returns-then-wide-ne0 : goal.returns-then-wide-ne0
-unfolding when
-returns-then-wide-ne0 c =
-    let h = c.loop-n-test.true in
-    let z = c.if-wide-ne0.true in
-    simp (← c.loop-n.invariant, further_step c.args.ws.now c.loop-n.n c.loop-n.a h, lt-ltb _ _ c.if-ws-a.false, ← c.wide.ensures.0, tests, z)
-
-pub loop-n-preserved : goal.loop-n-preserved
-unfolding when
-loop-n-preserved c =
-    let h = c.loop-n-test.true in
-    let z = c.if-wide-ne0.false in
-    simp (← c.loop-n.invariant, further_step c.args.ws.now c.loop-n.n c.loop-n.a h, lt-ltb _ _ c.if-ws-a.false, ← c.wide.ensures.0, tests, z)
 
 pub returns : goal.returns
 returns c =
-    simp (← c.loop-n.invariant, further_end_lem c.args.ws.now c.loop-n.n c.loop-n.a c.loop-n-test.false)
+    let a = c.args in
+    let e = all_from_yields_List (λ w. eqb (w % 2048) 0) _ _ c.all.result c.all.ensures.ran (YieldsList-from_slice (take a.left (drop a.at a.ws.now)) (search rules)) (λ x b q k. search (rules, tests)) in
+    c.then_some.ensures ∙ rw (further_all a.ws.now a.left a.at (omega arith), ← e) (as_when c.all.result (a.at + a.left) (λ z. absurd (omega (arith, z))))

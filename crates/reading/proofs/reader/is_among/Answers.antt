@@ -1,28 +1,22 @@
--- `is_among` of `reading::reader` meets its contract. The invariant: x is among those left if it is among all. The measure is how many are left.
-use Prim.Native.Nat.{◌/◌}
-use mathlib.Core.Path.{refl}
-use borrow.Author.Tests.{lt-ltb, le-ltb, eq-eqb}
+-- `reading::reader::is_among`: any of the words lent is what `among` tests.
+use Prim.Native.Nat.{◌-◌, ◌/◌}
+use native.Mathlib.Omega.{arith}
+use mathlib.Core.Path.{sym, ap, ◌∙◌}
+use borrow.Author.Rules.{rules}
+use lib.Dec.{eqb}
+use lib.ListN.{length, drop, length-drop}
+use lib.Seq.{take_all}
 use Rattle.sock.proofs.Tests.{tests}
-use Rattle.reading.proofs.VariableWalks.{among_step, among_end}
+use Rattle.std.specs.Slice.Iter.{iter_rest}
+use Rattle.std.proofs.lemmas.Iterator.{YieldsList-from_slice, YieldsList-from_take}
+use Rattle.std.proofs.lemmas.Iterator.Search.{any_from_yields_List}
+use Rattle.reading.proofs.VariableWalks.{among_any}
 use Rattle.reading.proofs.reader.is_among.Goals as goal
-
-pub returns-then-ws-a : goal.returns-then-ws-a
-returns-then-ws-a c =
-    let h = c.loop-n-test.true in
-    simp (← c.loop-n.invariant, among_step c.args.ws.now c.loop-n.n c.args.x c.loop-n.a h, le-ltb _ _ c.if-ws-a.true)
-
-pub returns-then-x-wide : goal.returns-then-x-wide
-returns-then-x-wide c =
-    let h = c.loop-n-test.true in
-    let z = c.if-x-wide.true in
-    simp (← c.loop-n.invariant, among_step c.args.ws.now c.loop-n.n c.args.x c.loop-n.a h, lt-ltb _ _ c.if-ws-a.false, ← c.wide.ensures.0, eq-eqb c.args.x (c.wide.result / 2048) z)
-
-pub loop-n-preserved : goal.loop-n-preserved
-loop-n-preserved c =
-    let h = c.loop-n-test.true in
-    let z = c.if-x-wide.false in
-    simp (← c.loop-n.invariant, among_step c.args.ws.now c.loop-n.n c.args.x c.loop-n.a h, lt-ltb _ _ c.if-ws-a.false, ← c.wide.ensures.0, tests, z)
 
 pub returns : goal.returns
 returns c =
-    simp (← c.loop-n.invariant, among_end c.args.ws.now c.loop-n.n c.args.x c.loop-n.a c.loop-n-test.false)
+    let a = c.args in
+    let l = length-drop a.at a.ws.now in
+    let rest = ap iter_rest c.take.ensures.source ∙ c.iter.ensures.rest ∙ take_all (length a.ws.now - a.at) (drop a.at a.ws.now) (omega arith) in
+    let e = any_from_yields_List (λ w. eqb a.x (w / 2048)) _ _ c.any.result c.any.ensures.ran (YieldsList-from_take a.left (YieldsList-from_slice (drop a.at a.ws.now) rest) c.take.ensures.count) (λ x b q k. search (rules, tests)) in
+    e ∙ sym (among_any a.ws.now a.left a.x a.at)

@@ -1,5 +1,5 @@
 -- `tables::shape` meets its contract: each arm is what the fixed table packs to; nothing stands behind the expressions.
-use mathlib.Core.Path.{sym, ap}
+use mathlib.Core.Path.{sym}
 use Rattle.sock.specs.Kind.{rows, row_of}
 use Rattle.sock.specs.Counts.{word_count, list_count}
 use Rattle.sock.specs.Reading.{allowed, placed}

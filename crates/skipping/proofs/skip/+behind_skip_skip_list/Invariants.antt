@@ -1,5 +1,5 @@
 -- `behind`, `skip` and `skip_list` of `skipping::skip` meet their contracts. The invariants: the mirror's loop from here on gives the same end; the
--- loops' measures are the turns and the entries that are left. The measure of the calls is three times the depth, which falls from a process to
+-- measure of the loop in `skip` is the turns that are left. The measure of the calls is three times the depth, which falls from a process to
 -- what its lists hold, and for the same depth who calls whom.
 use mathlib.Core.Path.{◌≡◌}
 use lib.ListN.{length}
@@ -27,10 +27,6 @@ abbrev pub decreases-skip-loop-left : goal.decreases-skip-loop-left
 decreases-skip-loop-left l =
     l.turns
 
-abbrev pub invariant-skip_list-loop-left : goal.invariant-skip_list-loop-left
-invariant-skip_list-loop-left l =
-    entries_skip (skip_end l.depth l.ws) l.ws l.wanted l.left l.met l.a ≡ skip_list l.depth l.ws l.wanted l.at
-
-abbrev pub decreases-skip_list-loop-left : goal.decreases-skip_list-loop-left
-decreases-skip_list-loop-left l =
-    l.left
+abbrev pub invariant-skip_list-loop : goal.invariant-skip_list-loop
+invariant-skip_list-loop l =
+    entries_skip (skip_end l.depth l.ws) l.ws l.wanted (l.count - l.counter) l.met l.a ≡ skip_list l.depth l.ws l.wanted l.at

@@ -1,9 +1,8 @@
 -- `skip_expression` of `skipping::skip` meets its contract. The invariant: the mirror's loop from here on gives
 -- the same end. The measure is the turns that are left.
-use Prim.Native.Nat.{◌/◌}
-use mathlib.Core.Path.{refl, sym, ap, ◌∙◌}
+use mathlib.Core.Path.{sym, ap, ◌∙◌}
 use borrow.Author.Rules.{rules}
-use Rattle.skipping.specs.Skip.{expr_form, expr_skip}
+use Rattle.skipping.specs.Skip.{expr_form}
 use Rattle.layout.specs.Kinds.{tag_number}
 use Rattle.skipping.proofs.Forms.{expr_named}
 use Rattle.skipping.proofs.Turns.{expr_last, expr_over, expr_out, expr_turn}
