@@ -10,3 +10,4 @@ pub mod LaidOut
 pub mod Greatest
 pub mod Order
 pub mod Examples
+pub mod Standing

@@ -1,28 +1,24 @@
 -- The words held are the definitions' words of the bytes, laid over what was there, and what is not held is read by no call.
 -- Assumes nothing.
-use Prim.Native.Nat.{ℕ, zero, suc, ◌+◌, ◌*◌, ◌/◌, ◌≤◌, ◌<◌}
+use Prim.Native.Nat.{ℕ, zero, suc, ◌+◌, ◌*◌, ◌/◌, ◌%◌, ◌≤◌, ◌<◌}
 use native.Mathlib.Omega.{arith}
 use mathlib.Core.Path.{◌≡◌, refl, sym, ap, ◌∙◌}
 use mathlib.Core.Bool.{Bool, true, false, cond, ◌&&◌}
 use mathlib.Core.Option.{Option}
 use mathlib.Core.List.{List, [], ◌∷◌, map}
 use lib.Dec.{ltb, leb}
-use lib.ListN.{length, get_or, set, take, drop}
-use lib.Seq.{take_all, take_at}
-use borrow.Author.Tests.{lt-ltb, le-ltb, ltb-true}
-use Rattle.std.specs.Int.{w16, from_be_bytes, from_bool}
+use lib.ListN.{length, get_or, set, take, length-map}
+use lib.Seq.{take_all}
+use borrow.Author.Tests.{lt-ltb, le-ltb, ltb-true, eqb-true, eqb-false}
+use Rattle.std.specs.Bool.{◌==◌}
+use Rattle.std.specs.Int.{w16, from_be_bytes}
 use Rattle.std.specs.Simd.{first_chunks}
-use Rattle.std.proofs.lemmas.List.{nil_from_length}
+use Rattle.std.proofs.lemmas.List.{nil_from_length, get_or-map}
 use Rattle.sock.specs.Bytes.{words_of, words_or_none, words_in, byte_check_readable, byte_check_start, byte_ends, packed_ends, packed_part, byte_process}
-use Rattle.sock.specs.Words.{bit}
-use Rattle.sock.specs.Pending.{Pending as Search, side_at, searched, pending_at, packed_pending, byte_pending}
-use Rattle.searching.specs.declared.call.Pending.{Pending}
-use Rattle.searching.specs.Answers.{pending_as}
-use Rattle.sock.specs.Calls.{unreadable, nobody_there, enabled_at, not_fresh, unknown_serial, done, ◌!◌, ◌>>=◌, ◌>>◌, ◌unless◌, passed, Ends, check_readable, start, check_start, counted, known, ends, part_in, process_part, over}
+use Rattle.sock.specs.Pending.{side_at, searched, pending_at, packed_pending, byte_pending}
+use Rattle.sock.specs.Calls.{unreadable, nobody_there, enabled_at, not_fresh, unknown_serial, done, ◌!◌, ◌>>=◌, ◌>>◌, ◌unless◌, passed, check_readable, start, check_start, counted, known, ends, part_in, process_part, over}
 use Rattle.sock.specs.Configuration.{Config, Limits, standard, read_config, fresh}
 use Rattle.sock.proofs.ByteWords.{words_next, words_length, words_of_odd, length_words, no_words, long_unread}
-use Rattle.reading.specs.declared.ends.EndCounts.{EndCounts}
-use Rattle.reading.specs.Answers.{end_counts}
 use Rattle.bytewise.specs.Held.{held}
 
 -- ---- pairs of bytes as words
@@ -66,6 +62,14 @@ laid_turn us ws ws₀ i w a b q f =
     ∙ laid_next i us ws₀ a b
     ∙ ap (λ (m : ℕ). over (take m us) ws₀) one_more_lem
 
+-- a pair more
+pub fill_turn :
+    (pairs : List (List ℕ)) (ws ws₀ : List ℕ) (i w : ℕ) → i < length pairs → i < length ws₀ → w ≡ from_be_bytes w16 (get_or pairs i []) →
+    ws ≡ over (take i (map (from_be_bytes w16) pairs)) ws₀ → set ws i w ≡ over (take (i + 1) (map (from_be_bytes w16) pairs)) ws₀
+fill_turn pairs ws ws₀ i w a b q f =
+    laid_turn (map (from_be_bytes w16) pairs) ws ws₀ i w (omega (arith, length-map pairs (from_be_bytes w16))) b
+    (q ∙ sym (get_or-map (from_be_bytes w16) pairs i [] 0 a)) f
+
 pub laid_end : (us ws ws₀ : List ℕ) (i : ℕ) → i ≡ length us → ws ≡ over (take i us) ws₀ → ws ≡ over us ws₀
 laid_end us ws ws₀ i p f =
     let all : take i us ≡ us = take_all i us (omega arith) in
@@ -94,26 +98,29 @@ held_short room bytes h = held_as room bytes false (le-ltb _ _ h)
 pub held_all : (room n : ℕ) (bytes : List ℕ) → length bytes ≡ n * 2 → n ≤ room → words_or_none (words_of bytes) ≡ held room bytes
 held_all room n bytes e h = sym (held_short room bytes (omega arith))
 
-pub none_laid : (us ws : List ℕ) → [] ≡ us → (0 ≡ length us) × (ws ≡ over us ws) × (0 ≤ length ws)
+none_laid : (us ws : List ℕ) → [] ≡ us → (0 ≡ length us) × (ws ≡ over us ws) × (0 ≤ length ws)
 none_laid us ws e = (ap length e, ap (λ (l : List ℕ). over l ws) e, omega arith)
 
-pub all_laid :
-    (n room : ℕ) (bytes ws out : List ℕ) (pairs : List (List ℕ)) → length bytes ≡ n * 2 → n ≤ room → room ≡ length ws →
-    pairs ≡ first_chunks 2 (length bytes / 2) bytes → out ≡ over (map (from_be_bytes w16) pairs) ws →
-    (n ≡ length (held room bytes)) × (out ≡ over (held room bytes) ws) × (n ≤ length ws)
-all_laid n room bytes ws out pairs e h s p q =
-    let same = held_all room n bytes e h in
-    let words = ap (map (from_be_bytes w16)) p ∙ paired bytes (length bytes / 2) refl ∙ even_words n bytes e ∙ same in
-    (sym (words_length n bytes e) ∙ ap length same, q ∙ ap (λ (l : List ℕ). over l ws) words, omega arith)
+pub odd_laid :
+    (bytes ws rest : List ℕ) → length rest ≡ length bytes % 2 → length rest == 0 ≡ false →
+    (0 ≡ length (held (length ws) bytes)) × (ws ≡ over (held (length ws) bytes) ws) × (0 ≤ length ws)
+odd_laid bytes ws rest e h = none_laid _ ws (held_odd (length ws) (length bytes / 2) bytes (let n = eqb-false (length rest) 0 h in omega arith))
 
--- the first of them are the words held
-pub first_held : (room m : ℕ) (bytes ws out : List ℕ) (r : ℕ) → room ≡ m → r ≡ length (held room bytes) → out ≡ over (held room bytes) ws → take r out ≡ held m bytes
-first_held room m bytes ws out r s p q =
-    let us = held room bytes in
-    ap (λ (k : ℕ). take k out) p
-    ∙ ap (take (length us)) q
-    ∙ take_at us (drop (length us) ws) (length us) refl
-    ∙ ap (λ (k : ℕ). held k bytes) s
+pub long_laid :
+    (bytes ws rest : List ℕ) → length rest ≡ length bytes % 2 → length rest == 0 ≡ true → length ws < length bytes / 2 →
+    (0 ≡ length (held (length ws) bytes)) × (ws ≡ over (held (length ws) bytes) ws) × (0 ≤ length ws)
+long_laid bytes ws rest e z h = none_laid _ ws (held_long (length ws) (length bytes / 2) bytes (let n = eqb-true (length rest) 0 z in omega arith) h)
+
+pub all_laid :
+    (bytes ws out rest : List ℕ) (pairs : List (List ℕ)) → length rest ≡ length bytes % 2 → length rest == 0 ≡ true → length pairs ≡ length bytes / 2 → length pairs ≤ length ws →
+    pairs ≡ first_chunks 2 (length bytes / 2) bytes → out ≡ over (map (from_be_bytes w16) pairs) ws →
+    (length pairs ≡ length (held (length ws) bytes)) × (out ≡ over (held (length ws) bytes) ws) × (length pairs ≤ length ws)
+all_laid bytes ws out rest pairs d z n h p q =
+    let r = eqb-true (length rest) 0 z in
+    let e : length bytes ≡ length bytes / 2 * 2 = omega arith in
+    let same = held_all (length ws) (length bytes / 2) bytes e (omega arith) in
+    let words = ap (map (from_be_bytes w16)) p ∙ paired bytes (length bytes / 2) refl ∙ even_words (length bytes / 2) bytes e ∙ same in
+    (n ∙ sym (words_length (length bytes / 2) bytes e) ∙ ap length same, q ∙ ap (λ (l : List ℕ). over l ws) words, h)
 
 -- ---- what is not held is not readable
 
@@ -156,18 +163,3 @@ module _ (bytes ws : List ℕ) (e : ws ≡ held 8192 bytes) where
   pub process_as : (e : ℕ) → packed_part (process_part standard ws e) ≡ byte_process bytes e
   unfolding process_part byte_process
   process_as e = ap (λ (o : Option Config). packed_part (part_in e o)) read_large
-
-pub found_bit : (b : Bool) (n : ℕ) → n ≡ from_bool b → n ≡ bit b
-found_bit true n e = e
-found_bit false n e = e
-
-pub pending_packed :
-    (r : Pending) (p : Search) (f : ℕ) → r ≡ pending_as p → f ≡ bit r.found → r.number * 72057594037927936 + f * 281474976710656 + r.count ≡ packed_pending p
-unfolding packed_pending
-pending_packed r p f q e =
-    ap (λ (k : ℕ). r.number * 72057594037927936 + k * 281474976710656 + r.count) e
-    ∙ ap (λ (x : Pending). x.number * 72057594037927936 + bit x.found * 281474976710656 + x.count) q
-
-pub ends_packed : (r : EndCounts) (e : Ends) → r ≡ end_counts e → r.number * 72057594037927936 + r.waiters * 65536 + r.workers ≡ packed_ends e
-unfolding packed_ends
-ends_packed r e q = ap (λ (x : EndCounts). x.number * 72057594037927936 + x.waiters * 65536 + x.workers) q

@@ -6,8 +6,8 @@ use mathlib.Core.Path.{◌≡◌, refl, sym, ap, ◌∙◌}
 use mathlib.Core.Bool.{Bool, true, false}
 use mathlib.Core.List.{List, map}
 use lib.Dec.{ltb}
-use lib.ListN.{length, take, drop}
-use lib.Seq.{length-take-le, take_all, take_at}
+use lib.ListN.{length, take}
+use lib.Seq.{length-take-le, take_all}
 use borrow.Author.Tests.{ltb-true, ltb-false}
 use Rattle.std.specs.Int.{w16, from_be_bytes}
 use Rattle.std.specs.Simd.{first_chunks}
@@ -28,23 +28,12 @@ part_all room n bytes e = by (ltb room (length bytes / 2)) refl
         take_all n (words_in bytes) (omega (arith, e, words_count bytes)) ∙ sym (take_all room (words_in bytes) (omega (arith, words_count bytes)))
 
 pub part_held :
-    (n room : ℕ) (bytes ws after : List ℕ) (pairs : List (List ℕ)) → room ≡ length ws → n ≡ min (length bytes / 2) room →
+    (n : ℕ) (bytes ws after : List ℕ) (pairs : List (List ℕ)) → n ≡ min (length bytes / 2) (length ws) →
     pairs ≡ first_chunks 2 (length bytes / 2) bytes → after ≡ over (map (from_be_bytes w16) (take n pairs)) ws →
-    (n ≡ length (held_part room bytes)) × (after ≡ over (held_part room bytes) ws) × (n ≤ length ws)
+    (n ≡ length (held_part (length ws) bytes)) × (after ≡ over (held_part (length ws) bytes) ws) × (n ≤ length ws)
 unfolding held_part
-part_held n room bytes ws after pairs s e p q =
+part_held n bytes ws after pairs e p q =
     let words : map (from_be_bytes w16) pairs ≡ words_in bytes = ap (map (from_be_bytes w16)) p ∙ paired bytes (length bytes / 2) refl in
-    let same : map (from_be_bytes w16) (take n pairs) ≡ take room (words_in bytes) = sym (take-map (from_be_bytes w16) n pairs) ∙ ap (take n) words ∙ part_all room n bytes e in
+    let same : map (from_be_bytes w16) (take n pairs) ≡ take (length ws) (words_in bytes) = sym (take-map (from_be_bytes w16) n pairs) ∙ ap (take n) words ∙ part_all (length ws) n bytes e in
     let long : length (take n (words_in bytes)) ≡ n = length-take-le n (words_in bytes) (omega (arith, e, words_count bytes)) in
-    (sym long ∙ ap length (part_all room n bytes e), q ∙ ap (λ (u : List ℕ). over u ws) same, omega arith)
-
--- the first of them are the words held
-pub first_part :
-    (room m : ℕ) (bytes ws out : List ℕ) (r : ℕ) → room ≡ m → r ≡ length (held_part room bytes) → out ≡ over (held_part room bytes) ws →
-    take r out ≡ held_part m bytes
-first_part room m bytes ws out r s p q =
-    let us = held_part room bytes in
-    ap (λ (k : ℕ). take k out) p
-    ∙ ap (take (length us)) q
-    ∙ take_at us (drop (length us) ws) (length us) refl
-    ∙ ap (λ (k : ℕ). held_part k bytes) s
+    (sym long ∙ ap length (part_all (length ws) n bytes e), q ∙ ap (λ (u : List ℕ). over u ws) same, omega arith)

@@ -13,8 +13,7 @@ use Rattle.sock.specs.Running.{size}
 use Rattle.sock.specs.Configuration.{Config, standard, read_config}
 use Rattle.sock.specs.Calls.{engine_at, part_in, process_part}
 use Rattle.sock.proofs.Located.{start_of}
-use Rattle.reading.specs.declared.survey.Starts.{Starts}
-use Rattle.reading.specs.Survey.{surveyed}
+use Rattle.reading.specs.Survey.{Starts, no_starts, surveyed}
 use Rattle.reading.proofs.Combining.{Words}
 use Rattle.reading.proofs.Standing.{start_inside, start_next}
 use Rattle.reading.proofs.Known.{Known, known_length, survey_known, survey_unknown}
@@ -64,3 +63,8 @@ module _ (ws : List ℕ) (ok : Words ws) (s : Starts) (q : s ≡ surveyed standa
       by (no n) =
           let k = survey_known standard ws ok s q n in
           sym (part_by ws e (some k.config) k.reads ∙ rw (le-ltb e (length k.config.engines) (omega (arith, k.engines))))
+
+-- where nothing is readable there is no engine
+pub unread_placed : (ws : List ℕ) → Words ws → (e : ℕ) → no_starts ≡ surveyed standard 11 ws → 0 ≡ packed_part (process_part standard ws e)
+unfolding no_starts
+unread_placed ws ok e q = none_placed ws ok no_starts q e (omega arith)

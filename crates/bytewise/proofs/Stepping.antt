@@ -7,11 +7,9 @@ use mathlib.Core.List.{List}
 use lib.ListN.{length, take}
 use lib.Seq.{length-take-le}
 use Rattle.sock.specs.Configuration.{Limits, standard, encode, read_config}
-use Rattle.sock.specs.Calls.{unreadable, Result, ◌!◌, Numbers, Stepped, step, answer_of, over, step_answer, step_output}
+use Rattle.sock.specs.Calls.{unreadable, Result, ◌!◌, Numbers, Stepped, step, Answer, answer_of, over, step_answer, step_output}
 use Rattle.sock.specs.Bytes.{bytes_of, words_of, words_or_none, byte_step, packed, byte_answer, bytes_after, byte_output}
 use Rattle.sock.proofs.Rooms.{Agree, both_refuse, both_do, one_short, bind_agrees, step_agrees, fits_room, bytes_refused, bytes_done, small_same, step_words}
-use Rattle.stepping.specs.declared.answer.Answer.{Answer}
-use Rattle.stepping.specs.Answers.{answer_as}
 use Rattle.bytewise.specs.Held.{held, packed_as, room_of}
 use Rattle.bytewise.proofs.Holding.{held_short, read_as}
 
@@ -35,7 +33,7 @@ large_same limits most all bytes ws k = by (step_agrees limits (room_of most byt
 
 -- ---- what the code makes of an answer
 
-pub packed_as_lem : (x : Result Stepped) → packed_as (answer_as (answer_of x)) ≡ packed (answer_of x)
+pub packed_as_lem : (x : Result Stepped) → packed_as (answer_of x) ≡ packed (answer_of x)
 unfolding packed
 packed_as_lem x = refl
 
@@ -58,11 +56,11 @@ step_held limits most all bytes ws e k room = step_words limits ws (words_of byt
 pub part_fits : {bytes : ℕ} (room : ℕ) (l : List ℕ) → room ≤ length l → room * 2 ≤ bytes → length (take room l) * 2 ≤ bytes
 part_fits room l h b = rw (length-take-le room l h) b
 
-module _ (limits : Limits) (ws : List ℕ) (k : Numbers) (r0 out : List ℕ) (a : Answer) (p : a ≡ answer_as (step_answer limits ws k r0)) where
+module _ (limits : Limits) (ws : List ℕ) (k : Numbers) (r0 out : List ℕ) (a : Answer) (p : a ≡ step_answer limits ws k r0) where
   abbrev x : Result Stepped
   x = step limits ws k (length r0)
 
-  pub as_step : a ≡ answer_as (answer_of x)
+  pub as_step : a ≡ answer_of x
   unfolding step_answer
   as_step = p
 
@@ -92,8 +90,8 @@ module _ (limits : Limits) {ws us : List ℕ} (same-words : ws ≡ us) (k : Numb
   sized : step limits ws k m ≡ step limits us k room
   sized = ap (λ (v : List ℕ). step limits v k m) same-words ∙ ap (step limits us k) same-room
 
-  pub sized_answer : answer_as (answer_of (step limits ws k m)) ≡ answer_as (answer_of (step limits us k room))
-  sized_answer = ap (λ (y : Result Stepped). answer_as (answer_of y)) sized
+  pub sized_answer : answer_of (step limits ws k m) ≡ answer_of (step limits us k room)
+  sized_answer = ap (λ (y : Result Stepped). answer_of y) sized
 
   pub sized_output : (out : List ℕ) → bytes_after (step limits ws k m) out ≡ bytes_after (step limits us k room) out
   sized_output out = ap (λ (y : Result Stepped). bytes_after y out) sized
@@ -103,7 +101,7 @@ module _ (limits : Limits) (most : ℕ) (all : limits.longest ≤ most) (bytes :
   whole : step limits (held most bytes) k (room_of most (length out)) ≡ byte_step limits bytes k (length out / 2)
   whole = large_same limits most all (length out) (held most bytes) k ∙ step_held limits most all bytes (held most bytes) refl k (length out / 2)
 
-  pub large_answer : packed_as (answer_as (answer_of (step limits (held most bytes) k (room_of most (length out))))) ≡ byte_answer limits bytes k out
+  pub large_answer : packed_as (answer_of (step limits (held most bytes) k (room_of most (length out)))) ≡ byte_answer limits bytes k out
   unfolding byte_answer
   large_answer = packed_as_lem (step limits (held most bytes) k (room_of most (length out))) ∙ ap (λ (y : Result Stepped). packed (answer_of y)) whole
 
@@ -118,15 +116,15 @@ short_step bytes short k room = step_words_in standard bytes (held 512 bytes) (h
 
 -- a step in a short room that is not refused for that
 module _ (bytes : List ℕ) (short : length bytes ≤ 1024) (k : Numbers) (out : List ℕ) (a : Answer)
-    (q : a ≡ answer_as (answer_of (step standard (held 512 bytes) k (room_of 1024 (length out))))) where
+    (q : a ≡ answer_of (step standard (held 512 bytes) k (room_of 1024 (length out)))) where
   abbrev tried : Result Stepped
   tried = byte_step standard bytes k (room_of 1024 (length out))
 
   tried_is : step standard (held 512 bytes) k (room_of 1024 (length out)) ≡ tried
   tried_is = short_step bytes short k (room_of 1024 (length out))
 
-  p : a ≡ answer_as (answer_of tried)
-  p = q ∙ ap (λ (x : Result Stepped). answer_as (answer_of x)) tried_is
+  p : a ≡ answer_of tried
+  p = q ∙ ap (λ (x : Result Stepped). answer_of x) tried_is
 
   agree : Agree 8192 (room_of 1024 (length out)) (length out / 2) tried (byte_step standard bytes k (length out / 2))
   unfolding byte_step

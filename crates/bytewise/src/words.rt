@@ -5,6 +5,7 @@ ghost use Rattle.std.specs.Int.{w16, from_be_bytes};
 ghost use Rattle.bytewise.specs.Held.{held, held_part};
 
 // The words of the pairs, over the first of `ws`.
+#[tactic(auto, using(crate::proofs::Holding::fill_turn, crate::proofs::Holding::laid_end))]
 fn fill(pairs: &[[u8; 2]], ws: &mut [u16])
     requires { length pairs.now ≤ length ws.old }
     ensures { ws.new ≡ over (map (from_be_bytes w16) pairs.now) ws.old }
@@ -15,6 +16,7 @@ fn fill(pairs: &[[u8; 2]], ws: &mut [u16])
 }
 
 // How many words the bytes are, and the words over the first of `ws`; none where the length is odd, or `ws` has too little room for them.
+#[tactic(auto, using(crate::proofs::Holding::odd_laid, crate::proofs::Holding::long_laid))]
 pub fn hold(bytes: &[u8], ws: &mut [u16]) -> usize
     ensures { (result ≡ length (held (length ws.old) bytes.now)) × (ws.new ≡ over (held (length ws.old) bytes.now) ws.old) × (result ≤ length ws.old) }
 {
@@ -38,6 +40,7 @@ pub fn held<'a>(bytes: &[u8], scratch: &'a mut [u16]) -> &'a [u16]
 }
 
 // As many words of the bytes as `ws` has room for, an odd last byte left out: how many, and the words over the first of `ws`.
+#[tactic(auto, using(crate::proofs::Parts::part_held))]
 pub fn hold_part(bytes: &[u8], ws: &mut [u16]) -> usize
     ensures { (result ≡ length (held_part (length ws.old) bytes.now)) × (ws.new ≡ over (held_part (length ws.old) bytes.now) ws.old) × (result ≤ length ws.old) }
 {

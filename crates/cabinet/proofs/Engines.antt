@@ -7,25 +7,30 @@ use mathlib.Core.Bool.{Bool, true, false}
 use mathlib.Core.Option.{Option, none, some}
 use mathlib.Core.List.{List, []}
 use lib.Dec.{leb, leb→le}
-use lib.ListN.{length, take, drop, length-append}
+use lib.ListN.{length, drop, length-append}
 use lib.Seq.{take_at}
-use borrow.Author.Tests.{leb-true, le-leb, lt-leb, eq-eqb, ne_eqb}
+use borrow.Author.Tests.{leb-true, le-leb, lt-leb, eqb-false}
 use Rattle.sock.specs.Configuration.{standard, Engine, Config, encode, read_config}
-use Rattle.sock.specs.Calls.{unreadable, not_fresh, long, short, still_at_work, number, Result, refused, done, ◌>>=◌, ◌>>◌, ◌!◌, ◌unless◌, over, passed}
-use Rattle.sock.specs.Journal.{taken_of, restored_over}
-use Rattle.sock.specs.Bytes.{bytes_of, words_of, words_or_none, packed_taken, restored_bytes}
+use Rattle.sock.specs.Calls.{unreadable, not_fresh, long, short, still_at_work, Result, refused, done, ◌>>=◌, ◌>>◌, ◌!◌, ◌unless◌, passed}
+use Rattle.sock.specs.Journal.{Taken, taken_of, restored_over}
+use Rattle.sock.specs.Bytes.{words_of, words_or_none, packed_taken, restored_bytes}
 use Rattle.sock.specs.Engines.{newcomer, with_next, admitting, join, join_answer, join_output, without_last, may_leave, leave, leave_answer, leave_output}
 use Rattle.sock.specs.EnginesBytes.{byte_join, byte_join_answer, byte_join_output, byte_leave, byte_leave_answer, byte_leave_output}
 use Rattle.sock.proofs.Logic.{true_test}
 use Rattle.sock.proofs.ByteWords.{no_words}
 use Rattle.sock.proofs.Configuration.{config_found}
-use Rattle.sock.proofs.Accepted.{number_positive}
 use Rattle.sock.proofs.Rooms.{refusal_number}
 use Rattle.sock.proofs.Steps.{Sure, sure_refused, sure_done, sure_then, sure_unless, sure_done_lem}
 use Rattle.sock.proofs.Engines.{may_leave_lem, left_calm}
-use Rattle.engines.specs.declared.answer.Written.{Written}
-use Rattle.engines.specs.Answers.{written_as}
-use Rattle.bytewise.specs.Held.{held, room_of}
+use Rattle.layout.specs.declared.refusal.Refusal.{Refusal}
+use Rattle.layout.specs.declared.refusal.Refusal.TheVariants.{TooLong}
+use Rattle.layout.specs.Refusals.{number_in}
+use Rattle.std.specs.Result.{result_and}
+use Rattle.layout.proofs.Refusing.{never_zero}
+use Rattle.std.specs.Prelude as code
+use Rattle.std.specs.Prelude.{Ok, Err, IfOk}
+use Rattle.engines.specs.Answers.{written_in}
+use Rattle.bytewise.specs.Held.{held, numbered_as, room_of}
 use Rattle.cabinet.specs.Handed.{handed_out, too_long}
 use Rattle.bytewise.proofs.Holding.{held_short, read_as}
 use Rattle.cabinet.proofs.Journaling.{leb_room}
@@ -36,44 +41,37 @@ sure_any (done a) = sure_done tt
 
 -- ---- what is handed out
 
-module _ (x : Result (List ℕ)) (r0 r1 out : List ℕ) (w : Written) (a : w ≡ written_as (taken_of x)) (b : r1 ≡ restored_over x r0)
-    (fits : (us : List ℕ) → x ≡ done us → length us ≤ length r0) (room : length r0 * 2 ≤ length out) where
-  pub handed_fits : w.number ≡ 0 → (w.length ≤ length r1) × (w.length * 2 ≤ length out)
-  unfolding taken_of restored_over
-  handed_fits z = by x refl
-    where
-      by : (y : Result (List ℕ)) → x ≡ y → (w.length ≤ length r1) × (w.length * 2 ≤ length out)
-      by (refused f) e = absurd (omega (arith, ap (λ (t : Written). t.number) a, ap (λ y. (taken_of y).number) e, refusal_number f))
-      by (done us) e =
-          let long : w.length ≡ length us = ap (λ (t : Written). t.length) a ∙ ap (λ y. (taken_of y).length) e in
-          let laid : length r1 ≡ length us + length (drop (length us) r0) = ap length (b ∙ ap (λ y. restored_over y r0) e) ∙ length-append us (drop (length us) r0) in
-          (omega arith, omega (arith, fits us e))
+abbrev Handed : code.Result ℕ Refusal → List ℕ → List ℕ → Type 0
+Handed g r1 out = IfOk g (λ n. (n ≤ length r1) × (n * 2 ≤ length out))
 
-  pub handed_is : handed_out w r1 out ≡ restored_bytes x out
-  unfolding taken_of restored_over restored_bytes handed_out
-  handed_is = by x refl
-    where
-      by : (y : Result (List ℕ)) → x ≡ y → handed_out w r1 out ≡ restored_bytes x out
-      by (refused f) e =
-          let q : w.number ≡ number f = ap (λ (t : Written). t.number) a ∙ ap (λ y. (taken_of y).number) e in
-          rw (e, q, number_positive f)
-      by (done us) e =
-          let z : w.number ≡ 0 = ap (λ (t : Written). t.number) a ∙ ap (λ y. (taken_of y).number) e in
-          let n : w.length ≡ length us = ap (λ (t : Written). t.length) a ∙ ap (λ y. (taken_of y).length) e in
-          let l : r1 ≡ over us r0 = b ∙ ap (λ y. restored_over y r0) e in
-          rw (e, z, n, l, take_at us (drop (length us) r0) (length us) refl)
+handed_fits :
+    (g : code.Result ℕ Refusal) (x : Result (List ℕ)) (r0 r1 out : List ℕ) → written_in g ≡ taken_of x → r1 ≡ restored_over x r0 →
+    ((us : List ℕ) → x ≡ done us → length us ≤ length r0) → length r0 * 2 ≤ length out → Handed g r1 out
+unfolding taken_of restored_over
+handed_fits (Err r) x r0 r1 out a b fits room = tt
+handed_fits (Ok n) (refused f) r0 r1 out a b fits room = absurd (omega (arith, ap (λ (t : Taken). t.number) a, refusal_number f))
+handed_fits (Ok n) (done us) r0 r1 out a b fits room =
+    let long : n ≡ length us = ap (λ (t : Taken). t.length) a in
+    let laid : length r1 ≡ length us + length (drop (length us) r0) = ap length b ∙ length-append us (drop (length us) r0) in
+    (omega arith, omega (arith, fits us refl))
 
-  pub handed_number : w.number * 72057594037927936 + w.length ≡ packed_taken (taken_of x)
-  unfolding packed_taken
-  handed_number = ap (λ (t : Written). t.number * 72057594037927936 + t.length) a
+handed_number : (g : code.Result ℕ Refusal) (x : Result (List ℕ)) → written_in g ≡ taken_of x → numbered_as g ≡ packed_taken (taken_of x)
+unfolding taken_of packed_taken
+handed_number (Err r) (refused f) a = let n = ap (λ (t : Taken). t.number) a in omega (arith, n)
+handed_number (Err r) (done us) a = absurd (eqb-false _ 0 (never_zero r) (ap (λ (t : Taken). t.number) a))
+handed_number (Ok n) (refused f) a = absurd (omega (arith, ap (λ (t : Taken). t.number) a, refusal_number f))
+handed_number (Ok n) (done us) a = let m = ap (λ (t : Taken). t.length) a in omega (arith, m)
 
-pub handed_none : (w : Written) (r out : List ℕ) → (w.number ≡ 0 → ⊥) → out ≡ handed_out w r out
-unfolding handed_out
-handed_none w r out h = rw (ne_eqb w.number 0 h)
-
-pub handed_some : (w : Written) (r out last : List ℕ) → w.number ≡ 0 → last ≡ over (bytes_of (take w.length r)) out → last ≡ handed_out w r out
-unfolding handed_out
-handed_some w r out last z e = e ∙ rw (eq-eqb w.number 0 z)
+handed_is :
+    (g : code.Result ℕ Refusal) (x : Result (List ℕ)) (r0 r1 out : List ℕ) → written_in g ≡ taken_of x → r1 ≡ restored_over x r0 →
+    handed_out g r1 out ≡ restored_bytes x out
+unfolding taken_of restored_over restored_bytes handed_out
+handed_is (Err r) (refused f) r0 r1 out a b = refl
+handed_is (Err r) (done us) r0 r1 out a b = absurd (eqb-false _ 0 (never_zero r) (ap (λ (t : Taken). t.number) a))
+handed_is (Ok n) (refused f) r0 r1 out a b = absurd (omega (arith, ap (λ (t : Taken). t.number) a, refusal_number f))
+handed_is (Ok n) (done us) r0 r1 out a b =
+    let m : n ≡ length us = ap (λ (t : Taken). t.length) a in
+    rw (m, b, take_at us (drop (length us) r0) (length us) refl)
 
 -- ---- joining
 
@@ -178,21 +176,18 @@ module _ (config ws : List ℕ) (h : ws ≡ held 8192 config) (news : List ℕ) 
         by (some us) = rw (lt-leb (length news) 32768 longer) (long_is us)
 
 -- the answer of who is not read
-pub unread_number : (ws : List ℕ) (r : ℕ) → r ≡ passed (admitting standard ws) → (r ≡ 0 → ⊥) → r * 72057594037927936 ≡ packed_taken (taken_of (too_long standard ws))
+pub unread_answer :
+    (ws : List ℕ) (g : code.Result (Unit {0}) Refusal) → number_in g ≡ passed (admitting standard ws) →
+    numbered_as (result_and g (Err TooLong)) ≡ packed_taken (taken_of (too_long standard ws))
 unfolding passed packed_taken taken_of too_long ◌>>=◌
-unread_number ws r e h = by (admitting standard ws) refl e
+unread_answer ws g e = by g (admitting standard ws) refl e
   where
-    by : (a : Result Config) → admitting standard ws ≡ a → r ≡ passed a → r * 72057594037927936 ≡ packed_taken (taken_of (admitting standard ws >>= λ c. refused long))
-    by (refused f) q z = rw (q, z) (omega arith)
-    by (done c) q z = absurd (h z)
-
-pub unread_long : (ws : List ℕ) (r : ℕ) → r ≡ passed (admitting standard ws) → r ≡ 0 → 9 * 72057594037927936 ≡ packed_taken (taken_of (too_long standard ws))
-unfolding passed packed_taken taken_of too_long ◌>>=◌
-unread_long ws r e h = by (admitting standard ws) refl (sym h ∙ e)
-  where
-    by : (a : Result Config) → admitting standard ws ≡ a → 0 ≡ passed a → 9 * 72057594037927936 ≡ packed_taken (taken_of (admitting standard ws >>= λ c. refused long))
-    by (refused f) q z = absurd (omega (arith, refusal_number f))
-    by (done c) q z = rw q
+    by : (h : code.Result (Unit {0}) Refusal) (a : Result Config) → admitting standard ws ≡ a → number_in h ≡ passed a →
+        numbered_as (result_and h (Err TooLong)) ≡ packed_taken (taken_of (admitting standard ws >>= λ c. refused long))
+    by (Ok u) (refused f) q z = absurd (omega (arith, z, refusal_number f))
+    by (Ok u) (done c) q z = rw q
+    by (Err r) (refused f) q z = rw q (omega (arith, z))
+    by (Err r) (done c) q z = absurd (eqb-false _ 0 (never_zero r) z)
 
 -- ---- leaving
 
@@ -241,8 +236,8 @@ module _ (config ws : List ℕ) (h : ws ≡ held 8192 config) (out : List ℕ) (
 
 -- ---- what the code knows
 
-module _ (ws e r0 r1 out : List ℕ) (w : Written) (a : w ≡ written_as (join_answer standard ws e r0)) (b : r1 ≡ join_output standard ws e r0) (room : length r0 * 2 ≤ length out) where
-  in_number : w ≡ written_as (taken_of (join standard ws e (length r0)))
+module _ (ws e r0 r1 out : List ℕ) (g : code.Result ℕ Refusal) (a : written_in g ≡ join_answer standard ws e r0) (b : r1 ≡ join_output standard ws e r0) (room : length r0 * 2 ≤ length out) where
+  in_number : written_in g ≡ taken_of (join standard ws e (length r0))
   unfolding join_answer
   in_number = a
 
@@ -253,17 +248,17 @@ module _ (ws e r0 r1 out : List ℕ) (w : Written) (a : w ≡ written_as (join_a
   in_fits : (us : List ℕ) → join standard ws e (length r0) ≡ done us → length us ≤ length r0
   in_fits us q = sure_done_lem (join_sure e (length r0) ws) q
 
-  pub let_in_fits : w.number ≡ 0 → (w.length ≤ length r1) × (w.length * 2 ≤ length out)
-  let_in_fits = handed_fits (join standard ws e (length r0)) r0 r1 out w in_number in_words in_fits room
+  pub let_in_fits : Handed g r1 out
+  let_in_fits = handed_fits g (join standard ws e (length r0)) r0 r1 out in_number in_words in_fits room
 
-  pub let_in_answer : w.number * 72057594037927936 + w.length ≡ packed_taken (taken_of (join standard ws e (length r0)))
-  let_in_answer = handed_number (join standard ws e (length r0)) r0 r1 out w in_number in_words in_fits room
+  pub let_in_answer : numbered_as g ≡ packed_taken (taken_of (join standard ws e (length r0)))
+  let_in_answer = handed_number g (join standard ws e (length r0)) in_number
 
-  pub let_in_output : handed_out w r1 out ≡ restored_bytes (join standard ws e (length r0)) out
-  let_in_output = handed_is (join standard ws e (length r0)) r0 r1 out w in_number in_words in_fits room
+  pub let_in_output : handed_out g r1 out ≡ restored_bytes (join standard ws e (length r0)) out
+  let_in_output = handed_is g (join standard ws e (length r0)) r0 r1 out in_number in_words
 
-module _ (ws r0 r1 out : List ℕ) (w : Written) (a : w ≡ written_as (leave_answer standard ws r0)) (b : r1 ≡ leave_output standard ws r0) (room : length r0 * 2 ≤ length out) where
-  go_number : w ≡ written_as (taken_of (leave standard ws (length r0)))
+module _ (ws r0 r1 out : List ℕ) (g : code.Result ℕ Refusal) (a : written_in g ≡ leave_answer standard ws r0) (b : r1 ≡ leave_output standard ws r0) (room : length r0 * 2 ≤ length out) where
+  go_number : written_in g ≡ taken_of (leave standard ws (length r0))
   unfolding leave_answer
   go_number = a
 
@@ -274,14 +269,14 @@ module _ (ws r0 r1 out : List ℕ) (w : Written) (a : w ≡ written_as (leave_an
   go_fits : (us : List ℕ) → leave standard ws (length r0) ≡ done us → length us ≤ length r0
   go_fits us q = sure_done_lem (leave_sure ws (length r0)) q
 
-  pub let_go_fits : w.number ≡ 0 → (w.length ≤ length r1) × (w.length * 2 ≤ length out)
-  let_go_fits = handed_fits (leave standard ws (length r0)) r0 r1 out w go_number go_words go_fits room
+  pub let_go_fits : Handed g r1 out
+  let_go_fits = handed_fits g (leave standard ws (length r0)) r0 r1 out go_number go_words go_fits room
 
-  pub let_go_answer : w.number * 72057594037927936 + w.length ≡ packed_taken (taken_of (leave standard ws (length r0)))
-  let_go_answer = handed_number (leave standard ws (length r0)) r0 r1 out w go_number go_words go_fits room
+  pub let_go_answer : numbered_as g ≡ packed_taken (taken_of (leave standard ws (length r0)))
+  let_go_answer = handed_number g (leave standard ws (length r0)) go_number
 
-  pub let_go_output : handed_out w r1 out ≡ restored_bytes (leave standard ws (length r0)) out
-  let_go_output = handed_is (leave standard ws (length r0)) r0 r1 out w go_number go_words go_fits room
+  pub let_go_output : handed_out g r1 out ≡ restored_bytes (leave standard ws (length r0)) out
+  let_go_output = handed_is g (leave standard ws (length r0)) r0 r1 out go_number go_words
 
 -- the answers and outputs on bytes
 module _ (config news out : List ℕ) where

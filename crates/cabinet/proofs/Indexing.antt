@@ -11,8 +11,8 @@ use lib.ListN.{length, get_or, take, drop, replicate, take-append-drop, drop_of_
 use lib.Seq.{take_at, get_or-take}
 use Rattle.sock.specs.Kind
 use Rattle.sock.specs.Configuration.{Config, standard, read_config}
-use Rattle.sock.specs.Calls.{index_short, Result, refused, done, ◌>>=◌, ◌!◌, passed, Numbers, Stepped, answer_of, over, start, check_start}
-use Rattle.sock.specs.Journal.{taken_of, restored_over}
+use Rattle.sock.specs.Calls.{index_short, Result, refused, done, ◌>>=◌, ◌!◌, passed, Numbers, Stepped, Answer, answer_of, over, start, check_start}
+use Rattle.sock.specs.Journal.{Taken, taken_of, restored_over}
 use Rattle.sock.specs.Bytes.{bytes_of, words_of, words_or_none, words_in, packed, bytes_after, byte_journal_step, byte_journal_output, byte_journal_written, journal_bytes_after, byte_check_start, byte_take_back, byte_restored, restored_bytes, packed_taken}
 use Rattle.sock.specs.Index.{index_of, listed, open_of, put_in, take_out, open_after, mapped, beginning, IndexedStep, step_of, IndexedBack, restored_in, Told, asked, open_count, oldest}
 use Rattle.sock.specs.IndexBytes.{index_bytes_after, byte_begin_answer, byte_begin_index, byte_indexed_step, byte_indexed_answer, byte_indexed_output, byte_indexed_journal, byte_indexed_index, byte_indexed_back, byte_indexed_taken, byte_indexed_restored, byte_indexed_relisted, packed_told, byte_open_count, byte_oldest}
@@ -20,16 +20,13 @@ use Rattle.sock.proofs.Configuration.{config_found}
 use Rattle.sock.proofs.Rooms.{refusal_number}
 use Rattle.sock.proofs.FewOpen.{readable_few}
 use Rattle.sock.proofs.Index.{put_in_length, take_out_length, index_of_length, Lists, listed_over, lists_listed, listed_lists}
-use Rattle.stepping.specs.declared.answer.Answer.{Answer}
-use Rattle.stepping.specs.Answers.{answer_as}
-use Rattle.stepping.specs.Answering.{refusing}
-use Rattle.journal.specs.declared.back.Taken.{Taken}
-use Rattle.journal.specs.Back.{taken_as}
-use Rattle.index.specs.Form.{present, in_order, serials_in, open_by, told_as}
-use Rattle.index.specs.declared.questions.Told.{Told as Answered}
+use Rattle.index.specs.Form.{present, in_order, serials_in, open_by}
 use Rattle.index.proofs.Forming.{listed_is, unlisted_is}
 use Rattle.index.proofs.Answering.{answer_is, short_is, begins, begun_passed}
-use Rattle.bytewise.specs.Held.{packed_as, held_part}
+use Rattle.std.specs.Prelude.{Err}
+use Rattle.layout.specs.declared.refusal.Refusal.TheVariants.{NoIndex}
+use Rattle.stepping.specs.Answers.{told}
+use Rattle.bytewise.specs.Held.{packed_as, numbered_as, held_part}
 use Rattle.bytewise.proofs.Stepping.{packed_as_lem}
 use Rattle.bytewise.proofs.Holding.{words_count as words_half}
 
@@ -116,6 +113,14 @@ order_part index = ap present (listed_part (words_in index))
 pub order_held : (index us : List ℕ) → us ≡ held_part 2049 index → in_order us ≡ in_order (words_in index)
 unfolding held_part
 order_held index us e = ap in_order e ∙ order_part index
+
+pub part_first :
+    (most : ℕ) (index s0 s1 : List ℕ) (n : ℕ) → length s0 ≡ most → n ≡ length (held_part (length s0) index) → s1 ≡ over (held_part (length s0) index) s0 →
+    take n s1 ≡ held_part most index
+part_first most index s0 s1 n m e q =
+    ap (take n) q
+    ∙ take_at (held_part (length s0) index) (drop (length (held_part (length s0) index)) s0) n (sym e)
+    ∙ ap (λ (i : ℕ). held_part i index) m
 
 pub words_held : (n : ℕ) (index s0 s1 : List ℕ) → n ≡ 2049 → s1 ≡ over (held_part n index) s0 → s1 ≡ over (take 2049 (words_in index)) s0
 unfolding held_part
@@ -222,7 +227,7 @@ module _ (config : List ℕ) (k : Numbers) (out journal index : List ℕ) where
     step_none = rw (unlisted_is (words_in index) e)
 
     pub step_unlisted :
-        (packed_as (refusing 17) ≡ byte_indexed_answer config k out journal index)
+        (packed_as (told (Err NoIndex)) ≡ byte_indexed_answer config k out journal index)
         × ((out ≡ byte_indexed_output config k out journal index)
         × ((journal ≡ byte_indexed_journal config k out journal index) × (index ≡ byte_indexed_index config k out journal index)))
     unfolding byte_indexed_answer byte_indexed_output byte_indexed_journal byte_indexed_index mapped packed answer_of bytes_after journal_bytes_after index_bytes_after
@@ -252,12 +257,12 @@ module _ (config : List ℕ) (k : Numbers) (out journal index : List ℕ) where
     unfolding byte_journal_written byte_indexed_journal
     step_journal = ap (λ x. journal_bytes_after (words_or_none (words_of config)) x journal) same_step
 
-    module _ (a : Answer) (p : a ≡ answer_as (answer_of plain)) where
+    module _ (a : Answer) (p : a ≡ answer_of plain) where
       pub step_answer : packed_as a ≡ byte_indexed_answer config k out journal index
       unfolding byte_indexed_answer
       step_answer = ap packed_as p ∙ packed_as_lem plain ∙ ap (λ (x : Result Stepped). packed (answer_of x)) same_step
 
-      refused_same : (x : Result Stepped) → stepped ≡ follows x → a ≡ answer_as (answer_of x) → (a.number ≡ 0 → ⊥) → index ≡ byte_indexed_index config k out journal index
+      refused_same : (x : Result Stepped) → stepped ≡ follows x → a ≡ answer_of x → (a.number ≡ 0 → ⊥) → index ≡ byte_indexed_index config k out journal index
       unfolding byte_indexed_index mapped index_bytes_after answer_of ◌>>=◌
       refused_same (refused r) q w h = rw q
       refused_same (done s) q w h = absurd (h (ap (λ (b : Answer). b.number) w))
@@ -266,7 +271,7 @@ module _ (config : List ℕ) (k : Numbers) (out journal index : List ℕ) where
       index_same h = refused_same plain step_some p h
 
       done_opens :
-          (x : Result Stepped) → stepped ≡ follows x → a ≡ answer_as (answer_of x) → a.number ≡ 0 →
+          (x : Result Stepped) → stepped ≡ follows x → a ≡ answer_of x → a.number ≡ 0 →
           over (bytes_of (index_of (open_by a.kind a.serial ss))) index ≡ byte_indexed_index config k out journal index
       unfolding byte_indexed_index mapped index_bytes_after answer_of ◌>>=◌ open_after open_by
       done_opens (refused r) q w h = absurd (let g = refusal_number r in omega (arith, ap (λ (b : Answer). b.number) w, h))
@@ -303,7 +308,7 @@ module _ (config journal out index : List ℕ) where
     back_none = rw (unlisted_is (words_in index) e)
 
     pub back_unlisted :
-        (17 * 72057594037927936 + 0 ≡ byte_indexed_taken config journal out index)
+        (numbered_as (Err NoIndex) ≡ byte_indexed_taken config journal out index)
         × ((out ≡ byte_indexed_restored config journal out index) × (index ≡ byte_indexed_relisted config journal out index))
     unfolding byte_indexed_taken byte_indexed_restored byte_indexed_relisted mapped packed_taken taken_of restored_bytes index_bytes_after
     back_unlisted = rw back_none (refl, (refl, refl))
@@ -328,14 +333,14 @@ module _ (config journal out index : List ℕ) where
     unfolding byte_restored byte_indexed_restored
     back_restored = ap (λ x. restored_bytes x out) same_back
 
-    module _ (t : Taken) (p : t ≡ taken_as (taken_of plainly)) where
+    module _ (t : Taken) (p : t ≡ taken_of plainly) where
       pub back_taken : t.number * 72057594037927936 + t.length ≡ byte_indexed_taken config journal out index
       unfolding byte_indexed_taken packed_taken
       back_taken =
           ap (λ (u : Taken). u.number * 72057594037927936 + u.length) p
           ∙ ap (λ (x : Result (List ℕ)). (taken_of x).number * 72057594037927936 + (taken_of x).length) same_back
 
-      refused_stays : (x : Result (List ℕ)) → back ≡ relists x → t ≡ taken_as (taken_of x) → (t.number ≡ 0 → ⊥) → index ≡ byte_indexed_relisted config journal out index
+      refused_stays : (x : Result (List ℕ)) → back ≡ relists x → t ≡ taken_of x → (t.number ≡ 0 → ⊥) → index ≡ byte_indexed_relisted config journal out index
       unfolding byte_indexed_relisted mapped index_bytes_after taken_of ◌>>=◌
       refused_stays (refused r) q w h = rw q
       refused_stays (done old) q w h = absurd (h (ap (λ (u : Taken). u.number) w))
@@ -344,7 +349,7 @@ module _ (config journal out index : List ℕ) where
       index_stays h = refused_stays plainly back_some p h
 
       done_lists :
-          (x : Result (List ℕ)) → back ≡ relists x → t ≡ taken_as (taken_of x) → t.number ≡ 0 → (r0 r1 : List ℕ) → r1 ≡ restored_over x r0 →
+          (x : Result (List ℕ)) → back ≡ relists x → t ≡ taken_of x → t.number ≡ 0 → (r0 r1 : List ℕ) → r1 ≡ restored_over x r0 →
           over (bytes_of (index_of (open_of (read_config standard (take t.length r1))))) index ≡ byte_indexed_relisted config journal out index
       unfolding byte_indexed_relisted mapped index_bytes_after taken_of restored_over ◌>>=◌
       done_lists (refused r) q w h r0 r1 z = absurd (let g = refusal_number r in omega (arith, ap (λ (u : Taken). u.number) w, h))
@@ -373,11 +378,10 @@ told_part f ix = ap (asked f) (listed_part ix)
 first_of : (i : ℕ) (ix : List ℕ) → i < 2049 → get_or (take 2049 ix) i 0 ≡ get_or ix i 0
 first_of i ix h = get_or-take 2049 ix i 0 h
 
-pub count_packed : (index us : List ℕ) (t : Answered) → us ≡ held_part 2049 index → t ≡ told_as (open_count us) → t.number * 72057594037927936 + t.value ≡ byte_open_count index
+pub count_packed : (index us : List ℕ) (t : Told) → us ≡ held_part 2049 index → t ≡ open_count us → t.number * 72057594037927936 + t.value ≡ byte_open_count index
 unfolding byte_open_count packed_told open_count held_part
 count_packed index us t e p =
-    ap (λ (x : Answered). x.number * 72057594037927936 + x.value) p
-    ∙ ap (λ (x : Told). x.number * 72057594037927936 + x.value) same
+    ap (λ (x : Told). x.number * 72057594037927936 + x.value) (p ∙ same)
   where
     same : asked (λ serials. get_or us 0 0) (listed us) ≡ asked (λ serials. get_or (words_in index) 0 0) (listed (words_in index))
     same =
@@ -385,11 +389,10 @@ count_packed index us t e p =
         ∙ told_part (λ serials. get_or (take 2049 (words_in index)) 0 0) (words_in index)
         ∙ ap (λ v. asked (λ serials. v) (listed (words_in index))) (first_of 0 (words_in index) (omega arith))
 
-pub oldest_packed : (index us : List ℕ) (t : Answered) → us ≡ held_part 2049 index → t ≡ told_as (oldest us) → t.number * 72057594037927936 + t.value ≡ byte_oldest index
+pub oldest_packed : (index us : List ℕ) (t : Told) → us ≡ held_part 2049 index → t ≡ oldest us → t.number * 72057594037927936 + t.value ≡ byte_oldest index
 unfolding byte_oldest packed_told oldest held_part
 oldest_packed index us t e p =
-    ap (λ (x : Answered). x.number * 72057594037927936 + x.value) p
-    ∙ ap (λ (x : Told). x.number * 72057594037927936 + x.value) same
+    ap (λ (x : Told). x.number * 72057594037927936 + x.value) (p ∙ same)
   where
     same : asked (λ serials. get_or us 1 0) (listed us) ≡ asked (λ serials. get_or (words_in index) 1 0) (listed (words_in index))
     same =

@@ -11,18 +11,15 @@ use lib.ListN.{length, take, drop}
 use lib.Seq.{length-take-le, take_at}
 use borrow.Author.Tests.{le-leb, ltb-true, ltb-false}
 use Rattle.sock.specs.Configuration.{Limits, Config, standard, encode, also, read_config}
-use Rattle.sock.specs.Calls.{Refusal, unreadable, journal_short, short, Result, refused, done, ◌>>=◌, ◌>>◌, ◌!◌, ◌unless◌, Numbers, Stepped, step, answer_of, step_output, over}
+use Rattle.sock.specs.Calls.{Refusal, unreadable, journal_short, short, Result, refused, done, ◌>>=◌, ◌>>◌, ◌!◌, ◌unless◌, Numbers, Stepped, step, Answer, answer_of, step_output, over}
 use Rattle.sock.specs.Journal.{journal_of, journal_step}
 use Rattle.sock.specs.Bytes.{bytes_of, words_of, words_or_none, packed, bytes_after, journal_bytes_after, byte_journal_step, byte_journal_answer, byte_journal_output, byte_journal_written}
 use Rattle.sock.proofs.ByteWords.{length_words, no_words, long_unread}
 use Rattle.sock.proofs.Rooms.{Agree, both_refuse, both_do, one_short, step_agrees, bytes_refused}
 use Rattle.sock.proofs.Journal.{journal_done, journal_length}
 use Rattle.sock.proofs.Events.{stepped_number}
-use Rattle.stepping.specs.declared.answer.Answer.{Answer}
-use Rattle.stepping.specs.Answers.{answer_as}
-use Rattle.journal.specs.declared.steps.Compared.{Compared}
 use Rattle.journal.specs.Laying.{lay_w, lay_end}
-use Rattle.journal.specs.Stepping.{compared_of}
+use Rattle.journal.specs.Stepping.{Compared, compared_of}
 use Rattle.writers.proofs.Over.{over_length}
 use Rattle.journal.proofs.Stepping.{short_old, short_new, kept, Wrote, wrote, scratch_fits, scratch_length, scratch_words, noted_end, noted_words}
 use Rattle.bytewise.specs.Held.{held, packed_as, room_of}
@@ -47,13 +44,13 @@ journal_of_done ws journal e = sym (rw e)
 module _ (limits : Limits) (low : limits.longest ≤ 8192) (ws : List ℕ) (k : Numbers) (r0 words : List ℕ) (c : Compared)
     (e : c ≡ compared_of (length words) ws (step limits ws k (length r0))) (out journal : List ℕ) where
   pub record Left : Type 0 where
-    pub answer : c.answer ≡ answer_as (answer_of (journal_step limits ws k (length r0) (length words)))
+    pub answer : c.answer ≡ answer_of (journal_step limits ws k (length r0) (length words))
     pub out_kept : out ≡ bytes_after (journal_step limits ws k (length r0) (length words)) out
     pub journal_kept : journal ≡ journal_bytes_after ws (journal_step limits ws k (length r0) (length words)) journal
 
   pub left_alone : (c.answer.number ≡ 0 → ⊥) → Left
   left_alone h =
-      let a : c.answer ≡ answer_as (answer_of (journal_step limits ws k (length r0) (length words))) = (kept limits low ws k r0 [] words c e h).answer in
+      let a : c.answer ≡ answer_of (journal_step limits ws k (length r0) (length words)) = (kept limits low ws k r0 [] words c e h).answer in
       let n : 0 < (answer_of (journal_step limits ws k (length r0) (length words))).number = omega (arith, ap (λ (b : Answer). b.number) a, h) in
       record { answer = a; out_kept = bytes_refused _ n out; journal_kept = journal_refused ws _ n journal }
 
@@ -68,7 +65,7 @@ module _ (limits : Limits) (low : limits.longest ≤ 8192) (ws : List ℕ) (k : 
         let u : ◌≡◌ {A = Result Stepped} (done s) (done w.next) = sym t ∙ w.is_done in
         d ∙ u
 
-    pub made_answer : c.answer ≡ answer_as (answer_of (journal_step limits ws k (length r0) (length words)))
+    pub made_answer : c.answer ≡ answer_of (journal_step limits ws k (length r0) (length words))
     made_answer = w.answer
 
     pub fits_scratch : size ≤ length r1
@@ -213,10 +210,10 @@ module _ (limits : Limits) (low : limits.longest ≤ 8192) (most both : ℕ) (al
   all_bytes : journal_step limits ws k m n ≡ byte_journal_step limits bytes k (length out / 2) (length journal / 2)
   all_bytes = all_room ∙ journal_held limits most all bytes ws e k (length out / 2) (length journal / 2)
 
-  pub large_journal_given : answer_as (answer_of (journal_step limits ws k m n)) ≡ answer_as (answer_of (byte_journal_step limits bytes k (length out / 2) (length journal / 2)))
-  large_journal_given = ap (λ (x : Result Stepped). answer_as (answer_of x)) all_bytes
+  pub large_journal_given : (answer_of (journal_step limits ws k m n)) ≡ answer_of (byte_journal_step limits bytes k (length out / 2) (length journal / 2))
+  large_journal_given = ap (λ (x : Result Stepped). answer_of x) all_bytes
 
-  pub large_journal_answer : packed_as (answer_as (answer_of (journal_step limits ws k m n))) ≡ byte_journal_answer limits bytes k out journal
+  pub large_journal_answer : packed_as (answer_of (journal_step limits ws k m n)) ≡ byte_journal_answer limits bytes k out journal
   unfolding byte_journal_answer
   large_journal_answer = packed_as_lem (journal_step limits ws k m n) ∙ ap (λ (x : Result Stepped). packed (answer_of x)) all_bytes
 
@@ -237,8 +234,8 @@ module _ (limits : Limits) {ws us : List ℕ} (same-words : ws ≡ us) (k : Numb
       ∙ ap (λ (i : ℕ). journal_step limits us k i n) same-room
       ∙ ap (journal_step limits us k room) same-most
 
-  pub sized_answer : answer_as (answer_of (journal_step limits ws k m n)) ≡ answer_as (answer_of (journal_step limits us k room most))
-  sized_answer = ap (λ (x : Result Stepped). answer_as (answer_of x)) sized
+  pub sized_answer : (answer_of (journal_step limits ws k m n)) ≡ answer_of (journal_step limits us k room most)
+  sized_answer = ap (λ (x : Result Stepped). answer_of x) sized
 
   pub sized_output : (out : List ℕ) → bytes_after (journal_step limits ws k m n) out ≡ bytes_after (journal_step limits us k room most) out
   sized_output out = ap (λ (x : Result Stepped). bytes_after x out) sized
@@ -257,8 +254,8 @@ module _ (bytes : List ℕ) (few : length bytes ≤ 1024) (k : Numbers) (room mo
   unfolding byte_journal_step
   small_step = by_words standard k room most (words_of bytes) (held 512 bytes) words_are
 
-  pub small_given : answer_as (answer_of (journal_step standard (held 512 bytes) k room most)) ≡ answer_as (answer_of (byte_journal_step standard bytes k room most))
-  small_given = ap (λ (x : Result Stepped). answer_as (answer_of x)) small_step
+  pub small_given : (answer_of (journal_step standard (held 512 bytes) k room most)) ≡ answer_of (byte_journal_step standard bytes k room most)
+  small_given = ap (λ (x : Result Stepped). answer_of x) small_step
 
   pub small_output : (out : List ℕ) → bytes_after (journal_step standard (held 512 bytes) k room most) out ≡ bytes_after (byte_journal_step standard bytes k room most) out
   small_output out = ap (λ (x : Result Stepped). bytes_after x out) small_step
@@ -328,7 +325,7 @@ module _ (bytes : List ℕ) (few : length bytes ≤ 1024) (k : Numbers) (o j : �
   same_in_bytes h = by_bytes (words_of bytes) refl h
 
 module _ (bytes : List ℕ) (few : length bytes ≤ 1024) (k : Numbers) (out journal : List ℕ) (a : Answer)
-    (p : a ≡ answer_as (answer_of (byte_journal_step standard bytes k (room_of 1024 (length out)) (room_of 1540 (length journal))))) where
+    (p : a ≡ (answer_of (byte_journal_step standard bytes k (room_of 1024 (length out)) (room_of 1540 (length journal))))) where
   abbrev tried : Result Stepped
   tried = byte_journal_step standard bytes k (room_of 1024 (length out)) (room_of 1540 (length journal))
 
@@ -338,8 +335,8 @@ module _ (bytes : List ℕ) (few : length bytes ≤ 1024) (k : Numbers) (out jou
   same : (a.number ≡ 10 → ⊥) → tried ≡ byte_journal_step standard bytes k (length out / 2) (length journal / 2)
   same h = same_in_bytes bytes few k (length out) (length journal) (λ z. h (its_number ∙ z))
 
-  pub tried_given : (a.number ≡ 10 → ⊥) → a ≡ answer_as (answer_of (byte_journal_step standard bytes k (length out / 2) (length journal / 2)))
-  tried_given h = p ∙ ap (λ (x : Result Stepped). answer_as (answer_of x)) (same h)
+  pub tried_given : (a.number ≡ 10 → ⊥) → a ≡ answer_of (byte_journal_step standard bytes k (length out / 2) (length journal / 2))
+  tried_given h = p ∙ ap (λ (x : Result Stepped). answer_of x) (same h)
 
   pub tried_output : (a.number ≡ 10 → ⊥) → bytes_after tried out ≡ byte_journal_output standard bytes k out journal
   unfolding byte_journal_output
@@ -357,15 +354,15 @@ module _ (bytes : List ℕ) (few : length bytes ≤ 1024) (k : Numbers) (out jou
 
 pub journal_packed :
     (bytes : List ℕ) (k : Numbers) (out journal : List ℕ) →
-    packed_as (answer_as (answer_of (byte_journal_step standard bytes k (length out / 2) (length journal / 2)))) ≡ byte_journal_answer standard bytes k out journal
+    packed_as (answer_of (byte_journal_step standard bytes k (length out / 2) (length journal / 2))) ≡ byte_journal_answer standard bytes k out journal
 unfolding byte_journal_answer
 journal_packed bytes k out journal = packed_as_lem (byte_journal_step standard bytes k (length out / 2) (length journal / 2))
 
 -- taken again with what is as it was
 module _ (bytes : List ℕ) (k : Numbers) {out out' journal journal' : List ℕ} (o : out' ≡ out) (j : journal' ≡ journal) where
   pub again_given :
-      answer_as (answer_of (byte_journal_step standard bytes k (length out' / 2) (length journal' / 2)))
-      ≡ answer_as (answer_of (byte_journal_step standard bytes k (length out / 2) (length journal / 2)))
+      (answer_of (byte_journal_step standard bytes k (length out' / 2) (length journal' / 2)))
+      ≡ answer_of (byte_journal_step standard bytes k (length out / 2) (length journal / 2))
   again_given = rw (o, j)
 
   pub again_output : byte_journal_output standard bytes k out' journal' ≡ byte_journal_output standard bytes k out journal

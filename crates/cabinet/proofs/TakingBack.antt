@@ -12,14 +12,12 @@ use lib.Seq.{length-take-le, take_at, take-append-add}
 use borrow.Author.Tests.{leb-true, ltb-true, ltb-false}
 use Rattle.sock.specs.Configuration.{Config, standard, read_config}
 use Rattle.sock.specs.Calls.{unreadable, unmatched, short, Result, refused, done, ◌>>=◌, ◌>>◌, ◌!◌, ◌unless◌, over}
-use Rattle.sock.specs.Journal.{between, journal_by, restored, take_back, taken_of, restored_over, take_back_answer, take_back_output}
+use Rattle.sock.specs.Journal.{Taken, between, journal_by, restored, take_back, taken_of, restored_over, take_back_answer, take_back_output}
 use Rattle.sock.specs.Bytes.{bytes_of, words_of, words_or_none, words_in, byte_take_back, packed_taken, byte_taken, restored_bytes, byte_restored}
 use Rattle.sock.proofs.ByteWords.{no_words, no_config}
 use Rattle.sock.proofs.Rooms.{refusal_number}
 use Rattle.sock.proofs.Configuration.{config_found}
 use Rattle.sock.proofs.Journal.{Alike, between_length, JournalFor, restored_only, restored_by, refused_done, taken_readable}
-use Rattle.journal.specs.declared.back.Taken.{Taken}
-use Rattle.journal.specs.Back.{taken_as}
 use Rattle.bytewise.specs.Held.{held, held_part, room_of}
 use Rattle.bytewise.proofs.Holding.{read_as}
 use Rattle.cabinet.proofs.Journaling.{leb_room, none_some, readable_held}
@@ -62,8 +60,8 @@ module _ (room : ℕ) (old : List ℕ) where
   unfolding take_back
   done_fits ws words e = fits_by (read_config standard ws) (restored words ws) e
 
-module _ (ws words r0 r1 : List ℕ) (t : Taken) (a : t ≡ taken_as (take_back_answer standard ws words r0)) (b : r1 ≡ take_back_output standard ws words r0) (out : List ℕ) where
-  pub taken_as_lem : t ≡ taken_as (taken_of (take_back standard ws words (length r0)))
+module _ (ws words r0 r1 : List ℕ) (t : Taken) (a : t ≡ take_back_answer standard ws words r0) (b : r1 ≡ take_back_output standard ws words r0) (out : List ℕ) where
+  pub taken_as_lem : t ≡ taken_of (take_back standard ws words (length r0))
   unfolding take_back_answer
   taken_as_lem = a
 
@@ -248,8 +246,8 @@ module _ (config ws : List ℕ) (e : ws ≡ held 8192 config) (journal words out
           ∙ sym (back_after us (words_in journal) (length out / 2) r)
           ∙ read_bytes (words_of config) r
 
-  pub back_answer : (t : Taken) → t ≡ taken_as (taken_of (take_back standard ws words m)) → t ≡ taken_as (taken_of (byte_take_back config journal (length out / 2)))
-  back_answer t p = p ∙ ap (λ (x : Result (List ℕ)). taken_as (taken_of x)) on_bytes
+  pub back_answer : (t : Taken) → t ≡ taken_of (take_back standard ws words m) → t ≡ taken_of (byte_take_back config journal (length out / 2))
+  back_answer t p = p ∙ ap (λ (x : Result (List ℕ)). taken_of x) on_bytes
 
   pub back_output : restored_bytes (take_back standard ws words m) out ≡ byte_restored config journal out
   unfolding byte_restored
@@ -273,7 +271,7 @@ module _ (config ws : List ℕ) (e : ws ≡ held 8192 config) (journal words out
       laid_by (done old) f = over_part old r0 m (f old refl) h
 
 -- packed, and no longer than a configuration
-module _ (config journal out : List ℕ) (t : Taken) (p : t ≡ taken_as (taken_of (byte_take_back config journal (length out / 2)))) where
+module _ (config journal out : List ℕ) (t : Taken) (p : t ≡ taken_of (byte_take_back config journal (length out / 2))) where
   pub back_packed : t.number * 72057594037927936 + t.length ≡ byte_taken config journal out
   unfolding byte_taken packed_taken
   back_packed = ap (λ (u : Taken). u.number * 72057594037927936 + u.length) p

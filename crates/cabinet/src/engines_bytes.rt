@@ -1,19 +1,20 @@
 // Joining and leaving on bytes.
-ghost use Rattle.std.specs.Prelude.{◌≡◌, ◌+◌, ◌*◌, ◌≤◌, length};
+ghost use Rattle.std.specs.Prelude.{◌≡◌, ◌*◌, ◌≤◌, length, IfOk};
 ghost use Rattle.sock.specs.Configuration.{standard};
 ghost use Rattle.sock.specs.Journal.{taken_of};
 ghost use Rattle.sock.specs.Bytes.{packed_taken, restored_bytes};
 ghost use Rattle.sock.specs.Engines.{join, leave};
 ghost use Rattle.sock.specs.EnginesBytes.{byte_join_answer, byte_join_output, byte_leave_answer, byte_leave_output};
+ghost use Rattle.bytewise.specs.Held.{numbered_as};
 ghost use Rattle.cabinet.specs.Handed.{handed_out, too_long};
 
-use bytewise::packing::{NUMBER, numbered};
+use bytewise::packing::numbered;
 use bytewise::stepping_bytes::{room_of, spread};
 use bytewise::words::held;
-use engines::answer::Written;
 use engines::join::{admit, join};
 use engines::leave::leave;
 use layout::limit::LONGEST;
+use layout::refusal::Refusal;
 
 // How many words of a newcomer are read, and their bytes: no configuration has so many.
 const NEWCOMER: usize = 16384;
@@ -21,16 +22,16 @@ const NEWCOMER: usize = 16384;
 const NEWCOMER_BYTES: usize = 2 * NEWCOMER;
 
 // What was written to scratch, if it was, as bytes over the output; the answer packed.
-fn hand_out(w: Written, res: &[u16], out: &mut [u8]) -> u64
-    requires { w.number ≡ 0 → (w.length ≤ length res.now) × (w.length * 2 ≤ length out.old) }
-    ensures answered { result ≡ w.number * NUMBER + w.length }
-    ensures wrote { out.new ≡ handed_out w res.now out.old }
+#[tactic(auto, unfolding(crate::specs::Handed::handed_out))]
+fn hand_out(given: Result<u16, Refusal>, res: &[u16], out: &mut [u8]) -> u64
+    requires { IfOk given (λ n. (n ≤ length res.now) × (n * 2 ≤ length out.old)) }
+    ensures answered { result ≡ numbered_as given }
+    ensures wrote { out.new ≡ handed_out given res.now out.old }
 {
-    if w.number != 0 {
-        return numbered(w.number, w.length);
+    if let Ok(length) = given {
+        spread(&res[..usize::from(length)], out);
     }
-    spread(&res[..usize::from(w.length)], out);
-    numbered(w.number, w.length)
+    numbered(given)
 }
 
 // Joining on words, the result written to scratch first.
@@ -39,8 +40,8 @@ fn let_in(ws: &[u16], engine: &[u16], res: &mut [u16], out: &mut [u8]) -> u64
     ensures answered { result ≡ packed_taken (taken_of (join standard ws.now engine.now (length res.old))) }
     ensures wrote { out.new ≡ restored_bytes (join standard ws.now engine.now (length res.old)) out.old }
 {
-    let w = join(ws, engine, res);
-    hand_out(w, res, out)
+    let given = join(ws, engine, res);
+    hand_out(given, res, out)
 }
 
 // Leaving on words, the same way.
@@ -49,19 +50,16 @@ fn let_go(ws: &[u16], res: &mut [u16], out: &mut [u8]) -> u64
     ensures answered { result ≡ packed_taken (taken_of (leave standard ws.now (length res.old))) }
     ensures wrote { out.new ≡ restored_bytes (leave standard ws.now (length res.old)) out.old }
 {
-    let w = leave(ws, res);
-    hand_out(w, res, out)
+    let given = leave(ws, res);
+    hand_out(given, res, out)
 }
 
 // The answer to a newcomer that is not read: who may not be admitted goes before 9.
+#[tactic(auto, using(crate::proofs::Engines::unread_answer))]
 fn unread(ws: &[u16]) -> u64
     ensures { result ≡ packed_taken (taken_of (too_long standard ws.now)) }
 {
-    let number = admit(ws);
-    if number != 0 {
-        return numbered(number, 0);
-    }
-    numbered(9, 0)
+    numbered(admit(ws).and(Err(Refusal::TooLong)))
 }
 
 // Joining: from the top, the number in 8 bits, 40 zero, the length in 16. A refusal changes no byte.

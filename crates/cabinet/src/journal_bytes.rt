@@ -5,21 +5,22 @@ ghost use Rattle.sock.specs.Calls.{answer_of};
 ghost use Rattle.sock.specs.Journal.{journal_step, taken_of, take_back, take_back_output, restored_over};
 ghost use Rattle.sock.specs.Bytes.{bytes_after, journal_bytes_after, byte_journal_step, byte_journal_answer, byte_journal_output, byte_journal_written, restored_bytes, byte_take_back, byte_taken, byte_restored};
 ghost use Rattle.layout.specs.Limits.{figures};
-ghost use Rattle.stepping.specs.Answers.{answer_as, numbers};
+ghost use Rattle.stepping.specs.Answers.{told, numbers};
 ghost use Rattle.stepping.specs.Bundles.{numbers_as};
-ghost use Rattle.stepping.specs.Lent.{Modest, Blank};
-ghost use Rattle.journal.specs.Back.{taken_as};
+ghost use Rattle.journal.specs.Answers.{taken_as};
 ghost use Rattle.bytewise.specs.Held.{held, room_of};
 
 use bytewise::packing::{numbered, pack};
 use bytewise::stepping_bytes::{SHORT_BYTES, TWICE, room_of, spread};
 use bytewise::words::{held, held_part};
-use journal::back::{Taken, take_back};
+use journal::back::take_back;
 use journal::lay::lay;
 use journal::steps::compare;
-use layout::limit::{LONGEST, Limits, STANDARD};
-use stepping::answer::Answer;
+use layout::limit::LONGEST;
+use layout::refusal::Refusal;
+use stepping::answer::{Accepted, output_short};
 use stepping::bundles::Numbers;
+use stepping::limits::{Modest, STANDARD};
 use stepping::steps::{FEW, MANY, SHORT};
 
 // The counts at the head of a journal.
@@ -30,32 +31,27 @@ const JOURNAL: usize = COUNTS + 2 * LONGEST;
 
 const SHORT_JOURNAL: usize = COUNTS + SHORT + TWICE;
 
-// The step on words at the limits given, its result and its journal written to scratch first. The notes are the step's, all 0.
-pub(crate) fn journaled(
+// The step on words at the limits given, with so many notes; its result and its journal are written to scratch first.
+pub(crate) fn journaled<const NOTES: usize>(
     ws: &[u16],
     k: Numbers,
-    limits: Limits,
-    notes: &mut [u16],
+    m: Modest,
     res: &mut [u16],
     words: &mut [u16],
     out: &mut [u8],
     journal: &mut [u8],
-) -> Answer
-    requires { Modest limits × Blank notes.old × (length res.old * 2 ≤ length out.old) × (length words.old * 2 ≤ length journal.old) }
-    ensures answered { result ≡ answer_as (answer_of (journal_step (figures limits) ws.now (numbers_as k) (length res.old) (length words.old))) }
-    ensures wrote { out.new ≡ bytes_after (journal_step (figures limits) ws.now (numbers_as k) (length res.old) (length words.old)) out.old }
-    ensures noted { journal.new ≡ journal_bytes_after ws.now (journal_step (figures limits) ws.now (numbers_as k) (length res.old) (length words.old)) journal.old }
+) -> Result<Accepted, Refusal>
+    requires { (NOTES < 2 ^ 32) × (length res.old * 2 ≤ length out.old) × (length words.old * 2 ≤ length journal.old) }
+    ensures answered { told result ≡ answer_of (journal_step (figures m.limits) ws.now (numbers_as k) (length res.old) (length words.old)) }
+    ensures wrote { out.new ≡ bytes_after (journal_step (figures m.limits) ws.now (numbers_as k) (length res.old) (length words.old)) out.old }
+    ensures noted { journal.new ≡ journal_bytes_after ws.now (journal_step (figures m.limits) ws.now (numbers_as k) (length res.old) (length words.old)) journal.old }
 {
-    let c = compare(ws, k, limits, notes, words.len(), res);
-    let given = c.answer;
-    if given.number != 0 {
-        return given;
-    }
-    let n = usize::from(given.length);
+    let c = compare::<NOTES>(ws, k, m, words.len(), res)?;
+    let n = usize::from(c.accepted.length);
     spread(&res[..n], out);
-    let m = lay(ws, &res[..n], c.first, c.last, words);
+    let m = lay(ws, &res[..n], c.alike.first, c.alike.last, words);
     spread(&words[..m], journal);
-    given
+    Ok(c.accepted)
 }
 
 // With scratch for so many words of a configuration, so many notes, and so many words of a result and of a journal.
@@ -64,24 +60,27 @@ pub(crate) fn journal_in<
     const NOTES: usize,
     const RESULT: usize,
     const JOURNAL: usize,
->(k: Numbers, limits: Limits, config: &[u8], out: &mut [u8], journal: &mut [u8]) -> Answer
-    requires modest { Modest limits }
-    requires sizes { (WORDS < 2 ^ 32) × (NOTES < 2 ^ 32) × (RESULT < 2 ^ 32) × (JOURNAL < 2 ^ 32) }
-    ensures answered { result ≡ answer_as (answer_of (journal_step (figures limits) (held WORDS config.now) (numbers_as k) (room_of RESULT (length out.old)) (room_of JOURNAL (length journal.old)))) }
-    ensures wrote { out.new ≡ bytes_after (journal_step (figures limits) (held WORDS config.now) (numbers_as k) (room_of RESULT (length out.old)) (room_of JOURNAL (length journal.old))) out.old }
-    ensures noted { journal.new ≡ journal_bytes_after (held WORDS config.now) (journal_step (figures limits) (held WORDS config.now) (numbers_as k) (room_of RESULT (length out.old)) (room_of JOURNAL (length journal.old))) journal.old }
+>(
+    k: Numbers,
+    m: Modest,
+    config: &[u8],
+    out: &mut [u8],
+    journal: &mut [u8],
+) -> Result<Accepted, Refusal>
+    requires { (WORDS < 2 ^ 32) × (NOTES < 2 ^ 32) × (RESULT < 2 ^ 32) × (JOURNAL < 2 ^ 32) }
+    ensures answered { told result ≡ answer_of (journal_step (figures m.limits) (held WORDS config.now) (numbers_as k) (room_of RESULT (length out.old)) (room_of JOURNAL (length journal.old))) }
+    ensures wrote { out.new ≡ bytes_after (journal_step (figures m.limits) (held WORDS config.now) (numbers_as k) (room_of RESULT (length out.old)) (room_of JOURNAL (length journal.old))) out.old }
+    ensures noted { journal.new ≡ journal_bytes_after (held WORDS config.now) (journal_step (figures m.limits) (held WORDS config.now) (numbers_as k) (room_of RESULT (length out.old)) (room_of JOURNAL (length journal.old))) journal.old }
 {
     let mut scratch = [0u16; WORDS];
-    let mut notes = [0u16; NOTES];
     let mut result = [0u16; RESULT];
     let room = room_of(out.len(), RESULT);
     let mut words = [0u16; JOURNAL];
     let most = room_of(journal.len(), JOURNAL);
-    journaled(
+    journaled::<NOTES>(
         held(config, &mut scratch),
         k,
-        limits,
-        &mut notes,
+        m,
         &mut result[..room],
         &mut words[..most],
         out,
@@ -90,8 +89,13 @@ pub(crate) fn journal_in<
 }
 
 // With scratch for every configuration, every result and every journal.
-fn large_journal(k: Numbers, config: &[u8], out: &mut [u8], journal: &mut [u8]) -> Answer
-    ensures answered { result ≡ answer_as (answer_of (byte_journal_step standard config.now (numbers_as k) (length out.old / 2) (length journal.old / 2))) }
+fn large_journal(
+    k: Numbers,
+    config: &[u8],
+    out: &mut [u8],
+    journal: &mut [u8],
+) -> Result<Accepted, Refusal>
+    ensures answered { told result ≡ answer_of (byte_journal_step standard config.now (numbers_as k) (length out.old / 2) (length journal.old / 2)) }
     ensures wrote { out.new ≡ byte_journal_output standard config.now (numbers_as k) out.old journal.old }
     ensures noted { journal.new ≡ byte_journal_written standard config.now (numbers_as k) out.old journal.old }
 {
@@ -99,19 +103,24 @@ fn large_journal(k: Numbers, config: &[u8], out: &mut [u8], journal: &mut [u8]) 
 }
 
 // The step with a journal. As in the step, a short configuration is first tried with short scratch; 10 may then be for that alone.
-pub(crate) fn step_journal(k: Numbers, config: &[u8], out: &mut [u8], journal: &mut [u8]) -> Answer
-    ensures answered { result ≡ answer_as (answer_of (byte_journal_step standard config.now (numbers_as k) (length out.old / 2) (length journal.old / 2))) }
+pub(crate) fn step_journal(
+    k: Numbers,
+    config: &[u8],
+    out: &mut [u8],
+    journal: &mut [u8],
+) -> Result<Accepted, Refusal>
+    ensures answered { told result ≡ answer_of (byte_journal_step standard config.now (numbers_as k) (length out.old / 2) (length journal.old / 2)) }
     ensures wrote { out.new ≡ byte_journal_output standard config.now (numbers_as k) out.old journal.old }
     ensures noted { journal.new ≡ byte_journal_written standard config.now (numbers_as k) out.old journal.old }
 {
     if SHORT_BYTES < config.len() {
         return large_journal(k, config, out, journal);
     }
-    let a = journal_in::<SHORT, FEW, TWICE, SHORT_JOURNAL>(k, STANDARD, config, out, journal);
-    if a.number == 10 {
+    let given = journal_in::<SHORT, FEW, TWICE, SHORT_JOURNAL>(k, STANDARD, config, out, journal);
+    if output_short(given) {
         return large_journal(k, config, out, journal);
     }
-    a
+    given
 }
 
 // Step with a journal, packed as the step is: a refusal changes no byte of output and journal.
@@ -140,18 +149,15 @@ pub fn sock_step_journal(
 }
 
 // Taking back on words, what is restored written to scratch first.
-fn taken_back(ws: &[u16], words: &[u16], res: &mut [u16], out: &mut [u8]) -> Taken
+fn taken_back(ws: &[u16], words: &[u16], res: &mut [u16], out: &mut [u8]) -> Result<u16, Refusal>
     requires { length res.old * 2 ≤ length out.old }
-    ensures answered { result ≡ taken_as (taken_of (take_back standard ws.now words.now (length res.old))) }
+    ensures answered { taken_as result ≡ taken_of (take_back standard ws.now words.now (length res.old)) }
     ensures wrote { out.new ≡ restored_bytes (take_back standard ws.now words.now (length res.old)) out.old }
     ensures held { res.new ≡ take_back_output standard ws.now words.now res.old }
 {
-    let t = take_back(ws, words, res);
-    if t.number != 0 {
-        return t;
-    }
-    spread(&res[..usize::from(t.length)], out);
-    t
+    let length = take_back(ws, words, res)?;
+    spread(&res[..usize::from(length)], out);
+    Ok(length)
 }
 
 // Taking back on bytes, what is restored in the first words of `result`. Words past those that a journal of two configurations may have are not part
@@ -161,9 +167,9 @@ pub(crate) fn take_back_bytes(
     journal: &[u8],
     res: &mut [u16],
     out: &mut [u8],
-) -> Taken
+) -> Result<u16, Refusal>
     requires { length res.old ≡ 8192 }
-    ensures answered { result ≡ taken_as (taken_of (byte_take_back config.now journal.now (length out.old / 2))) }
+    ensures answered { taken_as result ≡ taken_of (byte_take_back config.now journal.now (length out.old / 2)) }
     ensures wrote { out.new ≡ byte_restored config.now journal.now out.old }
     ensures held { res.new ≡ restored_over (byte_take_back config.now journal.now (length out.old / 2)) res.old }
 {
@@ -181,6 +187,5 @@ pub fn sock_take_back(config: &[u8], journal: &[u8], out: &mut [u8]) -> u64
     ensures wrote { out.new ≡ byte_restored config.now journal.now out.old }
 {
     let mut result = [0u16; LONGEST];
-    let t = take_back_bytes(config, journal, &mut result, out);
-    numbered(t.number, t.length)
+    numbered(take_back_bytes(config, journal, &mut result, out))
 }

@@ -8,9 +8,11 @@ use crate::journal_bytes::{COUNTS, journal_in};
 use bytewise::packing::pack;
 use bytewise::stepping_bytes::step_in;
 use bytewise::words::held;
-use layout::limit::{SMALL, SMALL_LONGEST};
+use layout::limit::{self, SMALL_LONGEST};
+use layout::refusal::number;
 use reading::calls::{readable_at, start_at};
 use stepping::bundles::Numbers;
+use stepping::limits::SMALL;
 
 // Notes for every configuration, two words for each of its words; words for the journal of any step.
 const NOTES: usize = 2 * SMALL_LONGEST;
@@ -18,19 +20,21 @@ const NOTES: usize = 2 * SMALL_LONGEST;
 const JOURNAL: usize = COUNTS + 2 * SMALL_LONGEST;
 
 // Readable check.
+#[tactic(auto, using(bytewise::proofs::Holding::readable_as))]
 pub fn sock_check_readable_small(config: &[u8]) -> u8
     ensures { result ≡ byte_check_readable small config.now }
 {
     let mut scratch = [0u16; SMALL_LONGEST];
-    readable_at(held(config, &mut scratch), SMALL)
+    number(readable_at(held(config, &mut scratch), limit::SMALL))
 }
 
 // Start check.
+#[tactic(auto, using(bytewise::proofs::Holding::start_as))]
 pub fn sock_check_start_small(config: &[u8]) -> u8
     ensures { result ≡ byte_check_start small config.now }
 {
     let mut scratch = [0u16; SMALL_LONGEST];
-    start_at(held(config, &mut scratch), SMALL)
+    number(start_at(held(config, &mut scratch), limit::SMALL))
 }
 
 // Step, packed as the large cabinet's.

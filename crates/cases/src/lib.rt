@@ -2,7 +2,7 @@
 // contracts name the bytes that move where the reader or the writer tells them; standard input and output tell none.
 #![tactic(auto)]
 
-ghost use Rattle.std.specs.Prelude.{◌≡◌, ◌+◌, ◌*◌, ◌≤◌, ◌<◌, true, false, length, take, IfOk, OnOk};
+ghost use Rattle.std.specs.Prelude.{◌≡◌, ◌+◌, ◌*◌, ◌≤◌, ◌<◌, true, false, length, take, IfOk, IfSome, OnOk, slice_index};
 ghost use Rattle.std.specs.Io.KnownBytes.{Appends, Consumes, IsAtEnd};
 ghost use Rattle.cases.specs.Sums.{summed};
 ghost use Rattle.cases.specs.Printed.{printed};
@@ -63,4 +63,22 @@ pub fn take<R: Read>(input: &mut R, bytes: &mut [u8], count: usize) -> io::Resul
         return Ok(false);
     }
     Ok(count <= read_full(input, &mut bytes[..count])?)
+}
+
+// A case read over the first of `bytes`: `head` bytes, of which the first two are how many words there are, and the words. How many bytes it
+// has; none where the input ends before or there is no room.
+pub fn read_case<R: Read>(input: &mut R, head: usize, bytes: &mut [u8]) -> io::Result<Option<usize>>
+    ensures same_length { length bytes.new ≡ length bytes.old }
+    ensures size { IfOk result (λ o. IfSome o (λ n. n ≡ head + (slice_index bytes.new 0 * 256 + slice_index bytes.new 1) * 2)) }
+    ensures within { IfOk result (λ o. IfSome o (λ n. n ≤ length bytes.old)) }
+    ensures consumed { IfOk result (λ o. IfSome o (λ n. Consumes (R.remaining input.old) (R.remaining input.new) (take n bytes.new))) }
+{
+    if head < 2 || !take(input, bytes, head)? {
+        return Ok(None);
+    }
+    let size = 2 * usize::from(word(bytes[0], bytes[1]));
+    if !take(input, &mut bytes[head..], size)? {
+        return Ok(None);
+    }
+    Ok(Some(head + size))
 }

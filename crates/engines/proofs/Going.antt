@@ -10,15 +10,16 @@ use mathlib.Core.List.{List, [], ◌∷◌, ◌++◌}
 use lib.Dec.{T, leb, ltb, eqb}
 use lib.ListN.{length, get_or, set, take, drop, length-append, get_or-append}
 use lib.Seq.{drop-cons, drop-length, take_at}
-use borrow.Author.Tests.{lt-ltb, le-ltb, lt-leb, le-leb, eq-eqb, ne_eqb, eqb-true, eqb-false}
+use borrow.Author.Tests.{lt-leb, le-leb, eq-eqb, ne_eqb, eqb-true, eqb-false}
 use Rattle.sock.specs.Reading.{Got, fail, got, running, root, process}
 use Rattle.sock.specs.Layout.{words, depth, exprs_words}
 use Rattle.sock.specs.Running.{Run, nil, seq, par, scope, executor, waiter, notice, act, as_node, awake, run_words, run_depth}
 use Rattle.sock.specs.Term.{Node, head_word}
 use Rattle.sock.specs.Configuration.{standard, Engine, Config, values_words, engine_words, engines_words, encode, is_scope}
 use Rattle.sock.specs.Frames.{is_done}
-use Rattle.sock.specs.Calls.{unreadable, still_at_work, short, done, ◌>>=◌, ◌>>◌, ◌!◌, ◌unless◌, over, engine_at, tally, tally_all}
-use Rattle.sock.specs.Engines.{with_next, last_of, without_last, points_to, may_leave, leave, leave_answer, leave_output}
+use Rattle.sock.specs.Calls.{unreadable, still_at_work, short, refused, done, ◌>>=◌, ◌>>◌, ◌!◌, ◌unless◌, over, engine_at, tally, tally_all}
+use Rattle.sock.specs.Journal.{taken_of, restored_over}
+use Rattle.sock.specs.Engines.{with_next, last_of, without_last, points_to, may_leave, leave}
 use Rattle.sock.proofs.Logic.{true_test}
 use Rattle.sock.proofs.Fits.{Sound, rootable, FitsEngine, FitsConfig}
 use Rattle.sock.proofs.Reading.{Holds, something, Found, found, finds}
@@ -26,21 +27,20 @@ use Rattle.sock.proofs.Running.{awake_as_node', awake_sound, awake_root, as_node
 use Rattle.sock.proofs.Located.{values_length, start_of, words_after}
 use Rattle.sock.proofs.Exchange.{sound_later}
 use Rattle.sock.proofs.Engines.{with_words, last_behind, others_length, sound_fewer, sound_unnamed, Leaves, may_leave_lem}
-use Rattle.reading.specs.declared.survey.Starts.{Starts}
+use Rattle.reading.specs.declared.starts.Starts.{Starts as Surveyed}
 use Rattle.reading.specs.Walk.{at, process_end}
-use Rattle.reading.specs.Survey.{surveyed}
+use Rattle.reading.specs.Survey.{Starts, no_starts, surveyed}
+use Rattle.reading.specs.Answers.{starts_of}
 use Rattle.reading.proofs.Combining.{Words}
 use Rattle.reading.proofs.Ending.{Ends, fails, reads}
 use Rattle.reading.proofs.Processes.{process_ends}
 use Rattle.reading.proofs.Standing.{fits_at, stands_at, head_at, root_head}
-use Rattle.reading.proofs.Known.{Known, survey_known, survey_unknown, known_issued}
+use Rattle.reading.proofs.Known.{Known, found_known, none_known, known_issued, known_length}
 use Rattle.reading.proofs.Totals.{engine_depth}
 use Rattle.writers.specs.Writing.{pasted}
 use Rattle.writers.proofs.Over.{pasted_first}
-use Rattle.engines.specs.declared.answer.Written.{Written}
-use Rattle.engines.specs.Answers.{written_as}
 use Rattle.engines.specs.Leaving.{all_read, rests_w}
-use Rattle.engines.proofs.Joining.{Gives, gives_refused, gives_done}
+use Rattle.engines.proofs.Joining.{first_word}
 
 not_both : {A : Type 0} {a : A} {rest : List ℕ} → fail ≡ got a rest → ⊥
 not_both e = let z : ◌≡◌ {A = ℕ} 0 1 = cc in omega arith
@@ -59,22 +59,6 @@ module _ (sub : ℕ → ℕ) (starts : List ℕ) (n e f : ℕ) (same : f ≡ sub
 pub met_all : (sub : ℕ → ℕ) (starts : List ℕ) (n e : ℕ) → n ≤ e → true ≡ all_read sub starts (n - e) e
 unfolding all_read
 met_all sub starts n e h = let no : n - e ≡ 0 = omega arith in rw no
-
--- ---- the test, as the code makes it
-
-module _ (ws starts : List ℕ) (n : ℕ) where
-  pub only_one : n < 2 → false ≡ rests_w ws starts n
-  unfolding rests_w
-  only_one h = rw (le-ltb 1 n (omega arith))
-
-  module _ (w : ℕ) (several : 2 ≤ n) (is : w ≡ get_or ws (get_or starts (n - 1) 0) 0) where
-    pub not_nil_lem : (w ≡ 0 → ⊥) → false ≡ rests_w ws starts n
-    unfolding rests_w
-    not_nil_lem z = rw (lt-ltb 1 n several, ← is, ne_eqb w 0 z)
-
-    pub others_read : w ≡ 0 → (r : Bool) (i : ℕ) → i ≡ at ws 1 → r ≡ all_read (process_end 64 ws ((n - 1) * 65536 + i) 11) starts (n - 1) 0 → r ≡ rests_w ws starts n
-    unfolding rests_w
-    others_read z r i q p = rw (lt-ltb 1 n several, ← is, eq-eqb w 0 z) (p ∙ rw q)
 
 -- ---- a process among fewer engines
 
@@ -256,26 +240,22 @@ module _ {ws : List ℕ} {s : Starts} (ok : Words ws) (k : Known standard ws s) 
 
 -- ---- leaving
 
-module _ (ws : List ℕ) (ok : Words ws) (s : Starts) (e : s ≡ surveyed standard 11 ws) (out : List ℕ) where
-  pub leave_gives : (w : Written) (after : List ℕ) → Gives (leave standard ws (length out)) out w after → (w ≡ written_as (leave_answer standard ws out)) × (after ≡ leave_output standard ws out)
-  unfolding leave_answer leave_output
-  leave_gives w after g = (g.answered, g.wrote)
-
-  pub leave_unread : s.engines ≡ 0 → (w : Written) → w ≡ record { number = 1; length = 0 } → Gives (leave standard ws (length out)) out w out
+module _ (ws : List ℕ) (ok : Words ws) (room : ℕ) where
+  pub leave_unread : no_starts ≡ surveyed standard 11 ws → leave standard ws room ≡ refused unreadable
   unfolding leave ◌!◌ ◌>>=◌
-  leave_unread h w q = gives_refused unreadable out w (rw (survey_unknown standard ws ok s e h)) q
+  leave_unread e = rw (none_known standard ws ok e)
 
-  module _ (h : s.engines ≡ 0 → ⊥) where
-    known : Known standard ws s
-    known = survey_known standard ws ok s e h
+  module _ (s : Surveyed) (e : starts_of s ≡ surveyed standard 11 ws) where
+    abbrev known : Known standard ws (starts_of s)
+    known = found_known standard ws ok s e
 
-    by_rest : (b : Bool) → may_leave known.config ≡ b → leave standard ws (length out) ≡ ◌>>◌ (still_at_work unless b) (◌>>◌ (short unless leb (length (encode (without_last known.config))) (length out)) (done (encode (without_last known.config))))
+    by_rest : (b : Bool) → may_leave known.config ≡ b → leave standard ws room ≡ ◌>>◌ (still_at_work unless b) (◌>>◌ (short unless leb (length (encode (without_last known.config))) room) (done (encode (without_last known.config))))
     unfolding leave ◌!◌ ◌>>=◌
     by_rest b t = rw (known.reads, t)
 
-    pub at_work : (b : Bool) → b ≡ rests_w ws s.starts s.engines → b ≡ false → (w : Written) → w ≡ record { number = 22; length = 0 } → Gives (leave standard ws (length out)) out w out
+    pub at_work : (b : Bool) → b ≡ rests_w ws s.starts s.engines → b ≡ false → leave standard ws room ≡ refused still_at_work
     unfolding ◌>>◌ ◌unless◌
-    at_work b p f w q = gives_refused still_at_work out w (by_rest false (sym (rests_is ok known) ∙ sym p ∙ f)) q
+    at_work b p f = by_rest false (sym (rests_is ok known) ∙ sym p ∙ f)
 
     module _ (b : Bool) (p : b ≡ rests_w ws s.starts s.engines) (f : b ≡ true) where
       free : may_leave known.config ≡ true
@@ -285,16 +265,33 @@ module _ (ws : List ℕ) (ok : Words ws) (s : Starts) (e : s ≡ surveyed standa
       size = left_length ok known (true_test free)
 
       module _ (m : ℕ) (is : m ≡ length ws - 65) where
-        pub leave_short : length out < m → (w : Written) → w ≡ record { number = 10; length = 0 } → Gives (leave standard ws (length out)) out w out
+        pub leave_short : room < m → leave standard ws room ≡ refused short
         unfolding ◌>>◌ ◌unless◌
-        leave_short g w q =
-            gives_refused short out w (by_rest true free ∙ rw (lt-leb (length (encode (without_last known.config))) (length out) (rw size (omega arith)))) q
+        leave_short g = by_rest true free ∙ rw (lt-leb (length (encode (without_last known.config))) room (rw size (omega arith)))
 
-        pub leave_done :
-            (n : ℕ) (mid last : List ℕ) → n ≡ s.engines → m ≤ length out → mid ≡ pasted ws 0 m out 0 → last ≡ set mid 0 (n - 1) →
-            Gives (leave standard ws (length out)) out (record { number = 0; length = m }) last
+        by_room : m ≤ room → leave standard ws room ≡ done (encode (without_last known.config))
         unfolding ◌>>◌ ◌unless◌
-        leave_done n mid last same g p q =
-            gives_done (encode (without_last known.config)) out last m
-            (by_rest true free ∙ rw (le-leb (length (encode (without_last known.config))) (length out) (rw size (omega arith)))) (is ∙ sym size)
-            (q ∙ ap (λ us. set us 0 (n - 1)) (p ∙ ap (λ k. pasted ws 0 k out 0) is) ∙ left_placed ok known (true_test free) out n same (omega arith))
+        by_room g = by_rest true free ∙ rw (le-leb (length (encode (without_last known.config))) room (rw size (omega arith)))
+
+        pub leave_done : m ≤ room → record { number = 0; length = m } ≡ taken_of (leave standard ws room)
+        unfolding taken_of
+        leave_done g = rw (by_room g, is, size)
+
+-- there are engines, so the first word is not 0, and not too many words
+pub some_counted : (ws : List ℕ) → Words ws → (s : Surveyed) → starts_of s ≡ surveyed standard 11 ws → 1 ≤ at ws 0
+some_counted ws ok s e = let k = found_known standard ws ok s e in omega (arith, first_word ws k.config k.reads, k.engines, s.some)
+
+pub no_longer : (ws : List ℕ) → Words ws → (s : Surveyed) → starts_of s ≡ surveyed standard 11 ws → length ws ≤ 8192
+no_longer ws ok s e = (known_length (found_known standard ws ok s e)).1
+
+-- the words that are left, then the first word
+pub left_laid :
+    (ws : List ℕ) (ok : Words ws) (s : Surveyed) (e : starts_of s ≡ surveyed standard 11 ws) (b : Bool) → b ≡ rests_w ws s.starts s.engines → b ≡ true →
+    (m : ℕ) → m ≡ length ws - 65 → (out mid last : List ℕ) → m ≤ length out → mid ≡ pasted ws 0 m out 0 → (w : ℕ) → w ≡ at ws 0 → last ≡ set mid 0 (w - 1) →
+    last ≡ restored_over (leave standard ws (length out)) out
+unfolding restored_over
+left_laid ws ok s e b p f m is out mid last g q w h l =
+    let k = found_known standard ws ok s e in
+    let same : w ≡ s.engines = h ∙ first_word ws k.config k.reads ∙ sym k.engines in
+    l ∙ ap (λ us. set us 0 (w - 1)) (q ∙ ap (λ k. pasted ws 0 k out 0) is) ∙ left_placed ok k (true_test (free ws ok (length out) s e b p f)) out w same (omega arith)
+    ∙ sym (ap (λ r. restored_over r out) (by_room ws ok (length out) s e b p f m is g))

@@ -13,30 +13,17 @@ use borrow.Author.Tests.{lt-ltb, le-ltb, lt-leb, le-leb, ltb-true}
 use Rattle.sock.specs.Configuration.{standard, Engine, Config, engine_words, engines_words, encode, read_config}
 use Rattle.sock.specs.Calls.{Refusal, unreadable, house_full, not_fresh, long, short, number, Result, refused, done, ◌>>=◌, ◌>>◌, ◌!◌, ◌unless◌, over, passed, check_readable}
 use Rattle.sock.specs.Journal.{taken_of, restored_over}
-use Rattle.sock.specs.Engines.{newcomer, with_next, admitting, join, join_answer, join_output}
+use Rattle.sock.specs.Engines.{newcomer, with_next, admitting, join}
 use Rattle.sock.proofs.Logic.{all_some_lem}
 use Rattle.sock.proofs.Configuration.{config_found}
 use Rattle.sock.proofs.Engines.{newcomer_new, with_words}
 use Rattle.writers.specs.Writing.{pasted}
 use Rattle.writers.proofs.Over.{pasted_over, pasted_first}
-use Rattle.engines.specs.declared.answer.Written.{Written}
-use Rattle.engines.specs.Answers.{written_as}
+use Rattle.layout.specs.declared.refusal.Refusal.{Refusal as Refused}
+use Rattle.layout.specs.Refusals.{refusal_number}
+use Rattle.layout.proofs.Refusing.{some_number}
 use Rattle.engines.specs.Comer.{is_there}
 use Rattle.engines.specs.Placing.{words_with, fitted}
-
--- ---- an answer and an output, by the result that the definitions give
-
-pub record Gives (r : Result (List ℕ)) (out : List ℕ) (w : Written) (last : List ℕ) : Type 0 where
-  pub answered : w ≡ written_as (taken_of r)
-  pub wrote : last ≡ restored_over r out
-
-pub gives_refused : {r : Result (List ℕ)} (f : Refusal) (out : List ℕ) (w : Written) → r ≡ refused f → w ≡ record { number = number f; length = 0 } → Gives r out w out
-unfolding taken_of restored_over
-gives_refused f out w e q = record { answered = q ∙ rw e; wrote = rw e }
-
-pub gives_done : {r : Result (List ℕ)} (words out last : List ℕ) (n : ℕ) → r ≡ done words → n ≡ length words → last ≡ over words out → Gives r out (record { number = 0; length = n }) last
-unfolding taken_of restored_over
-gives_done words out last n e q l = record { answered = rw (e, q); wrote = l ∙ rw e }
 
 -- ---- who is admitted
 
@@ -53,7 +40,7 @@ module _ (ws : List ℕ) where
     pub reads : read_config standard ws ≡ some config
     pub first : get_or ws 0 0 ≡ length config.engines
 
-  first_word : (c : Config) → read_config standard ws ≡ some c → get_or ws 0 0 ≡ length c.engines
+  pub first_word : (c : Config) → read_config standard ws ≡ some c → get_or ws 0 0 ≡ length c.engines
   unfolding encode
   first_word c r = ap (λ us. get_or us 0 0) (sym (config_found standard ws c r).0)
 
@@ -65,24 +52,24 @@ module _ (ws : List ℕ) where
       by none r h = absurd (omega arith)
       by (some c) r h = record { config = c; reads = r; first = first_word c r }
 
-  pub not_read : (r : ℕ) → r ≡ check_readable standard ws → (r ≡ 0 → ⊥) → 1 ≡ passed (admitting standard ws)
+  pub not_read : (r : Refused) → refusal_number r ≡ check_readable standard ws → refusal_number r ≡ passed (admitting standard ws)
   unfolding check_readable passed ◌!◌ ◌>>=◌
-  not_read r e h = by (read_config standard ws) refl e ∙ ap passed (sym asks)
+  not_read r e = by (read_config standard ws) refl
     where
-      by : (o : Option Config) → read_config standard ws ≡ o → r ≡ passed (unreadable ! o) → 1 ≡ passed (asked (read_config standard ws))
-      by none q z = rw q
-      by (some c) q z = absurd (h z)
+      by : (o : Option Config) → read_config standard ws ≡ o → refusal_number r ≡ passed (admitting standard ws)
+      by none q = e ∙ rw q (sym (ap passed asks ∙ rw q))
+      by (some c) q = let z : refusal_number r ≡ 0 = e ∙ rw q in absurd (some_number r z)
 
-  pub full : (r : ℕ) → r ≡ check_readable standard ws → r ≡ 0 → 8 ≤ get_or ws 0 0 → 21 ≡ passed (admitting standard ws)
+  pub full : 0 ≡ check_readable standard ws → 8 ≤ get_or ws 0 0 → 21 ≡ passed (admitting standard ws)
   unfolding passed ◌!◌ ◌>>=◌ ◌>>◌ ◌unless◌
-  full r e z h =
-      let k = read_checked (sym z ∙ e) in
+  full e h =
+      let k = read_checked e in
       sym (ap passed asks ∙ rw (k.reads, le-ltb (length k.config.engines) 8 (omega (arith, k.first))))
 
-  pub has_room : (r : ℕ) → r ≡ check_readable standard ws → r ≡ 0 → get_or ws 0 0 < 8 → 0 ≡ passed (admitting standard ws)
+  pub has_room : 0 ≡ check_readable standard ws → get_or ws 0 0 < 8 → 0 ≡ passed (admitting standard ws)
   unfolding passed ◌!◌ ◌>>=◌ ◌>>◌ ◌unless◌
-  has_room r e z h =
-      let k = read_checked (sym z ∙ e) in
+  has_room e h =
+      let k = read_checked e in
       sym (ap passed asks ∙ rw (k.reads, lt-ltb (length k.config.engines) 8 (omega (arith, k.first))))
 
   -- what is known of who is admitted
@@ -93,9 +80,9 @@ module _ (ws : List ℕ) where
     pub few : length config.engines < 8
     pub first : get_or ws 0 0 ≡ length config.engines
 
-  pub admitted : (r : ℕ) → r ≡ passed (admitting standard ws) → r ≡ 0 → Admitted
+  pub admitted : 0 ≡ passed (admitting standard ws) → Admitted
   unfolding passed ◌!◌ ◌>>=◌ ◌>>◌ ◌unless◌
-  admitted r e z = by (read_config standard ws) refl (sym z ∙ e ∙ ap passed asks)
+  admitted e = by (read_config standard ws) refl (e ∙ ap passed asks)
     where
       over_few : (c : Config) → read_config standard ws ≡ some c → (b : Bool) → ltb (length c.engines) 8 ≡ b → 0 ≡ passed (◌>>◌ (house_full unless b) (done c)) → Admitted
       over_few c q true t h =
@@ -107,9 +94,13 @@ module _ (ws : List ℕ) where
       by (some c) q h = over_few c q (ltb (length c.engines) 8) refl (h ∙ rw q)
 
 -- there are words
-pub read_some : (ws : List ℕ) → Admitted ws → 0 < length ws
+pub read_some : (ws : List ℕ) → 0 ≡ passed (admitting standard ws) → 0 < length ws
 unfolding encode
-read_some ws a = omega (arith, ap length (config_found standard ws a.config a.reads).0)
+read_some ws e = let a = admitted ws e in omega (arith, ap length (config_found standard ws a.config a.reads).0)
+
+-- and the first is below 8
+pub few_admitted : (ws : List ℕ) → 0 ≡ passed (admitting standard ws) → get_or ws 0 0 < 8
+few_admitted ws e = let a = admitted ws e in omega (arith, a.few, a.first)
 
 -- ---- 9 and 10
 
@@ -164,41 +155,42 @@ module _ (n : ℕ) (ws engine : List ℕ) (some_words : 0 < length ws) where
       by [] h = absurd (omega arith)
       by (w ∷ ws) h = refl
 
-  module _ (out : List ℕ) where
-    abbrev placing : Result (List ℕ)
-    placing = fitted standard (words_with n ws engine) (length out)
+  pub too_long : (room : ℕ) → 8192 < length ws + length engine → fitted standard (words_with n ws engine) room ≡ refused long
+  too_long room h = refused_long (words_with n ws engine) room (rw with_length h)
 
-    pub too_long : 8192 < length ws + length engine → (w : Written) → w ≡ record { number = 9; length = 0 } → Gives placing out w out
-    too_long h w q = gives_refused long out w (refused_long (words_with n ws engine) (length out) (rw with_length h)) q
+  pub too_short : (room : ℕ) → length ws + length engine ≤ 8192 → room < length ws + length engine → fitted standard (words_with n ws engine) room ≡ refused short
+  too_short room h g = refused_short (words_with n ws engine) room (rw with_length h) (rw with_length g)
 
-    pub too_short : length ws + length engine ≤ 8192 → length out < length ws + length engine → (w : Written) → w ≡ record { number = 10; length = 0 } → Gives placing out w out
-    too_short h g w q = gives_refused short out w (refused_short (words_with n ws engine) (length out) (rw with_length h) (rw with_length g)) q
+  pub all_fit : (room : ℕ) → length ws + length engine ≤ 8192 → length ws + length engine ≤ room → fitted standard (words_with n ws engine) room ≡ done (words_with n ws engine)
+  all_fit room h g = is_fitted (words_with n ws engine) room (rw with_length h) (rw with_length g)
 
-    -- the words copied, the newcomer's behind them, then the first word
-    pub all_placed :
-        length ws + length engine ≤ 8192 → length ws + length engine ≤ length out →
-        (one two last : List ℕ) → one ≡ pasted ws 0 (length ws) out 0 → two ≡ pasted engine 0 (length engine) one (length ws) → last ≡ set two 0 n →
-        Gives placing out (record { number = 0; length = length ws + length engine }) last
-    all_placed h g one two last p q r =
-        gives_done (words_with n ws engine) out last (length ws + length engine) (is_fitted (words_with n ws engine) (length out) (rw with_length h) (rw with_length g)) (sym with_length)
-        (r ∙ ap (λ us. set us 0 n) (q ∙ ap (λ us. pasted engine 0 (length engine) us (length ws)) p) ∙ placed_words out g)
+  pub fits : (room : ℕ) → length ws + length engine ≤ 8192 → length ws + length engine ≤ room → record { number = 0; length = length ws + length engine } ≡ taken_of (fitted standard (words_with n ws engine) room)
+  unfolding taken_of
+  fits room h g = rw (all_fit room h g, with_length)
 
 -- ---- joining
 
-module _ (ws engine out : List ℕ) where
-  pub join_gives : (w : Written) (last : List ℕ) → Gives (join standard ws engine (length out)) out w last → (w ≡ written_as (join_answer standard ws engine out)) × (last ≡ join_output standard ws engine out)
-  unfolding join_answer join_output
-  join_gives w last g = (g.answered, g.wrote)
-
-  pub not_admitted : (r : ℕ) → r ≡ passed (admitting standard ws) → (r ≡ 0 → ⊥) → (w : Written) → w ≡ record { number = r; length = 0 } → Gives (join standard ws engine (length out)) out w out
+module _ (ws engine : List ℕ) (room : ℕ) where
+  refuses : (r : Refused) → refusal_number r ≡ passed (admitting standard ws) → (f : Refusal) × (join standard ws engine room ≡ refused f) × (refusal_number r ≡ number f)
   unfolding join passed ◌>>=◌
-  not_admitted r e h w q = by (admitting standard ws) refl e
+  refuses r e = by (admitting standard ws) refl e
     where
-      by : (a : Result Config) → admitting standard ws ≡ a → r ≡ passed a → Gives (join standard ws engine (length out)) out w out
-      by (refused f) t z = gives_refused f out w (rw t) (q ∙ rw z)
-      by (done c) t z = absurd (h z)
+      by : (a : Result Config) → admitting standard ws ≡ a → refusal_number r ≡ passed a → (f : Refusal) × (join standard ws engine room ≡ refused f) × (refusal_number r ≡ number f)
+      by (refused f) t z = (f, rw t, z)
+      by (done c) t z = absurd (some_number r z)
 
-  module _ (a : Admitted ws) (counted : ℕ) (one_more_lem : counted ≡ get_or ws 0 0 + 1) where
+  pub not_admitted : (r : Refused) → refusal_number r ≡ passed (admitting standard ws) → record { number = refusal_number r; length = 0 } ≡ taken_of (join standard ws engine room)
+  unfolding taken_of
+  not_admitted r e = let f = refuses r e in rw (f.1, f.2)
+
+  pub unchanged : (out : List ℕ) (r : Refused) → refusal_number r ≡ passed (admitting standard ws) → out ≡ restored_over (join standard ws engine room) out
+  unfolding restored_over
+  unchanged out r e = let f = refuses r e in rw f.1
+
+  module _ (e : 0 ≡ passed (admitting standard ws)) (counted : ℕ) (one_more_lem : counted ≡ get_or ws 0 0 + 1) where
+    a : Admitted ws
+    a = admitted ws e
+
     engines_count : suc (length a.config.engines) ≡ counted
     engines_count = omega (arith, a.first)
 
@@ -206,30 +198,25 @@ module _ (ws engine out : List ℕ) where
     known_as o =
         not_fresh ! o >>= λ e.
         ◌>>◌ (long unless leb (length (encode (with_next a.config e))) 8192)
-        (◌>>◌ (short unless leb (length (encode (with_next a.config e))) (length out)) (done (encode (with_next a.config e))))
+        (◌>>◌ (short unless leb (length (encode (with_next a.config e))) room) (done (encode (with_next a.config e))))
 
-    joins : join standard ws engine (length out) ≡ known_as (newcomer standard counted engine)
+    joins : join standard ws engine room ≡ known_as (newcomer standard counted engine)
     unfolding join ◌>>=◌
     joins = rw (a.is_done, engines_count)
 
-    pub not_fresh_lem : (b : Bool) → b ≡ is_there (newcomer standard counted engine) → b ≡ false → (w : Written) → w ≡ record { number = 11; length = 0 } → Gives (join standard ws engine (length out)) out w out
+    pub no_newcomer : (b : Bool) → b ≡ is_there (newcomer standard counted engine) → b ≡ false → join standard ws engine room ≡ refused not_fresh
     unfolding is_there ◌!◌ ◌>>=◌
-    not_fresh_lem b e f w q = gives_refused not_fresh out w (by (newcomer standard counted engine) refl (sym f ∙ e)) q
+    no_newcomer b e f = by (newcomer standard counted engine) refl (sym f ∙ e)
       where
-        by : (o : Option Engine) → newcomer standard counted engine ≡ o → false ≡ is_there o → join standard ws engine (length out) ≡ refused not_fresh
+        by : (o : Option Engine) → newcomer standard counted engine ≡ o → false ≡ is_there o → join standard ws engine room ≡ refused not_fresh
         by none t z = joins ∙ rw t
         by (some e) t z = absurd (subst T (sym z) tt)
 
     -- a newcomer that is there is placed behind the others
-    pub placed : (b : Bool) → b ≡ is_there (newcomer standard counted engine) → b ≡ true → join standard ws engine (length out) ≡ fitted standard (words_with counted ws engine) (length out)
+    pub placed : (b : Bool) → b ≡ is_there (newcomer standard counted engine) → b ≡ true → join standard ws engine room ≡ fitted standard (words_with counted ws engine) room
     unfolding is_there ◌!◌ ◌>>=◌ fitted
     placed b e f = by (newcomer standard counted engine) refl (sym f ∙ e)
       where
-        by : (o : Option Engine) → newcomer standard counted engine ≡ o → true ≡ is_there o → join standard ws engine (length out) ≡ fitted standard (words_with counted ws engine) (length out)
+        by : (o : Option Engine) → newcomer standard counted engine ≡ o → true ≡ is_there o → join standard ws engine room ≡ fitted standard (words_with counted ws engine) room
         by none t z = absurd (subst T z tt)
         by (some e) t z = joins ∙ rw (t, known_words ws engine a e counted engines_count t)
-
-    pub given_placed : (b : Bool) → b ≡ is_there (newcomer standard counted engine) → b ≡ true → (w : Written) (last : List ℕ) →
-        w ≡ written_as (taken_of (fitted standard (words_with counted ws engine) (length out))) → last ≡ restored_over (fitted standard (words_with counted ws engine) (length out)) out →
-        Gives (join standard ws engine (length out)) out w last
-    given_placed b e f w last p q = let same = placed b e f in record { answered = p ∙ ap (λ r. written_as (taken_of r)) (sym same); wrote = q ∙ ap (λ r. restored_over r out) (sym same) }

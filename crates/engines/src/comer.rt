@@ -12,6 +12,7 @@ use reading::reader::read;
 
 // Whether they are 64 value words and a process that has not begun, with nothing behind it, among `n` engines. What may be nil is known by its
 // head; how many words there are is not asked here.
+#[tactic(auto, using(crate::proofs::Coming::few_words, crate::proofs::Coming::head_nil, crate::proofs::Coming::whole_read, reading::proofs::Given::none_end, reading::proofs::Given::some_end))]
 pub(crate) fn begins(engine: &[u16], n: usize) -> bool
     requires { n ≤ 8 }
     ensures { result ≡ is_there (newcomer standard n engine.now) }

@@ -1,70 +1,63 @@
 // Joining: the newcomer's words behind the others, and one engine more.
-ghost use Rattle.std.specs.Prelude.{◌≡◌, ◌≤◌, ◌<◌, length};
+ghost use Rattle.std.specs.Prelude.{◌≡◌, ◌<◌, length};
 ghost use Rattle.sock.specs.Configuration.{standard};
 ghost use Rattle.sock.specs.Calls.{passed};
 ghost use Rattle.sock.specs.Journal.{taken_of, restored_over};
 ghost use Rattle.sock.specs.Engines.{admitting, join_answer, join_output};
-ghost use Rattle.engines.specs.Answers.{written_as};
+ghost use Rattle.layout.specs.Refusals.{number_in};
+ghost use Rattle.engines.specs.Answers.{written_in};
 ghost use Rattle.engines.specs.Placing.{words_with, fitted};
 
-use crate::answer::{Written, refuse};
 use crate::comer::begins;
 use layout::limit::{ENGINES, LONGEST};
-use layout::number::{wide, word};
+use layout::number::{wide, word, word_of};
+use layout::refusal::Refusal;
 use reading::calls::check_readable;
 use writers::write::{copy, put};
 
-// The words of `ws` with those of `engine` behind them, and `n` engines, if they are not too long (9) and have room (10).
-fn append(ws: &[u16], engine: &[u16], n: u16, out: &mut [u16]) -> Written
+// The words of `ws` with those of `engine` behind them, and `n` engines, if they are not too long and have room.
+#[tactic(auto, unfolding(sock::specs::Journal::taken_of, sock::specs::Journal::restored_over), using(crate::proofs::Joining::too_long, crate::proofs::Joining::too_short, crate::proofs::Joining::all_fit, crate::proofs::Joining::fits, crate::proofs::Joining::placed_words))]
+fn append(ws: &[u16], engine: &[u16], n: u16, out: &mut [u16]) -> Result<u16, Refusal>
     requires { 0 < length ws.now }
-    ensures answered { result ≡ written_as (taken_of (fitted standard (words_with n ws.now engine.now) (length out.old))) }
+    ensures answered { written_in result ≡ taken_of (fitted standard (words_with n ws.now engine.now) (length out.old)) }
     ensures wrote { out.new ≡ restored_over (fitted standard (words_with n ws.now engine.now) (length out.old)) out.old }
 {
-    if LONGEST < ws.len() {
-        return refuse(9);
-    }
-    if LONGEST - ws.len() < engine.len() {
-        return refuse(9);
-    }
     let m = ws.len() + engine.len();
+    if LONGEST < m {
+        return Err(Refusal::TooLong);
+    }
     if out.len() < m {
-        return refuse(10);
+        return Err(Refusal::OutputShort);
     }
     copy(ws, 0, ws.len(), out, 0);
     copy(engine, 0, engine.len(), out, ws.len());
     put(out, 0, n);
-    Written {
-        number: 0,
-        length: m as u16,
-    }
+    Ok(word_of(m))
 }
 
-// Whether one more may join: 1 if the words are not readable, 21 if there are eight engines, else 0.
-pub fn admit(ws: &[u16]) -> u8
-    ensures { result ≡ passed (admitting standard ws.now) }
+// Whether one more may join: refused if the words are not readable, then if there are eight engines.
+#[tactic(auto, using(crate::proofs::Joining::not_read, crate::proofs::Joining::full, crate::proofs::Joining::has_room))]
+pub fn admit(ws: &[u16]) -> Result<(), Refusal>
+    ensures { number_in result ≡ passed (admitting standard ws.now) }
 {
-    if check_readable(ws) != 0 {
-        return 1;
-    }
+    check_readable(ws)?;
     if ENGINES <= wide(word(ws, 0)) {
-        return 21;
+        return Err(Refusal::Full);
     }
-    0
+    Ok(())
 }
 
-// Joining: the configuration's words with the newcomer's in the output. 1 if the words are not readable, 21 if there are eight engines, 11 if
-// the newcomer is not readable and fresh, 9 if they are too long together, 10 if the output is too short; a refusal changes no word.
-pub fn join(ws: &[u16], engine: &[u16], out: &mut [u16]) -> Written
-    ensures answered { result ≡ written_as (join_answer standard ws.now engine.now out.old) }
+// Joining: the configuration's words with the newcomer's in the output, and how many. Refused if the words are not readable, if there are eight
+// engines, if the newcomer is not readable and fresh, if they are too long together, if the output is too short; a refusal changes no word.
+#[tactic(auto, unfolding(sock::specs::Engines::join_answer, sock::specs::Engines::join_output, sock::specs::Journal::taken_of, sock::specs::Journal::restored_over), using(crate::proofs::Joining::not_admitted, crate::proofs::Joining::unchanged, crate::proofs::Joining::few_admitted, crate::proofs::Joining::read_some, crate::proofs::Joining::no_newcomer, crate::proofs::Joining::placed))]
+pub fn join(ws: &[u16], engine: &[u16], out: &mut [u16]) -> Result<u16, Refusal>
+    ensures answered { written_in result ≡ join_answer standard ws.now engine.now out.old }
     ensures wrote { out.new ≡ join_output standard ws.now engine.now out.old }
 {
-    let refusal = admit(ws);
-    if refusal != 0 {
-        return refuse(refusal);
+    admit(ws)?;
+    let n = word(ws, 0) + 1;
+    if !begins(engine, wide(n)) {
+        return Err(Refusal::NotFresh);
     }
-    let n = wide(word(ws, 0)) + 1;
-    if !begins(engine, n) {
-        return refuse(11);
-    }
-    append(ws, engine, n as u16, out)
+    append(ws, engine, n, out)
 }

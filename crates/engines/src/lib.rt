@@ -1,7 +1,6 @@
 // Engines that come and go: joining as the next engine, leaving as the last one.
 #![tactic(auto)]
 
-pub mod answer;
 pub mod comer;
 pub mod join;
 pub mod leave;

@@ -1,7 +1,6 @@
 pub mod Arounds
 pub mod Bodies
 pub mod Edits
-pub mod Finding
 pub mod Finds
 pub mod Framing
 pub mod Pieces

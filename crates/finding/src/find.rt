@@ -1,18 +1,21 @@
 // Finding an enabled process by its position: the cut that its end would make, the nearest scope, and the scope that catches its fault.
-ghost use Rattle.std.specs.Prelude.{◌≡◌, ◌+◌, ◌<◌, length, get_or};
+ghost use Rattle.std.specs.Prelude.{◌≡◌, ◌+◌, ◌<◌, length, get_or, IfSome};
 ghost use Rattle.sock.specs.Words.{kind_of};
+ghost use Rattle.layout.specs.Keys.{scope_keys};
+ghost use Rattle.reading.specs.Walk.{key_as};
 ghost use Rattle.finding.specs.Find.{at_most, find_w, node_w, outside_w, cut, shut_in, here_w, in_seq_w, in_par_w, left_w, beside_w, in_body_w, in_scope_w, scope_of, level_of, catcher_of, fault_at, catches_w};
 
 use layout::field::{is_zombie, name_of};
+use layout::head;
 use layout::kind::Kind;
 use layout::own::own_end;
-use layout::{head, key};
-use skipping::pass::{note_at, pass, pass_list};
-use skipping::skip::skip_list;
+use skipping::pass::Noted;
+use skipping::skip::has_key;
 
 // The process at `at`, `level` levels deep. Were it nil, the words from..upto and gap..end would go; `hollow` tells that a nil would stand at `from`.
 // `scope` is the head of the nearest scope, `scope_level` its level, `catcher` the head of the scope that stops the fault of a throw; 0
-// where there is none.
+// where there is none. `closed`: the cut goes on no further outwards. It says more than `hollow`, since a body's nil stays, and each of the two is
+// asked alone: `closed` by the search, `hollow` by the rules.
 #[derive(Clone, Copy)]
 pub struct Site {
     pub at: usize,
@@ -28,6 +31,8 @@ pub struct Site {
     pub catcher: usize,
 }
 
+// The process, or where the one that was passed ends. The search goes on from that end, also from the 0 of one that is not known, and no one else
+// asks for it; so it is no `Option`.
 #[derive(Clone, Copy)]
 pub enum Found {
     Hit(Site),
@@ -36,17 +41,10 @@ pub enum Found {
 
 // The enabled process whose head is at `target`, in the process at `at`, `level` levels deep; or where that process ends. More levels than
 // 32,767 are counted as so many.
-pub fn locate(
-    ws: &[u16],
-    notes: &[u16],
-    at: usize,
-    target: usize,
-    depth: usize,
-    level: usize,
-) -> Found
-    ensures { result ≡ find_w (at_most depth) ws.now notes.now target (at_most level) at }
+pub fn locate(noted: &Noted, at: usize, target: usize, depth: usize, level: usize) -> Found
+    ensures { result ≡ find_w (at_most depth) noted.now.ws.now noted.now.notes.now target (at_most level) at }
 {
-    find(ws, notes, at, target, at_most(depth), at_most(level))
+    find(noted, at, target, at_most(depth), at_most(level))
 }
 
 // Levels are counted below this.
@@ -61,49 +59,50 @@ fn at_most(levels: usize) -> usize
 // The same. A process whose end is marked and that does not have the target is passed at once: where all are marked, the search goes down
 // one way only.
 #[cycle(find_in_par_node)]
-fn find(ws: &[u16], notes: &[u16], at: usize, target: usize, depth: usize, level: usize) -> Found
+#[tactic(auto, unfolding(crate::specs::Find::find_w))]
+fn find(noted: &Noted, at: usize, target: usize, depth: usize, level: usize) -> Found
     requires { level + depth < 65536 }
-    ensures { result ≡ find_w depth ws.now notes.now target level at }
+    ensures { result ≡ find_w depth noted.now.ws.now noted.now.notes.now target level at }
 {
     if depth == 0 {
         return Found::Past(0);
     }
-    if ws.len() <= at {
+    if noted.ws.len() <= at {
         return Found::Past(0);
     }
     if at == target {
-        return here(ws, notes, at, depth, level);
+        return here(noted, at, depth, level);
     }
-    let e = note_at(notes, at);
+    let e = noted.note(at);
     if outside(at, target, e) {
         return Found::Past(e);
     }
-    node(ws, notes, at, target, depth - 1, level)
+    node(noted, at, target, depth - 1, level)
 }
 
 // By the kind of the process at `at`, whose parts are `depth` levels deep at most; the target is not its head.
 #[cycle(find_in_par_node)]
 #[tactic(auto, unfolding(crate::specs::Find::node_w))]
-fn node(ws: &[u16], notes: &[u16], at: usize, target: usize, depth: usize, level: usize) -> Found
-    requires { (level + 1 + depth < 65536) × (at < length ws.now) }
-    ensures { result ≡ node_w (find_w depth ws.now notes.now target (level + 1)) depth ws.now notes.now target level (kind_of (get_or ws.now at 0)) at }
+fn node(noted: &Noted, at: usize, target: usize, depth: usize, level: usize) -> Found
+    requires { (level + 1 + depth < 65536) × (at < length noted.now.ws.now) }
+    ensures { result ≡ node_w (find_w depth noted.now.ws.now noted.now.notes.now target (level + 1)) depth noted.now.ws.now noted.now.notes.now target level (kind_of (get_or noted.now.ws.now at 0)) at }
 {
-    match Kind::of(ws[at]) {
+    match Kind::of(noted.ws[at]) {
         Kind::Seq => {
-            let f = find(ws, notes, at + 1, target, depth, level + 1);
-            in_seq(ws, notes, at, f, depth)
+            let f = find(noted, at + 1, target, depth, level + 1);
+            in_seq(noted, at, f, depth)
         }
-        Kind::Par => in_par(ws, notes, at, target, depth, level + 1),
+        Kind::Par => in_par(noted, at, target, depth, level + 1),
         Kind::Scope => {
-            let body = pass_list(ws, notes, at + 2, depth);
-            let f = find(ws, notes, body, target, depth, level + 1);
-            in_scope(ws, at, target, level, f, depth)
+            let body = noted.pass_list(at + 2, depth);
+            let f = find(noted, body, target, depth, level + 1);
+            in_scope(noted.ws, at, target, level, f, depth)
         }
         Kind::Executor => {
-            let body = own_end(ws, at);
-            in_body(find(ws, notes, body, target, depth, level + 1))
+            let body = own_end(noted.ws, at);
+            in_body(find(noted, body, target, depth, level + 1))
         }
-        _ => Found::Past(pass(ws, notes, at, depth + 1)),
+        _ => Found::Past(noted.pass(at, depth + 1)),
     }
 }
 
@@ -123,10 +122,10 @@ fn outside(at: usize, target: usize, end: usize) -> bool
 
 // The process itself.
 #[tactic(auto, unfolding(crate::specs::Find::here_w))]
-fn here(ws: &[u16], notes: &[u16], at: usize, depth: usize, level: usize) -> Found
-    ensures { result ≡ here_w depth ws.now notes.now level at }
+fn here(noted: &Noted, at: usize, depth: usize, level: usize) -> Found
+    ensures { result ≡ here_w depth noted.now.ws.now noted.now.notes.now level at }
 {
-    let e = pass(ws, notes, at, depth);
+    let e = noted.pass(at, depth);
     Found::Hit(Site {
         at,
         level,
@@ -182,20 +181,20 @@ fn shut(s: Site, scope: usize, level: usize, catcher: usize) -> Site
 
 // The first of a seq becoming nil, the second takes the seq's place; a nil second goes on.
 #[tactic(auto, unfolding(crate::specs::Find::in_seq_w, crate::specs::Find::seq_spot))]
-fn in_seq(ws: &[u16], notes: &[u16], at: usize, f: Found, depth: usize) -> Found
-    ensures { result ≡ in_seq_w depth ws.now notes.now at f }
+fn in_seq(noted: &Noted, at: usize, f: Found, depth: usize) -> Found
+    ensures { result ≡ in_seq_w depth noted.now.ws.now noted.now.notes.now at f }
 {
     match f {
-        Found::Past(e) => Found::Past(pass(ws, notes, e, depth)),
+        Found::Past(e) => Found::Past(noted.pass(e, depth)),
         Found::Hit(s) => {
             if s.closed {
                 return Found::Hit(s);
             }
             let q = s.end;
-            if ws.len() <= q {
+            if noted.ws.len() <= q {
                 return Found::Past(0);
             }
-            if ws[q] == head::NIL {
+            if noted.ws[q] == head::NIL {
                 return Found::Hit(cut_at(s, at, q + 1, q + 1, q + 1, true));
             }
             Found::Hit(cut_at(s, at, q, q, q, false))
@@ -206,13 +205,13 @@ fn in_seq(ws: &[u16], notes: &[u16], at: usize, f: Found, depth: usize) -> Found
 // A side of a par becoming nil, the other takes the par's place.
 #[cycle(find_in_par_node)]
 #[tactic(auto, unfolding(crate::specs::Find::par_sides, crate::specs::Find::in_par_w))]
-fn in_par(ws: &[u16], notes: &[u16], at: usize, target: usize, depth: usize, level: usize) -> Found
-    requires { (level + depth < 65536) × (at < length ws.now) }
-    ensures { result ≡ in_par_w (find_w depth ws.now notes.now target level) at }
+fn in_par(noted: &Noted, at: usize, target: usize, depth: usize, level: usize) -> Found
+    requires { (level + depth < 65536) × (at < length noted.now.ws.now) }
+    ensures { result ≡ in_par_w (find_w depth noted.now.ws.now noted.now.notes.now target level) at }
 {
-    match find(ws, notes, at + 1, target, depth, level) {
+    match find(noted, at + 1, target, depth, level) {
         Found::Hit(s) => left(at, s),
-        Found::Past(e) => beside(at, e, find(ws, notes, e, target, depth, level)),
+        Found::Past(e) => beside(at, e, find(noted, e, target, depth, level)),
     }
 }
 
@@ -293,27 +292,28 @@ fn catcher_of(ws: &[u16], at: usize, target: usize, catcher: usize, depth: usize
     requires { at < length ws.now }
     ensures { result ≡ catcher_of depth ws.now target at catcher }
 {
-    let fault = fault_at(ws, target);
-    if key::SCOPE_KEYS <= fault {
-        return 0;
+    match fault_at(ws, target) {
+        None => 0,
+        Some(fault) => {
+            if catcher != 0 {
+                return catcher;
+            }
+            if catches(ws, at, fault, depth) { at } else { 0 }
+        }
     }
-    if catcher != 0 {
-        return catcher;
-    }
-    if catches(ws, at, fault, depth) { at } else { 0 }
 }
 
 // The fault that the process at `target` throws, as a key; none if it is no throw.
 #[tactic(auto, unfolding(crate::specs::Find::fault_at))]
-fn fault_at(ws: &[u16], target: usize) -> usize
-    ensures { result ≡ fault_at ws.now target }
+fn fault_at(ws: &[u16], target: usize) -> Option<usize>
+    ensures { (result ≡ key_as (fault_at ws.now target)) × IfSome result (λ fault. fault < scope_keys) }
 {
     if ws.len() <= target {
-        return key::NO_KEY;
+        return None;
     }
     match Kind::of(ws[target]) {
-        Kind::Throw => name_of(ws[target]),
-        _ => key::NO_KEY,
+        Kind::Throw => Some(name_of(ws[target])),
+        _ => None,
     }
 }
 
@@ -326,5 +326,5 @@ fn catches(ws: &[u16], at: usize, fault: usize, depth: usize) -> bool
     if is_zombie(ws[at]) {
         return true;
     }
-    skip_list(ws, at + 2, depth, fault) != 0
+    has_key(ws, at + 2, depth, fault)
 }

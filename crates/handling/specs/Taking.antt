@@ -1,11 +1,28 @@
 -- An entry taken out of a scope's list on words, as the code goes: how far it has come, and the output.
-use Rattle.std.specs.Prelude.{ℕ, zero, suc, ◌-◌, cond, List, eqb, get_or, set}
+use Rattle.std.specs.Prelude.{ℕ, zero, suc, Option, Some, None, ◌-◌, cond, List, eqb, get_or, set}
 use Rattle.sock.specs.Words.{key_of}
 use Rattle.skipping.specs.Skip.{skip_end}
 use Rattle.layout.specs.Positions.{onward}
 use Rattle.writers.specs.Writing.{pasted, pasted_end}
 use Rattle.handling.specs.declared.take.Passing.{Passing}
-use Rattle.handling.specs.declared.take.Taken.{Taken}
+use Rattle.handling.specs.declared.take.Span.{Span}
+use Rattle.handling.specs.declared.take.Taken as code
+
+-- the place behind the new list; the process taken out stands from..upto, or upto is 0
+pub record Taken : Type 0 where
+  pub to : ℕ
+  pub from : ℕ
+  pub upto : ℕ
+
+abbrev pub taken : ℕ → ℕ → ℕ → Taken
+taken to from upto = record { to = to; from = from; upto = upto }
+
+-- by the code: none where nothing was taken out
+abbrev pub span_as : ℕ → ℕ → Option Span
+span_as from upto = cond (eqb upto 0) None (Some (record { from = from; upto = upto }))
+
+abbrev pub taken_as : Taken → code.Taken
+taken_as t = record { to = t.to; process = span_as t.from t.upto }
 
 pub record Passed : Type 0 where
   pub state : Passing
@@ -39,7 +56,7 @@ passes_w depth ws key (suc n) s out =
 unfoldable pub took_w : ℕ → Passed → Took
 took_w count p =
     record {
-      answer = record { to = p.state.to; from = p.state.from; upto = p.state.upto };
+      answer = taken p.state.to p.state.from p.state.upto;
       out = set p.out 0 (less_if count p.state.upto);
     }
 

@@ -1,21 +1,28 @@
 // A scope's list without the entry of a key, into scratch.
 ghost use Rattle.std.specs.Prelude.{◌≡◌};
-ghost use Rattle.handling.specs.Taking.{less_if, pass_w, take_w};
+ghost use Rattle.handling.specs.Taking.{span_as, taken_as, less_if, pass_w, take_w};
 
 use layout::field::key_of;
 use layout::number::{further, wide, word};
 use skipping::skip::skip;
 use writers::write::{copy, put};
 
-// The place behind the new list; the process taken out stands from..upto, or upto is 0.
+// The words from..upto.
 #[derive(Clone, Copy)]
-pub struct Taken {
-    pub to: usize,
+pub struct Span {
     pub from: usize,
     pub upto: usize,
 }
 
-// How far it has come: the next entry, and what is taken so far.
+// The place behind the new list, and the process taken out, if there was one.
+#[derive(Clone, Copy)]
+pub struct Taken {
+    pub to: usize,
+    pub process: Option<Span>,
+}
+
+// How far it has come: the next entry, and what is taken so far, or upto is 0. Not an `Option`: an entry of the key that ends nowhere
+// leaves `from` beside an upto of 0 here, as in the mirror, which the loop follows turn by turn.
 #[derive(Clone, Copy)]
 pub struct Passing {
     pub at: usize,
@@ -29,6 +36,19 @@ fn less_if(n: u16, upto: usize) -> u16
     ensures { result ≡ less_if n upto }
 {
     if upto == 0 { n } else { n.saturating_sub(1) }
+}
+
+// What was taken out, if there was anything.
+fn process(s: Passing) -> Option<Span>
+    ensures { result ≡ span_as s.from s.upto }
+{
+    if s.upto == 0 {
+        return None;
+    }
+    Some(Span {
+        from: s.from,
+        upto: s.upto,
+    })
 }
 
 // The next entry stays, or is the one taken out.
@@ -53,7 +73,7 @@ fn pass(ws: &[u16], s: Passing, key: usize, depth: usize, out: &mut [u16]) -> Pa
 // The list whose count is at `list`, from 0 on.
 #[tactic(auto, using(crate::proofs::Turns::passes_turn, crate::proofs::Turns::passes_end), unfolding(crate::specs::Taking::take_w, crate::specs::Taking::took_w))]
 pub fn take(ws: &[u16], list: usize, key: usize, depth: usize, out: &mut [u16]) -> Taken
-    ensures { (result ≡ (take_w depth ws.now list key out.old).answer) × (out.new ≡ (take_w depth ws.now list key out.old).out) }
+    ensures { (result ≡ taken_as (take_w depth ws.now list key out.old).answer) × (out.new ≡ (take_w depth ws.now list key out.old).out) }
 {
     let count = word(ws, list);
     let n = wide(count);
@@ -69,7 +89,6 @@ pub fn take(ws: &[u16], list: usize, key: usize, depth: usize, out: &mut [u16]) 
     put(out, 0, less_if(count, s.upto));
     Taken {
         to: s.to,
-        from: s.from,
-        upto: s.upto,
+        process: process(s),
     }
 }

@@ -5,3 +5,4 @@ pub mod Reading
 pub mod Starting
 pub mod Turning
 pub mod Whole
+pub mod Digits

@@ -7,10 +7,13 @@ use mathlib.Core.List.{List, [], ◌∷◌}
 use lib.ListN.{length, get_or, take, drop}
 use lib.Seq.{take-append_seam}
 use Rattle.sock.specs.Configuration.{standard, encode}
-use Rattle.sock.specs.Calls.{Result, refused, done, Numbers, Stepped, step, answer_of, output_of, step_answer, step_output}
+use Rattle.sock.specs.Calls.{Result, refused, done, Numbers, Stepped, step, Answer, answer_of, output_of, step_answer, step_output}
 use Rattle.sock.specs.Bytes.{numbers_in, words_after, end_line, cut_line}
-use Rattle.stepping.specs.declared.answer.Answer.{Answer}
-use Rattle.stepping.specs.Answers.{answer_as, numbers}
+use Rattle.std.specs.Prelude as code
+use Rattle.std.specs.Prelude.{Ok, Err, IfOk}
+use Rattle.layout.specs.declared.refusal.Refusal.{Refusal}
+use Rattle.stepping.specs.declared.answer.Accepted.{Accepted}
+use Rattle.stepping.specs.Answers.{told, numbers}
 use Rattle.sock.proofs.Rooms.{refusal_number, fits_room, step_agrees}
 use Rattle.handover.specs.Printed.{last_line}
 
@@ -47,10 +50,10 @@ unfolding answer_of output_of words_after
 next_words_lem (refused r) e o ws = absurd (omega (arith, e, refusal_number r))
 next_words_lem (done s) e o ws = take-append_seam (encode s.config) (drop (length (encode s.config)) o)
 
-module _ (ws : List ℕ) (k : Numbers) (o : List ℕ) (a : Answer) (size : length o ≡ 8192) (p : a ≡ answer_as (step_answer standard ws k o)) where
-  pub as_step : a ≡ answer_as (answer_of (step standard ws k 8192))
+module _ (ws : List ℕ) (k : Numbers) (o : List ℕ) (a : Answer) (size : length o ≡ 8192) (p : a ≡ step_answer standard ws k o) where
+  pub as_step : a ≡ answer_of (step standard ws k 8192)
   unfolding step_answer
-  as_step = p ∙ ap (λ (m : ℕ). answer_as (answer_of (step standard ws k m))) size
+  as_step = p ∙ ap (λ (m : ℕ). answer_of (step standard ws k m)) size
 
   pub refused_keeps : (a.number ≡ 0 → ⊥) → ws ≡ words_after (step standard ws k 8192) ws
   refused_keeps h = same_words_lem (step standard ws k 8192) (λ z. h (ap (λ (x : Answer). x.number) as_step ∙ z)) ws
@@ -72,6 +75,12 @@ length_fits ws k o h = fits (step standard ws k (length o)) (fits_room (step_agr
     fits : (x : Result Stepped) → ((answer_of x).number ≡ 0 → (answer_of x).length ≤ length o) → (answer_of x).length ≤ length o
     fits (refused r) f = omega arith
     fits (done s) f = f refl
+
+pub told_fits :
+    (ws : List ℕ) (k : Numbers) (o : List ℕ) (g : code.Result Accepted Refusal) → told g ≡ step_answer standard ws k o →
+    length o ≤ 8192 → IfOk g (λ a. a.length ≤ length o)
+told_fits ws k o (Ok a) e h = let fits = length_fits ws k o h in omega (arith, ap (λ (b : Answer). b.length) e, fits)
+told_fits ws k o (Err r) e h = tt
 
 -- ---- the line
 

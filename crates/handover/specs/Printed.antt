@@ -1,13 +1,8 @@
 -- What the program prints, part by part, from the bytes that it has read.
 use Rattle.std.specs.Prelude.{ℕ, zero, suc, ◌+◌, ◌*◌, true, false, cond, ◌||◌, List, [], ◌∷◌, ◌++◌, ltb, length, take, drop}
 use Rattle.sock.specs.Configuration.{standard}
-use Rattle.sock.specs.Calls.{Answer, step, answer_of}
+use Rattle.sock.specs.Calls.{step, answer_of}
 use Rattle.sock.specs.Bytes.{words_of, words_or_none, numbers_in, words_after, end_line, cut_line, step_line}
-use Rattle.stepping.specs.declared.answer.Answer.{Answer as Declared}
-
--- the answer of a step, from the type that the code declares
-abbrev pub defined_as : Declared → Answer
-defined_as a = record { number = a.number; kind = a.kind; serial = a.serial; fault = a.fault; length = a.length }
 
 -- the word L; one more than a configuration may have where it is missing
 unfoldable pub count_in : List ℕ → ℕ

@@ -68,7 +68,7 @@ pub(crate) fn begin<W: Write>(output: &mut W, words: &Words) -> io::Result<bool>
     ensures printed { OnOk result (Appends (W.contents output.old) (W.contents output.new) (start_line (check_start standard words.now))) }
     ensures goes_on { IfOk result (λ goes_on. IsTrue goes_on ↔ (check_start standard words.now ≡ 0)) }
 {
-    let number = check_start(words.as_slice());
-    start_line(output, number)?;
-    Ok(number == 0)
+    let given = check_start(words.as_slice());
+    start_line(output, given)?;
+    Ok(given.is_ok())
 }

@@ -2,12 +2,14 @@
 ghost use Rattle.std.specs.Prelude.{◌≡◌, ◌≤◌, length, IfSome, OnOk};
 ghost use Rattle.std.specs.Io.KnownBytes.{Appends};
 ghost use Rattle.sock.specs.Bytes.{start_line, end_line, cut_line, step_line};
-ghost use Rattle.handover.specs.Printed.{defined_as};
+ghost use Rattle.layout.specs.Refusals.{number_in};
+ghost use Rattle.stepping.specs.Answers.{told};
 
+use layout::refusal::{self, Refusal};
 use std::fmt::{Display, InlineText, Write as _};
 use std::io;
 use std::io::Write;
-use stepping::answer::Answer;
+use stepping::answer::Accepted;
 
 // No line has more bytes.
 const LINE: usize = 128;
@@ -22,9 +24,10 @@ fn print<W: Write, D: Display + Drop>(output: &mut W, line: D) -> io::Result<()>
 }
 
 // "start" and the check's number.
-pub(crate) fn start_line<W: Write>(output: &mut W, number: u8) -> io::Result<()>
-    ensures { OnOk result (Appends (W.contents output.old) (W.contents output.new) (start_line number)) }
+pub(crate) fn start_line<W: Write>(output: &mut W, given: Result<(), Refusal>) -> io::Result<()>
+    ensures { OnOk result (Appends (W.contents output.old) (W.contents output.new) (start_line (number_in given))) }
 {
+    let number = refusal::number(given);
     print(output, format_args!("start {number}\n"))
 }
 
@@ -41,17 +44,25 @@ pub(crate) fn cut_line<W: Write>(output: &mut W) -> io::Result<()>
     print(output, "cut\n")
 }
 
-// The step's number and what it answers.
-pub(crate) fn step_line<W: Write>(output: &mut W, number: u64, answer: Answer) -> io::Result<()>
-    ensures { OnOk result (Appends (W.contents output.old) (W.contents output.new) (step_line number (defined_as answer))) }
+// What a step's line has of its answer: the number, kind, serial and fault, all other numbers of a refusal 0.
+fn parts(given: Result<Accepted, Refusal>) -> (u8, u8, u16, u8)
+    ensures { (result.0 ≡ (told given).number) × (result.1 ≡ (told given).kind) × (result.2 ≡ (told given).serial) × (result.3 ≡ (told given).fault) }
 {
-    let Answer {
-        number: refusal,
-        kind,
-        serial,
-        fault,
-        length: _,
-    } = answer;
+    match given {
+        Ok(a) => (0, u8::from(a.kind), a.serial, u8::from(a.fault)),
+        Err(refusal) => (u8::from(refusal), 0, 0, 0),
+    }
+}
+
+// The step's number and what it answers.
+pub(crate) fn step_line<W: Write>(
+    output: &mut W,
+    number: u64,
+    given: Result<Accepted, Refusal>,
+) -> io::Result<()>
+    ensures { OnOk result (Appends (W.contents output.old) (W.contents output.new) (step_line number (told given))) }
+{
+    let (refusal, kind, serial, fault) = parts(given);
     print(
         output,
         format_args!("{number} {refusal} {kind} {serial} {fault}\n"),

@@ -1,45 +1,71 @@
 -- What the calls answer and leave behind, by the definitions: the questions, a beginning, a step and a taking back that are lent an index.
 -- Assumes nothing.
-use Prim.Native.Nat.{ℕ, suc, ◌≤◌, ◌<◌}
+use Prim.Native.Nat.{ℕ, zero, suc, ◌≤◌, ◌<◌}
 use native.Mathlib.Omega.{arith}
 use mathlib.Core.Path.{◌≡◌, refl, sym, ap, ◌∙◌}
-use mathlib.Core.Bool.{true, false}
+use mathlib.Core.Bool.{true, false, not}
+use mathlib.Core.Logic.{◌⊎◌, inl, inr}
 use mathlib.Core.List.{List, [], ◌∷◌, ◌++◌}
+use Rattle.std.specs.Prelude as code
+use Rattle.std.specs.Prelude.{Ok, Err, IfSome}
+use Rattle.std.specs.Bool.{then_some}
 use lib.Dec.{eqb}
 use lib.ListN.{length, get_or, take, drop, replicate, length-append}
 use lib.Seq.{take-append_seam}
 use borrow.Author.Tests.{le-leb, lt-leb, eq-eqb, ne_eqb, eqb-false}
 use Rattle.sock.specs.Configuration.{Config, standard, read_config}
-use Rattle.sock.specs.Calls.{index_short, number, Result, refused, done, ◌>>=◌, ◌>>◌, ◌!◌, ◌unless◌, Numbers, Stepped, answer_of, output_of, over, start, passed, check_start}
-use Rattle.sock.specs.Journal.{journal_step, journal_after, journal_answer, journal_output, journal_written, take_back, taken_of, restored_over, take_back_answer, take_back_output}
-use Rattle.sock.specs.Index.{index_of, open_of, put_in, take_out, open_after, beginning, index_after, begin_answer, begin_index, IndexedStep, indexed_step, mapped, step_of, indexed_answer, indexed_output, indexed_journal, indexed_index, IndexedBack, indexed_back, restored_in, indexed_taken, indexed_restored, indexed_relisted, told_of, asked, open_count, oldest}
+use Rattle.sock.specs.Calls.{index_short, number, Result, refused, done, ◌>>=◌, ◌>>◌, ◌!◌, ◌unless◌, Numbers, Stepped, Answer, answer_of, output_of, over, start, passed, check_start}
+use Rattle.sock.specs.Journal.{Taken, journal_step, journal_after, journal_answer, journal_output, journal_written, take_back, taken_of, restored_over, take_back_answer, take_back_output}
+use Rattle.sock.specs.Index.{rising, index_of, open_of, put_in, take_out, open_after, beginning, index_after, begin_answer, begin_index, IndexedStep, indexed_step, mapped, step_of, indexed_answer, indexed_output, indexed_journal, indexed_index, IndexedBack, indexed_back, restored_in, indexed_taken, indexed_restored, indexed_relisted, told_of, asked, open_count, oldest}
 use Rattle.sock.proofs.Accepted.{number_positive}
-use Rattle.stepping.specs.declared.answer.Answer.{Answer}
-use Rattle.stepping.specs.Answers.{answer_as}
-use Rattle.stepping.specs.Answering.{refusing}
-use Rattle.journal.specs.declared.back.Taken.{Taken}
-use Rattle.journal.specs.Back.{taken_as}
-use Rattle.index.specs.Form.{in_order, serials_in, cleared, open_by, told_as}
-use Rattle.index.proofs.Forming.{listed_is, unlisted_is, laid_as}
+use Rattle.sock.proofs.Index.{Lists}
+use Rattle.layout.specs.declared.refusal.Refusal.TheVariants.{NoIndex}
+use Rattle.stepping.specs.Answers.{told}
+use Rattle.index.specs.Form.{in_order, serials_in, cleared, open_by, oldest_as}
+use Rattle.index.proofs.Forming.{lists, listed_is, unlisted_is, laid_as}
 
 -- ---- the questions
 
 module _ (index : List ℕ) where
-  pub count_told : in_order index ≡ true → record { number = 0; value = get_or index 0 0 } ≡ told_as (open_count index)
+  pub count_told : in_order index ≡ true → record { number = 0; value = get_or index 0 0 } ≡ open_count index
   unfolding open_count asked told_of
   count_told e = rw (listed_is index e)
 
-  pub count_refused : in_order index ≡ false → record { number = 17; value = 0 } ≡ told_as (open_count index)
+  pub count_refused : in_order index ≡ false → record { number = 17; value = 0 } ≡ open_count index
   unfolding open_count asked told_of
   count_refused e = rw (unlisted_is index e)
 
-  pub oldest_told : in_order index ≡ true → record { number = 0; value = get_or index 1 0 } ≡ told_as (oldest index)
+  pub oldest_told : in_order index ≡ true → record { number = 0; value = get_or index 1 0 } ≡ oldest index
   unfolding oldest asked told_of
   oldest_told e = rw (listed_is index e)
 
-  pub oldest_refused : in_order index ≡ false → record { number = 17; value = 0 } ≡ told_as (oldest index)
+  pub oldest_refused : in_order index ≡ false → record { number = 17; value = 0 } ≡ oldest index
   unfolding oldest asked told_of
   oldest_refused e = rw (unlisted_is index e)
+
+-- behind the count stands the lowest serial listed, which is not 0, or a 0
+module _ (index : List ℕ) where
+  first_words : (ss : List ℕ) → Lists index ss → ((get_or index 0 0 ≡ 0) × (get_or index 1 0 ≡ 0)) ⊎ ((0 < get_or index 0 0) × (0 < get_or index 1 0))
+  unfolding rising index_of
+  first_words [] l = inl (ap (λ ws. get_or ws 0 0) l.laid, ap (λ ws. get_or ws 1 0) l.laid)
+  first_words (zero ∷ ss) l = absurd l.up
+  first_words (suc n ∷ ss) l =
+      let count : get_or index 0 0 ≡ suc (length ss) = ap (λ ws. get_or ws 0 0) l.laid in
+      let first : get_or index 1 0 ≡ suc n = ap (λ ws. get_or ws 1 0) l.laid in
+      inr (omega (arith, count), omega (arith, first))
+
+  module _ (e : in_order index ≡ true) (o : code.Option ℕ) (q : o ≡ then_some (not (eqb (get_or index 0 0) 0)) (get_or index 1 0)) where
+    pub oldest_in : oldest_as (Ok o) ≡ oldest index
+    oldest_in = elim (first_words (serials_in index) (lists index e)) [
+      | inl n ↦ rw (q, n.0) (ap (λ v. record { number = 0; value = v }) (sym n.1) ∙ oldest_told index e)
+      | inr n ↦ rw (q, ne_eqb (get_or index 0 0) 0 (λ z. omega arith)) (oldest_told index e)
+    ]
+
+    pub oldest_open : IfSome o (λ s. 0 < s)
+    oldest_open = elim (first_words (serials_in index) (lists index e)) [
+      | inl n ↦ rw (q, n.0) tt
+      | inr n ↦ rw (q, ne_eqb (get_or index 0 0) 0 (λ z. omega arith)) n.1
+    ]
 
 -- ---- beginning
 
@@ -140,7 +166,7 @@ module _ (ws : List ℕ) (k : Numbers) (out journal index : List ℕ) where
     step_none = rw (unlisted_is index e)
 
     pub step_unlisted :
-        (refusing 17 ≡ answer_as (indexed_answer standard ws k out journal index))
+        (told (Err NoIndex) ≡ indexed_answer standard ws k out journal index)
         × ((out ≡ indexed_output standard ws k out journal index)
         × ((journal ≡ indexed_journal standard ws k out journal index) × (index ≡ indexed_index standard ws k out journal index)))
     unfolding indexed_answer indexed_output indexed_journal indexed_index mapped answer_of output_of journal_after index_after
@@ -175,20 +201,20 @@ module _ (ws : List ℕ) (k : Numbers) (out journal index : List ℕ) where
     step_journal = ap (λ x. journal_after ws x journal) same_step
 
     module _ (a : Answer) where
-      refused_same : (x : Result Stepped) → stepped ≡ follows x → a ≡ answer_as (answer_of x) → (a.number ≡ 0 → ⊥) → index ≡ indexed_index standard ws k out journal index
+      refused_same : (x : Result Stepped) → stepped ≡ follows x → a ≡ answer_of x → (a.number ≡ 0 → ⊥) → index ≡ indexed_index standard ws k out journal index
       unfolding indexed_index mapped index_after answer_of ◌>>=◌
       refused_same (refused r) q p h = rw q
       refused_same (done s) q p h = absurd (h (ap (λ (b : Answer). b.number) p))
 
       done_opens :
-          (x : Result Stepped) → stepped ≡ follows x → a ≡ answer_as (answer_of x) → a.number ≡ 0 →
+          (x : Result Stepped) → stepped ≡ follows x → a ≡ answer_of x → a.number ≡ 0 →
           over (index_of (open_by a.kind a.serial (serials_in index))) index ≡ indexed_index standard ws k out journal index
       unfolding indexed_index mapped index_after answer_of ◌>>=◌ open_after open_by
       done_opens (refused r) q p h = absurd (never_zero (number r) (number_positive r) (sym (ap (λ (b : Answer). b.number) p) ∙ h))
       done_opens (done s) q p h = rw (q, p)
 
-      module _ (p : a ≡ answer_as (journal_answer standard ws k out journal)) where
-        by_step : a ≡ answer_as (answer_of (journal_step standard ws k (length out) (length journal)))
+      module _ (p : a ≡ journal_answer standard ws k out journal) where
+        by_step : a ≡ answer_of (journal_step standard ws k (length out) (length journal))
         unfolding journal_answer
         by_step = p
 
@@ -203,15 +229,15 @@ module _ (ws : List ℕ) (k : Numbers) (out journal index : List ℕ) where
         module _ (out' journal' : List ℕ) (o : out' ≡ journal_output standard ws k out journal) (j : journal' ≡ journal_written standard ws k out journal) where
           abbrev Returned : List ℕ → Type 0
           Returned index' =
-              (a ≡ answer_as (indexed_answer standard ws k out journal index))
+              (a ≡ indexed_answer standard ws k out journal index)
               × ((out' ≡ indexed_output standard ws k out journal index)
               × ((journal' ≡ indexed_journal standard ws k out journal index) × (index' ≡ indexed_index standard ws k out journal index)))
 
           pub step_refuses : (a.number ≡ 0 → ⊥) → Returned index
-          step_refuses h = (p ∙ ap answer_as step_answer, (o ∙ step_output, (j ∙ step_journal, index_same h)))
+          step_refuses h = (p ∙ step_answer, (o ∙ step_output, (j ∙ step_journal, index_same h)))
 
           pub step_accepts : a.number ≡ 0 → (index' : List ℕ) → index' ≡ over (index_of (open_by a.kind a.serial (serials_in index))) index → Returned index'
-          step_accepts h index' f = (p ∙ ap answer_as step_answer, (o ∙ step_output, (j ∙ step_journal, f ∙ index_opens h)))
+          step_accepts h index' f = (p ∙ step_answer, (o ∙ step_output, (j ∙ step_journal, f ∙ index_opens h)))
 
 -- ---- taking back
 
@@ -225,7 +251,7 @@ module _ (ws journal out index : List ℕ) where
     back_none = rw (unlisted_is index e)
 
     pub back_unlisted :
-        (record { number = 17; length = 0 } ≡ taken_as (indexed_taken standard ws journal out index))
+        (record { number = 17; length = 0 } ≡ indexed_taken standard ws journal out index)
         × ((out ≡ indexed_restored standard ws journal out index) × (index ≡ indexed_relisted standard ws journal out index))
     unfolding indexed_taken indexed_restored indexed_relisted mapped taken_of restored_over index_after
     back_unlisted = rw back_none (refl, (refl, refl))
@@ -255,14 +281,14 @@ module _ (ws journal out index : List ℕ) where
     back_restored = ap (λ x. restored_over x out) same_back
 
     module _ (t : Taken) where
-      refused_keeps_index : (x : Result (List ℕ)) → back ≡ relists x → t ≡ taken_as (taken_of x) → (t.number ≡ 0 → ⊥) → index ≡ indexed_relisted standard ws journal out index
+      refused_keeps_index : (x : Result (List ℕ)) → back ≡ relists x → t ≡ taken_of x → (t.number ≡ 0 → ⊥) → index ≡ indexed_relisted standard ws journal out index
       unfolding indexed_relisted mapped index_after taken_of ◌>>=◌
       refused_keeps_index (refused r) q p h = rw q
       refused_keeps_index (done old) q p h = absurd (h (ap (λ (b : Taken). b.number) p))
 
       -- what was restored stands first in the output
       done_relists :
-          (x : Result (List ℕ)) (out' : List ℕ) → back ≡ relists x → t ≡ taken_as (taken_of x) → out' ≡ restored_over x out → t.number ≡ 0 →
+          (x : Result (List ℕ)) (out' : List ℕ) → back ≡ relists x → t ≡ taken_of x → out' ≡ restored_over x out → t.number ≡ 0 →
           (t.length ≤ length out') × (over (index_of (open_of (read_config standard (take t.length out')))) index ≡ indexed_relisted standard ws journal out index)
       unfolding indexed_relisted mapped index_after taken_of restored_over ◌>>=◌
       done_relists (refused r) out' q p o h = absurd (never_zero (number r) (number_positive r) (sym (ap (λ (b : Taken). b.number) p) ∙ h))
@@ -271,8 +297,8 @@ module _ (ws journal out index : List ℕ) where
           let first : take t.length out' ≡ old = ap (λ n. take n out') size ∙ ap (take (length old)) o ∙ take-append_seam old (drop (length old) out) in
           (omega (arith, size, ap length o, length-append old (drop (length old) out)), rw (q, first))
 
-      module _ (p : t ≡ taken_as (take_back_answer standard ws journal out)) where
-        by_back : t ≡ taken_as (taken_of (take_back standard ws journal (length out)))
+      module _ (p : t ≡ take_back_answer standard ws journal out) where
+        by_back : t ≡ taken_of (take_back standard ws journal (length out))
         unfolding take_back_answer
         by_back = p
 
@@ -290,11 +316,11 @@ module _ (ws journal out index : List ℕ) where
         module _ (out' : List ℕ) (o : out' ≡ take_back_output standard ws journal out) where
           abbrev Came : List ℕ → Type 0
           Came index' =
-              (t ≡ taken_as (indexed_taken standard ws journal out index))
+              (t ≡ indexed_taken standard ws journal out index)
               × ((out' ≡ indexed_restored standard ws journal out index) × (index' ≡ indexed_relisted standard ws journal out index))
 
           pub back_refuses : (t.number ≡ 0 → ⊥) → Came index
-          back_refuses h = (p ∙ ap taken_as back_taken, (o ∙ back_restored, relisted_same h))
+          back_refuses h = (p ∙ back_taken, (o ∙ back_restored, relisted_same h))
 
           module _ (h : t.number ≡ 0) (n : ℕ) (l : n ≡ t.length) where
             pub back_within : n ≤ length out'
@@ -302,7 +328,7 @@ module _ (ws journal out index : List ℕ) where
 
             pub back_accepts : (index' : List ℕ) → index' ≡ over (index_of (open_of (read_config standard (take n out')))) index → Came index'
             back_accepts index' f = (
-              p ∙ ap taken_as back_taken,
+              p ∙ back_taken,
               (
                 o ∙ back_restored,
                 f ∙ ap (λ m. over (index_of (open_of (read_config standard (take m out')))) index) l ∙ (relisted_done out' o h).1,

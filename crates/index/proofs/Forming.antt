@@ -114,6 +114,9 @@ module _ (index : List ℕ) where
         q ∙ zeros_are (between (n + 1) 2049 index) ∙ ap zeros (between_is index (n + 1) 2049)
         ∙ sym (order_by h ∙ rw (sym (ap (rising 0) listed_words) ∙ f))
 
+pub laid_back : (index : List ℕ) → in_order index ≡ true → index ≡ over (index_of (serials_in index)) index
+laid_back index e = (lists index e).laid
+
 -- ---- an index in order: long enough, its first word the count of its serials, and its words laid out
 
 module _ (index : List ℕ) (e : in_order index ≡ true) where

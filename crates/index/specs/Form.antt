@@ -1,9 +1,12 @@
 -- An index as the code has it: whether it is in order, the serials that it then lists, and its words set to 0.
+use Rattle.std.specs.Prelude as code
+use Rattle.std.specs.Prelude.{Result, Ok, Err, None, Some}
 use Rattle.std.specs.Prelude.{ℕ, ◌-◌, Bool, true, false, ◌||◌, cond, List, ◌++◌, eqb, get_or, replicate, take, drop}
 use Rattle.std.proofs.Math.Option.{Option, none, some}
 use Rattle.sock.specs.Kind
-use Rattle.sock.specs.Index.{listed, put_in, take_out, Told as Defined}
-use Rattle.index.specs.declared.questions.Told.{Told}
+use Rattle.sock.specs.Index.{listed, put_in, take_out, Told}
+use Rattle.layout.specs.declared.refusal.Refusal.{Refusal}
+use Rattle.layout.specs.Refusals.{refusal_number}
 
 unfoldable pub present : Option (List ℕ) → Bool
 present none = false
@@ -26,5 +29,12 @@ open_by kind serial serials =
     cond (eqb kind Kind.solicit) (put_in serial serials)
     (cond (eqb kind Kind.executor || eqb kind Kind.notice) (take_out serial serials) serials)
 
-abbrev pub told_as : Defined → Told
-told_as t = record { number = t.number; value = t.value }
+-- the code's answers to the two questions, as the definitions have them
+abbrev pub counted_as : Result ℕ Refusal → Told
+counted_as (Ok n) = record { number = 0; value = n }
+counted_as (Err r) = record { number = refusal_number r; value = 0 }
+
+abbrev pub oldest_as : Result (code.Option ℕ) Refusal → Told
+oldest_as (Ok None) = record { number = 0; value = 0 }
+oldest_as (Ok (Some s)) = record { number = 0; value = s }
+oldest_as (Err r) = record { number = refusal_number r; value = 0 }

@@ -1,44 +1,32 @@
-// The two questions: how many serials are open, and the oldest one. 17 if the index is not in order; 0 as the oldest if none is open.
-ghost use Rattle.std.specs.Prelude.{◌≡◌};
+// The two questions: how many serials are open, and the oldest one, if one is. 17 if the index is not in order.
+ghost use Rattle.std.specs.Prelude.{◌≡◌, ◌<◌, IfOk, IfSome};
 ghost use Rattle.sock.specs.Index.{open_count};
 ghost use Rattle.sock.specs.Index as sock;
-ghost use Rattle.index.specs.Form.{told_as};
+ghost use Rattle.index.specs.Form.{counted_as, oldest_as};
 
 use crate::form::in_order;
+use layout::refusal::Refusal;
 
-// The number, and what was asked for; 0 in a refusal.
-#[derive(Clone, Copy)]
-pub struct Told {
-    pub number: u8,
-    pub value: u16,
-}
-
-pub fn open_count(index: &[u16]) -> Told
-    ensures { result ≡ told_as (open_count index.now) }
+#[tactic(auto, using(crate::proofs::Forming::order_long, crate::proofs::Answering::count_told, crate::proofs::Answering::count_refused))]
+pub fn open_count(index: &[u16]) -> Result<u16, Refusal>
+    ensures { counted_as result ≡ open_count index.now }
 {
     if in_order(index) {
-        return Told {
-            number: 0,
-            value: index[0],
-        };
-    }
-    Told {
-        number: 17,
-        value: 0,
+        Ok(index[0])
+    } else {
+        Err(Refusal::NoIndex)
     }
 }
 
-pub fn oldest(index: &[u16]) -> Told
-    ensures { result ≡ told_as (sock.oldest index.now) }
+// Behind the count stands the lowest serial listed, or a 0.
+#[tactic(auto, using(crate::proofs::Forming::order_long, crate::proofs::Answering::oldest_refused))]
+pub fn oldest(index: &[u16]) -> Result<Option<u16>, Refusal>
+    ensures told { oldest_as result ≡ sock.oldest index.now }
+    ensures open { IfOk result (λ serial. IfSome serial (λ s. 0 < s)) }
 {
     if in_order(index) {
-        return Told {
-            number: 0,
-            value: index[1],
-        };
-    }
-    Told {
-        number: 17,
-        value: 0,
+        Ok((index[0] != 0).then_some(index[1]))
+    } else {
+        Err(Refusal::NoIndex)
     }
 }

@@ -3,22 +3,25 @@ ghost use Rattle.std.specs.Prelude.{◌≡◌, true};
 ghost use Rattle.sock.specs.Configuration.{standard};
 ghost use Rattle.sock.specs.Calls.{over};
 ghost use Rattle.sock.specs.Index.{index_of, indexed_answer, indexed_output, indexed_journal, indexed_index};
-ghost use Rattle.stepping.specs.Answers.{answer_as};
+ghost use Rattle.layout.specs.Kinds.{number_of};
+ghost use Rattle.stepping.specs.Answers.{told};
 ghost use Rattle.stepping.specs.Bundles.{numbers_as};
 ghost use Rattle.index.specs.Form.{in_order, serials_in, open_by};
 
 use crate::change::{put, take};
 use crate::form::in_order;
 use layout::kind::Kind;
-use stepping::answer::{Answer, refuse};
+use layout::refusal::Refusal;
+use stepping::answer::Accepted;
 use stepping::bundles::Numbers;
 
 // The index after an accepted step, by the kind and the serial answered.
-pub fn follow(index: &mut [u16], kind: u8, serial: u16)
+#[tactic(auto, using(crate::proofs::Forming::laid_back), unfolding(crate::specs::Form::open_by))]
+pub fn follow(index: &mut [u16], kind: Kind, serial: u16)
     requires { in_order index.old ≡ true }
-    ensures { index.new ≡ over (index_of (open_by kind serial (serials_in index.old))) index.old }
+    ensures { index.new ≡ over (index_of (open_by (number_of kind) serial (serials_in index.old))) index.old }
 {
-    match Kind::numbered(usize::from(kind)) {
+    match kind {
         Kind::Solicit => put(index, serial),
         Kind::Executor | Kind::Notice => take(index, serial),
         _ => {}
@@ -26,34 +29,23 @@ pub fn follow(index: &mut [u16], kind: u8, serial: u16)
 }
 
 // The step with a journal and an index. A refusal changes no word of what is lent, and words past the index's 2,049 stay.
+#[tactic(auto, using(crate::proofs::Answering::step_refuses))]
 pub fn step_indexed(
     ws: &[u16],
     k: Numbers,
     out: &mut [u16],
     journal: &mut [u16],
     index: &mut [u16],
-) -> Answer
-    ensures answered { result ≡ answer_as (indexed_answer standard ws.now (numbers_as k) out.old journal.old index.old) }
+) -> Result<Accepted, Refusal>
+    ensures answered { told result ≡ indexed_answer standard ws.now (numbers_as k) out.old journal.old index.old }
     ensures wrote { out.new ≡ indexed_output standard ws.now (numbers_as k) out.old journal.old index.old }
     ensures noted { journal.new ≡ indexed_journal standard ws.now (numbers_as k) out.old journal.old index.old }
     ensures followed { index.new ≡ indexed_index standard ws.now (numbers_as k) out.old journal.old index.old }
 {
     if !in_order(index) {
-        return refuse(17);
+        return Err(Refusal::NoIndex);
     }
-    let a = journal::steps::step(
-        ws,
-        k.engine,
-        k.position,
-        k.second,
-        k.second_position,
-        k.branch,
-        out,
-        journal,
-    );
-    if a.number != 0 {
-        return a;
-    }
-    follow(index, a.kind, a.serial);
-    a
+    let given = journal::steps::step(ws, k, out, journal)?;
+    follow(index, given.kind, given.serial);
+    Ok(given)
 }

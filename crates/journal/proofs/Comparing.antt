@@ -1,6 +1,6 @@
 -- Words alike, counted on from any place: by blocks and word by word, from the front and from the back.
 -- Assumes nothing.
-use Prim.Native.Nat.{ℕ, zero, suc, ◌+◌, ◌-◌, ◌≤◌, ◌<◌, min}
+use Prim.Native.Nat.{ℕ, ◌*◌, zero, suc, ◌+◌, ◌-◌, ◌≤◌, ◌<◌, min}
 use native.Mathlib.Omega.{arith}
 use mathlib.Core.Path.{◌≡◌, refl, sym, ap, subst, ◌∙◌}
 use mathlib.Core.Bool.{Bool, true, false, ◌&&◌}
@@ -134,10 +134,6 @@ module _ (a b : List ℕ) (i j k : ℕ) (h : i + k < length a) (g : j + k < leng
       ∙ ap (λ t. same_words (take k (drop i a)) (take k (drop j b)) && t) (ne_eqb _ _ w)
       ∙ and_false (same_words (take k (drop i a)) (take k (drop j b))))
 
-pub none_same : (a b : List ℕ) → true ≡ same_words (take 0 a) (take 0 b)
-unfolding same_words
-none_same a b = refl
-
 -- ---- from the back
 
 pub get_d_reverse : (a : List ℕ) (k : ℕ) → k < length a → get_or (reverse a) k 0 ≡ get_or a (length a - 1 - k) 0
@@ -192,22 +188,27 @@ block_reverse n i a h =
 module _ (a b : List ℕ) where
   -- by blocks: as many are alike, and then what is alike behind them
   pub first_turn :
-      (i : ℕ) → i + 16 ≤ length a → i + 16 ≤ length b → true ≡ same_words (take 16 (drop i a)) (take 16 (drop i b)) →
-      alike a b ≡ i + alike (drop i a) (drop i b) → alike a b ≡ i + 16 + alike (drop (i + 16) a) (drop (i + 16) b)
-  first_turn i h g e inv = omega (arith, block_same a b i 16 h g (same_words_lem _ _ (sym e)))
+      (block : ℕ) → block * 16 + 16 ≤ length a → block * 16 + 16 ≤ length b →
+      true ≡ same_words (take 16 (drop (block * 16) a)) (take 16 (drop (block * 16) b)) →
+      alike a b ≡ block * 16 + alike (drop (block * 16) a) (drop (block * 16) b) →
+      alike a b ≡ (block + 1) * 16 + alike (drop ((block + 1) * 16) a) (drop ((block + 1) * 16) b)
+  first_turn block h g e inv =
+      let next : block * 16 + 16 ≡ (block + 1) * 16 = omega arith in
+      rw (← next) (omega (arith, block_same a b (block * 16) 16 h g (same_words_lem _ _ (sym e))))
 
   pub last_turn :
-      (i : ℕ) → i + 16 ≤ length a → i + 16 ≤ length b →
-      true ≡ same_words (take 16 (drop (length a - i - 16) a)) (take 16 (drop (length b - i - 16) b)) →
-      alike (reverse a) (reverse b) ≡ i + alike (drop i (reverse a)) (drop i (reverse b)) →
-      alike (reverse a) (reverse b) ≡ i + 16 + alike (drop (i + 16) (reverse a)) (drop (i + 16) (reverse b))
-  last_turn i h g e inv =
-      let same : take 16 (drop i (reverse a)) ≡ take 16 (drop i (reverse b)) =
-      block_reverse 16 i a h ∙ ap reverse (same_words_lem _ _ (sym e)) ∙ sym (block_reverse 16 i b g) in
-      omega (
+      (block : ℕ) → block * 16 + 16 ≤ length a → block * 16 + 16 ≤ length b →
+      true ≡ same_words (take 16 (drop (length a - block * 16 - 16) a)) (take 16 (drop (length b - block * 16 - 16) b)) →
+      alike (reverse a) (reverse b) ≡ block * 16 + alike (drop (block * 16) (reverse a)) (drop (block * 16) (reverse b)) →
+      alike (reverse a) (reverse b) ≡ (block + 1) * 16 + alike (drop ((block + 1) * 16) (reverse a)) (drop ((block + 1) * 16) (reverse b))
+  last_turn block h g e inv =
+      let next : block * 16 + 16 ≡ (block + 1) * 16 = omega arith in
+      let same : take 16 (drop (block * 16) (reverse a)) ≡ take 16 (drop (block * 16) (reverse b)) =
+      block_reverse 16 (block * 16) a h ∙ ap reverse (same_words_lem _ _ (sym e)) ∙ sym (block_reverse 16 (block * 16) b g) in
+      rw (← next) (omega (
         arith,
-        block_same (reverse a) (reverse b) i 16 (omega (arith, length-reverse a)) (omega (arith, length-reverse b)) same,
-      )
+        block_same (reverse a) (reverse b) (block * 16) 16 (omega (arith, length-reverse a)) (omega (arith, length-reverse b)) same,
+      ))
 
   -- word by word
   pub first_word :

@@ -3,7 +3,7 @@
 use Prim.Native.Nat.{ℕ, ◌+◌, ◌-◌, ◌≤◌, ◌<◌}
 use native.Mathlib.Omega.{arith}
 use mathlib.Core.Path.{◌≡◌, refl, sym, ap, subst, ◌∙◌}
-use mathlib.Core.Bool.{Bool, true, false, ◌&&◌}
+use mathlib.Core.Bool.{Bool, true, false, true≢false, ◌&&◌}
 use mathlib.Core.Option.{Option, none, some}
 use mathlib.Core.List.{List, [], ◌∷◌, ◌++◌}
 use lib.Dec.{T, leb, eqb}
@@ -12,15 +12,20 @@ use lib.Seq.{length-take-le, take_all, take_at, drop-drop}
 use borrow.Author.Tests.{lt-leb, le-leb, leb-true, eq-eqb, ne_eqb}
 use Rattle.sock.specs.Configuration.{Config, standard, read_config, guarded, also}
 use Rattle.sock.specs.Calls.{unreadable, unmatched, short, Refusal, number, Result, refused, done, ◌>>=◌, ◌>>◌, ◌!◌, ◌unless◌, over, passed, check_readable}
-use Rattle.sock.specs.Journal.{alike, between, sound, read_journal, same_words, left, put_back, restored, take_back, taken_of, restored_over, take_back_answer, take_back_output}
+use Rattle.sock.specs.Journal.{alike, between, sound, read_journal, same_words, left, put_back, restored, take_back, Taken, taken_of, restored_over, take_back_answer, take_back_output}
 use Rattle.sock.proofs.Logic.{and_left, and_right, test_true, true_test}
 use Rattle.sock.proofs.Journal.{alike_take, same_itself, same_words_lem, Matches, matches}
 use Rattle.sock.proofs.ByteWords.{no_config}
+use Rattle.std.specs.Prelude.{Result as Either, Ok, Err}
+use Rattle.std.specs.Result.{is_err}
+use Rattle.layout.specs.Refusals.{number_in, refusal_number}
+use Rattle.layout.specs.declared.refusal.Refusal.{Refusal as Named}
 use Rattle.writers.specs.Writing.{pasted}
-use Rattle.journal.specs.declared.back.Taken.{Taken}
 use Rattle.journal.specs.declared.back.Counts.{Counts}
-use Rattle.journal.specs.Back.{taken_as, counts_of, said, sound_by, Fits, put_w, checked_back}
+use Rattle.journal.specs.Answers.{taken_as}
+use Rattle.journal.specs.Back.{counts_of, said, sound_by, Fits, put_w, checked_back}
 use Rattle.writers.proofs.Over.{pasted_over, pasted_first}
+use Rattle.stepping.proofs.Refused.{is_refused}
 
 -- ---- the tests
 
@@ -45,20 +50,6 @@ same_alike n x y a b = by (same_words x y) refl
 
 -- the alike counts are in both lengths, and nothing is missing
 module _ (c : Counts) (n : ℕ) where
-  pub sound_old : c.old < c.first + c.last → false ≡ sound_by c n
-  unfolding sound_by
-  sound_old h = rw (lt-leb (c.first + c.last) c.old h)
-
-  pub sound_new : c.first + c.last ≤ c.old → c.new < c.first + c.last → false ≡ sound_by c n
-  unfolding sound_by
-  sound_new h g = rw (le-leb (c.first + c.last) c.old h, lt-leb (c.first + c.last) c.new g)
-
-  pub sound_all :
-      c.first + c.last ≤ c.old → c.first + c.last ≤ c.new →
-      leb (c.old - (c.first + c.last) + (c.new - (c.first + c.last))) n ≡ sound_by c n
-  unfolding sound_by
-  sound_all h g = rw (le-leb (c.first + c.last) c.old h, le-leb (c.first + c.last) c.new g)
-
   pub record InBoth : Type 0 where
     pub in_old : c.first + c.last ≤ c.old
     pub in_new : c.first + c.last ≤ c.new
@@ -176,7 +167,7 @@ put_words c ws journal scratch after n f room e q =
 
 -- what the code answers and leaves of the output
 pub record Gives (x : Result (List ℕ)) (r : Taken) (before after : List ℕ) : Type 0 where
-  pub answer : r ≡ taken_as (taken_of x)
+  pub answer : r ≡ taken_of x
   pub output : after ≡ restored_over x before
 
 pub gives_refused : {x : Result (List ℕ)} {r : Refusal} (t : Taken) (out : List ℕ) → x ≡ refused r → t ≡ record { number = number r; length = 0 } → Gives x t out out
@@ -186,6 +177,15 @@ gives_refused t out e q = record { answer = q ∙ sym (rw e); output = sym (rw e
 pub gives_done : {x : Result (List ℕ)} {old : List ℕ} (t : Taken) (out after : List ℕ) → x ≡ done old → t ≡ record { number = 0; length = length old } → after ≡ over old out → Gives x t out after
 unfolding taken_of restored_over
 gives_done t out after e q w = record { answer = q ∙ sym (rw e); output = w ∙ sym (rw e) }
+
+-- whether the words are readable, by the code
+pub unread_err : (r : Either (Unit {0}) Named) (n : ℕ) → number_in r ≡ n → is_err r ≡ true → n ≡ 0 → ⊥
+unread_err (Ok a) n e h = absurd (true≢false (sym h))
+unread_err (Err r) n e h = λ z. is_refused r (e ∙ z)
+
+pub read_ok : (r : Either (Unit {0}) Named) (n : ℕ) → number_in r ≡ n → is_err r ≡ false → n ≡ 0
+read_ok (Ok a) n e h = sym e
+read_ok (Err r) n e h = absurd (true≢false h)
 
 module _ (old : List ℕ) (room : ℕ) where
   read_by : (o : Option Config) → passed (unreadable ! o) ≡ 0 → (c : Config) × (o ≡ some c)
@@ -284,15 +284,36 @@ module _ (ws journal : List ℕ) (room : ℕ) where
 -- ---- in the code's terms
 
 pub gives_same :
-    {x y : Result (List ℕ)} (t : Taken) (out after : List ℕ) → x ≡ y → t ≡ taken_as (taken_of y) → after ≡ restored_over y out → Gives x t out after
+    {x y : Result (List ℕ)} (t : Taken) (out after : List ℕ) → x ≡ y → t ≡ taken_of y → after ≡ restored_over y out → Gives x t out after
 gives_same t out after e a b =
-    record { answer = a ∙ ap (λ z. taken_as (taken_of z)) (sym e); output = b ∙ ap (λ z. restored_over z out) (sym e) }
+    record { answer = a ∙ ap (λ z. taken_of z) (sym e); output = b ∙ ap (λ z. restored_over z out) (sym e) }
 
 module _ (ws journal out : List ℕ) (t : Taken) (after : List ℕ) (g : Gives (take_back standard ws journal (length out)) t out after) where
-  pub back_answer : t ≡ taken_as (take_back_answer standard ws journal out)
+  pub back_answer : t ≡ take_back_answer standard ws journal out
   unfolding take_back_answer
   back_answer = g.answer
 
   pub back_output : after ≡ take_back_output standard ws journal out
   unfolding take_back_output
   back_output = g.output
+
+-- words that are not readable
+module _ (ws journal out : List ℕ) (r : Named) (e : refusal_number r ≡ check_readable standard ws) where
+  refused_unread : take_back standard ws journal (length out) ≡ refused unreadable
+  refused_unread = back_unreadable ws journal (length out) (λ z. is_refused r (e ∙ z))
+
+  its_number : refusal_number r ≡ 1
+  unfolding check_readable passed ◌!◌
+  its_number = by (read_config standard ws) e
+    where
+      by : (o : Option Config) → refusal_number r ≡ passed (unreadable ! o) → refusal_number r ≡ 1
+      by none q = q
+      by (some c) q = absurd (is_refused r q)
+
+  pub unread_answer : taken_as (Err r) ≡ take_back_answer standard ws journal out
+  unfolding take_back_answer taken_of
+  unread_answer = ap (λ (n : ℕ). record { number = n; length = 0 }) its_number ∙ ap taken_of (sym refused_unread)
+
+  pub unread_output : out ≡ take_back_output standard ws journal out
+  unfolding take_back_output restored_over
+  unread_output = ap (λ (x : Result (List ℕ)). restored_over x out) (sym refused_unread)

@@ -10,23 +10,25 @@ use lib.ListN.{length, take, drop}
 use lib.Seq.{length-take-le, take-append_seam}
 use borrow.Author.Tests.{le-leb, lt-leb, leb-true, ltb-true, ltb-false}
 use Rattle.sock.specs.Configuration.{Limits, encode}
-use Rattle.sock.specs.Calls.{Refusal, journal_short, short, Result, refused, done, ◌>>=◌, ◌>>◌, ◌unless◌, Numbers as Asked, Stepped, step, answer_of, output_of, step_answer, step_output, over}
+use Rattle.sock.specs.Calls.{Refusal, journal_short, short, Result, refused, done, ◌>>=◌, ◌>>◌, ◌unless◌, Numbers as Asked, Stepped, step, Answer, answer_of, output_of, step_answer, step_output, over}
 use Rattle.sock.specs.Journal.{alike, alike_behind, journal_of, journal_step, journal_after, journal_answer, journal_output, journal_written}
 use Rattle.sock.proofs.Configuration.{config_found}
 use Rattle.sock.proofs.Steps.{sure_done_lem, step_fits}
 use Rattle.sock.proofs.Turns.{Stepping, step_turns}
-use Rattle.sock.proofs.Rooms.{Agree, both_refuse, both_do, one_short, step_agrees, refusal_number}
+use Rattle.sock.proofs.Rooms.{Agree, both_refuse, both_do, one_short, step_agrees, refusal_number as positive}
 use Rattle.sock.proofs.Journal.{journal_alike, refused_done}
 use Rattle.sock.proofs.Events.{stepped_number}
-use Rattle.stepping.specs.declared.answer.Answer.{Answer}
-use Rattle.stepping.specs.Answers.{answer_as}
 use Rattle.stepping.specs.Answering.{refusing}
+use Rattle.std.specs.Prelude.{Err}
+use Rattle.layout.specs.declared.refusal.Refusal.{Refusal as Named}
+use Rattle.stepping.specs.Answers.{told}
 use Rattle.writers.specs.Writing.{pasted}
 use Rattle.journal.specs.declared.compare.Alike.{Alike}
-use Rattle.journal.specs.declared.steps.Compared.{Compared}
+use Rattle.journal.specs.Answers.{comparing}
 use Rattle.journal.specs.Comparing.{both_of}
 use Rattle.journal.specs.Laying.{lay_w, lay_end}
-use Rattle.journal.specs.Stepping.{needed_of, compared_of, room_in}
+use Rattle.journal.specs.Stepping.{Compared, needed_of, compared_of, room_in}
+use Rattle.stepping.proofs.Refused.{is_refused}
 use Rattle.writers.proofs.Over.{over_length, pasted_first}
 use Rattle.journal.proofs.Laying.{journal_words, laid_journal, ends_new}
 
@@ -59,6 +61,18 @@ room_either most room n h g = by (ltb most room)
     by : (b : Bool) → n ≤ cond b most room
     by true = h
     by false = g
+
+-- refused: nothing is compared
+refused_by : (y : Result Stepped) (room : ℕ) (ws : List ℕ) (a : Answer) → a ≡ answer_of y → (a.number ≡ 0 → ⊥) → record { answer = a; first = 0; last = 0 } ≡ compared_of room ws y
+unfolding compared_of answer_of
+refused_by (refused r) room ws a e h = ap (λ (b : Answer). record { answer = b; first = 0; last = 0 }) e
+refused_by (done s) room ws a e h = absurd (h (ap (λ (b : Answer). b.number) e))
+
+pub compared_refused :
+    (limits : Limits) (ws : List ℕ) (k : Asked) (r0 : List ℕ) (r : Named) (room : ℕ) → told (Err r) ≡ step_answer limits ws k r0 →
+    comparing (Err r) ≡ compared_of room ws (step limits ws k (length r0))
+unfolding step_answer
+compared_refused limits ws k r0 r room e = refused_by (step limits ws k (length r0)) room ws (told (Err r)) e (is_refused r)
 
 module _ (limits : Limits) (few : limits.longest ≤ 8192) where
   -- ---- a step that is done: how long its words are, and what they have alike
@@ -110,7 +124,7 @@ module _ (limits : Limits) (few : limits.longest ≤ 8192) where
   room_true :
       (ws : List ℕ) (s : Stepped) (room : ℕ) → leb (length (journal_of ws (encode s.config))) room ≡ true →
       compared_of room ws (done s)
-      ≡ record { answer = answer_as (answer_of (done s)); first = alike ws (encode s.config); last = alike_behind (alike ws (encode s.config)) ws (encode s.config) }
+      ≡ record { answer = answer_of (done s); first = alike ws (encode s.config); last = alike_behind (alike ws (encode s.config)) ws (encode s.config) }
   unfolding compared_of
   room_true ws s room e = rw e
 
@@ -122,22 +136,13 @@ module _ (limits : Limits) (few : limits.longest ≤ 8192) where
 
   -- what the code knows once the step was taken in scratch
   pub record Took (ws : List ℕ) (k : Asked) (r0 r1 : List ℕ) (a : Answer) : Type 0 where
-    pub answered : a ≡ answer_as (step_answer limits ws k r0)
+    pub answered : a ≡ step_answer limits ws k r0
     pub written : r1 ≡ step_output limits ws k r0
 
   module _ (ws : List ℕ) (k : Asked) (r0 r1 : List ℕ) (a : Answer) (t : Took ws k r0 r1 a) where
-    by_step : a ≡ answer_as (answer_of (step limits ws k (length r0)))
+    by_step : a ≡ answer_of (step limits ws k (length r0))
     unfolding step_answer
     by_step = t.answered
-
-    -- refused: nothing is compared
-    refused_by : (y : Result Stepped) (room : ℕ) → a ≡ answer_as (answer_of y) → (a.number ≡ 0 → ⊥) → record { answer = a; first = 0; last = 0 } ≡ compared_of room ws y
-    unfolding compared_of answer_of
-    refused_by (refused r) room e h = ap (λ (b : Answer). record { answer = b; first = 0; last = 0 }) e
-    refused_by (done s) room e h = absurd (h (ap (λ (b : Answer). b.number) e))
-
-    pub compared_refused : (room : ℕ) → (a.number ≡ 0 → ⊥) → record { answer = a; first = 0; last = 0 } ≡ compared_of room ws (step limits ws k (length r0))
-    compared_refused room h = refused_by (step limits ws k (length r0)) room by_step h
 
     -- done
     pub record Did : Type 0 where
@@ -186,8 +191,8 @@ module _ (limits : Limits) (few : limits.longest ≤ 8192) where
           ∙ ap (needed_of (length ws) (length (encode d.next.config)) (alike ws (encode d.next.config))) last_is
           ∙ needed_is ws k (length r0) d.next d.is_done
 
-      done_answer : a ≡ answer_as (answer_of (done d.next))
-      done_answer = by_step ∙ ap (λ (y : Result Stepped). answer_as (answer_of y)) d.is_done
+      done_answer : a ≡ answer_of (done d.next)
+      done_answer = by_step ∙ ap (λ (y : Result Stepped). answer_of y) d.is_done
 
       pub compared_short : room < needed_of (length ws) a.length first last → record { answer = refusing 16; first = 0; last = 0 } ≡ compared_of room ws (step limits ws k (length r0))
       compared_short h =
@@ -215,11 +220,11 @@ module _ (limits : Limits) (few : limits.longest ≤ 8192) where
   lent_is ws k room n = refl
 
   data View (n : ℕ) (ws : List ℕ) (y : Result Stepped) : Type 0 where
-    not_accepted : (r : Refusal) → (compared_of n ws y).answer ≡ answer_as (answer_of (refused r)) → lent n ws y ≡ refused r → View n ws y
+    not_accepted : (r : Refusal) → (compared_of n ws y).answer ≡ answer_of (refused r) → lent n ws y ≡ refused r → View n ws y
     is_accepted :
         (s : Stepped) → y ≡ done s → length (journal_of ws (encode s.config)) ≤ n →
         compared_of n ws y
-        ≡ record { answer = answer_as (answer_of (done s)); first = alike ws (encode s.config); last = alike_behind (alike ws (encode s.config)) ws (encode s.config) } →
+        ≡ record { answer = answer_of (done s); first = alike ws (encode s.config); last = alike_behind (alike ws (encode s.config)) ws (encode s.config) } →
         lent n ws y ≡ done s →
         View n ws y
 
@@ -231,7 +236,7 @@ module _ (limits : Limits) (few : limits.longest ≤ 8192) where
   unfolding lent ◌>>=◌ ◌>>◌ ◌unless◌
   lent_false n ws s e = rw e
 
-  refused_answer : (n : ℕ) (ws : List ℕ) (r : Refusal) → (compared_of n ws (refused r)).answer ≡ answer_as (answer_of (refused r))
+  refused_answer : (n : ℕ) (ws : List ℕ) (r : Refusal) → (compared_of n ws (refused r)).answer ≡ answer_of (refused r)
   unfolding compared_of
   refused_answer n ws r = refl
 
@@ -239,7 +244,7 @@ module _ (limits : Limits) (few : limits.longest ≤ 8192) where
   unfolding lent ◌>>=◌
   refused_lent n ws r = refl
 
-  short_answer : refusing 16 ≡ answer_as (answer_of (refused journal_short))
+  short_answer : refusing 16 ≡ answer_of (refused journal_short)
   unfolding answer_of
   short_answer = refl
 
@@ -251,15 +256,15 @@ module _ (limits : Limits) (few : limits.longest ≤ 8192) where
       by true e = is_accepted s refl (leb-true _ n e) (room_true ws s n e) (lent_true n ws s e)
       by false e = not_accepted journal_short (ap (λ (c : Compared). c.answer) (room_false ws s n e) ∙ short_answer) (lent_false n ws s e)
 
-  refused_number : (r : Refusal) → (answer_as (answer_of (refused r))).number ≡ 0 → ⊥
+  refused_number : (r : Refusal) → (answer_of (refused r)).number ≡ 0 → ⊥
   unfolding answer_of
-  refused_number r e = let h = refusal_number r in omega arith
+  refused_number r e = let h = positive r in omega arith
 
-  done_number : (s : Stepped) → (answer_as (answer_of (done s))).number ≡ 0
+  done_number : (s : Stepped) → (answer_of (done s)).number ≡ 0
   unfolding answer_of
   done_number s = refl
 
-  done_length : (s : Stepped) → (answer_as (answer_of (done s))).length ≡ length (encode s.config)
+  done_length : (s : Stepped) → (answer_of (done s)).length ≡ length (encode s.config)
   unfolding answer_of
   done_length s = refl
 
@@ -273,7 +278,7 @@ module _ (limits : Limits) (few : limits.longest ≤ 8192) where
 
     -- not accepted: nothing is written
     pub record Kept : Type 0 where
-      pub answer : c.answer ≡ answer_as (answer_of (journal_step limits ws k (length r0) (length journal)))
+      pub answer : c.answer ≡ answer_of (journal_step limits ws k (length r0) (length journal))
       pub keeps_out : out ≡ output_of (journal_step limits ws k (length r0) (length journal)) out
       pub keeps_journal : journal ≡ journal_after ws (journal_step limits ws k (length r0) (length journal)) journal
 
@@ -285,7 +290,7 @@ module _ (limits : Limits) (few : limits.longest ≤ 8192) where
         by (not_accepted r p q) =
             let w : journal_step limits ws k (length r0) (length journal) ≡ refused r = lent_is ws k (length r0) (length journal) ∙ q in
             record {
-              answer = ap (λ (b : Compared). b.answer) e ∙ p ∙ ap (λ (y : Result Stepped). answer_as (answer_of y)) (sym w);
+              answer = ap (λ (b : Compared). b.answer) e ∙ p ∙ ap (λ (y : Result Stepped). answer_of y) (sym w);
               keeps_out = sym (ap (λ (y : Result Stepped). output_of y out) w);
               keeps_journal = sym (ap (λ (y : Result Stepped). journal_after ws y journal) w);
             }
@@ -299,7 +304,7 @@ module _ (limits : Limits) (few : limits.longest ≤ 8192) where
       pub long : c.answer.length ≡ length (encode next.config)
       pub first : c.first ≡ alike ws (encode next.config)
       pub last : c.last ≡ alike_behind (alike ws (encode next.config)) ws (encode next.config)
-      pub answer : c.answer ≡ answer_as (answer_of (journal_step limits ws k (length r0) (length journal)))
+      pub answer : c.answer ≡ answer_of (journal_step limits ws k (length r0) (length journal))
       pub writes_out : over (encode next.config) out ≡ output_of (journal_step limits ws k (length r0) (length journal)) out
       pub writes_journal :
           over (journal_of ws (encode next.config)) journal ≡ journal_after ws (journal_step limits ws k (length r0) (length journal)) journal
@@ -319,7 +324,7 @@ module _ (limits : Limits) (few : limits.longest ≤ 8192) where
               long = ap (λ (b : Compared). b.answer.length) (e ∙ p) ∙ done_length s;
               first = ap (λ (b : Compared). b.first) (e ∙ p);
               last = ap (λ (b : Compared). b.last) (e ∙ p);
-              answer = ap (λ (b : Compared). b.answer) (e ∙ p) ∙ ap (λ (y : Result Stepped). answer_as (answer_of y)) (sym w);
+              answer = ap (λ (b : Compared). b.answer) (e ∙ p) ∙ ap (λ (y : Result Stepped). answer_of y) (sym w);
               writes_out = sym (ap (λ (y : Result Stepped). output_of y out) w);
               writes_journal = sym (ap (λ (y : Result Stepped). journal_after ws y journal) w);
             }
@@ -373,6 +378,18 @@ module _ (limits : Limits) (few : limits.longest ≤ 8192) where
       pub noted_words : lay_w ws (take c.answer.length r1) c.first c.last journal ≡ over (journal_of ws (encode z.next.config)) journal
       noted_words = noted ∙ sym z.writes_journal
 
+  -- of a step that is refused
+  module _ (ws : List ℕ) (k : Asked) (r0 out journal : List ℕ) (r : Named)
+      (e : comparing (Err r) ≡ compared_of (length journal) ws (step limits ws k (length r0))) where
+    pub kept_answer : told (Err r) ≡ answer_of (journal_step limits ws k (length r0) (length journal))
+    kept_answer = (kept ws k r0 out journal (comparing (Err r)) e (is_refused r)).answer
+
+    pub kept_out : out ≡ output_of (journal_step limits ws k (length r0) (length journal)) out
+    kept_out = (kept ws k r0 out journal (comparing (Err r)) e (is_refused r)).keeps_out
+
+    pub kept_journal : journal ≡ journal_after ws (journal_step limits ws k (length r0) (length journal)) journal
+    kept_journal = (kept ws k r0 out journal (comparing (Err r)) e (is_refused r)).keeps_journal
+
   -- ---- in scratch of two sizes
 
   same_journal : (ws : List ℕ) (k : Asked) (room half n : ℕ) → step limits ws k room ≡ step limits ws k half → journal_step limits ws k room n ≡ journal_step limits ws k half n
@@ -390,9 +407,9 @@ module _ (limits : Limits) (few : limits.longest ≤ 8192) where
       by (one_short s h g l) = absurd (omega (arith, room_either most room (length (encode s.config)) (omega (arith, h, all)) g))
 
   module _ (ws : List ℕ) (k : Asked) (out journal : List ℕ) (most m : ℕ) (all : limits.longest ≤ most) (q : m ≡ room_in most (length out)) where
-    pub large_answer : answer_as (answer_of (journal_step limits ws k m (length journal))) ≡ answer_as (journal_answer limits ws k out journal)
+    pub large_answer : answer_of (journal_step limits ws k m (length journal)) ≡ journal_answer limits ws k out journal
     unfolding journal_answer
-    large_answer = ap (λ (y : Result Stepped). answer_as (answer_of y)) (large_same ws k most (length out) (length journal) m all q)
+    large_answer = ap (λ (y : Result Stepped). answer_of y) (large_same ws k most (length out) (length journal) m all q)
 
     pub large_output : output_of (journal_step limits ws k m (length journal)) out ≡ journal_output limits ws k out journal
     unfolding journal_output
@@ -404,7 +421,7 @@ module _ (limits : Limits) (few : limits.longest ≤ 8192) where
 
   -- a step in a short scratch that is not refused for that
   module _ (ws : List ℕ) (k : Asked) (out journal : List ℕ) (a : Answer)
-      (p : a ≡ answer_as (answer_of (journal_step limits ws k (room_in 1024 (length out)) (length journal)))) where
+      (p : a ≡ answer_of (journal_step limits ws k (room_in 1024 (length out)) (length journal))) where
     abbrev tried : Result Stepped
     tried = journal_step limits ws k (room_in 1024 (length out)) (length journal)
 
@@ -425,9 +442,9 @@ module _ (limits : Limits) (few : limits.longest ≤ 8192) where
         by (both_do s g) e = refl
         by (one_short s g i l) e = absurd (h (number_is ∙ short_lent e))
 
-    pub small_answer : (a.number ≡ 10 → ⊥) → a ≡ answer_as (journal_answer limits ws k out journal)
+    pub small_answer : (a.number ≡ 10 → ⊥) → a ≡ journal_answer limits ws k out journal
     unfolding journal_answer
-    small_answer h = p ∙ ap (λ (y : Result Stepped). answer_as (answer_of y)) (same h)
+    small_answer h = p ∙ ap (λ (y : Result Stepped). answer_of y) (same h)
 
     pub small_output : (a.number ≡ 10 → ⊥) → output_of (journal_step limits ws k (room_in 1024 (length out)) (length journal)) out ≡ journal_output limits ws k out journal
     unfolding journal_output
@@ -448,7 +465,7 @@ module _ (limits : Limits) (few : limits.longest ≤ 8192) where
 
   -- taken again with what is as it was
   module _ (ws : List ℕ) (k : Asked) {out out' journal journal' : List ℕ} (o : out' ≡ out) (j : journal' ≡ journal) where
-    pub again_answer : answer_as (journal_answer limits ws k out' journal') ≡ answer_as (journal_answer limits ws k out journal)
+    pub again_answer : journal_answer limits ws k out' journal' ≡ journal_answer limits ws k out journal
     again_answer = rw (o, j)
 
     pub again_output : journal_output limits ws k out' journal' ≡ journal_output limits ws k out journal

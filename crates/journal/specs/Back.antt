@@ -2,13 +2,9 @@
 use Rattle.std.specs.Prelude.{ℕ, ◌+◌, ◌-◌, ◌≤◌, ◌≡◌, Bool, true, ◌&&◌, List, leb, length, get_or, drop}
 use Rattle.sock.specs.Configuration.{Limits, read_config}
 use Rattle.sock.specs.Calls.{unmatched, short, Result, done, ◌>>=◌, ◌>>◌, ◌!◌, ◌unless◌}
-use Rattle.sock.specs.Journal.{Journal, sound, left, Taken as Defined}
+use Rattle.sock.specs.Journal.{Journal, sound, left}
 use Rattle.writers.specs.Writing.{pasted}
-use Rattle.journal.specs.declared.back.Taken.{Taken}
 use Rattle.journal.specs.declared.back.Counts.{Counts}
-
-abbrev pub taken_as : Defined → Taken
-taken_as t = record { number = t.number; length = t.length }
 
 unfoldable pub counts_of : List ℕ → Counts
 counts_of journal = record { old = get_or journal 0 0; new = get_or journal 1 0; first = get_or journal 2 0; last = get_or journal 3 0 }

@@ -1,3 +1,4 @@
+pub mod Answers
 pub mod Comparing
 pub mod Laying
 pub mod Stepping

@@ -2,27 +2,16 @@
 ghost use Rattle.std.specs.Prelude.{◌≡◌, true, ◌-◌, ◌≤◌, length};
 ghost use Rattle.sock.specs.Configuration.{standard};
 ghost use Rattle.sock.specs.Journal.{left, put_back, taken_of, restored_over, take_back_answer, take_back_output};
-ghost use Rattle.journal.specs.Back.{taken_as, counts_of, said, sound_by, Fits, put_w, checked_back};
+ghost use Rattle.journal.specs.Answers.{taken_as};
+ghost use Rattle.journal.specs.Back.{counts_of, said, sound_by, Fits, put_w, checked_back};
 
 use crate::compare::first_alike;
 use layout::limit::LONGEST;
 use layout::number::{wide, word};
+use layout::refusal::Refusal;
 use reading::calls::check_readable;
 use stepping::steps::SHORT;
 use writers::write::copy;
-
-// A refusal's number, or 0; the words of the configuration restored.
-#[derive(Clone, Copy)]
-pub struct Taken {
-    pub number: u8,
-    pub length: u16,
-}
-
-fn refuse(number: u8) -> Taken
-    ensures { result ≡ record { number = number; length = 0 } }
-{
-    Taken { number, length: 0 }
-}
 
 // The four counts at the head of a journal.
 #[derive(Clone, Copy)]
@@ -46,6 +35,7 @@ fn counts_in(journal: &[u16]) -> Counts
 }
 
 // Whether the alike counts together are in both lengths, and all words are among the `behind` that follow.
+#[tactic(auto, unfolding(crate::specs::Back::sound_by))]
 fn sound(c: Counts, behind: usize) -> bool
     ensures { result ≡ sound_by c behind }
 {
@@ -96,35 +86,38 @@ fn put_back(ws: &[u16], journal: &[u16], c: Counts, scratch: &mut [u16]) -> usiz
 }
 
 // What was before is read, and written if it fits.
-fn checked(ws: &[u16], journal: &[u16], c: Counts, scratch: &mut [u16], out: &mut [u16]) -> Taken
+fn checked(
+    ws: &[u16],
+    journal: &[u16],
+    c: Counts,
+    scratch: &mut [u16],
+    out: &mut [u16],
+) -> Result<u16, Refusal>
     requires { Fits c ws.now journal.now × (c.old ≤ length scratch.old) }
-    ensures answered { result ≡ taken_as (taken_of (checked_back standard (put_back (said c journal.now) ws.now) (length out.old))) }
+    ensures answered { taken_as result ≡ taken_of (checked_back standard (put_back (said c journal.now) ws.now) (length out.old)) }
     ensures wrote { out.new ≡ restored_over (checked_back standard (put_back (said c journal.now) ws.now) (length out.old)) out.old }
 {
     let n = wide(c.old);
     put_back(ws, journal, c, scratch);
-    if check_readable(&scratch[..n]) != 0 {
-        return refuse(15);
+    if check_readable(&scratch[..n]).is_err() {
+        return Err(Refusal::Unmatched);
     }
     if out.len() < n {
-        return refuse(10);
+        return Err(Refusal::OutputShort);
     }
     copy(scratch, 0, n, out, 0);
-    Taken {
-        number: 0,
-        length: c.old,
-    }
+    Ok(c.old)
 }
 
 // With scratch for what was before.
-fn restore(ws: &[u16], journal: &[u16], c: Counts, out: &mut [u16]) -> Taken
+fn restore(ws: &[u16], journal: &[u16], c: Counts, out: &mut [u16]) -> Result<u16, Refusal>
     requires { Fits c ws.now journal.now }
-    ensures answered { result ≡ taken_as (taken_of (checked_back standard (put_back (said c journal.now) ws.now) (length out.old))) }
+    ensures answered { taken_as result ≡ taken_of (checked_back standard (put_back (said c journal.now) ws.now) (length out.old)) }
     ensures wrote { out.new ≡ restored_over (checked_back standard (put_back (said c journal.now) ws.now) (length out.old)) out.old }
 {
     let n = wide(c.old);
     if LONGEST < n {
-        return refuse(15);
+        return Err(Refusal::Unmatched);
     }
     if SHORT < n {
         let mut scratch = [0u16; LONGEST];
@@ -134,24 +127,23 @@ fn restore(ws: &[u16], journal: &[u16], c: Counts, out: &mut [u16]) -> Taken
     checked(ws, journal, c, &mut scratch, out)
 }
 
-// Taking back: the earlier configuration's words in the output. 1 if the words are not readable, 15 if the journal does not match, 10 if the
-// output is too short; a refusal changes no word.
-pub fn take_back(ws: &[u16], journal: &[u16], out: &mut [u16]) -> Taken
-    ensures answered { result ≡ taken_as (take_back_answer standard ws.now journal.now out.old) }
+// Taking back: the earlier configuration's words in the output, and how many. `Unreadable` if the words are not readable, `Unmatched` if the
+// journal does not match, `OutputShort` if the output is too short; a refusal changes no word.
+#[tactic(auto, using(crate::proofs::Restoring::unread_answer))]
+pub fn take_back(ws: &[u16], journal: &[u16], out: &mut [u16]) -> Result<u16, Refusal>
+    ensures answered { taken_as result ≡ take_back_answer standard ws.now journal.now out.old }
     ensures wrote { out.new ≡ take_back_output standard ws.now journal.now out.old }
 {
-    if check_readable(ws) != 0 {
-        return refuse(1);
-    }
+    check_readable(ws)?;
     if journal.len() < 4 {
-        return refuse(15);
+        return Err(Refusal::Unmatched);
     }
     let c = counts_in(journal);
     if !sound(c, journal.len() - 4) {
-        return refuse(15);
+        return Err(Refusal::Unmatched);
     }
     if !left(ws, journal, c) {
-        return refuse(15);
+        return Err(Refusal::Unmatched);
     }
     restore(ws, journal, c, out)
 }

@@ -8,6 +8,7 @@ ghost use Rattle.journal.specs.Comparing.{both_of};
 const BLOCK: usize = 16;
 
 // Whether the sixteen words from `i` on in `a` and from `j` on in `b` are the same.
+#[tactic(auto, using(crate::proofs::Comparing::turn_same, crate::proofs::Comparing::turn_differs), unfolding(sock::specs::Journal::same_words))]
 fn same_block(a: &[u16], i: usize, b: &[u16], j: usize) -> bool
     requires { (i + BLOCK ≤ length a.now) × (j + BLOCK ≤ length b.now) }
     ensures { result ≡ same_words (take BLOCK (drop i a.now)) (take BLOCK (drop j b.now)) }
@@ -22,6 +23,7 @@ fn same_block(a: &[u16], i: usize, b: &[u16], j: usize) -> bool
 }
 
 // From `i` on, word by word.
+#[tactic(auto, using(crate::proofs::Comparing::first_word, crate::proofs::Comparing::first_stop, crate::proofs::Comparing::first_end))]
 fn first_words(a: &[u16], b: &[u16], i: usize, n: usize) -> usize
     requires { (i ≤ n) × (n ≡ min (length a.now) (length b.now)) }
     ensures { result ≡ i + alike (drop i a.now) (drop i b.now) }
@@ -35,6 +37,7 @@ fn first_words(a: &[u16], b: &[u16], i: usize, n: usize) -> usize
 }
 
 // The count of first words alike.
+#[tactic(auto, using(crate::proofs::Comparing::first_begin, crate::proofs::Comparing::first_turn))]
 pub fn first_alike(a: &[u16], b: &[u16]) -> usize
     ensures { result ≡ alike a.now b.now }
 {
@@ -49,6 +52,7 @@ pub fn first_alike(a: &[u16], b: &[u16]) -> usize
 }
 
 // From the `i` last on, word by word.
+#[tactic(auto, using(crate::proofs::Comparing::last_word, crate::proofs::Comparing::last_stop, crate::proofs::Comparing::last_end))]
 fn last_words(a: &[u16], b: &[u16], i: usize, n: usize) -> usize
     requires { (i ≤ n) × (n ≡ min (length a.now) (length b.now)) }
     ensures { result ≡ i + alike (drop i (reverse a.now)) (drop i (reverse b.now)) }
@@ -62,6 +66,7 @@ fn last_words(a: &[u16], b: &[u16], i: usize, n: usize) -> usize
 }
 
 // The count of last words alike.
+#[tactic(auto, using(crate::proofs::Comparing::first_begin, crate::proofs::Comparing::last_turn))]
 pub fn last_alike(a: &[u16], b: &[u16]) -> usize
     ensures { result ≡ alike (reverse a.now) (reverse b.now) }
 {
@@ -82,6 +87,7 @@ pub struct Alike {
     pub last: usize,
 }
 
+#[tactic(auto, using(sock::proofs::Journal::alike_left, sock::proofs::Journal::alike_right, crate::proofs::Comparing::both_is, crate::proofs::Comparing::rest_is))]
 pub fn both(a: &[u16], b: &[u16]) -> Alike
     ensures { result ≡ both_of a.now b.now }
 {

@@ -1,15 +1,9 @@
 // A journal laid out over what is lent for it.
-ghost use Rattle.std.specs.Prelude.{◌≡◌, ◌%◌};
+ghost use Rattle.std.specs.Prelude.{◌≡◌};
 ghost use Rattle.journal.specs.Laying.{lay_w, lay_end};
 
+use layout::number::word_of;
 use writers::write::{copy, put};
-
-// A number as a word; lengths of configurations, counts of their words and serials are words.
-pub fn word_of(n: usize) -> u16
-    ensures { result ≡ n % 65536 }
-{
-    (n % 65536) as u16
-}
 
 // The journal of `old` and `new`, which have the `first` first and the `last` last words alike; the count of its words.
 #[tactic(auto, unfolding(crate::specs::Laying::lay_w, crate::specs::Laying::lay_end, crate::specs::Laying::counts, crate::specs::Laying::old_end))]

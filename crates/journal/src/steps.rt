@@ -4,17 +4,19 @@ ghost use Rattle.sock.specs.Configuration.{standard};
 ghost use Rattle.sock.specs.Calls.{answer_of, output_of, step_output};
 ghost use Rattle.sock.specs.Calls as calls;
 ghost use Rattle.sock.specs.Journal.{journal_step, journal_after, journal_answer, journal_output, journal_written};
-ghost use Rattle.stepping.specs.Answers.{answer_as, numbers};
+ghost use Rattle.stepping.specs.Answers.{told};
 ghost use Rattle.layout.specs.Limits.{figures};
 ghost use Rattle.stepping.specs.Bundles.{numbers_as};
-ghost use Rattle.stepping.specs.Lent.{Modest, Blank};
+ghost use Rattle.journal.specs.Answers.{comparing};
 ghost use Rattle.journal.specs.Stepping.{compared_of, needed_of, room_in};
 
-use crate::compare::both;
+use crate::compare::{Alike, both};
 use crate::lay::lay;
-use layout::limit::{LONGEST, Limits, STANDARD};
-use stepping::answer::{Answer, refuse};
+use layout::limit::LONGEST;
+use layout::refusal::Refusal;
+use stepping::answer::{Accepted, output_short};
 use stepping::bundles::Numbers;
+use stepping::limits::{Modest, STANDARD};
 use stepping::steps::{FEW, MANY, SHORT, step_at};
 use writers::write::copy;
 
@@ -27,9 +29,8 @@ pub const JOURNAL_ENOUGH: usize = 16386;
 // A step, and what its result has alike with what it read.
 #[derive(Clone, Copy)]
 pub struct Compared {
-    pub answer: Answer,
-    pub first: usize,
-    pub last: usize,
+    pub accepted: Accepted,
+    pub alike: Alike,
 }
 
 // Words of a journal, for lengths with so many words alike.
@@ -41,141 +42,104 @@ fn needed(old: usize, new: usize, first: usize, last: usize) -> usize
     4 + (old - (first + last)) + (new - (first + last))
 }
 
-// The step with its result in scratch; 16 if the journal that it would write has more than `room` words.
-// The notes are the step's, all 0.
-pub fn compare(
+// The step with its result in scratch; `JournalShort` if the journal that it would write has more than `room` words.
+#[tactic(auto, using(crate::proofs::Stepping::compared_refused))]
+pub fn compare<const NOTES: usize>(
     ws: &[u16],
     k: Numbers,
-    limits: Limits,
-    notes: &mut [u16],
+    m: Modest,
     room: usize,
     res: &mut [u16],
-) -> Compared
-    requires { Modest limits × Blank notes.old }
-    ensures { (result ≡ compared_of room ws.now (calls.step (figures limits) ws.now (numbers_as k) (length res.old))) × (res.new ≡ step_output (figures limits) ws.now (numbers_as k) res.old) }
+) -> Result<Compared, Refusal>
+    requires { NOTES < 2 ^ 32 }
+    ensures { (comparing result ≡ compared_of room ws.now (calls.step (figures m.limits) ws.now (numbers_as k) (length res.old))) × (res.new ≡ step_output (figures m.limits) ws.now (numbers_as k) res.old) }
 {
-    let a = step_at(ws, k, limits, notes, res);
-    if a.number != 0 {
-        return Compared {
-            answer: a,
-            first: 0,
-            last: 0,
-        };
-    }
-    let n = usize::from(a.length);
+    let accepted = step_at::<NOTES>(ws, k, m, res)?;
+    let n = usize::from(accepted.length);
     let alike = both(ws, &res[..n]);
     if room < needed(ws.len(), n, alike.first, alike.last) {
-        return Compared {
-            answer: refuse(16),
-            first: 0,
-            last: 0,
-        };
+        return Err(Refusal::JournalShort);
     }
-    Compared {
-        answer: a,
-        first: alike.first,
-        last: alike.last,
-    }
+    Ok(Compared { accepted, alike })
 }
 
-// The step worked out in `result`, and then written to the output and the journal.
-pub fn written(
+// The step worked out in `res`, and then written to the output and the journal.
+#[tactic(auto, using(crate::proofs::Stepping::kept_answer))]
+pub fn written<const NOTES: usize>(
     ws: &[u16],
     k: Numbers,
-    limits: Limits,
-    notes: &mut [u16],
+    m: Modest,
     res: &mut [u16],
     out: &mut [u16],
     journal: &mut [u16],
-) -> Answer
-    requires { Modest limits × Blank notes.old × (length res.old ≤ length out.old) }
-    ensures answered { result ≡ answer_as (answer_of (journal_step (figures limits) ws.now (numbers_as k) (length res.old) (length journal.old))) }
-    ensures wrote { out.new ≡ output_of (journal_step (figures limits) ws.now (numbers_as k) (length res.old) (length journal.old)) out.old }
-    ensures noted { journal.new ≡ journal_after ws.now (journal_step (figures limits) ws.now (numbers_as k) (length res.old) (length journal.old)) journal.old }
+) -> Result<Accepted, Refusal>
+    requires { (NOTES < 2 ^ 32) × (length res.old ≤ length out.old) }
+    ensures answered { told result ≡ answer_of (journal_step (figures m.limits) ws.now (numbers_as k) (length res.old) (length journal.old)) }
+    ensures wrote { out.new ≡ output_of (journal_step (figures m.limits) ws.now (numbers_as k) (length res.old) (length journal.old)) out.old }
+    ensures noted { journal.new ≡ journal_after ws.now (journal_step (figures m.limits) ws.now (numbers_as k) (length res.old) (length journal.old)) journal.old }
 {
-    let c = compare(ws, k, limits, notes, journal.len(), res);
-    let given = c.answer;
-    if given.number != 0 {
-        return given;
-    }
-    let n = usize::from(given.length);
+    let c = compare::<NOTES>(ws, k, m, journal.len(), res)?;
+    let n = usize::from(c.accepted.length);
     copy(res, 0, n, out, 0);
-    lay(ws, &res[..n], c.first, c.last, journal);
-    given
+    lay(ws, &res[..n], c.alike.first, c.alike.last, journal);
+    Ok(c.accepted)
 }
 
 // How many words of scratch the result may take.
+#[tactic(auto, using(crate::proofs::Stepping::room_least))]
 pub fn room_in(most: usize, room: usize) -> usize
     ensures { (result ≡ room_in most room) × (result ≤ most) × (result ≤ room) }
 {
     most.min(room)
 }
 
-// With scratch for so many notes and so many words of a result.
-fn step_in<const NOTES: usize, const RESULT: usize>(
+// The step at the limits given, with so many notes and scratch for so many words of a result.
+pub fn step_in<const NOTES: usize, const RESULT: usize>(
     ws: &[u16],
     k: Numbers,
+    m: Modest,
     out: &mut [u16],
     journal: &mut [u16],
-) -> Answer
+) -> Result<Accepted, Refusal>
     requires { (NOTES < 2 ^ 32) × (RESULT < 2 ^ 32) }
-    ensures answered { result ≡ answer_as (answer_of (journal_step standard ws.now (numbers_as k) (room_in RESULT (length out.old)) (length journal.old))) }
-    ensures wrote { out.new ≡ output_of (journal_step standard ws.now (numbers_as k) (room_in RESULT (length out.old)) (length journal.old)) out.old }
-    ensures noted { journal.new ≡ journal_after ws.now (journal_step standard ws.now (numbers_as k) (room_in RESULT (length out.old)) (length journal.old)) journal.old }
+    ensures answered { told result ≡ answer_of (journal_step (figures m.limits) ws.now (numbers_as k) (room_in RESULT (length out.old)) (length journal.old)) }
+    ensures wrote { out.new ≡ output_of (journal_step (figures m.limits) ws.now (numbers_as k) (room_in RESULT (length out.old)) (length journal.old)) out.old }
+    ensures noted { journal.new ≡ journal_after ws.now (journal_step (figures m.limits) ws.now (numbers_as k) (room_in RESULT (length out.old)) (length journal.old)) journal.old }
 {
-    let mut notes = [0u16; NOTES];
     let mut result = [0u16; RESULT];
     let room = room_in(RESULT, out.len());
-    written(
-        ws,
-        k,
-        STANDARD,
-        &mut notes,
-        &mut result[..room],
-        out,
-        journal,
-    )
+    written::<NOTES>(ws, k, m, &mut result[..room], out, journal)
 }
 
 // With scratch for every result.
-fn large(ws: &[u16], k: Numbers, out: &mut [u16], journal: &mut [u16]) -> Answer
-    ensures answered { result ≡ answer_as (journal_answer standard ws.now (numbers_as k) out.old journal.old) }
+#[tactic(auto, using(crate::proofs::Stepping::large_answer, crate::proofs::Stepping::large_output, crate::proofs::Stepping::large_journal))]
+fn large(ws: &[u16], k: Numbers, out: &mut [u16], journal: &mut [u16]) -> Result<Accepted, Refusal>
+    ensures answered { told result ≡ journal_answer standard ws.now (numbers_as k) out.old journal.old }
     ensures wrote { out.new ≡ journal_output standard ws.now (numbers_as k) out.old journal.old }
     ensures noted { journal.new ≡ journal_written standard ws.now (numbers_as k) out.old journal.old }
 {
-    step_in::<MANY, LONGEST>(ws, k, out, journal)
+    step_in::<MANY, LONGEST>(ws, k, STANDARD, out, journal)
 }
 
 // The step with a journal: the next configuration's words in the output, and in the journal what it takes to go back. A refusal changes no
 // word of either, and words behind the result and behind the journal stay. A long scratch would take most of a short configuration's time,
-// so that is first tried with a short one; 10 may then be for that alone.
+// so that is first tried with a short one; `OutputShort` may then be for that alone.
 pub fn step(
     ws: &[u16],
-    engine: u16,
-    position: u16,
-    second: u16,
-    place: u16,
-    branch: u16,
+    k: Numbers,
     out: &mut [u16],
     journal: &mut [u16],
-) -> Answer
-    ensures answered { result ≡ answer_as (journal_answer standard ws.now (numbers engine position second place branch) out.old journal.old) }
-    ensures wrote { out.new ≡ journal_output standard ws.now (numbers engine position second place branch) out.old journal.old }
-    ensures noted { journal.new ≡ journal_written standard ws.now (numbers engine position second place branch) out.old journal.old }
+) -> Result<Accepted, Refusal>
+    ensures answered { told result ≡ journal_answer standard ws.now (numbers_as k) out.old journal.old }
+    ensures wrote { out.new ≡ journal_output standard ws.now (numbers_as k) out.old journal.old }
+    ensures noted { journal.new ≡ journal_written standard ws.now (numbers_as k) out.old journal.old }
 {
-    let k = Numbers {
-        engine,
-        position,
-        second,
-        second_position: place,
-        branch,
-    };
     if SHORT < ws.len() {
         return large(ws, k, out, journal);
     }
-    let a = step_in::<FEW, TWICE>(ws, k, out, journal);
-    if a.number == 10 {
+    let given = step_in::<FEW, TWICE>(ws, k, STANDARD, out, journal);
+    if output_short(given) {
         return large(ws, k, out, journal);
     }
-    a
+    given
 }

@@ -1,27 +1,31 @@
--- The refusals by their numbers.
+-- The refusals as the definitions name them, and so their numbers.
 use Rattle.std.specs.Prelude.{ℕ, Result, Ok, Err}
+use Rattle.sock.specs.Calls.{Refusal as Defined, number, unreadable, nobody_there, no_move, no_partner, no_fit, installing, serials_spent, deep, long, short, not_fresh, unknown_serial, not_decimal, unmatched, journal_short, index_short, house_full, still_at_work}
 use Rattle.layout.specs.declared.refusal.Refusal.{Refusal}
 use Rattle.layout.specs.declared.refusal.Refusal.TheVariants.{Unreadable, NoProcess, NoMove, NoPartner, NoFit, Pending, SerialsSpent, TooDeep, TooLong, OutputShort, NotFresh, NoSerial, NotDecimal, Unmatched, JournalShort, NoIndex, Full, AtWork}
 
+abbrev pub refusal_of : Refusal → Defined
+refusal_of Unreadable = unreadable
+refusal_of NoProcess = nobody_there
+refusal_of NoMove = no_move
+refusal_of NoPartner = no_partner
+refusal_of NoFit = no_fit
+refusal_of Pending = installing
+refusal_of SerialsSpent = serials_spent
+refusal_of TooDeep = deep
+refusal_of TooLong = long
+refusal_of OutputShort = short
+refusal_of NotFresh = not_fresh
+refusal_of NoSerial = unknown_serial
+refusal_of NotDecimal = not_decimal
+refusal_of Unmatched = unmatched
+refusal_of JournalShort = journal_short
+refusal_of NoIndex = index_short
+refusal_of Full = house_full
+refusal_of AtWork = still_at_work
+
 abbrev pub refusal_number : Refusal → ℕ
-refusal_number Unreadable = 1
-refusal_number NoProcess = 2
-refusal_number NoMove = 3
-refusal_number NoPartner = 4
-refusal_number NoFit = 5
-refusal_number Pending = 6
-refusal_number SerialsSpent = 7
-refusal_number TooDeep = 8
-refusal_number TooLong = 9
-refusal_number OutputShort = 10
-refusal_number NotFresh = 11
-refusal_number NoSerial = 12
-refusal_number NotDecimal = 13
-refusal_number Unmatched = 15
-refusal_number JournalShort = 16
-refusal_number NoIndex = 17
-refusal_number Full = 21
-refusal_number AtWork = 22
+refusal_number r = number (refusal_of r)
 
 -- the number of what was refused, or 0
 abbrev pub number_in : {A : Type 0} → Result A Refusal → ℕ

@@ -1,5 +1,6 @@
 // Where a process stands, as one number: 4 times the stratum (0 code, 1 code that may hold cH, 2 what runs) plus the place (0 anywhere,
-// 1 not nil, 2 the receiver of a branch, 3 a root).
+// 1 not nil, 2 the receiver of a branch, 3 a root). Numbers, since the reader packs them with a depth, masks them and looks tables up by them,
+// and a survey takes any; among themselves its functions hand on a type for those below 12.
 pub const CODE: usize = 0;
 
 pub const HANDLERS: usize = 4;

@@ -109,7 +109,7 @@ pub fn fault_of(h: u16) -> u16
     h / 32 % 64
 }
 
-// A value's words, high word first.
+// A value's words, high word first. There is no `From` to fewer bits, so these are casts.
 pub fn high_word(v: u32) -> u16
     ensures { result ≡ high_word v }
 {
@@ -140,5 +140,5 @@ pub fn read_variable(w: u16) -> usize
 pub fn value_of(high: u16, low: u16) -> u32
     ensures { result ≡ value_of high low }
 {
-    (high as u32) * 65536 + (low as u32)
+    u32::from(high) * 65536 + u32::from(low)
 }

@@ -26,7 +26,7 @@ pub fn notice_word(fault: u16, w: u16) -> u16
     fault % 64 * 1024 + w / 8192 * 128
 }
 
-// A waiter's first word with another bit for dead.
+// A waiter's first word with another bit for dead. Any number was taken for it, of which the lowest bit counts; a bool would ask more.
 pub fn waiter_word(dead: u16, w: u16) -> u16
     ensures { result ≡ waiter_word dead w }
 {

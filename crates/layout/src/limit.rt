@@ -39,6 +39,13 @@ pub const SMALL: Limits = Limits {
     longest: SMALL_LONGEST,
 };
 
+// What a process that changes is held to: the limits, and which engines and serials its ends may name, as the reader takes it.
+#[derive(Clone, Copy)]
+pub struct Bounds {
+    pub limits: Limits,
+    pub ends: usize,
+}
+
 // How many levels a walk goes down: no configuration that was read has more.
 pub const FUEL: usize = 64;
 

@@ -1,5 +1,5 @@
 // Small total functions on numbers, words and positions.
-ghost use Rattle.std.specs.Prelude.{◌≡◌, ◌-◌, ◌<◌, get_or};
+ghost use Rattle.std.specs.Prelude.{◌≡◌, ◌-◌, ◌%◌, ◌<◌, get_or};
 ghost use Rattle.layout.specs.Positions.{onward};
 
 // The largest word, and a figure above all words.
@@ -11,7 +11,14 @@ pub const ABOVE: usize = 65536;
 pub fn wide(w: u16) -> usize
     ensures { (result ≡ w) × (result < 65536) }
 {
-    w as usize
+    usize::from(w)
+}
+
+// A number as a word; lengths of configurations, counts of their words and serials are words. Std has no `From` that would take it.
+pub fn word_of(n: usize) -> u16
+    ensures { result ≡ n % 65536 }
+{
+    (n % 65536) as u16
 }
 
 // The word at a position; 0 where there is none.
@@ -25,6 +32,7 @@ pub fn word(ws: &[u16], at: usize) -> u16
 }
 
 // `n` places further, up to a figure that no output reaches.
+#[tactic(auto, unfolding(crate::specs::Positions::onward))]
 pub fn further(to: usize, n: usize) -> usize
     ensures { result ≡ onward to n }
 {

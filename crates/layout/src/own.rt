@@ -8,6 +8,7 @@ use crate::kind::Kind;
 use crate::number::wide;
 
 // Where the list of variables whose count is at `at` ends: it has as many words as variables.
+#[tactic(auto, unfolding(crate::specs::Own::variables_end))]
 pub fn variables_end(ws: &[u16], at: usize) -> usize
     ensures { result ≡ variables_end ws.now at }
 {
@@ -18,6 +19,7 @@ pub fn variables_end(ws: &[u16], at: usize) -> usize
 }
 
 // Where none, one or two such lists end.
+#[tactic(auto, unfolding(crate::specs::Own::lists_end))]
 pub fn lists_end(ws: &[u16], at: usize, lists: usize) -> usize
     ensures { result ≡ lists_end ws.now at lists }
 {
@@ -49,6 +51,7 @@ fn own_form(kind: Kind) -> usize
 }
 
 // Where the own words of the process at `at` end.
+#[tactic(auto, unfolding(crate::specs::Own::own_end), using(crate::proofs::Owns::end_by, crate::proofs::Owns::form_named))]
 pub fn own_end(ws: &[u16], at: usize) -> usize
     ensures { result ≡ own_end ws.now at }
 {

@@ -1,6 +1,6 @@
 // What a call refuses with, by name and by number.
 ghost use Rattle.std.specs.Prelude.{◌≡◌};
-ghost use Rattle.layout.specs.Refusals.{refusal_number};
+ghost use Rattle.layout.specs.Refusals.{refusal_number, number_in};
 
 use std::error::Error;
 use std::fmt;
@@ -51,6 +51,16 @@ impl From<Refusal> for u8 {
 
     fn from(refusal: Refusal) -> u8 {
         refusal as u8
+    }
+}
+
+// 0 where nothing is refused.
+pub fn number(answer: Result<(), Refusal>) -> u8
+    ensures { result ≡ number_in answer }
+{
+    match answer {
+        Ok(()) => 0,
+        Err(refusal) => refusal.into(),
     }
 }
 

@@ -3,96 +3,42 @@
 use Prim.Native.Nat.{ℕ, zero, suc, ◌+◌, ◌-◌, ◌*◌, ◌/◌, ◌%◌, ◌≤◌, ◌<◌}
 use native.Mathlib.Omega.{arith}
 use native.Mathlib.Numerals.{sub-one}
-use mathlib.Core.Path.{◌≡◌, refl, sym, ◌∙◌}
+use mathlib.Core.Path.{◌≡◌, refl, sym, ap, ◌∙◌}
 use mathlib.Core.Bool.{Bool, true, false, true≢false, ◌&&◌, cond}
 use mathlib.Core.List.{List}
-use borrow.Author.Tests.{eqb-true, eqb-false, ltb-true, ltb-false, leb-false, lt-ltb, le-ltb, lt-leb, le-leb, ne_eqb}
+use borrow.Author.Tests.{le-ltb, eqb-true, eqb-false, ltb-true, ltb-false, leb-false, lt-ltb, ne_eqb}
 use lib.Bits.{bit_and, and_mask}
 use lib.Dec.{leb, ltb, eqb}
 use lib.ListN.{length}
+use Rattle.std.specs.Prelude.{Option as Maybe, Some}
 use Rattle.sock.specs.Kind.{rows, row_of}
 use Rattle.sock.specs.Reading.{allowed, placed}
 use Rattle.reading.specs.Tables.{spare_of, head_mask}
-use Rattle.reading.specs.Walk.{on, when, at, expr_end, process_end, two_end, rest_of, entries_end, list_end, marked_end, scope_end, executor_own, executor_end, node_end}
-use Rattle.reading.proofs.Walks.{process_node, process_refused}
-use Rattle.noting.specs.Noting.{Noting, note_w, note_list_w, plain_par, plain_leaf, seq_notes, par_notes, body_notes, scope_notes, executor_notes, node_notes, enabled_notes, notes_w, engines_notes}
-
--- ---- parts, by what is known of the first
-
-module _ (end : ℕ → ℕ → ℕ) (sub : Noting) (i : ℕ) (m x : List ℕ) (a : ℕ) (ended : a ≡ end 9 i) (noted : x ≡ sub 9 i m) where
-  pub two_none : (c : ℕ) → a ≡ 0 → 0 ≡ two_end end 9 c i
-  unfolding two_end on
-  two_none c z = rw (← ended, z)
-
-  pub two_next : (c e : ℕ) → (a ≡ 0 → ⊥) → e ≡ end c a → e ≡ two_end end 9 c i
-  unfolding two_end on
-  two_next c e some q = rw (← ended, ne_eqb a 0 some, q)
-
-  pub seq_none : a ≡ 0 → x ≡ seq_notes end sub i m
-  unfolding seq_notes
-  seq_none z = rw (← ended, z, noted)
-
-  pub seq_next : (e : ℕ) (y : List ℕ) → (a ≡ 0 → ⊥) → e ≡ end 0 a → y ≡ note_w x a e → y ≡ seq_notes end sub i m
-  unfolding seq_notes
-  seq_next e y some q n = rw (← ended, ne_eqb a 0 some, n, noted, q)
-
-  pub par_none : a ≡ 0 → x ≡ par_notes end sub i m
-  unfolding par_notes
-  par_none z = rw (← ended, z, noted)
-
-  pub par_next : (y : List ℕ) → (a ≡ 0 → ⊥) → y ≡ sub 9 a x → y ≡ par_notes end sub i m
-  unfolding par_notes
-  par_next y some n = rw (← ended, ne_eqb a 0 some, n, noted)
-
--- ---- a scope
-
-module _ (end : ℕ → ℕ → ℕ) (sub : Noting) (ws : List ℕ) (h i : ℕ) (m : List ℕ) where
-  pub scope_short : length ws - i < 3 → (0 ≡ scope_end end ws 8 h i) × (m ≡ scope_notes end sub ws h i m)
-  unfolding scope_end scope_notes when
-  scope_short s = (rw (lt-leb 3 (length ws - i) s), rw (lt-leb 3 (length ws - i) s))
-
-  module _ (w e : ℕ) (long : 3 ≤ length ws - i) (second : w ≡ at ws (i + 1)) (listed : e ≡ marked_end end ws h w (i + 2)) where
-    pub scope_none : e ≡ 0 → (0 ≡ scope_end end ws 8 h i) × (m ≡ scope_notes end sub ws h i m)
-    unfolding scope_end scope_notes body_notes when on
-    scope_none z =
-        (rw (le-leb 3 (length ws - i) long, ← second, ← listed, z), rw (le-leb 3 (length ws - i) long, ← second, ← listed, z))
-
-    pub scope_next :
-        (r : ℕ) (x y : List ℕ) → (e ≡ 0 → ⊥) → x ≡ note_list_w m (i + 2) e → r ≡ end 8 e → y ≡ sub 8 e x →
-        (r ≡ scope_end end ws 8 h i) × (y ≡ scope_notes end sub ws h i m)
-    unfolding scope_end scope_notes body_notes when on
-    scope_next r x y some n q s =
-        (rw (le-leb 3 (length ws - i) long, ← second, ← listed, ne_eqb e 0 some, q), rw (le-leb 3 (length ws - i) long, ← second, ← listed, ne_eqb e 0 some, s, n))
+use Rattle.reading.proofs.Given.{as_some}
+use Rattle.reading.specs.Walk.{end_as, rest_of, scope_end, when, at, expr_end, process_end, two_end, entries_end, list_end, marked_end, node_end}
+use Rattle.reading.proofs.Walks.{process_node}
+use Rattle.noting.specs.declared.enabled.Place.{Place}
+use Rattle.noting.specs.declared.enabled.Place.TheVariants.{Anywhere, NotNil, Root}
+use Rattle.noting.specs.Places.{as_context}
+use Rattle.noting.specs.Noting.{plain_par, plain_leaf, par_notes, node_notes, enabled_notes, notes_w, engines_notes, seq_notes, scope_notes}
 
 -- no mark, no fault and no entries
 pub bare_list :
     (end : ℕ → ℕ → ℕ) (ws : List ℕ) (h i v w : ℕ) → i + 2 < length ws → v ≡ at ws (i + 1) → w ≡ at ws (i + 2) → h / 8 % 4 + v + w ≡ 0 →
-    i + 3 ≡ marked_end end ws h (at ws (i + 1)) (i + 2)
+    Some (i + 3) ≡ end_as (marked_end end ws h (at ws (i + 1)) (i + 2))
 unfolding marked_end list_end entries_end when
 bare_list end ws h i v w inside first second none =
     let a : h / 8 % 4 ≡ 0 = omega arith in
     let b : v ≡ 0 = omega arith in
     let c : w ≡ 0 = omega arith in
-    sym (rw (a, ← first, b, ← second, c, lt-ltb (i + 2) (length ws) inside) (let three : i + 2 + 1 ≡ i + 3 = omega arith in three))
-
--- ---- an executor
-
-module _ (end : ℕ → ℕ → ℕ) (sub : Noting) (ws : List ℕ) (bound i : ℕ) (m : List ℕ) where
-  pub executor_none : (e : ℕ) → e ≡ executor_own ws bound i → e ≡ 0 → (0 ≡ executor_end end ws bound i) × (m ≡ executor_notes sub ws bound i m)
-  unfolding executor_end executor_notes on
-  executor_none e q z = (rw (← q, z), rw (← q, z))
-
-  pub executor_next :
-      (e r : ℕ) (x : List ℕ) → e ≡ executor_own ws bound i → (e ≡ 0 → ⊥) → r ≡ end 8 e → x ≡ sub 8 e m →
-      (r ≡ executor_end end ws bound i) × (x ≡ executor_notes sub ws bound i m)
-  unfolding executor_end executor_notes on
-  executor_next e r x t some q n = (rw (← t, ne_eqb e 0 some, q), rw (← t, ne_eqb e 0 some, n))
+    as_some _ _ (sym (rw (a, ← first, b, ← second, c, lt-ltb (i + 2) (length ws) inside) (let three : i + 2 + 1 ≡ i + 3 = omega arith in three))) (λ z. absurd (omega arith))
 
 -- ---- by kind
 
-pub none_deep : (d : ℕ) (ws : List ℕ) (bound c i : ℕ) (m : List ℕ) → d ≡ 0 → (0 ≡ process_end d ws bound c i) × (m ≡ enabled_notes d ws bound c i m)
-unfolding process_end enabled_notes
-none_deep d ws bound c i m z = rw z (refl, refl)
+pub runs : (p : Place) → (8 ≤ as_context p) × (as_context p < 12)
+runs Anywhere = (omega arith, omega arith)
+runs NotNil = (omega arith, omega arith)
+runs Root = (omega arith, omega arith)
 
 enabled_step :
     (d : ℕ) (ws : List ℕ) (bound c i : ℕ) (m : List ℕ) → (d ≡ 0 → ⊥) →
@@ -102,26 +48,6 @@ enabled_step :
 unfolding enabled_notes
 enabled_step zero ws bound c i m h = absurd (h refl)
 enabled_step (suc d) ws bound c i m h = rw (sub-one (suc d))
-
-pub none_left :
-    (d : ℕ) (ws : List ℕ) (bound c i : ℕ) (m : List ℕ) → (d ≡ 0 → ⊥) → length ws ≤ i →
-    (0 ≡ process_end d ws bound c i) × (m ≡ enabled_notes d ws bound c i m)
-unfolding process_end when
-none_left zero ws bound c i m p q = absurd (p refl)
-none_left (suc d) ws bound c i m p q = (rw (le-ltb i (length ws) q), sym (enabled_step (suc d) ws bound c i m p ∙ rw (le-ltb i (length ws) q)))
-
-pub refused :
-    (d : ℕ) (ws : List ℕ) (bound c i h x : ℕ) (m : List ℕ) →
-    (d ≡ 0 → ⊥) →
-    i < length ws →
-    h ≡ at ws i →
-    x ≡ head_mask c (h / 2048) →
-    (bit_and (h + 65536) x ≡ 0 → ⊥) →
-    (0 ≡ process_end d ws bound c i) × (m ≡ enabled_notes d ws bound c i m)
-refused d ws bound c i h x m p inside r s t = (
-  process_refused d ws bound c i h x p inside r s t,
-  sym (enabled_step d ws bound c i m p ∙ simp (← r, ← s, ne_eqb (bit_and (h + 65536) x) 0 t, lt-ltb i (length ws) inside)),
-)
 
 -- an enabled process may stand where it does: h is its head, and x has the bits that have to be 0
 pub record Headed (d : ℕ) (ws : List ℕ) (c i h x : ℕ) : Type 0 where
@@ -156,36 +82,29 @@ module _ (d : ℕ) (ws : List ℕ) (bound c i h x : ℕ) (m : List ℕ) (head : 
       (k : ℕ) → h / 2048 ≡ k →
       ((h : ℕ) → h / 2048 ≡ k → node_end (expr_end (d - 1) ws) (process_end (d - 1) ws bound) ws c bound h i ≡ i + 1) →
       (k ≡ 2 → ⊥) → (k ≡ 3 → ⊥) → (k ≡ 11 → ⊥) → (k ≡ 16 → ⊥) →
-      (i + 1 ≡ process_end d ws bound c i) × (m ≡ enabled_notes d ws bound c i m)
-  one_word k e q k2 k3 k11 k16 = (sym (ended ∙ q h e), others k e k2 k3 k11 k16)
+      (Some (i + 1) ≡ end_as (process_end d ws bound c i)) × (m ≡ enabled_notes d ws bound c i m)
+  one_word k e q k2 k3 k11 k16 = (as_some _ _ (sym (ended ∙ q h e)) (λ z. absurd (omega arith)), others k e k2 k3 k11 k16)
 
   pub a_seq :
-      (e : ℕ) (y : List ℕ) → h / 2048 ≡ 2 → e ≡ two_end (process_end (d - 1) ws bound) 9 0 (i + 1) →
+      (e : Maybe ℕ) (y : List ℕ) → h / 2048 ≡ 2 → e ≡ end_as (two_end (process_end (d - 1) ws bound) 9 0 (i + 1)) →
       y ≡ seq_notes (process_end (d - 1) ws bound) (notes_w (d - 1) ws bound) (i + 1) m →
-      (e ≡ process_end d ws bound c i) × (y ≡ enabled_notes d ws bound c i m)
+      (e ≡ end_as (process_end d ws bound c i)) × (y ≡ enabled_notes d ws bound c i m)
   unfolding node_end node_notes rest_of
-  a_seq e y k q n = (q ∙ sym (ended ∙ rw (k, over, le-ltb c 8 head.low)), n ∙ sym (noted ∙ rw k))
+  a_seq e y k q n = (q ∙ sym (ap end_as (ended ∙ rw (k, over, le-ltb c 8 head.low))), n ∙ sym (noted ∙ rw k))
 
   pub a_par :
-      (e : ℕ) (y : List ℕ) → h / 2048 ≡ 3 → e ≡ two_end (process_end (d - 1) ws bound) 9 9 (i + 1) →
+      (e : Maybe ℕ) (y : List ℕ) → h / 2048 ≡ 3 → e ≡ end_as (two_end (process_end (d - 1) ws bound) 9 9 (i + 1)) →
       y ≡ par_notes (process_end (d - 1) ws bound) (notes_w (d - 1) ws bound) (i + 1) m →
-      (e ≡ process_end d ws bound c i) × (y ≡ enabled_notes d ws bound c i m)
+      (e ≡ end_as (process_end d ws bound c i)) × (y ≡ enabled_notes d ws bound c i m)
   unfolding node_end node_notes
-  a_par e y k q n = (q ∙ sym (ended ∙ rw (k, over)), n ∙ sym (noted ∙ rw k))
+  a_par e y k q n = (q ∙ sym (ap end_as (ended ∙ rw (k, over))), n ∙ sym (noted ∙ rw k))
 
   pub a_scope :
-      (e : ℕ) (y : List ℕ) → h / 2048 ≡ 11 → e ≡ scope_end (process_end (d - 1) ws bound) ws 8 h i →
+      (e : Maybe ℕ) (y : List ℕ) → h / 2048 ≡ 11 → e ≡ end_as (scope_end (process_end (d - 1) ws bound) ws 8 h i) →
       y ≡ scope_notes (process_end (d - 1) ws bound) (notes_w (d - 1) ws bound) ws h i m →
-      (e ≡ process_end d ws bound c i) × (y ≡ enabled_notes d ws bound c i m)
+      (e ≡ end_as (process_end d ws bound c i)) × (y ≡ enabled_notes d ws bound c i m)
   unfolding node_end node_notes scope_end
-  a_scope e y k q n = (q ∙ sym (ended ∙ rw (k, le-ltb c 8 head.low)), n ∙ sym (noted ∙ rw k))
-
-  pub an_executor :
-      (e : ℕ) (y : List ℕ) → h / 2048 ≡ 16 → e ≡ executor_end (process_end (d - 1) ws bound) ws bound i →
-      y ≡ executor_notes (notes_w (d - 1) ws bound) ws bound i m →
-      (e ≡ process_end d ws bound c i) × (y ≡ enabled_notes d ws bound c i m)
-  unfolding node_end node_notes
-  an_executor e y k q n = (q ∙ sym (ended ∙ rw k), n ∙ sym (noted ∙ rw k))
+  a_scope e y k q n = (q ∙ sym (ap end_as (ended ∙ rw (k, le-ltb c 8 head.low))), n ∙ sym (noted ∙ rw k))
 
 -- ---- a par, without a look at the table
 
@@ -208,9 +127,9 @@ plain_is h c e = by (leb 10 c) refl e
 
 pub par_ends :
     (d : ℕ) (ws : List ℕ) (bound c i h : ℕ) (m : List ℕ) → (d ≡ 0 → ⊥) → i < length ws → h ≡ at ws i → 8 ≤ c → c < 12 → plain_par h c ≡ true →
-    (e : ℕ) (y : List ℕ) → e ≡ two_end (process_end (d - 1) ws bound) 9 9 (i + 1) →
+    (e : Maybe ℕ) (y : List ℕ) → e ≡ end_as (two_end (process_end (d - 1) ws bound) 9 9 (i + 1)) →
     y ≡ par_notes (process_end (d - 1) ws bound) (notes_w (d - 1) ws bound) (i + 1) m →
-    (e ≡ process_end d ws bound c i) × (y ≡ enabled_notes d ws bound c i m)
+    (e ≡ end_as (process_end d ws bound c i)) × (y ≡ enabled_notes d ws bound c i m)
 par_ends d ws bound c i h m some inside same low high is e y q n =
     let p = plain_is h c is in
     let three : h / 2048 ≡ 3 = rw p.1 in
@@ -253,7 +172,7 @@ leaf_is h c e = by (leb 10 c) (eqb (h % 32) 0) (ltb (h / 2048) 13) (ltb (h / 204
 
 pub leaf_ends :
     (d : ℕ) (ws : List ℕ) (bound c i h : ℕ) (m : List ℕ) → (d ≡ 0 → ⊥) → i < length ws → h ≡ at ws i → 8 ≤ c → c < 12 → plain_leaf h c ≡ true →
-    (i + 1 ≡ process_end d ws bound c i) × (m ≡ enabled_notes d ws bound c i m)
+    (Some (i + 1) ≡ end_as (process_end d ws bound c i)) × (m ≡ enabled_notes d ws bound c i m)
 unfolding node_end
 leaf_ends d ws bound c i h m some inside same low high is =
     let p = leaf_is h c is in
@@ -264,7 +183,7 @@ leaf_ends d ws bound c i h m some inside same low high is =
   where
     by :
         (b : Bool) → eqb (h / 2048) 13 ≡ b → Headed d ws c i h (head_mask c (h / 2048)) → 13 ≤ h / 2048 → h / 2048 < 15 →
-        (i + 1 ≡ process_end d ws bound c i) × (m ≡ enabled_notes d ws bound c i m)
+        (Some (i + 1) ≡ end_as (process_end d ws bound c i)) × (m ≡ enabled_notes d ws bound c i m)
     by true e head above below =
         one_word d ws bound c i h (head_mask c (h / 2048)) m head 13 (eqb-true (h / 2048) 13 e) (λ h e. rw e refl) (λ z. omega arith) (λ z. omega arith) (λ z. omega arith) (λ z. omega arith)
     by false e head above below =

@@ -1,1 +1,2 @@
 pub mod Noting
+pub mod Places

@@ -2,7 +2,7 @@
 // body ends it. It goes from head to head by the notes of where things end, so it looks at no word of what is not enabled. Total: words that were
 // not read end it.
 ghost use Rattle.std.specs.Prelude.{◌≡◌, ◌<◌};
-ghost use Rattle.layout.specs.Kinds.{number_of};
+ghost use Rattle.sock.specs.Words.{kind_of};
 ghost use Rattle.pending.specs.Looking.{made, scope_w, behind_w, seq_w, turn_w, look_w, pending_w};
 
 use layout::field::is_zombie;
@@ -11,7 +11,7 @@ use layout::kind::Kind;
 use layout::limit::FUEL;
 use layout::number::{further, word};
 use layout::own::own_end;
-use skipping::pass::{pass, pass_list};
+use skipping::pass::Noted;
 
 // Where the search has come to, 0 if it ended at a pending process; and how many enabled processes it has met, that one with them.
 #[derive(Clone, Copy)]
@@ -28,14 +28,14 @@ fn stop(count: usize) -> Seen
 
 // The body of a scope with this head, whose list is at `list`: a zombie's is searched, a live one's if it is not nil.
 #[tactic(auto, unfolding(crate::specs::Looking::scope_w))]
-fn scope(ws: &[u16], notes: &[u16], h: u16, list: usize, count: usize) -> Seen
-    ensures { result ≡ scope_w ws.now notes.now h list count }
+fn scope(noted: &Noted, h: u16, list: usize, count: usize) -> Seen
+    ensures { result ≡ scope_w noted.now.ws.now noted.now.notes.now h list count }
 {
-    let body = pass_list(ws, notes, list, FUEL);
+    let body = noted.pass_list(list, FUEL);
     if is_zombie(h) {
         return Seen { end: body, count };
     }
-    if word(ws, body) == head::NIL {
+    if word(noted.ws, body) == head::NIL {
         return stop(count);
     }
     Seen { end: body, count }
@@ -44,24 +44,24 @@ fn scope(ws: &[u16], notes: &[u16], h: u16, list: usize, count: usize) -> Seen
 // From the enabled process at `at`, which is met, to where the next one begins.
 #[cycle(look_seq_turn)]
 #[tactic(auto, unfolding(crate::specs::Looking::turn_w, crate::specs::Looking::kind_w))]
-fn turn(ws: &[u16], notes: &[u16], at: usize, depth: usize, count: usize) -> Seen
-    ensures { result ≡ turn_w (look_w depth ws.now notes.now) ws.now notes.now at count }
+fn turn(noted: &Noted, at: usize, depth: usize, count: usize) -> Seen
+    ensures { result ≡ turn_w (look_w depth noted.now.ws.now noted.now.notes.now) noted.now.ws.now noted.now.notes.now at count }
 {
-    if ws.len() <= at {
+    if noted.ws.len() <= at {
         return stop(count);
     }
     let n = further(count, 1);
-    let k = Kind::of(ws[at]);
-    match k {
-        Kind::Seq => seq(ws, notes, at + 1, depth, n),
-        Kind::Scope => scope(ws, notes, ws[at], at + 2, n),
+    let h = noted.ws[at];
+    match Kind::of(h) {
+        Kind::Seq => seq(noted, at + 1, depth, n),
+        Kind::Scope => scope(noted, h, at + 2, n),
         Kind::Inst => stop(n),
         Kind::Executor => Seen {
-            end: own_end(ws, at),
+            end: own_end(noted.ws, at),
             count: n,
         },
         _ => Seen {
-            end: behind(k, at, pass(ws, notes, at, FUEL)),
+            end: behind(h, at, noted.pass(at, FUEL)),
             count: n,
         },
     }
@@ -70,11 +70,11 @@ fn turn(ws: &[u16], notes: &[u16], at: usize, depth: usize, count: usize) -> See
 // Behind the head of a par, whose sides are met next, else the end of what stands at `at`. No jump tells a par from what has no enabled part: which
 // of them comes next can't be foreseen.
 #[tactic(auto, unfolding(crate::specs::Looking::behind_w))]
-fn behind(kind: Kind, at: usize, end: usize) -> usize
+fn behind(h: u16, at: usize, end: usize) -> usize
     requires { at < 18446744073709551615 }
-    ensures { result ≡ behind_w (number_of kind) at end }
+    ensures { result ≡ behind_w (kind_of h) at end }
 {
-    match kind {
+    match Kind::of(h) {
         Kind::Par => at + 1,
         _ => end,
     }
@@ -83,15 +83,15 @@ fn behind(kind: Kind, at: usize, end: usize) -> usize
 // The first of a seq, at `at`, is searched, the second passed.
 #[cycle(look_seq_turn)]
 #[tactic(auto, unfolding(crate::specs::Looking::seq_w, crate::specs::Looking::seq_on))]
-fn seq(ws: &[u16], notes: &[u16], at: usize, depth: usize, count: usize) -> Seen
-    ensures { result ≡ seq_w (look_w depth ws.now notes.now) ws.now notes.now at count }
+fn seq(noted: &Noted, at: usize, depth: usize, count: usize) -> Seen
+    ensures { result ≡ seq_w (look_w depth noted.now.ws.now noted.now.notes.now) noted.now.ws.now noted.now.notes.now at count }
 {
-    let first = look(ws, notes, at, pass(ws, notes, at, FUEL), depth, count);
+    let first = look(noted, at, noted.pass(at, FUEL), depth, count);
     if first.end == 0 {
         return first;
     }
     Seen {
-        end: pass(ws, notes, first.end, FUEL),
+        end: noted.pass(first.end, FUEL),
         count: first.count,
     }
 }
@@ -99,20 +99,21 @@ fn seq(ws: &[u16], notes: &[u16], at: usize, depth: usize, count: usize) -> Seen
 // The enabled processes that stand at..end one after the other; `count` were met before. Sides of pars and bodies are met in the same row, so only
 // seqs take a call.
 #[cycle(look_seq_turn)]
-fn look(ws: &[u16], notes: &[u16], at: usize, end: usize, depth: usize, count: usize) -> Seen
-    ensures { result ≡ look_w depth ws.now notes.now at end count }
+#[tactic(auto, unfolding(crate::specs::Looking::look_w, crate::specs::Looking::loop_w, crate::specs::Looking::goes_on))]
+fn look(noted: &Noted, at: usize, end: usize, depth: usize, count: usize) -> Seen
+    ensures { result ≡ look_w depth noted.now.ws.now noted.now.notes.now at end count }
 {
     if depth == 0 {
         return stop(count);
     }
     let mut i = at;
     let mut n = count;
-    let mut turns = ws.len();
+    let mut turns = noted.ws.len();
     while i < end {
         if turns == 0 {
             return stop(n);
         }
-        let t = turn(ws, notes, i, depth - 1, n);
+        let t = turn(noted, i, depth - 1, n);
         if t.end == 0 {
             return t;
         }
@@ -125,8 +126,8 @@ fn look(ws: &[u16], notes: &[u16], at: usize, end: usize, depth: usize, count: u
 
 // The search of the process at `at`.
 #[tactic(auto, unfolding(crate::specs::Looking::pending_w))]
-pub fn pending(ws: &[u16], notes: &[u16], at: usize) -> Seen
-    ensures { result ≡ pending_w ws.now notes.now at }
+pub fn pending(noted: &Noted, at: usize) -> Seen
+    ensures { result ≡ pending_w noted.now.ws.now noted.now.notes.now at }
 {
-    look(ws, notes, at, pass(ws, notes, at, FUEL), FUEL, 0)
+    look(noted, at, noted.pass(at, FUEL), FUEL, 0)
 }

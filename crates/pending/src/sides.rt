@@ -6,43 +6,37 @@ use crate::look::pending;
 use layout::kind::Kind;
 use layout::limit::FUEL;
 use layout::own::own_end;
-use skipping::pass::{pass, pass_list};
+use skipping::pass::Noted;
 
 // Whether the process at `at` holds a pending one.
 #[tactic(auto, unfolding(crate::specs::Looking::found_w))]
-fn found(ws: &[u16], notes: &[u16], at: usize) -> bool
-    ensures { result ≡ found_w ws.now notes.now at }
+fn found(noted: &Noted, at: usize) -> bool
+    ensures { result ≡ found_w noted.now.ws.now noted.now.notes.now at }
 {
-    let s = pending(ws, notes, at);
+    let s = pending(noted, at);
     s.end == 0
 }
 
 // Whether a side of the process at `at` that a fault from `target`, which stands in it, meets has a pending process.
 #[cycle(any_pending_beside)]
 #[tactic(auto, unfolding(crate::specs::Looking::sides_w, crate::specs::Looking::across_w))]
-pub fn any_pending(ws: &[u16], notes: &[u16], at: usize, target: usize, depth: usize) -> bool
-    ensures { result ≡ sides_w depth ws.now notes.now target at }
+pub fn any_pending(noted: &Noted, at: usize, target: usize, depth: usize) -> bool
+    ensures { result ≡ sides_w depth noted.now.ws.now noted.now.notes.now target at }
 {
     if depth == 0 {
         return false;
     }
-    if ws.len() <= at {
+    if noted.ws.len() <= at {
         return false;
     }
     if at == target {
         return false;
     }
-    match Kind::of(ws[at]) {
-        Kind::Seq => any_pending(ws, notes, at + 1, target, depth - 1),
-        Kind::Par => beside(ws, notes, at + 1, target, depth - 1),
-        Kind::Scope => any_pending(
-            ws,
-            notes,
-            pass_list(ws, notes, at + 2, FUEL),
-            target,
-            depth - 1,
-        ),
-        Kind::Executor => any_pending(ws, notes, own_end(ws, at), target, depth - 1),
+    match Kind::of(noted.ws[at]) {
+        Kind::Seq => any_pending(noted, at + 1, target, depth - 1),
+        Kind::Par => beside(noted, at + 1, target, depth - 1),
+        Kind::Scope => any_pending(noted, noted.pass_list(at + 2, FUEL), target, depth - 1),
+        Kind::Executor => any_pending(noted, own_end(noted.ws, at), target, depth - 1),
         _ => false,
     }
 }
@@ -50,18 +44,18 @@ pub fn any_pending(ws: &[u16], notes: &[u16], at: usize, target: usize, depth: u
 // The sides of a par, the left one at `at`: first those within the side that has the target, then the other side.
 #[cycle(any_pending_beside)]
 #[tactic(auto, unfolding(crate::specs::Looking::beside_w))]
-fn beside(ws: &[u16], notes: &[u16], at: usize, target: usize, depth: usize) -> bool
-    ensures { result ≡ beside_w (sides_w depth ws.now notes.now target) ws.now notes.now target at }
+fn beside(noted: &Noted, at: usize, target: usize, depth: usize) -> bool
+    ensures { result ≡ beside_w (sides_w depth noted.now.ws.now noted.now.notes.now target) noted.now.ws.now noted.now.notes.now target at }
 {
-    let right = pass(ws, notes, at, FUEL);
+    let right = noted.pass(at, FUEL);
     if target < right {
-        if any_pending(ws, notes, at, target, depth) {
+        if any_pending(noted, at, target, depth) {
             return true;
         }
-        return found(ws, notes, right);
+        return found(noted, right);
     }
-    if any_pending(ws, notes, right, target, depth) {
+    if any_pending(noted, right, target, depth) {
         return true;
     }
-    found(ws, notes, at)
+    found(noted, at)
 }

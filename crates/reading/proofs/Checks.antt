@@ -11,19 +11,21 @@ use mathlib.Core.List.{List, [], ◌∷◌}
 use lib.Dec.{T, eqb}
 use lib.ListN.{length, get_or, drop}
 use lib.Seq.{drop-cons, drop-length}
-use borrow.Author.Tests.{eq-eqb, ne_eqb}
+use borrow.Author.Tests.{ne_eqb}
+use Rattle.std.specs.Prelude.{Option as Maybe, Some}
 use Rattle.sock.specs.Configuration.{Limits, Engine, Config, read_config, fresh_run, is_scope, fresh_engines, fresh}
 use Rattle.sock.specs.Calls.{done, unreadable, not_fresh, engine_at, ◌!◌, ◌>>=◌, ◌>>◌, ◌unless◌, passed, check_readable, start, check_start}
 use Rattle.sock.proofs.Logic.{and_left, and_right, and_both, test_true}
 use Rattle.sock.proofs.Fits.{FitsConfig}
-use Rattle.reading.specs.declared.survey.Starts.{Starts}
 use Rattle.reading.specs.Walk.{at}
-use Rattle.reading.specs.Survey.{surveyed}
+use Rattle.reading.specs.declared.starts.Starts.{Starts as Found}
+use Rattle.reading.specs.Survey.{Starts, no_starts, surveyed}
+use Rattle.reading.specs.Answers.{starts_of, starts_in}
 use Rattle.reading.specs.Tally.{none_nil}
 use Rattle.reading.proofs.Combining.{Words}
 use Rattle.reading.proofs.Standing.{fits_at, head_at, root_head}
 use Rattle.reading.proofs.Fresh.{all_fresh, fresh_config}
-use Rattle.reading.proofs.Known.{Known, survey_known, survey_unknown, known_issued, code_known, code_unknown}
+use Rattle.reading.proofs.Known.{Known, found_known, none_known, known_issued, found_code, none_code}
 
 -- ---- the checks by what is read
 
@@ -49,14 +51,14 @@ start_by limits ws = by (read_config limits ws)
 
 -- ---- the readable check
 
-module _ (limits : Limits) (ws : List ℕ) (ok : Words ws) (s : Starts) (e : s ≡ surveyed limits 11 ws) where
-  pub not_readable : s.engines ≡ 0 → 1 ≡ check_readable limits ws
+module _ (limits : Limits) (ws : List ℕ) (ok : Words ws) where
+  pub not_readable : no_starts ≡ surveyed limits 11 ws → 1 ≡ check_readable limits ws
   unfolding passed ◌!◌
-  not_readable h = sym (readable_by limits ws none (survey_unknown limits ws ok s e h))
+  not_readable e = sym (readable_by limits ws none (none_known limits ws ok e))
 
-  pub is_readable : (s.engines ≡ 0 → ⊥) → 0 ≡ check_readable limits ws
+  pub is_readable : (s : Found) → starts_of s ≡ surveyed limits 11 ws → 0 ≡ check_readable limits ws
   unfolding passed ◌!◌
-  is_readable h = let k = survey_known limits ws ok s e h in sym (readable_by limits ws (some k.config) k.reads)
+  is_readable s e = let k = found_known limits ws ok s e in sym (readable_by limits ws (some k.config) k.reads)
 
 -- ---- fresh
 
@@ -110,33 +112,35 @@ not_so : (b : Bool) → (T b → ⊥) → false ≡ b
 not_so true f = absurd (f tt)
 not_so false f = refl
 
-module _ (limits : Limits) (ws : List ℕ) (ok : Words ws) (s : Starts) (e : s ≡ surveyed limits 3 ws) where
-  pub not_code : s.engines ≡ 0 → false ≡ eqb (check_start limits ws) 0
+module _ (limits : Limits) (ws : List ℕ) (ok : Words ws) where
+  pub not_code : no_starts ≡ surveyed limits 3 ws → false ≡ eqb (check_start limits ws) 0
   unfolding is_fresh fresh
-  not_code h = by (read_config limits ws) refl ∙ sym (start_by limits ws)
+  not_code e = by (read_config limits ws) refl ∙ sym (start_by limits ws)
     where
       by : (o : Option Config) → read_config limits ws ≡ o → false ≡ is_fresh o
       by none r = refl
       by (some c) r =
           not_so (fresh c) λ t.
           let all : T (all_fresh c.engines) = fresh_all c.engines (and_right (eqb c.issued 0) (fresh_engines c.engines) t) in
-          let no : none ≡ some c = sym (code_unknown limits ws ok s e h) ∙ fresh_config limits ws c r all in
+          let no : none ≡ some c = sym (none_code limits ws ok e) ∙ fresh_config limits ws c r all in
           let z : ◌≡◌ {A = ℕ} 0 1 = cc in
           omega arith
 
   -- the first serial's word and the heads tell
-  by_known : (k : Known limits ws s) → T (all_fresh k.config.engines) → eqb (check_start limits ws) 0 ≡ eqb (at ws 1) 0 && scopes k.config.engines
-  unfolding is_fresh fresh
-  by_known k t = start_by limits ws ∙ rw (k.reads, known_issued k) (ap (λ b. eqb k.config.issued 0 && b) (fresh_scopes k.config.engines t))
+  module _ (o : Maybe Found) (e : starts_in o ≡ surveyed limits 3 ws) (s : Found) (q : o ≡ Some s) where
+    by_code : eqb (at ws 1) 0 && none_nil ws s.starts s.engines 0 ≡ eqb (check_start limits ws) 0
+    unfolding is_fresh fresh
+    by_code =
+        let f = found_code limits ws ok s (rw q at e) in
+        let k : Known limits ws (starts_of s) = f.0 in
+        ap (λ b. eqb (at ws 1) 0 && b) (scopes_all k)
+        ∙ sym (start_by limits ws ∙ rw (k.reads, known_issued k) (ap (λ b. eqb k.config.issued 0 && b) (fresh_scopes k.config.engines f.1)))
 
-  pub some_issued : (s.engines ≡ 0 → ⊥) → (at ws 1 ≡ 0 → ⊥) → false ≡ eqb (check_start limits ws) 0
-  some_issued h n = let f = code_known limits ws ok s e h in sym (by_known f.0 f.1 ∙ rw (ne_eqb (at ws 1) 0 n))
+    pub some_issued : (w : ℕ) → w ≡ at ws 1 → (w ≡ 0 → ⊥) → eqb w 0 ≡ eqb (check_start limits ws) 0
+    some_issued w p n = let no : eqb w 0 ≡ false = ne_eqb w 0 n in no ∙ (rw (← p, no) at by_code)
 
-  pub none_issued : (r : Bool) → (s.engines ≡ 0 → ⊥) → at ws 1 ≡ 0 → r ≡ none_nil ws s.starts s.engines 0 → r ≡ eqb (check_start limits ws) 0
-  none_issued r h z q =
-      let f = code_known limits ws ok s e h in
-      let k : Known limits ws s = f.0 in
-      q ∙ scopes_all k ∙ sym (by_known k f.1 ∙ rw (eq-eqb (at ws 1) 0 z))
+    pub none_issued : (w : ℕ) → w ≡ at ws 1 → w ≡ 0 → (r : Bool) → r ≡ none_nil ws s.starts s.engines 0 → r ≡ eqb (check_start limits ws) 0
+    none_issued w p z r n = n ∙ (rw (← p, z) at by_code)
 
 -- ---- the start check by the other two
 
@@ -162,14 +166,14 @@ stale_by not_read p q = absurd (omega arith)
 stale_by stale p q = refl
 stale_by begins p q = absurd (true≢false (sym p))
 
-unread_by : {a b : ℕ} → Started a b → (0 ≡ a → ⊥) → 1 ≡ b
+unread_by : {a b : ℕ} → Started a b → (0 ≡ a → ⊥) → a ≡ b
 unread_by not_read q = refl
 unread_by stale q = absurd (q refl)
 unread_by begins q = absurd (q refl)
 
 module _ (limits : Limits) (ws : List ℕ) where
-  pub start_stale : (b : Bool) (r : ℕ) → b ≡ eqb (check_start limits ws) 0 → b ≡ false → r ≡ check_readable limits ws → r ≡ 0 → 11 ≡ check_start limits ws
-  start_stale b r p q t z = stale_by (started limits ws) (sym q ∙ p) (sym z ∙ t)
+  pub start_stale : (b : Bool) → b ≡ eqb (check_start limits ws) 0 → b ≡ false → 0 ≡ check_readable limits ws → 11 ≡ check_start limits ws
+  start_stale b p q t = stale_by (started limits ws) (sym q ∙ p) t
 
-  pub start_unread : (r : ℕ) → r ≡ check_readable limits ws → (r ≡ 0 → ⊥) → 1 ≡ check_start limits ws
-  start_unread r t z = unread_by (started limits ws) (λ y. z (t ∙ sym y))
+  pub start_unread : (r : ℕ) → r ≡ check_readable limits ws → (r ≡ 0 → ⊥) → r ≡ check_start limits ws
+  start_unread r t z = t ∙ unread_by (started limits ws) (λ y. z (t ∙ sym y))

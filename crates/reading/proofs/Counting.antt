@@ -9,13 +9,15 @@ use mathlib.Core.List.{List}
 use lib.Dec.{T, ltb, eqb, lit<}
 use lib.ListN.{length, get_or}
 use borrow.Author.Tests.{lt-ltb, ne_eqb}
+use Rattle.std.specs.Prelude.{Option, Some, None}
 use Rattle.sock.specs.Reading.{Got}
 use Rattle.sock.proofs.Fields.{bit_below}
 use Rattle.sock.proofs.Logic.{cond-case}
 use Rattle.reading.specs.declared.ends.Counted.{Counted}
-use Rattle.reading.specs.Walk.{when, at, list_end, end_after, executor_own, process_end}
-use Rattle.reading.specs.Tally.{uncounted, counted, after, serial_at, seq_tally, par_tally, scope_tally, executor_tally, node_tally, tally_at, total_from}
+use Rattle.reading.specs.Walk.{end_as, when, at, list_end, end_after, executor_own, process_end}
+use Rattle.reading.specs.Tally.{counted, after, waiters_in, workers_in, serial_at, seq_tally, par_tally, scope_tally, executor_tally, node_tally, tally_at, total_from}
 use Rattle.reading.proofs.Combining.{Words}
+use Rattle.reading.proofs.Given.{some_end}
 use Rattle.reading.proofs.Ending.{Ends, fails, reads}
 use Rattle.reading.proofs.Processes.{process_ends, list_ends}
 use Rattle.reading.proofs.Variables.{list_test, list_when, list_some, list_inside}
@@ -27,7 +29,7 @@ pub tally_step :
     tally_at d ws serial bound i
     ≡ cond (ltb i (length ws))
     (node_tally (tally_at (d - 1) ws serial bound) (process_end (d - 1) ws bound) (process_end d ws bound 8) ws serial bound (at ws i / 2048) i)
-    uncounted
+    None
 unfolding tally_at
 tally_step zero ws serial bound i h = absurd (h refl)
 tally_step (suc d) ws serial bound i h = rw (sub-one (suc d))
@@ -81,9 +83,9 @@ module _ (ws : List ℕ) (ok : Words ws) (d bound : ℕ) where
 
 -- ---- no more ends than words
 
-pub data Bounded (ws : List ℕ) (i : ℕ) : Counted → Type 0 where
-  no_count : Bounded ws i uncounted
-  a_count : {e w k : ℕ} → i < e → e ≤ length ws → w + k ≤ e - i → Bounded ws i (record { end = e; waiters = w; workers = k })
+pub data Bounded (ws : List ℕ) (i : ℕ) : Option Counted → Type 0 where
+  no_count : Bounded ws i None
+  a_count : {e w k : ℕ} → i < e → e ≤ length ws → w + k ≤ e - i → Bounded ws i (Some (record { end = e; waiters = w; workers = k }))
 
 counted_bounded : {ws : List ℕ} (i j e w k : ℕ) → i ≤ j → w + k ≤ j - i + 1 → Forward ws j e → Bounded ws i (counted e w k)
 unfolding counted
@@ -94,57 +96,50 @@ serial_below : (ws : List ℕ) (i serial : ℕ) → serial_at ws i serial < 2
 unfolding serial_at
 serial_below ws i serial = search bit_below
 
-later : {ws : List ℕ} {i j : ℕ} {t : Counted} → i ≤ j → Bounded ws j t → Bounded ws i t
+later : {ws : List ℕ} {i j : ℕ} {t : Option Counted} → i ≤ j → Bounded ws j t → Bounded ws i t
 later h no_count = no_count
 later h (a_count {e} {w} {k} p q b) = a_count {e = e} {w = w} {k = k} (omega arith) q (omega arith)
 
-after_none : (k : Counted → Counted) → after uncounted k ≡ uncounted
-unfolding after uncounted
-after_none k = refl
-
-pub after_some : (p : Counted) (k : Counted → Counted) → (p.end ≡ 0 → ⊥) → after p k ≡ k p
-unfolding after
-after_some p k h = rw (ne_eqb p.end 0 h)
-
 module _ (ws : List ℕ) (i : ℕ) where
   seq_bounded :
-      (tal : ℕ → Counted) (sub : ℕ → ℕ → ℕ) (t : Counted) → ((e : ℕ) → Forward ws e (sub 0 e)) → Bounded ws (i + 1) t →
+      (sub : ℕ → ℕ → ℕ) (t : Option Counted) → ((e : ℕ) → Forward ws e (sub 0 e)) → Bounded ws (i + 1) t →
       Bounded ws i (after t λ p. counted (sub 0 p.end) p.waiters p.workers)
-  seq_bounded tal sub t f no_count = rw after_none no_count
-  seq_bounded tal sub t f (a_count {e} {w} {k} p q b) =
-      rw (after_some t (λ p. counted (sub 0 p.end) p.waiters p.workers) (λ z. omega arith)) (counted_bounded i e (sub 0 e) w k (omega arith) (omega arith) (f e))
+  unfolding after
+  seq_bounded sub t f no_count = no_count
+  seq_bounded sub t f (a_count {e} {w} {k} p q b) = counted_bounded i e (sub 0 e) w k (omega arith) (omega arith) (f e)
 
-  added_bounded : (e w k : ℕ) (t : Counted) → i < e → w + k ≤ e - (i + 1) → Bounded ws e t → Bounded ws i (counted t.end (w + t.waiters) (k + t.workers))
-  unfolding counted uncounted
+  added_bounded :
+      (e w k : ℕ) (t : Option Counted) → i < e → w + k ≤ e - (i + 1) → Bounded ws e t →
+      Bounded ws i (after t λ q. Some (record { end = q.end; waiters = w + q.waiters; workers = k + q.workers }))
+  unfolding after
   added_bounded e w k t h b no_count = no_count
   added_bounded e w k t h b (a_count {e = e'} {w = w'} {k = k'} p q b') =
-      rw (ne_eqb e' 0 (omega arith)) (a_count {e = e'} {w = w + w'} {k = k + k'} (omega arith) q (omega arith))
+      a_count {e = e'} {w = w + w'} {k = k + k'} (omega arith) q (omega arith)
 
   par_bounded :
-      (tal : ℕ → Counted) (t : Counted) → ((e : ℕ) → Bounded ws e (tal e)) → Bounded ws (i + 1) t →
-      Bounded ws i (after t λ p. counted (tal p.end).end (p.waiters + (tal p.end).waiters) (p.workers + (tal p.end).workers))
-  par_bounded tal t f no_count = rw after_none no_count
-  par_bounded tal t f (a_count {e} {w} {k} p q b) =
-      rw (after_some t (λ p. counted (tal p.end).end (p.waiters + (tal p.end).waiters) (p.workers + (tal p.end).workers)) (λ z. omega arith))
-      (added_bounded e w k (tal e) (omega arith) b (f e))
+      (tal : ℕ → Option Counted) (t : Option Counted) → ((e : ℕ) → Bounded ws e (tal e)) → Bounded ws (i + 1) t →
+      Bounded ws i (after t λ p. after (tal p.end) λ q. Some (record { end = q.end; waiters = p.waiters + q.waiters; workers = p.workers + q.workers }))
+  unfolding after
+  par_bounded tal t f no_count = no_count
+  par_bounded tal t f (a_count {e} {w} {k} p q b) = added_bounded e w k (tal e) (omega arith) b (f e)
 
-  scope_bounded : (tal : ℕ → Counted) (e : ℕ) → ((e : ℕ) → Bounded ws e (tal e)) → Forward ws (i + 2) e → Bounded ws i (cond (eqb e 0) uncounted (tal e))
+  scope_bounded : (tal : ℕ → Option Counted) (e : ℕ) → ((e : ℕ) → Bounded ws e (tal e)) → Forward ws (i + 2) e → Bounded ws i (cond (eqb e 0) None (tal e))
   scope_bounded tal e f stops = no_count
   scope_bounded tal e f (goes p q) = rw (ne_eqb e 0 (omega arith)) (later {j = e} (omega arith) (f e))
 
+  one_more_bounded : (b : ℕ) (t : Option Counted) → b < 2 → Bounded ws (i + 3) t → Bounded ws i (after t λ p. Some (record { end = p.end; waiters = p.waiters; workers = p.workers + b }))
+  unfolding after
+  one_more_bounded b t h no_count = no_count
+  one_more_bounded b t h (a_count {e} {w} {k} p q c) = a_count {e = e} {w = w} {k = k + b} (omega arith) q (omega arith)
+
   executor_bounded :
-      (tal : ℕ → Counted) (b e : ℕ) → b < 2 → ((e : ℕ) → Bounded ws e (tal e)) → Forward ws (i + 3) e →
-      Bounded ws i (cond (eqb e 0) uncounted (counted (tal e).end (tal e).waiters ((tal e).workers + b)))
-  unfolding counted uncounted
+      (tal : ℕ → Option Counted) (b e : ℕ) → b < 2 → ((e : ℕ) → Bounded ws e (tal e)) → Forward ws (i + 3) e →
+      Bounded ws i (cond (eqb e 0) None (after (tal e) λ p. Some (record { end = p.end; waiters = p.waiters; workers = p.workers + b })))
   executor_bounded tal b e h t stops = no_count
-  executor_bounded tal b e h t (goes p q) = rw (ne_eqb e 0 (omega arith)) (one_more_lem (tal e) (later {j = e} (omega arith) (t e)))
-    where
-      one_more_lem : (t : Counted) → Bounded ws (i + 3) t → Bounded ws i (counted t.end t.waiters (t.workers + b))
-      one_more_lem t no_count = no_count
-      one_more_lem t (a_count {e = e'} {w} {k} p q c) = rw (ne_eqb e' 0 (omega arith)) (a_count {e = e'} {w = w} {k = k + b} (omega arith) q (omega arith))
+  executor_bounded tal b e h t (goes p q) = rw (ne_eqb e 0 (omega arith)) (one_more_bounded b (tal e) h (later {j = e} (omega arith) (t e)))
 
   node_bounded :
-      (tal : ℕ → Counted) (sub : ℕ → ℕ → ℕ) (skip : ℕ → ℕ) (serial bound k : ℕ) →
+      (tal : ℕ → Option Counted) (sub : ℕ → ℕ → ℕ) (skip : ℕ → ℕ) (serial bound k : ℕ) →
       ((e : ℕ) → Bounded ws e (tal e)) →
       ((e : ℕ) → Forward ws e (sub 0 e)) →
       ((e : ℕ) → Forward ws e (list_end sub ws 0 128 e)) →
@@ -152,9 +147,9 @@ module _ (ws : List ℕ) (i : ℕ) where
       Bounded ws i (node_tally tal sub skip ws serial bound k i)
   unfolding node_tally seq_tally par_tally scope_tally executor_tally
   node_bounded tal sub skip serial bound k t f l s =
-      let P : Counted → Type 0 = Bounded ws i in
+      let P : Option Counted → Type 0 = Bounded ws i in
       let b = serial_below ws i serial in
-      cond-case P (eqb k 2) (λ z. seq_bounded tal sub (tal (i + 1)) f (t (i + 1))) λ z.
+      cond-case P (eqb k 2) (λ z. seq_bounded sub (tal (i + 1)) f (t (i + 1))) λ z.
       cond-case P (eqb k 3) (λ z. par_bounded tal (tal (i + 1)) t (t (i + 1))) λ z.
       cond-case P (eqb k 11) (λ z. scope_bounded tal (list_end sub ws 0 128 (i + 2)) t (l (i + 2))) λ z.
       cond-case P (eqb k 16) (λ z. executor_bounded tal (serial_at ws i serial) (executor_own ws bound i) b t (own_forward ws bound i)) λ z.
@@ -177,50 +172,54 @@ tally_bounded ws ok serial bound (suc d) i =
 
 -- ---- so the sums fit
 
-pub counts_below : {ws : List ℕ} {i : ℕ} {t : Counted} → Bounded ws i t → (t.waiters ≤ length ws) × (t.workers ≤ length ws)
-unfolding uncounted
+counts_below : {ws : List ℕ} {i : ℕ} {t : Option Counted} → Bounded ws i t → (waiters_in t ≤ length ws) × (workers_in t ≤ length ws)
+unfolding waiters_in workers_in
 counts_below no_count = (omega arith, omega arith)
 counts_below (a_count {e} {w} {k} p q b) = (omega arith, omega arith)
 
-pub sums_below :
-    {ws : List ℕ} {i : ℕ} {p q : Counted} → Bounded ws i p → Bounded ws p.end q →
+sums_below :
+    {ws : List ℕ} {i : ℕ} (p q : Counted) → Bounded ws i (Some p) → Bounded ws p.end (Some q) →
     (p.waiters + q.waiters ≤ length ws) × (p.workers + q.workers ≤ length ws)
-unfolding uncounted
-sums_below no_count b = (omega (arith, counts_below b), omega (arith, counts_below b))
-sums_below (a_count {e} {w} {k} p q b) no_count = (omega arith, omega arith)
-sums_below (a_count {e} {w} {k} p q b) (a_count {e = e'} {w = w'} {k = k'} p' q' b') = (omega arith, omega arith)
+sums_below p q (a_count {e} {w} {k} h i b) (a_count {e = e'} {w = w'} {k = k'} h' i' b') = (omega arith, omega arith)
 
-pub one_more_below : {ws : List ℕ} {i : ℕ} {t : Counted} → i < length ws → Bounded ws (i + 3) t → t.workers + 1 ≤ length ws
-unfolding uncounted
-one_more_below h no_count = omega arith
-one_more_below h (a_count {e} {w} {k} p q b) = omega arith
+one_more_below : {ws : List ℕ} (i : ℕ) (p : Counted) → Bounded ws (i + 3) (Some p) → p.workers + 1 ≤ length ws
+one_more_below i p (a_count {e} {w} {k} h g b) = omega arith
 
 -- an executor beside what is counted in its body, which begins at e
-pub own_below :
-    (ws : List ℕ) (bound i e : ℕ) (t : Counted) → e ≡ executor_own ws bound i → (e ≡ 0 → ⊥) → i < length ws → Bounded ws e t → t.workers + 1 ≤ length ws
-own_below ws bound i e t q some h b = by (rw (← q) at (own_forward ws bound i)) some b
+own_below : (ws : List ℕ) (bound i e : ℕ) (p : Counted) → e ≡ executor_own ws bound i → (e ≡ 0 → ⊥) → Bounded ws e (Some p) → p.workers + 1 ≤ length ws
+own_below ws bound i e p q some b = by (rw (← q) at (own_forward ws bound i)) some b
   where
-    by : {e : ℕ} → Forward ws (i + 3) e → (e ≡ 0 → ⊥) → Bounded ws e t → t.workers + 1 ≤ length ws
+    by : {e : ℕ} → Forward ws (i + 3) e → (e ≡ 0 → ⊥) → Bounded ws e (Some p) → p.workers + 1 ≤ length ws
     by stops some b = absurd (some refl)
-    by (goes {e} p r) some b = one_more_below h (later {j = e} (omega arith) b)
+    by (goes {e} h g) some b = one_more_below i p (later {j = e} (omega arith) b)
+
+module _ (ws : List ℕ) (ok : Words ws) (d serial bound i : ℕ) where
+  bounded : (t : Option Counted) (e : ℕ) → t ≡ tally_at d ws serial bound e → Bounded ws e t
+  bounded t e q = rw (← q) at (tally_bounded ws ok serial bound d e)
+
+  pub par_below :
+      (p q : Counted) → Some p ≡ tally_at d ws serial bound i → Some q ≡ tally_at d ws serial bound p.end →
+      (p.waiters + q.waiters ≤ length ws) × (p.workers + q.workers ≤ length ws)
+  par_below p q e f = sums_below p q (bounded (Some p) i e) (bounded (Some q) p.end f)
+
+  pub executor_below : (e : ℕ) (p : Counted) → Some e ≡ end_as (executor_own ws bound i) → Some p ≡ tally_at d ws serial bound e → p.workers + 1 ≤ length ws
+  executor_below e p own f = let h = some_end e _ own in own_below ws bound i e p h.0 h.1 (bounded (Some p) e f)
 
 -- ---- one turn of the loop over the engines
 
 pub total_turn :
-    (tal : ℕ → Counted) (starts : List ℕ) (n i e waiters workers : ℕ) →
+    (tal : ℕ → Option Counted) (starts : List ℕ) (n i e waiters workers : ℕ) →
     i < n →
     total_from tal starts (n - i) e waiters workers
-    ≡ total_from tal starts (n - (i + 1)) (e + 1) (waiters + (tal (get_or starts e 0)).waiters) (workers + (tal (get_or starts e 0)).workers)
+    ≡ total_from tal starts (n - (i + 1)) (e + 1) (waiters + waiters_in (tal (get_or starts e 0))) (workers + workers_in (tal (get_or starts e 0)))
 unfolding total_from
 total_turn tal starts n i e waiters workers h = let more : n - i ≡ suc (n - (i + 1)) = omega arith in rw more
 
-pub total_end :
-    (tal : ℕ → Counted) (starts : List ℕ) (n i e waiters workers : ℕ) → n ≤ i →
-    total_from tal starts (n - i) e waiters workers ≡ record { end = 0; waiters = waiters; workers = workers }
+pub total_end : (tal : ℕ → Option Counted) (starts : List ℕ) (n i e waiters workers : ℕ) → n ≤ i → total_from tal starts (n - i) e waiters workers ≡ (waiters, workers)
 unfolding total_from
 total_end tal starts n i e waiters workers h = let no : n - i ≡ 0 = omega arith in rw no
 
 pub tally_below :
     (ws : List ℕ) (serial bound d i : ℕ) → Words ws →
-    ((tally_at d ws serial bound i).waiters ≤ length ws) × ((tally_at d ws serial bound i).workers ≤ length ws)
+    (waiters_in (tally_at d ws serial bound i) ≤ length ws) × (workers_in (tally_at d ws serial bound i) ≤ length ws)
 tally_below ws serial bound d i ok = counts_below (tally_bounded ws ok serial bound d i)

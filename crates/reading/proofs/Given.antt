@@ -9,7 +9,7 @@ use Rattle.std.specs.Prelude.{Option, Some, None, unwrap_or}
 use Rattle.std.specs.Bool.{then_some}
 use Rattle.std.specs.Option.{is_some}
 use Rattle.std.proofs.lemmas.Option.{none-some, same_Some}
-use Rattle.reading.specs.Walk.{end_as, when}
+use Rattle.reading.specs.Walk.{end_as, key_as, when}
 
 pub as_none : (n : ℕ) → 0 ≡ n → None ≡ end_as n
 as_none n e = rw (← e) refl
@@ -54,3 +54,11 @@ unread (Some e) n q h = absurd (true≢false h)
 pub was_read : (o : Option ℕ) (n : ℕ) → o ≡ end_as n → is_some o ≡ true → n ≡ 0 → ⊥
 was_read None n q h z = true≢false (sym h)
 was_read (Some e) n q h z = let s = some_end e n q in s.1 (s.0 ∙ z)
+
+-- a key
+pub some_key : (k n : ℕ) → Some k ≡ key_as n → (k ≡ n) × (k ≡ 128 → ⊥)
+some_key k n s = by (eqb n 128) refl s
+  where
+    by : (b : Bool) → eqb n 128 ≡ b → Some k ≡ cond b None (Some n) → (k ≡ n) × (k ≡ 128 → ⊥)
+    by true q h = absurd (none-some k (sym h))
+    by false q h = let same = same_Some k n h in (same, λ z. eqb-false n 128 q (sym same ∙ z))

@@ -15,9 +15,10 @@ use Rattle.sock.proofs.Fits.{Readable}
 use Rattle.sock.proofs.Configuration.{config_found}
 use Rattle.sock.proofs.Located.{start_of}
 use Rattle.sock.proofs.Running.{awake_as_node'}
-use Rattle.reading.specs.declared.survey.Starts.{Starts}
 use Rattle.reading.specs.Walk.{at}
-use Rattle.reading.specs.Survey.{no_starts, surveyed}
+use Rattle.reading.specs.declared.starts.Starts.{Starts as Found}
+use Rattle.reading.specs.Survey.{Starts, no_starts, surveyed}
+use Rattle.reading.specs.Answers.{starts_of}
 use Rattle.reading.proofs.Combining.{Words}
 use Rattle.reading.proofs.Surveyed.{Surveyed, unread, is_read, read_as, survey_reads, survey_law}
 use Rattle.reading.proofs.Standing.{start_inside}
@@ -52,6 +53,15 @@ module _ (limits : Limits) (ws : List ℕ) (ok : Words ws) (s : Starts) (e : s �
 
   pub survey_unknown : s.engines ≡ 0 → read_config limits ws ≡ none
   survey_unknown h = unknown_by limits ws refl (rw (← e) at (survey_law limits ws ok)) h
+
+-- what the code's survey tells: some engines, or none
+module _ (limits : Limits) (ws : List ℕ) (ok : Words ws) where
+  pub found_known : (s : Found) → starts_of s ≡ surveyed limits 11 ws → Known limits ws (starts_of s)
+  found_known s e = survey_known limits ws ok (starts_of s) e λ z. omega (arith, s.some)
+
+  pub none_known : no_starts ≡ surveyed limits 11 ws → read_config limits ws ≡ none
+  unfolding no_starts
+  none_known e = survey_unknown limits ws ok no_starts e refl
 
 -- facts of a known configuration, in the code's terms
 module _ {limits : Limits} {ws : List ℕ} {s : Starts} (k : Known limits ws s) where
@@ -96,3 +106,11 @@ module _ (limits : Limits) (ws : List ℕ) (ok : Words ws) (s : Starts) (e : s �
 
   pub code_unknown : s.engines ≡ 0 → read_as 0 limits ws ≡ none
   code_unknown h = none_by limits ws refl code_surveyed h
+
+module _ (limits : Limits) (ws : List ℕ) (ok : Words ws) where
+  pub found_code : (s : Found) → starts_of s ≡ surveyed limits 3 ws → (k : Known limits ws (starts_of s)) × T (all_fresh k.config.engines)
+  found_code s e = code_known limits ws ok (starts_of s) e λ z. omega (arith, s.some)
+
+  pub none_code : no_starts ≡ surveyed limits 3 ws → read_as 0 limits ws ≡ none
+  unfolding no_starts
+  none_code e = code_unknown limits ws ok no_starts e refl

@@ -2,21 +2,22 @@
 -- Assumes nothing.
 use Prim.Native.Nat.{ℕ, ◌+◌, ◌-◌, ◌<◌, ◌≤◌}
 use native.Mathlib.Omega.{arith}
-use native.Mathlib.Decide.{ℕ_discrete}
 use mathlib.Core.Path.{◌≡◌, sym, ◌∙◌}
 use mathlib.Core.Option.{Option, none, some}
 use mathlib.Core.List.{List, []}
 use lib.ListN.{length, get_or, take, drop}
 use borrow.Author.Tests.{lt-ltb, le-ltb}
+use Rattle.std.specs.Prelude.{Option as Maybe, Some, None}
 use Rattle.sock.specs.Running.{size}
 use Rattle.sock.specs.Configuration.{Limits, Config, read_config}
 use Rattle.sock.specs.Calls.{engine_at, part_in, process_part, process_of}
 use Rattle.sock.proofs.Located.{start_of}
-use Rattle.reading.specs.declared.survey.Starts.{Starts}
-use Rattle.reading.specs.Survey.{surveyed}
+use Rattle.reading.specs.declared.starts.Starts.{Starts as Found}
+use Rattle.reading.specs.Survey.{Starts, surveyed}
+use Rattle.reading.specs.Answers.{starts_of, starts_in}
 use Rattle.reading.proofs.Combining.{Words}
 use Rattle.reading.proofs.Standing.{start_inside, start_next}
-use Rattle.reading.proofs.Known.{Known, survey_known, survey_unknown}
+use Rattle.reading.proofs.Known.{Known, found_known, none_known}
 
 part_by : (limits : Limits) (ws : List ℕ) (e : ℕ) (o : Option Config) → read_config limits ws ≡ o → process_of limits ws e ≡ take (part_in e o).count (drop (part_in e o).first ws)
 unfolding process_of process_part
@@ -49,16 +50,16 @@ known_lent {limits} {ws} {s} e k h =
       part = sym (part_by limits ws e (some c) k.reads ∙ rw (lt-ltb e (length c.engines) b, count, first));
     }
 
-module _ (limits : Limits) (ws : List ℕ) (ok : Words ws) (s : Starts) (q : s ≡ surveyed limits 11 ws) (e : ℕ) where
-  pub is_lent : e < s.engines → Lent limits ws s e
-  is_lent h = known_lent e (survey_known limits ws ok s q (λ z. omega arith)) h
+module _ (limits : Limits) (ws : List ℕ) (ok : Words ws) (o : Maybe Found) (q : starts_in o ≡ surveyed limits 11 ws) (e : ℕ) where
+  pub is_lent : (s : Found) → o ≡ Some s → e < s.engines → Lent limits ws (starts_of s) e
+  is_lent s p h = known_lent e (found_known limits ws ok s (rw p at q)) h
 
-  pub none_lent : s.engines ≤ e → [] ≡ process_of limits ws e
+  pub none_lent : o ≡ None → [] ≡ process_of limits ws e
   unfolding part_in
-  none_lent h = by (ℕ_discrete s.engines 0)
-    where
-      by : Dec (s.engines ≡ 0) → [] ≡ process_of limits ws e
-      by (yes z) = sym (part_by limits ws e none (survey_unknown limits ws ok s q z))
-      by (no n) =
-          let k = survey_known limits ws ok s q n in
-          sym (part_by limits ws e (some k.config) k.reads ∙ rw (le-ltb e (length k.config.engines) (omega (arith, k.engines))))
+  none_lent p = sym (part_by limits ws e none (none_known limits ws ok (rw p at q)))
+
+  pub beyond_lent : (s : Found) → o ≡ Some s → s.engines ≤ e → [] ≡ process_of limits ws e
+  unfolding part_in
+  beyond_lent s p h =
+      let k = found_known limits ws ok s (rw p at q) in
+      sym (part_by limits ws e (some k.config) k.reads ∙ rw (le-ltb e (length k.config.engines) (omega (arith, k.engines))))

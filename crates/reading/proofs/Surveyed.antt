@@ -23,10 +23,9 @@ use Rattle.sock.proofs.Fits.{Fits}
 use Rattle.sock.proofs.Reading.{tests, Holds, nothing, something, Found, found}
 use Rattle.sock.proofs.Running.{awake_as_node'}
 use Rattle.sock.proofs.Located.{values_length, start_of}
-use Rattle.reading.specs.declared.survey.Starts.{Starts}
 use Rattle.reading.specs.Tables.{stratum_of}
 use Rattle.reading.specs.Walk.{at, process_end}
-use Rattle.reading.specs.Survey.{no_starts, engines_from, opens, surveyed}
+use Rattle.reading.specs.Survey.{Starts, no_starts, engines_from, opens, surveyed}
 use Rattle.reading.proofs.Combining.{Words, same_test}
 use Rattle.reading.proofs.Ending.{Ends, fails, reads}
 use Rattle.reading.proofs.Processes.{process_ends}

@@ -10,6 +10,7 @@ use lib.Dec.{eqb, lit<}
 use lib.ListN.{length, get_or, drop, length-append, length-drop}
 use lib.Seq.{drop-drop, drop-append_seam, get_or-drop}
 use borrow.Author.Tests.{le-leb, ne_eqb}
+use Rattle.std.specs.Prelude.{Option, Some}
 use Rattle.sock.specs.Kind
 use Rattle.sock.specs.Words.{bit, head_of, name_fields}
 use Rattle.sock.specs.Term.{Node, node, list, Entries, head_word, kind}
@@ -28,12 +29,12 @@ use Rattle.sock.proofs.Measures.{words_seq, words_par, words_scope, words_execut
 use Rattle.reading.specs.declared.ends.Counted.{Counted}
 use Rattle.reading.specs.Tables.{stratum_of, place_of}
 use Rattle.reading.specs.Walk.{at, list_end, executor_own, process_end}
-use Rattle.reading.specs.Tally.{counted, serial_at, seq_tally, par_tally, scope_tally, executor_tally, node_tally, tally_at}
+use Rattle.reading.specs.Tally.{counted, after, serial_at, seq_tally, par_tally, scope_tally, executor_tally, node_tally, tally_at}
 use Rattle.reading.proofs.Combining.{Words}
 use Rattle.reading.proofs.Ending.{Ends, ends_got}
 use Rattle.reading.proofs.Processes.{process_ends, list_ends}
 use Rattle.reading.proofs.Standing.{first_word}
-use Rattle.reading.proofs.Counting.{tally_node, after_some}
+use Rattle.reading.proofs.Counting.{tally_node}
 use Rattle.reading.proofs.Begins.{own_begins}
 
 -- ---- words at a position
@@ -69,41 +70,38 @@ serial_is ws i s a b serial v e =
     let long : length ws - i ≡ length (a ∷ b ∷ serial ∷ v) = sym (length-drop i ws) ∙ ap length e in
     rw (drop_at ws _ i 2 e, le-leb 3 (length ws - i) (omega arith))
 
-counted_past : (e w k : ℕ) → 0 < e → counted e w k ≡ record { end = e; waiters = w; workers = k }
+abbrev made : ℕ → ℕ → ℕ → Option Counted
+made e w k = Some (record { end = e; waiters = w; workers = k })
+
+counted_past : (e w k : ℕ) → 0 < e → counted e w k ≡ made e w k
 unfolding counted
 counted_past e w k h = rw (ne_eqb e 0 (omega arith))
 
 -- ---- by kind
 
-abbrev made : ℕ → ℕ → ℕ → Counted
-made e w k = record { end = e; waiters = w; workers = k }
-
 seq_counts :
-    (tal : ℕ → Counted) (sub : ℕ → ℕ → ℕ) (i e f w k : ℕ) → tal i ≡ made e w k → 0 < e → sub 0 e ≡ f → 0 < f →
+    (tal : ℕ → Option Counted) (sub : ℕ → ℕ → ℕ) (i e f w k : ℕ) → tal i ≡ made e w k → sub 0 e ≡ f → 0 < f →
     seq_tally tal sub i ≡ made f w k
-unfolding seq_tally
-seq_counts tal sub i e f w k t p q r =
-    rw (t, after_some (made e w k) (λ p. counted (sub 0 p.end) p.waiters p.workers) (λ z. omega arith), q) (counted_past f w k r)
+unfolding seq_tally after
+seq_counts tal sub i e f w k t q r = rw (t, q) (counted_past f w k r)
 
 par_counts :
-    (tal : ℕ → Counted) (i e f w k w' k' : ℕ) → tal i ≡ made e w k → 0 < e → tal e ≡ made f w' k' → 0 < f →
+    (tal : ℕ → Option Counted) (i e f w k w' k' : ℕ) → tal i ≡ made e w k → tal e ≡ made f w' k' →
     par_tally tal i ≡ made f (w + w') (k + k')
-unfolding par_tally
-par_counts tal i e f w k w' k' t p q r =
-    rw (t, after_some (made e w k) (λ p. counted (tal p.end).end (p.waiters + (tal p.end).waiters) (p.workers + (tal p.end).workers)) (λ z. omega arith), q)
-    (counted_past f (w + w') (k + k') r)
+unfolding par_tally after
+par_counts tal i e f w k w' k' t q = rw (t, q)
 
 scope_counts :
-    (tal : ℕ → Counted) (sub : ℕ → ℕ → ℕ) (ws : List ℕ) (i e : ℕ) (t : Counted) → list_end sub ws 0 128 i ≡ e → 0 < e → tal e ≡ t →
+    (tal : ℕ → Option Counted) (sub : ℕ → ℕ → ℕ) (ws : List ℕ) (i e : ℕ) (t : Option Counted) → list_end sub ws 0 128 i ≡ e → 0 < e → tal e ≡ t →
     scope_tally tal sub ws i ≡ t
 unfolding scope_tally
 scope_counts tal sub ws i e t p q r = rw (p, ne_eqb e 0 (omega arith), r)
 
 executor_counts :
-    (tal : ℕ → Counted) (ws : List ℕ) (s i j e w k b : ℕ) → 0 < j → tal j ≡ made e w k → 0 < e → serial_at ws i s ≡ b →
+    (tal : ℕ → Option Counted) (ws : List ℕ) (s i j e w k b : ℕ) → 0 < j → tal j ≡ made e w k → serial_at ws i s ≡ b →
     executor_tally tal ws s i j ≡ made e (0 + w) (b + k)
-unfolding executor_tally
-executor_counts tal ws s i j e w k b o t p q = rw (ne_eqb j 0 (omega arith), t, q, add_comm b k, zero-add w) (counted_past e w (k + b) p)
+unfolding executor_tally after
+executor_counts tal ws s i j e w k b o t q = rw (ne_eqb j 0 (omega arith), t, q, add_comm b k, zero-add w)
 
 -- ---- where what is read ends
 
@@ -122,8 +120,8 @@ module _ (ws : List ℕ) (ok : Words ws) (n issued : ℕ) (few : n ≤ 8) (word 
   -- ---- the count
 
   module _ (s : ℕ) where
-    abbrev counts : Run → ℕ → Counted
-    counts r i = record { end = i + size r; waiters = tally (waits s) r; workers = tally (works s) r }
+    abbrev counts : Run → ℕ → Option Counted
+    counts r i = made (i + size r) (tally (waits s) r) (tally (works s) r)
 
     -- one level, by the kind of what stands there
     by_kind :
@@ -161,7 +159,7 @@ module _ (ws : List ℕ) (ok : Words ws) (n issued : ℕ) (few : n ≤ 8) (word 
         process_at (d - 1) 0 (i + 1 + size a) (lit< tt) q rest fq (omega arith) behind in
         let same : i + 1 + size a + length (words q) ≡ i + size (seq a q) = omega (arith, size_seq a q) in
         by_kind (seq_sound ga na fq) d i shallow rest e
-        ∙ seq_counts _ _ (i + 1) _ _ _ _ (tallied ga (d - 1) (i + 1) (omega arith) (words q ++ rest) inner) (omega arith) (last ∙ same) (omega arith)
+        ∙ seq_counts _ _ (i + 1) _ _ _ _ (tallied ga (d - 1) (i + 1) (omega arith) (words q ++ rest) inner) (last ∙ same) (omega arith)
     tallied (par_sound {a} {b} ga na gb nb) d i shallow rest e =
         let deep = depth_par a b in
         let split : drop i ws ≡ 6144 ∷ run_words a ++ (run_words b ++ rest) = e ∙ rw words_par (ap (λ l. 6144 ∷ l) (append_assoc (run_words a) (run_words b) rest)) in
@@ -169,9 +167,8 @@ module _ (ws : List ℕ) (ok : Words ws) (n issued : ℕ) (few : n ≤ 8) (word 
         let behind : drop (i + 1 + size a) ws ≡ run_words b ++ rest = past_run a (run_words b ++ rest) (i + 1) inner in
         let same : i + 1 + size a + size b ≡ i + size (par a b) = omega (arith, size_par a b) in
         by_kind (par_sound ga na gb nb) d i shallow rest e
-        ∙ par_counts _ (i + 1) _ _ _ _ _ _ (tallied ga (d - 1) (i + 1) (omega arith) (run_words b ++ rest) inner) (omega arith)
+        ∙ par_counts _ (i + 1) _ _ _ _ _ _ (tallied ga (d - 1) (i + 1) (omega arith) (run_words b ++ rest) inner)
         (rw same at (tallied gb (d - 1) (i + 1 + size a) (omega arith) rest behind))
-        (omega arith)
     tallied (scope_sound {name} {mark} {zombie} {h} {a} b m fh ga) d i shallow rest e =
         let deep = depth_scope name mark zombie h a in
         let own : List ℕ = scope_head name mark zombie ∷ (marked_fault mark * 1024) ∷ [] in
@@ -197,7 +194,7 @@ module _ (ws : List ℕ) (ok : Words ws) (n issued : ℕ) (few : n ≤ 8) (word 
         by_kind (executor_sound bo by end ga) d i shallow rest e
         ∙ ap (executor_tally (tally_at (d - 1) ws s (n * 65536 + issued)) ws s i) begins
         ∙ executor_counts _ ws s i (i + 3 + length (variable_words y)) _ _ _ _ (omega arith)
-        (rw same at (tallied ga (d - 1) (i + 3 + length (variable_words y)) (omega arith) rest inner)) (omega arith) (serial_is ws i s _ _ serial _ split)
+        (rw same at (tallied ga (d - 1) (i + 3 + length (variable_words y)) (omega arith) rest inner)) (serial_is ws i s _ _ serial _ split)
     tallied (waiter_sound {o} {x} {server} {serial} {dead} {l} bo bx end fl) d i shallow rest e =
         let r : Run = waiter o x dead server serial l in
         let split : drop i ws ≡ head_of Kind.waiter (name_fields o (first_of x)) ∷ (bit dead * 32768 + server * 4096) ∷ serial ∷ (variable_words x ++ (count l ∷ entries_words l)) ++ rest =

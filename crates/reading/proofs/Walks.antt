@@ -4,7 +4,7 @@ use Prim.Native.Nat.{ℕ, zero, suc, ◌+◌, ◌-◌, ◌/◌, ◌<◌, ◌≤�
 use native.Mathlib.Omega.{arith}
 use native.Mathlib.Numerals.{sub-one}
 use mathlib.Core.Path.{◌≡◌, refl, sym, ap, ◌∙◌}
-use borrow.Author.Tests.{lt-ltb, le-leb, ltb-true, ne_eqb}
+use borrow.Author.Tests.{ne_eqb, lt-ltb, ltb-true}
 use mathlib.Core.Bool.{Bool, true, false, ◌||◌, cond}
 use mathlib.Core.List.{List, [], ◌∷◌}
 use lib.Bits.{bit_and}
@@ -13,7 +13,9 @@ use lib.ListN.{length, get_or}
 use Rattle.sock.specs.Words.{clear, tag_of}
 use Rattle.layout.specs.Units
 use Rattle.reading.specs.Tables.{head_mask}
-use Rattle.reading.specs.Walk.{when, on, at, constant_end, operation_end, expr_at, expr_end, two_end, branches_end, choice_end, key_at, entry_context, entries_end, node_end, process_end}
+use Rattle.std.specs.Prelude.{Some}
+use Rattle.reading.proofs.Given.{some_key, some_end}
+use Rattle.reading.specs.Walk.{end_as, key_as, when, on, at, constant_end, operation_end, expr_at, expr_end, two_end, branches_end, key_at, entry_context, entries_end, node_end, process_end}
 
 pub expr_step : (d : ℕ) (ws : List ℕ) (i : ℕ) → (d ≡ 0 → ⊥) → expr_end d ws i ≡ when (ltb i (length ws)) (expr_at (expr_end (d - 1) ws) ws i (at ws i))
 unfolding expr_end
@@ -74,10 +76,6 @@ pub branches_done : (sub : ℕ → ℕ → ℕ) (c n i a : ℕ) → n ≤ i → 
 unfolding branches_end
 branches_done sub c n i a h = let e : n - i ≡ 0 = omega arith in rw e
 
-pub choice_in : (sub : ℕ → ℕ → ℕ) (c n a : ℕ) → 0 < n → n ≤ 8 → branches_end sub c n a ≡ choice_end sub c n a
-unfolding choice_end when
-choice_in sub c n a p q = simp (lt-ltb 0 n p, le-leb n 8 q)
-
 pub entries_turn :
     (sub : ℕ → ℕ → ℕ) (ws : List ℕ) (c wanted n i least : ℕ) (met : Bool) (a : ℕ) →
     i < n →
@@ -93,6 +91,21 @@ pub entries_done :
 unfolding entries_end
 entries_done sub ws c wanted n i least met a h = let e : n - i ≡ 0 = omega arith in rw e
 
+-- an entry read, on to the next
+pub entries_next :
+    (sub : ℕ → ℕ → ℕ) (ws : List ℕ) (c wanted n i least : ℕ) (met : Bool) (a k x e : ℕ) (m : Bool) →
+    i < n →
+    Some k ≡ key_as (key_at ws a least) →
+    x ≡ entry_context c k →
+    Some e ≡ end_as (sub x (a + 1)) →
+    m ≡ (met || eqb k wanted) →
+    entries_end sub ws c wanted (n - (i + 1)) (k + 1) m e ≡ entries_end sub ws c wanted (n - i) least met a
+unfolding on
+entries_next sub ws c wanted n i least met a k x e m h p q r s =
+    let key = some_key k _ p in
+    let end = some_end e _ r in
+    sym (entries_turn sub ws c wanted n i least met a h ∙ rw (← key.0, ne_eqb k 128 key.1, ← q, ← end.0, ne_eqb e 0 end.1, s))
+
 -- ---- what the code knows where it goes on
 
 pub process_node :
@@ -105,18 +118,6 @@ pub process_node :
     process_end d ws bound c i ≡ node_end (expr_end (d - 1) ws) (process_end (d - 1) ws bound) ws c bound h i
 unfolding when
 process_node d ws bound c i h m p q r s t = process_step d ws bound c i p ∙ simp (← r, ← s, t, lt-ltb i (length ws) q)
-
-pub process_refused :
-    (d : ℕ) (ws : List ℕ) (bound c i h m : ℕ) →
-    (d ≡ 0 → ⊥) →
-    i < length ws →
-    h ≡ at ws i →
-    m ≡ head_mask c (h / 2048) →
-    (bit_and (h + 65536) m ≡ 0 → ⊥) →
-    0 ≡ process_end d ws bound c i
-unfolding when
-process_refused d ws bound c i h m p q r s t =
-    sym (process_step d ws bound c i p ∙ simp (← r, ← s, ne_eqb (bit_and (h + 65536) m) 0 t, lt-ltb i (length ws) q))
 
 pub key_inside : (ws : List ℕ) (i least key : ℕ) → key ≡ key_at ws i least → (key ≡ 128 → ⊥) → i < length ws
 unfolding key_at

@@ -2,8 +2,11 @@
 -- one's process begins; behind the last, where the next would. No contract of a call names it.
 use Rattle.std.specs.Prelude.{ℕ, zero, suc, ◌+◌, ◌-◌, ◌*◌, Bool, ◌&&◌, cond, List, leb, ltb, eqb, length, set, replicate}
 use Rattle.sock.specs.Configuration.{Limits}
-use Rattle.reading.specs.declared.survey.Starts.{Starts}
 use Rattle.reading.specs.Walk.{at, process_end}
+
+pub record Starts : Type 0 where
+  pub engines : ℕ
+  pub starts : List ℕ
 
 unfoldable pub no_starts : Starts
 no_starts = record { engines = 0; starts = replicate 9 0 }

@@ -12,6 +12,10 @@ use Rattle.reading.specs.Tables.{head_mask, bit_of}
 abbrev pub end_as : ℕ → Option ℕ
 end_as e = cond (eqb e 0) None (Some e)
 
+-- a key, by the code
+abbrev pub key_as : ℕ → Option ℕ
+key_as k = cond (eqb k no_key) None (Some k)
+
 -- on to what follows, unless this failed
 unfoldable pub on : ℕ → (ℕ → ℕ) → ℕ
 on e k = cond (eqb e 0) 0 (k e)

@@ -1,16 +1,18 @@
-// The reader: where the process, list or expression that begins at a position ends, or 0 if it does not fit. One pass over the words;
+// The reader: where the process, list or expression that begins at a position ends, none if it does not fit. One pass over the words;
 // depth falls with every level. A context (`layout::context`) is where a process stands. `bound` is n times 65,536 plus issued.
-ghost use Rattle.std.specs.Prelude.{◌≡◌, ◌+◌, ◌%◌, ◌<◌, ◌≤◌, ◌&&◌, ◌||◌, leb, eqb, length};
-ghost use Rattle.layout.specs.Contexts.{running, receiver, contexts};
+ghost use Rattle.std.specs.Prelude.{◌≡◌, ◌+◌, ◌%◌, ◌<◌, ◌≤◌, ◌&&◌, ◌||◌, leb, eqb, length, unwrap_or, IfSome};
+ghost use Rattle.layout.specs.Contexts.{running, not_nil};
+ghost use Rattle.layout.specs.Keys.{no_key};
 ghost use Rattle.reading.specs.Walk.{end_as, expr_end, constant_end, operation_end, context_of, rest_of, process_end, two_end, branch_end, repeat_end};
 ghost use Rattle.reading.specs.Walk.{further_end, variables_end, among, distinct_from, receiving_end, one_way_end};
-ghost use Rattle.reading.specs.Walk.{choice_end, fixed_after, request_end, notify_end, solicit_end, list_end, key_at, entry_context};
+ghost use Rattle.reading.specs.Walk.{choice_end, fixed_after, request_end, notify_end, solicit_end, list_end, key_as, key_at, entry_context};
 ghost use Rattle.reading.specs.Walk.{scope_end, resting_end, marked_end, end_after, executor_own, executor_end, waiter_end, notice_end};
 ghost use Rattle.reading.specs.Walk.{slot_of, fits_at, part_of, item_end};
 
+use crate::context::{CODE, Context, HANDLERS, RUNNING};
 use crate::tables;
 use crate::tables::{bit, head_mask, shape};
-use layout::context::{CODE, CONTEXTS, EXPRESSION, HANDLERS, NOT_NIL, RECEIVER, RUNNING, STRATUM};
+use layout::context::{CONTEXTS, EXPRESSION, NOT_NIL, RECEIVER, STRATUM};
 use layout::field::next_variable;
 use layout::key::{NO_KEY, SCOPE_KEYS};
 use layout::kind::Kind;
@@ -18,8 +20,8 @@ use layout::limit::{BRANCHES, ENGINES, MESSAGE};
 use layout::mark::Mark;
 use layout::number::{wide, word};
 use layout::tag::Tag;
-use layout::unit;
 use layout::unit::WORD;
+use layout::{context, unit};
 
 // An expression of at most `depth` levels.
 #[cycle(expression_operation)]
@@ -68,19 +70,29 @@ fn operation(ws: &[u16], at: usize, depth: usize, w: usize) -> Option<usize>
     expression(ws, e, depth)
 }
 
-// The contexts of a part that runs where its node does, and of one that is code in any case.
-fn same_context(context: usize) -> usize
-    ensures { result ≡ context_of context }
+// The contexts of a part that runs where its node does, of one that may not be nil there, and of one that is code in any case.
+fn same_context(context: Context) -> Context
+    ensures { result.number ≡ context_of context.number }
 {
-    context / STRATUM * STRATUM
+    Context {
+        number: context.number / STRATUM * STRATUM,
+    }
+}
+
+fn full_context(context: Context) -> Context
+    ensures { result.number ≡ context_of context.number + not_nil }
+{
+    Context {
+        number: context.number / STRATUM * STRATUM + NOT_NIL,
+    }
 }
 
 #[tactic(auto, unfolding(crate::specs::Walk::rest_of))]
-fn rest_context(context: usize) -> usize
-    ensures { (result ≡ rest_of context) × (result < running) }
+fn rest_context(context: Context) -> Context
+    ensures { (result.number ≡ rest_of context.number) × (result.number < running) }
 {
-    if context < RUNNING {
-        context / STRATUM * STRATUM
+    if context.number < context::RUNNING {
+        same_context(context)
     } else {
         CODE
     }
@@ -154,17 +166,16 @@ pub(crate) fn process(
     ws: &[u16],
     at: usize,
     depth: usize,
-    context: usize,
+    context: Context,
     bound: usize,
 ) -> Option<usize>
-    requires { context < contexts }
-    ensures { result ≡ end_as (process_end depth ws.now bound context at) }
+    ensures { result ≡ end_as (process_end depth ws.now bound context.number at) }
 {
     let mut later = [0usize; 16];
     let mut n = 0;
     let mut a = at;
     let mut d = depth;
-    let mut c = context;
+    let mut c = context.number;
     while a < ws.len() {
         if d == 0 {
             return None;
@@ -202,13 +213,14 @@ pub(crate) fn process(
 }
 
 // The same for whoever does not know that there is such a context: nothing stands in one from `CONTEXTS` on.
+#[tactic(auto, using(crate::proofs::Beyond::read_beyond, crate::proofs::Given::as_none))]
 pub fn read(ws: &[u16], at: usize, depth: usize, context: usize, bound: usize) -> Option<usize>
     ensures { result ≡ end_as (process_end depth ws.now bound context at) }
 {
     if CONTEXTS <= context {
         return None;
     }
-    process(ws, at, depth, context, bound)
+    process(ws, at, depth, Context { number: context }, bound)
 }
 
 // A process or an expression.
@@ -221,16 +233,15 @@ fn whole(ws: &[u16], at: usize, depth: usize, context: usize, bound: usize) -> O
     if context == EXPRESSION {
         expression(ws, at, depth)
     } else {
-        node(ws, at, depth, context, bound)
+        node(ws, at, depth, Context { number: context }, bound)
     }
 }
 
 // A process in a context, by its kind.
 #[cycle(branch_choice_executor_list_marked_node_process_repeat_request_resting_scope_solicit_two_waiter_whole)]
 #[tactic(auto, unfolding(crate::specs::Walk::when, crate::specs::Walk::process_end, crate::specs::Walk::node_end))]
-fn node(ws: &[u16], at: usize, depth: usize, context: usize, bound: usize) -> Option<usize>
-    requires { context < contexts }
-    ensures { result ≡ end_as (process_end depth ws.now bound context at) }
+fn node(ws: &[u16], at: usize, depth: usize, context: Context, bound: usize) -> Option<usize>
+    ensures { result ≡ end_as (process_end depth ws.now bound context.number at) }
 {
     if depth == 0 {
         return None;
@@ -240,7 +251,7 @@ fn node(ws: &[u16], at: usize, depth: usize, context: usize, bound: usize) -> Op
     }
     let head = ws[at];
     let h = wide(head);
-    if (h + WORD) & head_mask(context, h / unit::KIND) != 0 {
+    if (h + WORD) & head_mask(context.number, h / unit::KIND) != 0 {
         return None;
     }
     let d = depth - 1;
@@ -248,24 +259,20 @@ fn node(ws: &[u16], at: usize, depth: usize, context: usize, bound: usize) -> Op
     match Kind::of(head) {
         Kind::Nil => Some(at + 1),
         Kind::Assign => expression(ws, at + 1, d),
-        Kind::Seq => two(ws, at + 1, d, same_context(context) + NOT_NIL, c, bound),
-        Kind::Par => two(
-            ws,
-            at + 1,
-            d,
-            same_context(context) + NOT_NIL,
-            same_context(context) + NOT_NIL,
-            bound,
-        ),
+        Kind::Seq => two(ws, at + 1, d, full_context(context), c, bound),
+        Kind::Par => {
+            let side = full_context(context);
+            two(ws, at + 1, d, side, side, bound)
+        }
         Kind::If => branch(ws, at + 1, d, c, bound),
         Kind::While => repeat(ws, at + 1, d, c, bound),
-        Kind::Choice => choice(ws, at + 1, d, c, h % unit::KIND, bound),
+        Kind::Choice => choice(ws, at + 1, d, context, h % unit::KIND, bound),
         Kind::OneWay => one_way(ws, at, h),
         Kind::Request => request(ws, at, d, c, h, bound),
         Kind::Notify => notify(ws, at),
         Kind::Solicit => solicit(ws, at, d, bound),
         Kind::Scope => scope(ws, at, d, context, h, bound),
-        Kind::Inst => list(ws, at + 1, d, HANDLERS, NO_KEY, bound),
+        Kind::Inst => list(ws, at + 1, d, HANDLERS, None, bound),
         Kind::Throw | Kind::Comp | Kind::Ch => Some(at + 1),
         Kind::Executor => executor(ws, at, d, bound),
         Kind::Waiter => waiter(ws, at, d, h, bound),
@@ -281,12 +288,11 @@ fn two(
     ws: &[u16],
     at: usize,
     depth: usize,
-    first: usize,
-    second: usize,
+    first: Context,
+    second: Context,
     bound: usize,
 ) -> Option<usize>
-    requires { (first < contexts) × (second < contexts) }
-    ensures { result ≡ end_as (two_end (process_end depth ws.now bound) first second at) }
+    ensures { result ≡ end_as (two_end (process_end depth ws.now bound) first.number second.number at) }
 {
     let a = process(ws, at, depth, first, bound)?;
     process(ws, a, depth, second, bound)
@@ -295,9 +301,8 @@ fn two(
 // What follows the head of an if, and of a while.
 #[cycle(branch_choice_executor_list_marked_node_process_repeat_request_resting_scope_solicit_two_waiter_whole)]
 #[tactic(auto, unfolding(crate::specs::Walk::on, crate::specs::Walk::branch_end))]
-fn branch(ws: &[u16], at: usize, depth: usize, context: usize, bound: usize) -> Option<usize>
-    requires { context < contexts }
-    ensures { result ≡ end_as (branch_end (expr_end depth ws.now) (process_end depth ws.now bound) context at) }
+fn branch(ws: &[u16], at: usize, depth: usize, context: Context, bound: usize) -> Option<usize>
+    ensures { result ≡ end_as (branch_end (expr_end depth ws.now) (process_end depth ws.now bound) context.number at) }
 {
     let e = expression(ws, at, depth)?;
     two(ws, e, depth, context, context, bound)
@@ -305,9 +310,8 @@ fn branch(ws: &[u16], at: usize, depth: usize, context: usize, bound: usize) -> 
 
 #[cycle(branch_choice_executor_list_marked_node_process_repeat_request_resting_scope_solicit_two_waiter_whole)]
 #[tactic(auto, unfolding(crate::specs::Walk::on, crate::specs::Walk::repeat_end))]
-fn repeat(ws: &[u16], at: usize, depth: usize, context: usize, bound: usize) -> Option<usize>
-    requires { context < contexts }
-    ensures { result ≡ end_as (repeat_end (expr_end depth ws.now) (process_end depth ws.now bound) context at) }
+fn repeat(ws: &[u16], at: usize, depth: usize, context: Context, bound: usize) -> Option<usize>
+    ensures { result ≡ end_as (repeat_end (expr_end depth ws.now) (process_end depth ws.now bound) context.number at) }
 {
     let e = expression(ws, at, depth)?;
     process(ws, e, depth, context, bound)
@@ -320,19 +324,23 @@ fn choice(
     ws: &[u16],
     at: usize,
     depth: usize,
-    context: usize,
+    context: Context,
     count: usize,
     bound: usize,
 ) -> Option<usize>
-    requires { (0 < at) × (context < running + receiver) }
-    ensures { result ≡ end_as (choice_end (process_end depth ws.now bound) context count at) }
+    requires { 0 < at }
+    ensures { result ≡ end_as (choice_end (process_end depth ws.now bound) (rest_of context.number) count at) }
 {
     if count == 0 || BRANCHES < count {
         return None;
     }
+    let c = rest_context(context);
+    let receiver = Context {
+        number: c.number + RECEIVER,
+    };
     let mut a = at;
     for _ in 0..count {
-        a = two(ws, a, depth, context + RECEIVER, context, bound)?;
+        a = two(ws, a, depth, receiver, c, bound)?;
     }
     Some(a)
 }
@@ -440,12 +448,12 @@ fn request(
     ws: &[u16],
     at: usize,
     depth: usize,
-    context: usize,
+    context: Context,
     h: usize,
     bound: usize,
 ) -> Option<usize>
-    requires { (at < length ws.now) × (context < contexts) }
-    ensures { result ≡ end_as (request_end (process_end depth ws.now bound) ws.now context h at) }
+    requires { at < length ws.now }
+    ensures { result ≡ end_as (request_end (process_end depth ws.now bound) ws.now context.number h at) }
 {
     if !fixed(ws, at, unit::FIRST_VARIABLE) {
         return None;
@@ -478,22 +486,21 @@ fn solicit(ws: &[u16], at: usize, depth: usize, bound: usize) -> Option<usize>
     }
     let y = variables(ws, at + 2)?;
     let x = receiving(ws, y, next_variable(word(ws, at + 1)))?;
-    list(ws, x, depth, HANDLERS, NO_KEY, bound)
+    list(ws, x, depth, HANDLERS, None, bound)
 }
 
-// A list whose entries stand in a context; the key wanted has to be there, unless it is `NO_KEY`.
+// A list whose entries stand in a context; if a key is wanted, it has to be there.
 #[cycle(branch_choice_executor_list_marked_node_process_repeat_request_resting_scope_solicit_two_waiter_whole)]
 #[tactic(auto, using(crate::proofs::Walks::entries_turn, crate::proofs::Walks::entries_done, crate::proofs::Walks::key_inside), unfolding(crate::specs::Walk::on, crate::specs::Walk::when, crate::specs::Walk::list_end))]
 pub(crate) fn list(
     ws: &[u16],
     at: usize,
     depth: usize,
-    context: usize,
-    wanted: usize,
+    context: Context,
+    wanted: Option<usize>,
     bound: usize,
 ) -> Option<usize>
-    requires { context < contexts }
-    ensures { result ≡ end_as (list_end (process_end depth ws.now bound) ws.now context wanted at) }
+    ensures { result ≡ end_as (list_end (process_end depth ws.now bound) ws.now context.number (unwrap_or wanted no_key) at) }
 {
     if ws.len() <= at {
         return None;
@@ -501,12 +508,10 @@ pub(crate) fn list(
     let count = wide(ws[at]);
     let mut a = at + 1;
     let mut least = 0;
+    let wanted = wanted.unwrap_or(NO_KEY);
     let mut met = NO_KEY <= wanted;
     for _ in 0..count {
-        let key = key_at(ws, a, least);
-        if key == NO_KEY {
-            return None;
-        }
+        let key = key_at(ws, a, least)?;
         a = process(ws, a + 1, depth, entry_context(context, key), bound)?;
         met = met_by(met, key, wanted);
         least = key + 1;
@@ -514,22 +519,20 @@ pub(crate) fn list(
     met.then_some(a)
 }
 
-// The key at a position, at least `least`; `NO_KEY` if there is none.
+// The key at a position, at least `least`.
 #[tactic(auto, unfolding(crate::specs::Walk::key_at))]
-fn key_at(ws: &[u16], at: usize, least: usize) -> usize
-    ensures { (result ≡ key_at ws.now at least) × (result < 129) }
+fn key_at(ws: &[u16], at: usize, least: usize) -> Option<usize>
+    ensures { (result ≡ key_as (key_at ws.now at least)) × IfSome result (λ key. key < 128) }
 {
     if ws.len() <= at {
-        return NO_KEY;
+        return None;
     }
     let w = wide(ws[at]);
     if w % unit::KEY != 0 {
-        return NO_KEY;
+        return None;
     }
-    if w / unit::KEY < least {
-        return NO_KEY;
-    }
-    w / unit::KEY
+    let key = w / unit::KEY;
+    (least <= key).then_some(key)
 }
 
 pub fn met_by(met: bool, key: usize, wanted: usize) -> bool
@@ -540,14 +543,13 @@ pub fn met_by(met: bool, key: usize, wanted: usize) -> bool
 
 // Under a scope's key in a scope's list nil may not stand.
 #[tactic(auto, unfolding(crate::specs::Walk::entry_context))]
-fn entry_context(context: usize, key: usize) -> usize
-    requires { context < contexts }
-    ensures { (result ≡ entry_context context key) × (result < contexts) }
+fn entry_context(context: Context, key: usize) -> Context
+    ensures { result.number ≡ entry_context context.number key }
 {
-    if context != CODE {
+    if context.number != context::CODE || key < SCOPE_KEYS {
         return context;
     }
-    if SCOPE_KEYS <= key { NOT_NIL } else { CODE }
+    Context { number: NOT_NIL }
 }
 
 // A scope whose head is `h`.
@@ -557,18 +559,18 @@ fn scope(
     ws: &[u16],
     at: usize,
     depth: usize,
-    context: usize,
+    context: Context,
     h: usize,
     bound: usize,
 ) -> Option<usize>
-    requires { (at < length ws.now) × (context < contexts) }
-    ensures { result ≡ end_as (scope_end (process_end depth ws.now bound) ws.now context h at) }
+    requires { at < length ws.now }
+    ensures { result ≡ end_as (scope_end (process_end depth ws.now bound) ws.now context.number h at) }
 {
     if ws.len() - at < 3 {
         return None;
     }
     let fault = wide(ws[at + 1]);
-    if context < RUNNING {
+    if context.number < context::RUNNING {
         return resting(ws, at, depth, context, fault, bound);
     }
     let e = marked(ws, at + 2, depth, h, fault, bound)?;
@@ -582,12 +584,12 @@ fn resting(
     ws: &[u16],
     at: usize,
     depth: usize,
-    context: usize,
+    context: Context,
     fault: usize,
     bound: usize,
 ) -> Option<usize>
-    requires { (at + 2 < length ws.now) × (context < contexts) }
-    ensures { result ≡ end_as (resting_end (process_end depth ws.now bound) ws.now context fault at) }
+    requires { at + 2 < length ws.now }
+    ensures { result ≡ end_as (resting_end (process_end depth ws.now bound) ws.now context.number fault at) }
 {
     if fault != 0 || ws[at + 2] != 0 {
         return None;
@@ -609,12 +611,12 @@ pub fn marked(
     ensures { result ≡ end_as (marked_end (process_end depth ws.now bound) ws.now h fault at) }
 {
     match Mark::numbered(h / unit::MARK % unit::MARKS) {
-        Mark::Unmarked if fault == 0 => list(ws, at, depth, CODE, NO_KEY, bound),
+        Mark::Unmarked if fault == 0 => list(ws, at, depth, CODE, None, bound),
         Mark::Faulted if fault % unit::FIRST_NAME == 0 => {
-            list(ws, at, depth, CODE, fault / unit::FIRST_NAME, bound)
+            list(ws, at, depth, CODE, Some(fault / unit::FIRST_NAME), bound)
         }
         Mark::OwnName if fault == 0 && h / unit::ZOMBIE % 2 == 1 => {
-            list(ws, at, depth, CODE, NO_KEY, bound)
+            list(ws, at, depth, CODE, None, bound)
         }
         _ => None,
     }
@@ -680,7 +682,7 @@ fn waiter(ws: &[u16], at: usize, depth: usize, h: usize, bound: usize) -> Option
         return None;
     }
     let x = receiving(ws, at + 3, h % unit::SECOND)?;
-    list(ws, x, depth, HANDLERS, NO_KEY, bound)
+    list(ws, x, depth, HANDLERS, None, bound)
 }
 
 #[tactic(auto, unfolding(crate::specs::Walk::notice_end, crate::specs::Walk::when))]

@@ -8,19 +8,20 @@ ghost use Rattle.std.specs.Io.KnownBytes.{Appends};
 ghost use Rattle.reading_cases.specs.Printed.{answers_line};
 
 use bytewise::words::hold;
-use cases::{sum, take, word};
+use cases::{read_case, sum, word};
+use layout::refusal::number;
 use reading::calls::{check_readable, check_start, process_of};
 use reading::ends::ends;
 use searching::call::pending_at;
 use std::io;
 use std::io::{Read, Write};
 
-// How many words a case has at most, and how many bytes they are; how many bytes stand before them.
+// How many words a case has at most, how many bytes stand before them, and how many bytes there are in all.
 const MOST: usize = 8200;
 
-const MOST_BYTES: usize = 2 * MOST;
-
 const HEAD: usize = 8;
+
+const ROOM: usize = HEAD + 2 * MOST;
 
 // What the calls answer on these words.
 fn answer<W: Write>(
@@ -32,58 +33,55 @@ fn answer<W: Write>(
 ) -> io::Result<()>
     ensures { OnOk result (Appends (W.contents output.old) (W.contents output.new) (answers_line ws.now serial engine position)) }
 {
-    let e = ends(ws, serial);
+    let (refused, waiters, workers) = match ends(ws, serial) {
+        Ok(e) => (0, e.waiters, e.workers),
+        Err(refusal) => (u8::from(refusal), 0, 0),
+    };
     let process = process_of(ws, engine);
-    let p = pending_at(ws, engine, position);
+    let (unsought, found, count) = match pending_at(ws, engine, position) {
+        Ok(p) => (0, p.found, p.count),
+        Err(refusal) => (u8::from(refusal), false, 0),
+    };
     writeln!(
         output,
         "{} {} {} {} {} {} {} {} {} {}",
-        check_readable(ws),
-        check_start(ws),
-        e.number,
-        e.waiters,
-        e.workers,
+        number(check_readable(ws)),
+        number(check_start(ws)),
+        refused,
+        waiters,
+        workers,
         process.len(),
         sum(process),
-        p.number,
-        u8::from(p.found),
-        p.count,
+        unsought,
+        u8::from(found),
+        count,
     )
 }
 
-// One case; whether there was one.
-fn case<R: Read, W: Write>(input: &mut R, output: &mut W) -> io::Result<bool> {
-    let mut head = [0u8; HEAD];
-    if !take(input, &mut head, HEAD)? {
-        return Ok(false);
-    }
-    let count = usize::from(word(head[0], head[1]));
-    if MOST < count {
-        return Ok(false);
-    }
-    let mut bytes = [0u8; MOST_BYTES];
-    let size = 2 * count;
-    if !take(input, &mut bytes, size)? {
-        return Ok(false);
-    }
+// A case: what the calls answer on its words.
+fn turn<W: Write>(output: &mut W, case: &[u8]) -> io::Result<()> {
+    let Some((head, bytes)) = case.split_first_chunk::<HEAD>() else {
+        return Ok(());
+    };
     let mut ws = [0u16; MOST];
-    let n = hold(&bytes[..size], &mut ws);
+    let n = hold(bytes, &mut ws);
     answer(
         output,
         &ws[..n],
         word(head[2], head[3]),
         word(head[4], head[5]),
         word(head[6], head[7]),
-    )?;
-    Ok(true)
+    )
 }
 
 fn main(rt: HostRuntime) -> io::Result<()> {
     let mut input = rt.stdin();
     let mut output = rt.stdout();
+    let mut bytes = [0u8; ROOM];
     for _ in 0..u64::MAX {
-        if !case(&mut input, &mut output)? {
-            break;
+        match read_case(&mut input, HEAD, &mut bytes)? {
+            None => break,
+            Some(size) => turn(&mut output, &bytes[..size])?,
         }
     }
     Ok(())

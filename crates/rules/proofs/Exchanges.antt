@@ -26,10 +26,9 @@ use Rattle.layout.specs.Positions.{onward}
 use Rattle.writers.proofs.Laid.{Near, onward_near, Laid, laid_put, laid_then}
 use Rattle.rules.specs.declared.store.Store.{Store}
 use Rattle.rules.specs.Rewriting.{Rewriting}
-use Rattle.rules.specs.declared.pair.Offer.{Offer}
 use Rattle.rules.specs.Rewriting.{vanishing, keeping, at, part_w}
 use Rattle.layout.specs.Heads.{executor_head}
-use Rattle.rules.specs.Offering.{hear_w, seq_first, three_to, three_w, serve_w}
+use Rattle.rules.specs.Offering.{Offer, hear_w, seq_first, three_to, three_w, serve_w}
 use Rattle.rules.proofs.Rewrites.{Becomes, becomes_nil, after, first_at, enable_words, part_becomes}
 use Rattle.rules.proofs.Depths.{depth_some}
 use Rattle.rules.proofs.Shapes.{Headed}

@@ -27,11 +27,10 @@ use Rattle.layout.specs.Kinds.{counted_as}
 use Rattle.layout.proofs.Named.{counted_is}
 use Rattle.rules.specs.declared.store.Store.{Store}
 use Rattle.rules.specs.Rewriting.{Rewriting}
-use Rattle.rules.specs.declared.pair.Offer.{Offer}
 use Rattle.rules.specs.Storing.{unchanged}
 use Rattle.rules.specs.Rewriting.{at}
 use Rattle.rules.specs.Messages.{hears_w, heard_w, serves_w, served_w, answers_w, answered_w}
-use Rattle.rules.specs.Offering.{offer_w, receives_w, fits_w, hear_w, serve_w, awaits_w, answer_w, fail_w}
+use Rattle.rules.specs.Offering.{Offer, offer_w, receives_w, fits_w, hear_w, serve_w, awaits_w, answer_w, fail_w}
 use Rattle.rules.proofs.Rewrites.{after}
 use Rattle.rules.proofs.Stores.{stored}
 use Rattle.rules.proofs.Shapes.{Headed}

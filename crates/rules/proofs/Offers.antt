@@ -25,9 +25,8 @@ use Rattle.sock.proofs.Measures.{words_act, depth_act}
 use Rattle.skipping.proofs.Skips.{code_end}
 use Rattle.layout.specs.Kinds.{counted_as}
 use Rattle.layout.proofs.Named.{counted_not}
-use Rattle.rules.specs.declared.pair.Offer.{Offer}
 use Rattle.rules.specs.Rewriting.{at, part_end}
-use Rattle.rules.specs.Offering.{offering, no_offer, bare_w, branch_at, chosen_w, choice_w, offer_w, receives_w, fits_w}
+use Rattle.rules.specs.Offering.{Offer, offering, no_offer, bare_w, branch_at, chosen_w, choice_w, offer_w, receives_w, fits_w}
 use Rattle.rules.proofs.Shapes.{Headed, Shape, assigns, branches, repeats, chooses, hears, serves, notifies, solicits, installs, throws, compensates, shape}
 use Rattle.rules.proofs.Rewrites.{head_on}
 

@@ -1,5 +1,5 @@
 -- The rules between two engines on words, as the code goes. No contract of a call names it.
-use Rattle.std.specs.Prelude.{ℕ, zero, suc, ◌-◌, Bool, true, false, cond, List, ltb, eqb, set}
+use Rattle.std.specs.Prelude.{ℕ, zero, suc, ◌-◌, Bool, true, false, cond, List, ltb, eqb, set, Option, None, Some}
 use Rattle.sock.specs.Kind
 use Rattle.sock.specs.Words.{kind_of, count_of, name_of, dead_of, waiters_server}
 use Rattle.layout.specs.Kinds.{counted_as}
@@ -10,9 +10,25 @@ use Rattle.rules.specs.Storing.{unchanged}
 use Rattle.rules.specs.Rewriting.{Rewritten, rewritten, vanishing, keeping, at, part_w, part_end}
 use Rattle.rules.specs.Rewriting.{Rewriting}
 use Rattle.rules.specs.declared.store.Store.{Store}
-use Rattle.rules.specs.declared.pair.Offer.{Offer}
+use Rattle.rules.specs.declared.pair.Offer as code
 
 -- ---- what is offered
+
+-- whether a receiver stands in the words, and where; from next..upto the process that follows a chosen branch, and next is 0 where none does
+pub record Offer : Type 0 where
+  pub some : Bool
+  pub guard : ℕ
+  pub next : ℕ
+  pub upto : ℕ
+  pub end : ℕ
+
+-- the code's offer, and none, as such
+abbrev pub standing : code.Offer → Offer
+standing o = record { some = true; guard = o.guard; next = o.next; upto = o.upto; end = o.end }
+
+abbrev pub offer_in : Option code.Offer → Offer
+offer_in None = record { some = false; guard = 0; next = 0; upto = 0; end = 0 }
+offer_in (Some o) = standing o
 
 abbrev pub offering : ℕ → ℕ → ℕ → ℕ → Offer
 offering guard next upto end = record { some = true; guard = guard; next = next; upto = upto; end = end }

@@ -7,7 +7,7 @@ use crate::store::{nothing, one};
 use evaluating::evaluate::Valued;
 use layout::field::variable_of;
 use layout::head;
-use layout::limit::{FUEL, Limits};
+use layout::limit::{Bounds, FUEL};
 use layout::number::word;
 use layout::refusal::Refusal;
 use reading::reader::read;
@@ -52,12 +52,11 @@ pub fn repeat(
     part: &[u16],
     e: Valued,
     level: usize,
-    bound: usize,
-    limits: Limits,
+    bounds: Bounds,
     fresh: &mut [u16],
 ) -> Result<Rewriting, Refusal>
-    ensures rewritten { rewriting_of result ≡ (repeat_w limits level bound part.now e fresh.old).rewriting }
-    ensures fresh { fresh.new ≡ (repeat_w limits level bound part.now e fresh.old).fresh }
+    ensures rewritten { rewriting_of result ≡ (repeat_w bounds.limits level bounds.ends part.now e fresh.old).rewriting }
+    ensures fresh { fresh.new ≡ (repeat_w bounds.limits level bounds.ends part.now e fresh.old).fresh }
 {
     let body = e.end;
     let end = skip(part, body, FUEL);
@@ -67,7 +66,15 @@ pub fn repeat(
     if word(part, body) == head::NIL {
         return Ok(keep(0, 0, end, end, nothing()));
     }
-    if read(part, 0, limits.deepest.saturating_sub(level), 0, bound).is_none() {
+    if read(
+        part,
+        0,
+        bounds.limits.deepest.saturating_sub(level),
+        0,
+        bounds.ends,
+    )
+    .is_none()
+    {
         return Err(Refusal::TooDeep);
     }
     Ok(unroll(part, body, end, fresh))

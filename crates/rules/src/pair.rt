@@ -2,7 +2,7 @@
 ghost use Rattle.std.specs.Prelude.{◌≡◌, ◌<◌};
 ghost use Rattle.layout.specs.Kinds.{number_of};
 ghost use Rattle.rules.specs.Rewriting.{turned};
-ghost use Rattle.rules.specs.Offering.{no_offer, bare_w, branch_at, choice_w, offer_w, receives_w, fits_w, hear_w, seq_first, three_to, three_w, serve_w, ask_w, waits_w, awaits_w, answer_w, fail_w};
+ghost use Rattle.rules.specs.Offering.{standing, offer_in, bare_w, branch_at, choice_w, offer_w, receives_w, fits_w, hear_w, seq_first, three_to, three_w, serve_w, ask_w, waits_w, awaits_w, answer_w, fail_w};
 
 use crate::rewriting::{Rewriting, keep, to_nil, to_part};
 use crate::store::{Store, nothing};
@@ -18,85 +18,65 @@ use writers::write::put;
 // Where a receiver stands in the words, and from next..upto the process that follows a chosen branch; next is 0 where none does.
 #[derive(Clone, Copy)]
 pub struct Offer {
-    pub some: bool,
     pub guard: usize,
     pub next: usize,
     pub upto: usize,
     pub end: usize,
 }
 
-fn no_offer() -> Offer
-    ensures { result ≡ no_offer }
-{
-    Offer {
-        some: false,
-        guard: 0,
-        next: 0,
-        upto: 0,
-        end: 0,
-    }
-}
-
 // A bare receiver, for branch 0.
 #[tactic(auto, unfolding(crate::specs::Offering::bare_w))]
-fn bare(part: &[u16], branch: usize) -> Offer
-    ensures { result ≡ bare_w part.now branch }
+fn bare(part: &[u16], branch: usize) -> Option<Offer>
+    ensures { offer_in result ≡ bare_w part.now branch }
 {
     if branch != 0 {
-        return no_offer();
+        return None;
     }
     let end = skip(part, 0, FUEL);
-    Offer {
-        some: true,
+    Some(Offer {
         guard: 0,
         next: 0,
         upto: end,
         end,
-    }
+    })
 }
 
 // Where the branch with `before` others in front of it begins.
-#[tactic(auto, unfolding(crate::specs::Offering::branch_at))]
+#[tactic(auto, using(crate::proofs::Branches::branch_turn, crate::proofs::Branches::branch_done))]
 fn branch_at(part: &[u16], before: usize) -> usize
     ensures { result ≡ branch_at part.now before 1 }
 {
     let mut at = 1;
-    let mut left = before;
-    while 0 < left {
+    for _ in 0..before {
         let p = skip(part, at, FUEL);
         at = skip(part, p, FUEL);
-        left = left - 1;
     }
     at
 }
 
 // A choice's branch, counted from 1.
 #[tactic(auto, unfolding(crate::specs::Offering::choice_w, crate::specs::Offering::chosen_w))]
-fn chosen(part: &[u16], count: usize, branch: usize) -> Offer
-    ensures { result ≡ choice_w part.now count branch }
+fn chosen(part: &[u16], count: usize, branch: usize) -> Option<Offer>
+    ensures { offer_in result ≡ choice_w part.now count branch }
 {
-    if branch == 0 {
-        return no_offer();
-    }
-    if count < branch {
-        return no_offer();
+    if !(1..=count).contains(&branch) {
+        return None;
     }
     let guard = branch_at(part, branch - 1);
     let next = skip(part, guard, FUEL);
     let upto = skip(part, next, FUEL);
     let end = skip(part, 0, FUEL);
-    Offer {
-        some: true,
+    Some(Offer {
         guard,
         next,
         upto,
         end,
-    }
+    })
 }
 
 #[tactic(auto, unfolding(crate::specs::Offering::offer_w))]
-pub fn offered(part: &[u16], branch: usize) -> Offer
-    ensures { result ≡ offer_w part.now branch }
+pub fn offered(part: &[u16], branch: usize) -> Option<Offer>
+    ensures { offer_in result ≡ offer_w part.now branch }
 {
     let h = word(part, 0);
     match Kind::of(h) {
@@ -116,18 +96,15 @@ fn receives(g: u16, kind: Kind, h: u16) -> bool
 // Whether a receiver of that kind stands there, with the operation of the head h.
 #[tactic(auto, unfolding(crate::specs::Offering::fits_w))]
 pub fn fits(part: &[u16], o: Offer, kind: Kind, h: u16) -> bool
-    ensures { result ≡ fits_w part.now o (number_of kind) h }
+    ensures { result ≡ fits_w part.now (standing o) (number_of kind) h }
 {
-    if o.some {
-        return receives(word(part, o.guard), kind, h);
-    }
-    false
+    receives(word(part, o.guard), kind, h)
 }
 
 // A one-way hears, and its variables take what the message brings.
 #[tactic(auto, unfolding(crate::specs::Offering::hear_w))]
 pub fn hear(part: &[u16], o: Offer, store: Store) -> Rewriting
-    ensures { turned result ≡ hear_w part.now o store }
+    ensures { turned result ≡ hear_w part.now (standing o) store }
 {
     if o.next == 0 {
         return to_nil(store);
@@ -168,8 +145,8 @@ pub fn serve(
     store: Store,
     fresh: &mut [u16],
 ) -> Rewriting
-    ensures rewritten { turned result ≡ (serve_w part.now o client serial store fresh.old).rewriting }
-    ensures fresh { fresh.new ≡ (serve_w part.now o client serial store fresh.old).fresh }
+    ensures rewritten { turned result ≡ (serve_w part.now (standing o) client serial store fresh.old).rewriting }
+    ensures fresh { fresh.new ≡ (serve_w part.now (standing o) client serial store fresh.old).fresh }
 {
     let h = word(part, o.guard);
     let y = word(part, further(o.guard, 1));

@@ -2,10 +2,8 @@ pub mod Climbing
 pub mod ClimbingDepths
 pub mod ClimbingPlaces
 pub mod Compensates
-pub mod Endings
 pub mod Ends
 pub mod Installs
-pub mod Marks
 pub mod NearestLists
 pub mod NilLists
 pub mod Promotes

@@ -6,8 +6,7 @@ use Rattle.layout.specs.Positions.{onward}
 use Rattle.layout.specs.Heads.{cleared_head}
 use Rattle.writers.specs.Writing.{pasted, pasted_end}
 use Rattle.finding.specs.declared.find.Site.{Site}
-use Rattle.handling.specs.declared.take.Taken.{Taken}
-use Rattle.handling.specs.Taking.{Took, take_w}
+use Rattle.handling.specs.Taking.{Taken, Took, taken, take_w}
 use Rattle.handling.specs.Updating.{update_by_w}
 use Rattle.rules.specs.Storing.{unchanged}
 use Rattle.rules.specs.Editing.{Edited, edited, nil_w}
@@ -28,7 +27,7 @@ took t out = record { answer = t; out = out }
 unfoldable pub take_behind_w : List ℕ → ℕ → ℕ → List ℕ → Took
 take_behind_w ws list key fresh =
     let t = take_w 64 ws list key (take (length fresh - 2) (drop 2 fresh)) in
-    cond (ltb (length fresh) 2) (took (record { to = 0; from = 0; upto = 0 }) fresh)
+    cond (ltb (length fresh) 2) (took (taken 0 0 0) fresh)
     (took t.answer (take 2 fresh ++ (t.out ++ drop (length fresh - 2) (drop 2 fresh))))
 
 unfoldable pub taken_to : List ℕ → Taken → ℕ → ℕ

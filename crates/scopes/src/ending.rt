@@ -1,7 +1,8 @@
 // A scope whose body is nil: with a mark it runs the handler under its key, else it ends.
 ghost use Rattle.std.specs.Prelude.{◌≡◌};
 ghost use Rattle.rules.specs.Editing.{made};
-ghost use Rattle.scopes.specs.Ending.{resumed_head, key_at_w, take_behind_w, taken_to, taken_w, resumed_w, promoted_to, promoted_w, ending_w, unmarked_w, ended_w};
+ghost use Rattle.handling.specs.Taking.{taken_as};
+ghost use Rattle.scopes.specs.Ending.{resumed_head, key_at_w, take_behind_w, resumed_w, ending_w, unmarked_w, ended_w};
 
 use crate::installing::updated;
 use finding::find::Site;
@@ -14,7 +15,7 @@ use layout::mark::Mark;
 use layout::number::{further, word};
 use rules::edit::{Edit, become_nil};
 use rules::store::nothing;
-use skipping::pass::pass_list;
+use skipping::pass::Noted;
 use writers::write::{copy, put};
 
 // The head of a scope that runs its handler: no mark is left.
@@ -39,53 +40,35 @@ fn key_at(ws: &[u16], at: usize) -> usize
 // The list without the entry of a key, behind two words.
 #[tactic(auto, unfolding(crate::specs::Ending::take_behind_w))]
 fn take_behind(ws: &[u16], list: usize, key: usize, fresh: &mut [u16]) -> Taken
-    ensures answered { result ≡ (take_behind_w ws.now list key fresh.old).answer }
+    ensures answered { result ≡ taken_as (take_behind_w ws.now list key fresh.old).answer }
     ensures fresh { fresh.new ≡ (take_behind_w ws.now list key fresh.old).out }
 {
     if fresh.len() < 2 {
         return Taken {
             to: 0,
-            from: 0,
-            upto: 0,
+            process: None,
         };
     }
     take(ws, list, key, FUEL, &mut fresh[2..])
 }
 
-// What was taken out, or nil where nothing was; the place behind it.
-#[tactic(auto, unfolding(crate::specs::Ending::taken_to, crate::specs::Ending::taken_w))]
-fn put_taken(ws: &[u16], t: Taken, fresh: &mut [u16], to: usize) -> usize
-    ensures place { result ≡ taken_to ws.now t to }
-    ensures fresh { fresh.new ≡ taken_w ws.now t fresh.old to }
+// The scope at `at` with no mark, without the handler under the key, and that as its body, or nil where there is none.
+#[tactic(auto, unfolding(crate::specs::Ending::resumed_w, crate::specs::Ending::taken_to, crate::specs::Ending::taken_w))]
+fn resumed(noted: &Noted, start: usize, at: usize, key: usize, fresh: &mut [u16]) -> Edit
+    ensures edited { made result ≡ (resumed_w noted.now.ws.now noted.now.notes.now start at key fresh.old).edit }
+    ensures fresh { fresh.new ≡ (resumed_w noted.now.ws.now noted.now.notes.now start at key fresh.old).fresh }
 {
-    let upto = t.upto;
-    if upto == 0 {
-        return put(fresh, to, 0);
-    }
-    let from = t.from;
-    copy(ws, from, upto, fresh, to)
-}
-
-// The scope at `at` with no mark, without the handler under the key, and that as its body.
-fn resumed(
-    ws: &[u16],
-    notes: &[u16],
-    start: usize,
-    at: usize,
-    key: usize,
-    fresh: &mut [u16],
-) -> Edit
-    ensures edited { made result ≡ (resumed_w ws.now notes.now start at key fresh.old).edit }
-    ensures fresh { fresh.new ≡ (resumed_w ws.now notes.now start at key fresh.old).fresh }
-{
-    let h = resumed_head(word(ws, at));
+    let h = resumed_head(word(noted.ws, at));
     put(fresh, 0, h);
     put(fresh, 1, 0);
     let l = further(at, 2);
-    let t = take_behind(ws, l, key, fresh);
+    let t = take_behind(noted.ws, l, key, fresh);
     let to = further(2, t.to);
-    let g = put_taken(ws, t, fresh, to);
-    let end = further(pass_list(ws, notes, l, FUEL), 1);
+    let g = match t.process {
+        None => put(fresh, to, head::NIL),
+        Some(p) => copy(noted.ws, p.from, p.upto, fresh, to),
+    };
+    let end = further(noted.pass_list(l, FUEL), 1);
     Edit {
         list: start,
         past: start,
@@ -99,54 +82,44 @@ fn resumed(
     }
 }
 
-// The list at `l` updated by what was taken out under the key, from 0 on; the place behind it.
-#[tactic(auto, unfolding(crate::specs::Ending::promoted_to, crate::specs::Ending::promoted_w))]
-fn promoted(ws: &[u16], l: usize, t: Taken, key: usize, fresh: &mut [u16]) -> usize
-    ensures place { result ≡ promoted_to ws.now l t key fresh.old }
-    ensures fresh { fresh.new ≡ promoted_w ws.now l t key fresh.old }
+// The scope becomes nil, and the nearest is updated by its name and the handler under it, or loses its own where there is none.
+#[tactic(auto, unfolding(crate::specs::Ending::ending_w, crate::specs::Ending::promoted_to, crate::specs::Ending::promoted_w))]
+fn ending(noted: &Noted, s: Site, key: usize, fresh: &mut [u16]) -> Edit
+    ensures edited { made result ≡ (ending_w noted.now.ws.now noted.now.notes.now s key fresh.old).edit }
+    ensures fresh { fresh.new ≡ (ending_w noted.now.ws.now noted.now.notes.now s key fresh.old).fresh }
 {
-    if t.upto == 0 {
-        let u = take(ws, l, key, FUEL, fresh);
-        return u.to;
-    }
-    let u = update_by(ws, l, t.from.saturating_sub(1), 1, FUEL, fresh);
-    u.to
-}
-
-// The scope becomes nil, and the nearest is updated by its name and the handler under it.
-fn ending(ws: &[u16], notes: &[u16], s: Site, key: usize, fresh: &mut [u16]) -> Edit
-    ensures edited { made result ≡ (ending_w ws.now notes.now s key fresh.old).edit }
-    ensures fresh { fresh.new ≡ (ending_w ws.now notes.now s key fresh.old).fresh }
-{
-    let t = take(ws, further(s.at, 2), key, FUEL, fresh);
+    let t = take(noted.ws, further(s.at, 2), key, FUEL, fresh);
     let l = further(s.scope, 2);
-    let f = promoted(ws, l, t, key, fresh);
-    updated(ws, notes, s, l, f, fresh)
+    let f = match t.process {
+        None => take(noted.ws, l, key, FUEL, fresh).to,
+        Some(p) => update_by(noted.ws, l, p.from.saturating_sub(1), 1, FUEL, fresh).to,
+    };
+    updated(noted, s, l, f, fresh)
 }
 
 // The scope with no mark ends: it becomes nil, and hands its handler on where it was killed by nobody and stands in another scope.
 #[tactic(auto, unfolding(crate::specs::Ending::unmarked_w))]
-fn unmarked(ws: &[u16], notes: &[u16], start: usize, s: Site, key: usize, fresh: &mut [u16]) -> Edit
-    ensures edited { made result ≡ (unmarked_w ws.now notes.now start s key fresh.old).edit }
-    ensures fresh { fresh.new ≡ (unmarked_w ws.now notes.now start s key fresh.old).fresh }
+fn unmarked(noted: &Noted, start: usize, s: Site, key: usize, fresh: &mut [u16]) -> Edit
+    ensures edited { made result ≡ (unmarked_w noted.now.ws.now noted.now.notes.now start s key fresh.old).edit }
+    ensures fresh { fresh.new ≡ (unmarked_w noted.now.ws.now noted.now.notes.now start s key fresh.old).fresh }
 {
-    if is_zombie(word(ws, s.at)) || s.scope == 0 {
+    if is_zombie(word(noted.ws, s.at)) || s.scope == 0 {
         return become_nil(s, start, start, 0, nothing(), fresh);
     }
-    ending(ws, notes, s, key, fresh)
+    ending(noted, s, key, fresh)
 }
 
 // The scope with nil body at `s`, in the engine's process that begins at `start`.
 #[tactic(auto, unfolding(crate::specs::Ending::ended_w))]
-pub fn ended(ws: &[u16], notes: &[u16], start: usize, s: Site, fresh: &mut [u16]) -> Edit
-    ensures edited { made result ≡ (ended_w ws.now notes.now start s fresh.old).edit }
-    ensures fresh { fresh.new ≡ (ended_w ws.now notes.now start s fresh.old).fresh }
+pub fn ended(noted: &Noted, start: usize, s: Site, fresh: &mut [u16]) -> Edit
+    ensures edited { made result ≡ (ended_w noted.now.ws.now noted.now.notes.now start s fresh.old).edit }
+    ensures fresh { fresh.new ≡ (ended_w noted.now.ws.now noted.now.notes.now start s fresh.old).fresh }
 {
     let at = s.at;
-    let h = word(ws, at);
-    let key = key_at(ws, at);
+    let h = word(noted.ws, at);
+    let key = key_at(noted.ws, at);
     match Mark::of(h) {
-        Mark::Unmarked => unmarked(ws, notes, start, s, key, fresh),
-        _ => resumed(ws, notes, start, at, key, fresh),
+        Mark::Unmarked => unmarked(noted, start, s, key, fresh),
+        _ => resumed(noted, start, at, key, fresh),
     }
 }

@@ -10,7 +10,7 @@ use layout::number::further;
 use layout::refusal::Refusal;
 use rules::edit::{Edit, become_nil};
 use rules::store::nothing;
-use skipping::pass::pass_list;
+use skipping::pass::Noted;
 
 // Whether entries of so many levels are too deep, in a scope at a level.
 #[tactic(auto, unfolding(crate::specs::Installing::too_deep_w))]
@@ -22,34 +22,33 @@ fn too_deep(limits: Limits, level: usize, levels: usize) -> bool
 
 // The list at `l` becomes the first `f` fresh words, the process nil.
 #[tactic(auto, unfolding(crate::specs::Installing::updated_w))]
-pub fn updated(ws: &[u16], notes: &[u16], s: Site, l: usize, f: usize, fresh: &mut [u16]) -> Edit
-    ensures edited { made result ≡ (updated_w ws.now notes.now s l f fresh.old).edit }
-    ensures fresh { fresh.new ≡ (updated_w ws.now notes.now s l f fresh.old).fresh }
+pub fn updated(noted: &Noted, s: Site, l: usize, f: usize, fresh: &mut [u16]) -> Edit
+    ensures edited { made result ≡ (updated_w noted.now.ws.now noted.now.notes.now s l f fresh.old).edit }
+    ensures fresh { fresh.new ≡ (updated_w noted.now.ws.now noted.now.notes.now s l f fresh.old).fresh }
 {
-    let m = pass_list(ws, notes, l, FUEL);
+    let m = noted.pass_list(l, FUEL);
     become_nil(s, l, m, f, nothing(), fresh)
 }
 
 // The inst at `s`, in the engine's process that begins at `start`.
 #[tactic(auto, unfolding(crate::specs::Installing::installed_w))]
 pub fn installed(
-    ws: &[u16],
-    notes: &[u16],
+    noted: &Noted,
     start: usize,
     s: Site,
     limits: Limits,
     fresh: &mut [u16],
 ) -> Result<Edit, Refusal>
-    ensures edited { edit_of result ≡ (installed_w limits ws.now notes.now start s fresh.old).edit }
-    ensures fresh { fresh.new ≡ (installed_w limits ws.now notes.now start s fresh.old).fresh }
+    ensures edited { edit_of result ≡ (installed_w limits noted.now.ws.now noted.now.notes.now start s fresh.old).edit }
+    ensures fresh { fresh.new ≡ (installed_w limits noted.now.ws.now noted.now.notes.now start s fresh.old).fresh }
 {
     if s.scope == 0 {
         return Ok(become_nil(s, start, start, 0, nothing(), fresh));
     }
     let l = further(s.scope, 2);
-    let u = update(ws, l, further(s.at, 1), FUEL, fresh);
+    let u = update(noted.ws, l, further(s.at, 1), FUEL, fresh);
     if too_deep(limits, s.scope_level, u.levels) {
         return Err(Refusal::TooDeep);
     }
-    Ok(updated(ws, notes, s, l, u.to, fresh))
+    Ok(updated(noted, s, l, u.to, fresh))
 }

@@ -7,21 +7,20 @@ use mathlib.Core.Path.{◌≡◌, refl, sym, ap, ◌∙◌}
 use mathlib.Core.Bool.{Bool, true, false, cond}
 use mathlib.Core.Option.{Option}
 use mathlib.Core.List.{List, ◌++◌}
-use borrow.Author.Tests.{eq-eqb, ne_eqb, le-ltb, leb-true, leb-false}
+use borrow.Author.Tests.{eq-eqb, ne_eqb, leb-true, leb-false}
 use lib.Dec.{leb, eqb}
 use lib.ListN.{length, get_or, drop}
 use Rattle.sock.specs.Running.{run_words, size}
 use Rattle.sock.specs.Configuration.{Config}
 use Rattle.sock.specs.Frames.{Located}
 use Rattle.sock.specs.Calls.{Spot as Place, unreadable, nobody_there, done, ◌!◌, ◌>>=◌, enabled_at}
-use Rattle.sock.specs.Pending.{pending, side_at, searched, pending_at}
+use Rattle.sock.specs.Pending.{Pending, pending, side_at, searched, pending_at}
 use Rattle.sock.proofs.Located.{start_of, size_positive}
 use Rattle.sock.proofs.Positions.{stands_within}
 use Rattle.sock.proofs.Pending.{count_few}
-use Rattle.reading.specs.declared.survey.Starts.{Starts}
-use Rattle.reading.specs.Survey.{surveyed}
+use Rattle.reading.specs.Survey.{Starts, surveyed}
 use Rattle.reading.proofs.Combining.{Words}
-use Rattle.reading.proofs.Known.{Known, survey_known, survey_unknown, few_engines, known_length}
+use Rattle.reading.proofs.Known.{Known, survey_known, survey_unknown, known_length}
 use Rattle.skipping.proofs.Notes.{Right}
 use Rattle.noting.specs.Noting.{survey_notes}
 use Rattle.noting.proofs.Noted.{survey_right}
@@ -32,12 +31,10 @@ use Rattle.finding.specs.declared.find.Site.{Site}
 use Rattle.finding.specs.declared.find.Found.{Found}
 use Rattle.finding.specs.Find.{find_w}
 use Rattle.pending.proofs.Looks.{pending_looks}
-use Rattle.stepping.specs.Lent.{Modest}
+use Rattle.stepping.proofs.Modest.{Modest}
 use Rattle.stepping.proofs.Partners as partners
 use Rattle.stepping.proofs.Seeking.{Seen, placed, Seeks, unseen, seen, seeks, seeks_none}
-use Rattle.searching.specs.declared.call.Pending.{Pending}
-use Rattle.searching.specs.Answers.{pending_as, refusing}
-use Rattle.searching.specs.Asking.{counted_w, found_w, asked_w}
+use Rattle.searching.specs.Asking.{refusing, counted_w, found_w, asked_w}
 
 -- no engine, nothing read; or the engine looked up
 refused_at :
@@ -48,13 +45,13 @@ refused_at limits ws blank engine position s q z = rw (← q, eq-eqb s.engines 0
 
 looked_up :
     (limits : Limits) (ws blank : List ℕ) (engine position : ℕ) (s : Starts) (n : ℕ) → s ≡ surveyed (figures limits) 11 ws →
-    s.engines ≡ n → (n ≡ 0 → ⊥) → n ≤ 8 →
+    s.engines ≡ n → (n ≡ 0 → ⊥) →
     asked_w limits ws blank engine position
     ≡ cond (leb n engine) (refusing 2)
     (found_w ws (survey_notes (figures limits) ws blank)
     (find_w 64 ws (survey_notes (figures limits) ws blank) (onward (get_or s.starts engine 0) position) 1 (get_or s.starts engine 0)))
 unfolding asked_w
-looked_up limits ws blank engine position s n q z more few = rw (← q, z, ne_eqb n 0 more, le-ltb 8 n few)
+looked_up limits ws blank engine position s n q z more = rw (← q, z, ne_eqb n 0 more)
 
 module _ {limits : Limits} (modest : Modest limits) (ws : List ℕ) (ok : Words ws) (engine position : ℕ) (low : position < 65536) (blank : List ℕ)
     (blank_right : Right ws blank) where
@@ -76,7 +73,7 @@ module _ {limits : Limits} (modest : Modest limits) (ws : List ℕ) (ok : Words 
     -- the process found is searched
     counted_law :
         (target : ℕ) (l : Located) (sp : Site) → Seen ws ok s modest known engine target l sp →
-        counted_w ws notes sp.at ≡ pending_as (searched (done (placed ws ok s modest known engine l)))
+        counted_w ws notes sp.at ≡ searched (done (placed ws ok s modest known engine l))
     unfolding counted_w searched size
     counted_law target l sp y =
         let short : length ws ≤ 8192 = omega (arith, (known_length known).1, modest.few) in
@@ -101,29 +98,28 @@ module _ {limits : Limits} (modest : Modest limits) (ws : List ℕ) (ok : Words 
     found_law :
         engine < n →
         found_w ws notes (find_w 64 ws notes (onward (start_of c engine) position) 1 (start_of c engine))
-        ≡ pending_as (searched ((nobody_there ! enabled_at c engine position) >>= λ a. done a))
+        ≡ searched ((nobody_there ! enabled_at c engine position) >>= λ a. done a)
     unfolding found_w ◌!◌ ◌>>=◌ searched
     found_law h = by _ _ (seeks ws ok s modest known engine h position low notes right)
       where
         by :
             (f : Found) (o : Option Place) → Seeks ws ok s modest known engine position (start_of c engine + position) f o →
-            found_w ws notes f ≡ pending_as (searched ((nobody_there ! o) >>= λ a. done a))
+            found_w ws notes f ≡ searched ((nobody_there ! o) >>= λ a. done a)
         by _ _ unseen = refl
         by _ _ (seen {l = l} {sp = sp} y) = counted_law _ l sp y
 
     read_law :
         (s.engines ≡ 0 → ⊥) → s ≡ surveyed (figures limits) 11 ws →
-        asked_w limits ws blank engine position ≡ pending_as (searched ((nobody_there ! enabled_at c engine position) >>= λ a. done a))
+        asked_w limits ws blank engine position ≡ searched ((nobody_there ! enabled_at c engine position) >>= λ a. done a)
     unfolding ◌!◌ ◌>>=◌ searched
     read_law more q =
         looked_up limits ws blank engine position s n q known.engines (λ z. more (known.engines ∙ z))
-        (omega (arith, few_engines known, known.engines))
         ∙ by (leb n engine) refl
       where
         by :
             (b : Bool) → leb n engine ≡ b →
             cond b (refusing 2) (found_w ws notes (find_w 64 ws notes (onward (get_or s.starts engine 0) position) 1 (get_or s.starts engine 0)))
-            ≡ pending_as (searched ((nobody_there ! enabled_at c engine position) >>= λ a. done a))
+            ≡ searched ((nobody_there ! enabled_at c engine position) >>= λ a. done a)
         by true y = rw (seeks_none ws ok s modest known engine position (leb-true n engine y))
         by false y =
             let h : engine < n = leb-false n engine y in
@@ -132,16 +128,16 @@ module _ {limits : Limits} (modest : Modest limits) (ws : List ℕ) (ok : Words 
 
   -- ---- all words
 
-  pub asked_law : asked_w limits ws blank engine position ≡ pending_as (pending_at (figures limits) ws engine position)
+  pub asked_law : asked_w limits ws blank engine position ≡ pending_at (figures limits) ws engine position
   unfolding pending_at side_at ◌!◌ ◌>>=◌ searched
   asked_law = by (surveyed (figures limits) 11 ws) refl
     where
-      by : (s : Starts) → s ≡ surveyed (figures limits) 11 ws → asked_w limits ws blank engine position ≡ pending_as (pending_at (figures limits) ws engine position)
+      by : (s : Starts) → s ≡ surveyed (figures limits) 11 ws → asked_w limits ws blank engine position ≡ pending_at (figures limits) ws engine position
       by s q = decide (ℕ_discrete s.engines 0)
         where
-          decide : Dec (s.engines ≡ 0) → asked_w limits ws blank engine position ≡ pending_as (pending_at (figures limits) ws engine position)
+          decide : Dec (s.engines ≡ 0) → asked_w limits ws blank engine position ≡ pending_at (figures limits) ws engine position
           decide (yes z) = refused_at limits ws blank engine position s q z ∙ rw (survey_unknown (figures limits) ws ok s q z)
           decide (no z) =
               let known = survey_known (figures limits) ws ok s q z in
               read_law s known z q
-              ∙ ap (λ o. pending_as (searched ((unreadable ! o) >>= λ c. (nobody_there ! enabled_at c engine position) >>= λ a. done a))) (sym known.reads)
+              ∙ ap (λ o. searched ((unreadable ! o) >>= λ c. (nobody_there ! enabled_at c engine position) >>= λ a. done a)) (sym known.reads)

@@ -1,2 +1,1 @@
-pub mod Asking
 pub mod Law

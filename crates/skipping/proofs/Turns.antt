@@ -6,10 +6,14 @@ use native.Mathlib.Numerals.{sub-one}
 use mathlib.Core.Path.{◌≡◌, refl, ap, ◌∙◌}
 use mathlib.Core.Bool.{Bool, true, false, ◌||◌, cond}
 use mathlib.Core.List.{List}
-use borrow.Author.Tests.{lt-ltb, le-ltb}
+use borrow.Author.Tests.{lt-ltb}
 use lib.Dec.{ltb, eqb}
 use lib.ListN.{length, get_or}
-use Rattle.skipping.specs.Skip.{expr_form, expr_loop, entries_skip, behind_by, form_of, parts_by, turn_by, skip_loop, skip_end}
+use Rattle.layout.specs.Kinds.{kind_named, number_of, tag_named, tag_number}
+use Rattle.layout.specs.declared.kind.Kind.{Kind}
+use Rattle.layout.specs.declared.tag.Tag.{Tag}
+use Rattle.skipping.proofs.Forms.{form_head, expr_named}
+use Rattle.skipping.specs.Skip.{expr_form, expr_loop, entries_skip, behind_by, form_of, parts_by, turn_by, skip_loop}
 
 both_none : (b : Bool) → ◌≡◌ {A = ℕ} (cond b 0 0) 0
 both_none true = refl
@@ -37,50 +41,34 @@ expr_over (suc turns) ws (suc left) i h =
     ap (λ e. cond (ltb i (length ws)) e 0) (expr_over turns ws (left + f / 4) (i + f % 4) (omega arith)) ∙ both_none (ltb i (length ws))
 
 module _ (ws : List ℕ) where
-  pub expr_out : (turns left i : ℕ) → (left ≡ 0 → ⊥) → length ws ≤ i → expr_loop turns ws left i ≡ 0
-  unfolding expr_loop
-  expr_out turns zero i some h = absurd (some refl)
-  expr_out zero (suc left) i some h = refl
-  expr_out (suc turns) (suc left) i some h = rw (le-ltb i (length ws) h)
-
   pub expr_turn :
-      (turns left i f : ℕ) →
+      {r : Tag} (turns left i f : ℕ) →
       (left ≡ 0 → ⊥) →
       left ≤ turns →
       i < length ws →
-      f ≡ expr_form (get_or ws i 0 / 8192) →
+      r ≡ tag_named (get_or ws i 0 / 8192) →
+      f ≡ expr_form (tag_number r) →
       expr_loop (turns - 1) ws (left - 1 + f / 4) (i + f % 4) ≡ expr_loop turns ws left i
   unfolding expr_loop
-  expr_turn turns zero i f some h inside e = absurd (some refl)
-  expr_turn zero (suc left) i f some h inside e = absurd (omega arith)
-  expr_turn (suc turns) (suc left) i f some h inside e = rw (lt-ltb i (length ws) inside, e, sub-one (suc turns), sub-one (suc left))
+  expr_turn turns zero i f some h inside q e = absurd (some refl)
+  expr_turn zero (suc left) i f some h inside q e = absurd (omega arith)
+  expr_turn (suc turns) (suc left) i f some h inside q e =
+      rw (lt-ltb i (length ws) inside, e, q, expr_named (get_or ws i 0 / 8192), sub-one (suc turns), sub-one (suc left))
 
 -- ---- entries
 
 module _ (sub : ℕ → ℕ) (ws : List ℕ) (wanted : ℕ) where
   pub entries_turn :
-      (n i : ℕ) (met : Bool) (a : ℕ) →
+      (n i : ℕ) (met m : Bool) (a b : ℕ) →
       i < n →
-      entries_skip sub ws wanted (n - i) met a
-      ≡ cond (ltb a (length ws)) (entries_skip sub ws wanted (n - (i + 1)) (met || eqb (get_or ws a 0 / 512) wanted) (sub (a + 1))) 0
+      a < length ws →
+      m ≡ (met || eqb (get_or ws a 0 / 512) wanted) →
+      b ≡ sub (a + 1) →
+      entries_skip sub ws wanted (n - (i + 1)) m b ≡ entries_skip sub ws wanted (n - i) met a
   unfolding entries_skip
-  entries_turn n i met a h = let e : n - i ≡ suc (n - (i + 1)) = omega arith in rw e
-
-  pub entries_done : (n i : ℕ) (met : Bool) (a : ℕ) → n ≤ i → entries_skip sub ws wanted (n - i) met a ≡ cond met a 0
-  unfolding entries_skip
-  entries_done n i met a h = let e : n - i ≡ 0 = omega arith in rw e
+  entries_turn n i met m a b h inside e q = let k : n - i ≡ suc (n - (i + 1)) = omega arith in rw (k, lt-ltb a (length ws) inside, ← e, ← q)
 
 -- ---- processes
-
-pub no_depth : (d : ℕ) (ws : List ℕ) (i : ℕ) → d ≡ 0 → skip_end d ws i ≡ 0
-unfolding skip_end
-no_depth zero ws i e = refl
-no_depth (suc d) ws i e = absurd (omega arith)
-
-pub skip_start : (d : ℕ) (ws : List ℕ) (i : ℕ) → (d ≡ 0 → ⊥) → skip_loop (length ws) (skip_end (d - 1) ws) ws 1 0 i ≡ skip_end d ws i
-unfolding skip_end
-skip_start zero ws i e = absurd (e refl)
-skip_start (suc d) ws i e = rw (sub-one (suc d))
 
 pub skip_last : (turns : ℕ) (sub : ℕ → ℕ) (ws : List ℕ) (left follows i : ℕ) → left ≡ 0 → skip_loop turns sub ws left follows i ≡ behind_by sub ws follows i
 unfolding skip_loop
@@ -101,22 +89,19 @@ skip_over (suc turns) sub ws (suc left) follows i h =
     ∙ both_none (ltb e (length ws))
 
 module _ (sub : ℕ → ℕ) (ws : List ℕ) where
-  pub skip_out : (turns left follows i : ℕ) → (left ≡ 0 → ⊥) → length ws ≤ behind_by sub ws follows i → skip_loop turns sub ws left follows i ≡ 0
-  unfolding skip_loop turn_by
-  skip_out turns zero follows i some h = absurd (some refl)
-  skip_out zero (suc left) follows i some h = refl
-  skip_out (suc turns) (suc left) follows i some h = rw (le-ltb (behind_by sub ws follows i) (length ws) h)
-
   pub skip_turn :
-      (turns left follows i e h f : ℕ) →
+      {r : Kind} (turns left follows i e h f : ℕ) →
       (left ≡ 0 → ⊥) →
       left ≤ turns →
       e ≡ behind_by sub ws follows i →
       e < length ws →
       h ≡ get_or ws e 0 →
-      f ≡ form_of (h / 2048) →
+      r ≡ kind_named (get_or ws e 0 / 2048) →
+      f ≡ form_of (number_of r) →
       skip_loop (turns - 1) sub ws (left - 1 + f / 128 % 4 + h % 2048 * (f / 512)) (f / 8 % 16) (e + f % 8) ≡ skip_loop turns sub ws left follows i
   unfolding skip_loop turn_by parts_by
-  skip_turn turns zero follows i e h f some m q inside hd fm = absurd (some refl)
-  skip_turn zero (suc left) follows i e h f some m q inside hd fm = absurd (omega arith)
-  skip_turn (suc turns) (suc left) follows i e h f some m q inside hd fm = rw (← q, lt-ltb e (length ws) inside, ← hd, ← fm, sub-one (suc turns), sub-one (suc left)) (ap (λ n. skip_loop turns sub ws n (f / 8 % 16) (e + f % 8)) (grouped left (f / 128 % 4) (h % 2048 * (f / 512))))
+  skip_turn turns zero follows i e h f some m q inside hd k fm = absurd (some refl)
+  skip_turn zero (suc left) follows i e h f some m q inside hd k fm = absurd (omega arith)
+  skip_turn (suc turns) (suc left) follows i e h f some m q inside hd k fm =
+      let form : f ≡ form_of (h / 2048) = fm ∙ form_head hd k in
+      rw (← q, lt-ltb e (length ws) inside, ← hd, ← form, sub-one (suc turns), sub-one (suc left)) (ap (λ n. skip_loop turns sub ws n (f / 8 % 16) (e + f % 8)) (grouped left (f / 128 % 4) (h % 2048 * (f / 512))))

@@ -1,6 +1,7 @@
 // Passing over what the reader has accepted: where a process, a list or an expression ends. Nothing is tested but that words are left, so an
 // answer says something only of words that were read.
-ghost use Rattle.std.specs.Prelude.{◌≡◌, ◌<◌};
+ghost use Rattle.std.specs.Prelude.{◌≡◌, ◌<◌, not, eqb, unwrap_or};
+ghost use Rattle.layout.specs.Keys.{no_key};
 ghost use Rattle.layout.specs.Kinds.{number_of, tag_number};
 ghost use Rattle.skipping.specs.Skip.{form_of, expr_form, expr_skip, behind_by, skip_end, skip_list};
 
@@ -64,6 +65,7 @@ fn form(kind: Kind) -> usize
 // last one's own words; each has a word of its own, so there are no more turns than words. What follows is passed over in the next turn,
 // since a branch on it right away would make the match a jump by kind.
 #[cycle(behind_skip_skip_list)]
+#[tactic(auto, using(crate::proofs::Turns::skip_turn, crate::proofs::Turns::skip_over), unfolding(crate::specs::Skip::skip_end, crate::specs::Skip::skip_loop, crate::specs::Skip::turn_by))]
 pub fn skip(ws: &[u16], at: usize, depth: usize) -> usize
     ensures { result ≡ skip_end depth ws.now at }
 {
@@ -116,20 +118,22 @@ fn behind(ws: &[u16], at: usize, follows: usize, depth: usize) -> usize
     if ws[a] == 0 {
         return a + 1;
     }
-    skip_list(ws, a, depth, NO_KEY)
+    skip_list(ws, a, depth, None)
 }
 
-// Where the list whose count is at `at` ends; 0 if no entry has the key wanted, unless that is `NO_KEY`.
+// Where the list whose count is at `at` ends; 0 if a key is wanted that no entry has. That is no `Option`, since the last entry may also end at 0,
+// where the words do not say, and whoever passes over goes on from there.
 #[cycle(behind_skip_skip_list)]
-#[tactic(auto, using(crate::proofs::Turns::entries_turn, crate::proofs::Turns::entries_done), unfolding(crate::specs::Skip::list_by, crate::specs::Skip::skip_list))]
-pub fn skip_list(ws: &[u16], at: usize, depth: usize, wanted: usize) -> usize
-    ensures { result ≡ skip_list depth ws.now wanted at }
+#[tactic(auto, using(crate::proofs::Turns::entries_turn), unfolding(crate::specs::Skip::list_by, crate::specs::Skip::skip_list, crate::specs::Skip::entries_skip))]
+pub fn skip_list(ws: &[u16], at: usize, depth: usize, wanted: Option<usize>) -> usize
+    ensures { result ≡ skip_list depth ws.now (unwrap_or wanted no_key) at }
 {
     if ws.len() <= at {
         return 0;
     }
     let count = wide(ws[at]);
     let mut a = at + 1;
+    let wanted = wanted.unwrap_or(NO_KEY);
     let mut met = NO_KEY <= wanted;
     for _ in 0..count {
         if ws.len() <= a {
@@ -139,6 +143,13 @@ pub fn skip_list(ws: &[u16], at: usize, depth: usize, wanted: usize) -> usize
         a = skip(ws, a + 1, depth);
     }
     if met { a } else { 0 }
+}
+
+// Whether an entry of the list has the key.
+pub fn has_key(ws: &[u16], at: usize, depth: usize, key: usize) -> bool
+    ensures { result ≡ not (eqb (skip_list depth ws.now key at) 0) }
+{
+    skip_list(ws, at, depth, Some(key)) != 0
 }
 
 // An expression by the first three bits of its word: in the lowest 2 bits its own words, then its operands.
@@ -156,7 +167,7 @@ fn expression_form(tag: Tag) -> usize
 }
 
 // Where the expression at `at` ends; `left` expressions are still to come from `a` on.
-#[tactic(auto, unfolding(crate::specs::Skip::expr_skip))]
+#[tactic(auto, using(crate::proofs::Turns::expr_turn, crate::proofs::Turns::expr_over), unfolding(crate::specs::Skip::expr_skip, crate::specs::Skip::expr_loop))]
 fn skip_expression(ws: &[u16], at: usize) -> usize
     ensures { result ≡ expr_skip ws.now at }
 {

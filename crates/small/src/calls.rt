@@ -3,80 +3,55 @@ ghost use Rattle.std.specs.Prelude.{◌≡◌};
 ghost use Rattle.sock.specs.Cabinets.{small};
 ghost use Rattle.sock.specs.Calls.{check_readable, check_start, step_answer, step_output};
 ghost use Rattle.sock.specs.Journal.{journal_answer, journal_output, journal_written};
-ghost use Rattle.stepping.specs.Answers.{answer_as, numbers};
+ghost use Rattle.layout.specs.Refusals.{number_in};
+ghost use Rattle.stepping.specs.Answers.{told};
+ghost use Rattle.stepping.specs.Bundles.{numbers_as};
 
-use journal::steps::{room_in, written};
-use layout::limit::{SMALL, SMALL_LONGEST};
+use journal::steps::step_in;
+use layout::limit::{self, SMALL_LONGEST};
+use layout::refusal::Refusal;
 use reading::calls::{readable_at, start_at};
-use stepping::answer::Answer;
+use stepping::answer::Accepted;
 use stepping::bundles::Numbers;
+use stepping::limits::SMALL;
 use stepping::steps::step_at;
 
 // Notes for every configuration, two words for each of its words.
 const NOTES: usize = 4096;
 
-// Readable check: 0, or 1 if the configuration is not readable here.
-pub fn check_readable(ws: &[u16]) -> u8
-    ensures { result ≡ check_readable small ws.now }
+// Readable check: refused if the configuration is not readable here.
+pub fn check_readable(ws: &[u16]) -> Result<(), Refusal>
+    ensures { number_in result ≡ check_readable small ws.now }
 {
-    readable_at(ws, SMALL)
+    readable_at(ws, limit::SMALL)
 }
 
-// Start check: 1 if the configuration is not readable here, 11 if it is not fresh, else 0.
-pub fn check_start(ws: &[u16]) -> u8
-    ensures { result ≡ check_start small ws.now }
+// Start check: refused if the configuration is not readable here, then if it is not fresh.
+pub fn check_start(ws: &[u16]) -> Result<(), Refusal>
+    ensures { number_in result ≡ check_start small ws.now }
 {
-    start_at(ws, SMALL)
+    start_at(ws, limit::SMALL)
 }
 
-// The step: an input beyond the limits is 1, a result beyond them 8 or 9, depth first.
-pub fn step(
-    ws: &[u16],
-    engine: u16,
-    position: u16,
-    second: u16,
-    place: u16,
-    branch: u16,
-    out: &mut [u16],
-) -> Answer
-    ensures answered { result ≡ answer_as (step_answer small ws.now (numbers engine position second place branch) out.old) }
-    ensures wrote { out.new ≡ step_output small ws.now (numbers engine position second place branch) out.old }
+// The step: an input beyond the limits is `Unreadable`, a result beyond them `TooDeep` or `TooLong`, depth first.
+pub fn step(ws: &[u16], k: Numbers, out: &mut [u16]) -> Result<Accepted, Refusal>
+    ensures answered { told result ≡ step_answer small ws.now (numbers_as k) out.old }
+    ensures wrote { out.new ≡ step_output small ws.now (numbers_as k) out.old }
 {
-    let k = Numbers {
-        engine,
-        position,
-        second,
-        second_position: place,
-        branch,
-    };
-    let mut notes = [0u16; NOTES];
-    step_at(ws, k, SMALL, &mut notes, out)
+    step_at::<NOTES>(ws, k, SMALL, out)
 }
 
 // The step with a journal.
+#[tactic(auto, using(journal::proofs::Stepping::large_answer, journal::proofs::Stepping::large_output, journal::proofs::Stepping::large_journal))]
 pub fn step_journal(
     ws: &[u16],
-    engine: u16,
-    position: u16,
-    second: u16,
-    place: u16,
-    branch: u16,
+    k: Numbers,
     out: &mut [u16],
     journal: &mut [u16],
-) -> Answer
-    ensures answered { result ≡ answer_as (journal_answer small ws.now (numbers engine position second place branch) out.old journal.old) }
-    ensures wrote { out.new ≡ journal_output small ws.now (numbers engine position second place branch) out.old journal.old }
-    ensures noted { journal.new ≡ journal_written small ws.now (numbers engine position second place branch) out.old journal.old }
+) -> Result<Accepted, Refusal>
+    ensures answered { told result ≡ journal_answer small ws.now (numbers_as k) out.old journal.old }
+    ensures wrote { out.new ≡ journal_output small ws.now (numbers_as k) out.old journal.old }
+    ensures noted { journal.new ≡ journal_written small ws.now (numbers_as k) out.old journal.old }
 {
-    let k = Numbers {
-        engine,
-        position,
-        second,
-        second_position: place,
-        branch,
-    };
-    let mut notes = [0u16; NOTES];
-    let mut result = [0u16; SMALL_LONGEST];
-    let room = room_in(SMALL_LONGEST, out.len());
-    written(ws, k, SMALL, &mut notes, &mut result[..room], out, journal)
+    step_in::<NOTES, SMALL_LONGEST>(ws, k, SMALL, out, journal)
 }

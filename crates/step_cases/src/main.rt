@@ -10,16 +10,17 @@ ghost use Rattle.sock.specs.Calls.{step_answer, step_output};
 ghost use Rattle.step_cases.specs.Lent.{numbers_of, lent_output, answer_line};
 
 use bytewise::words::hold;
-use cases::{sum, take, word};
+use cases::{read_case, sum, word};
 use std::io;
 use std::io::{Read, Write};
+use stepping::bundles::Numbers;
 
-// How many words a case has at most, and how many bytes they are; how many bytes stand before them.
+// How many words a case has at most, how many bytes stand before them, and how many bytes there are in all.
 const MOST: usize = 8200;
 
-const MOST_BYTES: usize = 2 * MOST;
-
 const HEAD: usize = 14;
+
+const ROOM: usize = HEAD + 2 * MOST;
 
 // What the output holds before the step.
 const UNWRITTEN: u16 = 42405;
@@ -30,23 +31,20 @@ fn answer<W: Write>(output: &mut W, ws: &[u16], head: [u8; HEAD], out: &mut [u16
     ensures out { out.new ≡ step_output standard ws.now (numbers_of head) out.old }
     ensures printed { OnOk result (Appends (W.contents output.old) (W.contents output.new) (answer_line (step_answer standard ws.now (numbers_of head) out.old) (step_output standard ws.now (numbers_of head) out.old))) }
 {
-    let a = stepping::steps::step(
-        ws,
-        word(head[2], head[3]),
-        word(head[4], head[5]),
-        word(head[6], head[7]),
-        word(head[8], head[9]),
-        word(head[10], head[11]),
-        out,
-    );
+    let k = Numbers {
+        engine: word(head[2], head[3]),
+        position: word(head[4], head[5]),
+        second: word(head[6], head[7]),
+        second_position: word(head[8], head[9]),
+        branch: word(head[10], head[11]),
+    };
+    let (number, kind, serial, fault, length) = match stepping::steps::step(ws, k, out) {
+        Ok(a) => (0, u8::from(a.kind), a.serial, u8::from(a.fault), a.length),
+        Err(refusal) => (u8::from(refusal), 0, 0, 0, 0),
+    };
     writeln!(
         output,
-        "{} {} {} {} {} {}",
-        a.number,
-        a.kind,
-        a.serial,
-        a.fault,
-        a.length,
+        "{number} {kind} {serial} {fault} {length} {}",
         sum(out),
     )
 }
@@ -68,40 +66,26 @@ fn lend<W: Write>(
     answer(output, ws, head, &mut out[..room])
 }
 
-// One case; whether there was one.
-fn case<R: Read, W: Write>(input: &mut R, output: &mut W) -> io::Result<bool> {
-    let mut head = [0u8; HEAD];
-    if !take(input, &mut head, HEAD)? {
-        return Ok(false);
-    }
-    let count = usize::from(word(head[0], head[1]));
-    if MOST < count {
-        return Ok(false);
-    }
-    let mut bytes = [0u8; MOST_BYTES];
-    let size = 2 * count;
-    if !take(input, &mut bytes, size)? {
-        return Ok(false);
-    }
+// A case: the step on its words.
+fn turn<W: Write>(output: &mut W, case: &[u8]) -> io::Result<()> {
+    let Some((head, bytes)) = case.split_first_chunk::<HEAD>() else {
+        return Ok(());
+    };
     let mut ws = [0u16; MOST];
-    let n = hold(&bytes[..size], &mut ws);
+    let n = hold(bytes, &mut ws);
     let mut out = [UNWRITTEN; MOST];
-    lend(
-        output,
-        &ws[..n],
-        head,
-        &mut out,
-        usize::from(word(head[12], head[13])),
-    )?;
-    Ok(true)
+    let room = usize::from(word(head[12], head[13]));
+    lend(output, &ws[..n], *head, &mut out, room)
 }
 
 fn main(rt: HostRuntime) -> io::Result<()> {
     let mut input = rt.stdin();
     let mut output = rt.stdout();
+    let mut bytes = [0u8; ROOM];
     for _ in 0..u64::MAX {
-        if !case(&mut input, &mut output)? {
-            break;
+        match read_case(&mut input, HEAD, &mut bytes)? {
+            None => break,
+            Some(size) => turn(&mut output, &bytes[..size])?,
         }
     }
     Ok(())

@@ -12,13 +12,12 @@ use Rattle.layout.specs.Positions.{onward}
 use Rattle.writers.proofs.Laid.{Near, near_of}
 use Rattle.rules.specs.Storing.{unchanged}
 use Rattle.rules.specs.declared.store.Store.{Store}
-use Rattle.rules.specs.declared.pair.Offer.{Offer}
 use Rattle.rules.specs.Rewriting.{Rewriting}
 use Rattle.finding.specs.declared.find.Site.{Site}
 use Rattle.rules.specs.Rewriting.{Rewritten, rewritten, vanishing, keeping, part_w, part_end}
 use Rattle.layout.specs.Heads.{throw_head}
 use Rattle.rules.specs.Messages.{heard_w, served_w, answered_w}
-use Rattle.rules.specs.Offering.{placed, hear_w, seq_first, three_w, serve_w, ask_w, answer_w, fail_w}
+use Rattle.rules.specs.Offering.{Offer, placed, hear_w, seq_first, three_w, serve_w, ask_w, answer_w, fail_w}
 use Rattle.rules.specs.Editing.{refused_edit, edited, hollow_w, nil_w, plain_w}
 use Rattle.rules.proofs.Exchanges.{three_to_lem, first_place}
 use Rattle.stepping.specs.Exchanging.{blank}

@@ -15,7 +15,7 @@ use Rattle.rules.specs.Editing.{Edit}
 use Rattle.rules.proofs.Edits.{Edits}
 use Rattle.rules.proofs.Stores.{stored}
 use Rattle.layout.specs.declared.limit.Limits.{Limits}
-use Rattle.stepping.specs.Lent.{Modest}
+use Rattle.stepping.proofs.Modest.{Modest}
 use Rattle.stepping.specs.Answering.{changed, answered, refusing, sized_w, length_of, write_one_w, one_w, write_two_w, two_w}
 use Rattle.stepping.proofs.Goal.{given, fitted, fitted_deep, fitted_by}
 use Rattle.stepping.proofs.Results.{next_sized, next_few, next_fits, next_written}

@@ -10,12 +10,11 @@ use lib.ListN.{length}
 use Rattle.sock.specs.Configuration.{encode, engines_depth}
 use Rattle.sock.specs.Calls.{Refusal, serials_spent, deep, long, short, Result, refused, done, ◌>>◌, ◌unless◌, Stepped, answer_of, output_of, over, number}
 use Rattle.layout.specs.declared.limit.Limits.{Limits}
-use Rattle.stepping.specs.Answers.{answer_as}
 use Rattle.stepping.specs.Answering.{Answered, answered, refusing, accepting, length_of}
 
 -- the answer and the output of a result
 abbrev pub given : Result Stepped → List ℕ → Answered
-given r out = answered (answer_as (answer_of r)) (output_of r out)
+given r out = answered (answer_of r) (output_of r out)
 
 -- the tests of what a rule makes
 unfoldable pub fitted : Limits → ℕ → Stepped → Result Stepped

@@ -1,13 +1,13 @@
 -- The whole step on words is the definitions' step, for all words and numbers.
 -- Assumes nothing.
-use Prim.Native.Nat.{ℕ, ◌+◌, ◌/◌, ◌≤◌, ◌<◌}
+use Prim.Native.Nat.{ℕ, ◌+◌, ◌/◌, ◌<◌}
 use native.Mathlib.Omega.{arith}
 use native.Mathlib.Decide.{ℕ_discrete}
 use mathlib.Core.Path.{◌≡◌, refl, sym, ap, ◌∙◌}
 use mathlib.Core.Bool.{Bool, true, false, cond}
 use mathlib.Core.Option.{Option, none}
 use mathlib.Core.List.{List}
-use borrow.Author.Tests.{eq-eqb, ne_eqb, le-ltb, leb-true, leb-false}
+use borrow.Author.Tests.{eq-eqb, ne_eqb, leb-true, leb-false}
 use lib.Dec.{leb, eqb}
 use lib.ListN.{length, get_or}
 use Rattle.sock.specs.Words.{kind_of}
@@ -18,10 +18,9 @@ use Rattle.sock.specs.Frames.{Located}
 use Rattle.sock.specs.Rules.{Message, Move, sends, move_of}
 use Rattle.sock.specs.Calls.{Spot as Place, unreadable, nobody_there, no_move, no_partner, not_decimal, refused, ◌>>=◌, ◌!◌, Numbers as Asked, engine_at, enabled_at, step, step_answer, step_output}
 use Rattle.sock.proofs.Located.{start_of}
-use Rattle.reading.specs.declared.survey.Starts.{Starts}
-use Rattle.reading.specs.Survey.{surveyed}
+use Rattle.reading.specs.Survey.{Starts, surveyed}
 use Rattle.reading.proofs.Combining.{Words}
-use Rattle.reading.proofs.Known.{Known, survey_known, survey_unknown, few_engines, known_issued}
+use Rattle.reading.proofs.Known.{Known, survey_known, survey_unknown, known_issued}
 use Rattle.skipping.proofs.Notes.{Right}
 use Rattle.noting.specs.Noting.{survey_notes}
 use Rattle.noting.proofs.Noted.{survey_right}
@@ -33,12 +32,10 @@ use Rattle.rules.specs.Rewriting.{at}
 use Rattle.rules.proofs.Rewrites.{head_on}
 use Rattle.layout.specs.declared.limit.Limits.{Limits}
 use Rattle.layout.specs.Limits.{figures}
-use Rattle.stepping.specs.Lent.{Modest}
-use Rattle.stepping.specs.Answers.{answer_as}
+use Rattle.stepping.proofs.Modest.{Modest}
 use Rattle.stepping.specs.Answering.{Answered, answered, refusing}
-use Rattle.stepping.specs.declared.bundles.Engines.{Engines}
 use Rattle.stepping.specs.declared.bundles.Numbers.{Numbers}
-use Rattle.stepping.specs.Bundles.{numbers_as, bound_of, side_of}
+use Rattle.stepping.specs.Bundles.{Engines, numbers_as, bound_of, side_of}
 use Rattle.stepping.specs.Alone.{alone_w}
 use Rattle.layout.specs.Kinds.{counted_as}
 use Rattle.layout.proofs.Named.{counted_is}
@@ -61,13 +58,13 @@ refused_at limits ws blank k out s q z = rw (← q, eq-eqb s.engines 0 z)
 -- the first engine looked up
 looked_up :
     (limits : Limits) (ws blank : List ℕ) (k : Numbers) (out : List ℕ) (s : Starts) (n issued : ℕ) → s ≡ surveyed (figures limits) 11 ws →
-    s.engines ≡ n → (n ≡ 0 → ⊥) → n ≤ 8 → at ws 1 ≡ issued →
+    s.engines ≡ n → (n ≡ 0 → ⊥) → at ws 1 ≡ issued →
     step_w limits ws blank k out
     ≡ cond (leb n k.engine) (answered (refusing 2) out)
     (found_w limits ws (survey_notes (figures limits) ws blank) (record { count = n; issued = issued; starts = s.starts }) k out
     (find_w 64 ws (survey_notes (figures limits) ws blank) (onward (get_or s.starts k.engine 0) k.position) 1 (get_or s.starts k.engine 0)))
 unfolding step_w
-looked_up limits ws blank k out s n issued q z more few w = rw (← q, z, ne_eqb n 0 more, le-ltb 8 n few, w)
+looked_up limits ws blank k out s n issued q z more w = rw (← q, z, ne_eqb n 0 more, w)
 
 module _ {limits : Limits} (modest : Modest limits) (ws : List ℕ) (ok : Words ws) (k : Numbers) (position-low : k.position < 65536) (place-low : k.second_position < 65536) (out : List ℕ) (blank : List ℕ) (blank_right : Right ws blank) where
   abbrev asked : Asked
@@ -191,7 +188,7 @@ module _ {limits : Limits} (modest : Modest limits) (ws : List ℕ) (ok : Words 
     unfolding ◌!◌ ◌>>=◌
     read_law more q =
         looked_up limits ws blank k out s n c.issued q known.engines (λ z. more (known.engines ∙ z))
-        (omega (arith, few_engines known, known.engines)) (known_issued known)
+        (known_issued known)
         ∙ by (leb n k.engine) refl
       where
         by :
@@ -235,7 +232,7 @@ module _ {limits : Limits} (modest : Modest limits) (ws : List ℕ) (ok : Words 
               ∙ ap (λ r. given r out) (sym (step_read limits ws asked (length out) ∙ ap (λ o. (unreadable ! o) >>= λ c. (nobody_there ! enabled_at c k.engine k.position) >>= λ a. after limits c asked a (length out)) known.reads))
 
   -- the answer and the output
-  pub answer_law : (step_w limits ws blank k out).answer ≡ answer_as (step_answer (figures limits) ws asked out)
+  pub answer_law : (step_w limits ws blank k out).answer ≡ step_answer (figures limits) ws asked out
   unfolding step_answer
   answer_law = ap (λ (x : Answered). x.answer) step_law
 

@@ -7,14 +7,14 @@ pub mod Lone
 pub mod LoneLaw
 pub mod Modest
 pub mod Movers
+pub mod Offered
 pub mod Overs
 pub mod PairLaw
 pub mod Pairs
 pub mod Partners
+pub mod Refused
 pub mod Results
 pub mod Seeking
-pub mod Stepping
 pub mod TwoResults
 pub mod Whole
 pub mod Writes
-pub mod Writings

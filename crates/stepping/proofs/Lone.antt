@@ -29,7 +29,7 @@ use Rattle.sock.proofs.Located.{engine_fits, start_of}
 use Rattle.sock.proofs.Running.{enable_as_node}
 use Rattle.sock.proofs.Measures.{words_act, depth_nil, depth_act}
 use Rattle.sock.proofs.ByKind.{run_kind, kind_as_node}
-use Rattle.reading.specs.declared.survey.Starts.{Starts}
+use Rattle.reading.specs.Survey.{Starts}
 use Rattle.reading.proofs.Combining.{Words}
 use Rattle.reading.proofs.Known.{Known}
 use Rattle.reading.specs.Walk.{process_end}
@@ -64,7 +64,7 @@ use Rattle.layout.specs.declared.limit.Limits.{Limits}
 use Rattle.layout.specs.Limits.{figures}
 use Rattle.rules.proofs.Depths.{Shallow}
 use Rattle.stepping.specs.declared.bundles.Side.{Side}
-use Rattle.stepping.specs.Lent.{Modest}
+use Rattle.stepping.proofs.Modest.{Modest}
 use Rattle.stepping.specs.Exchanging.{lent}
 use Rattle.stepping.specs.Alone.{reads, when_valued, settled_w, rewritten_w, valued_w, scoped_w, rule_w}
 use Rattle.stepping.proofs.Results.{one_stands, one_behind, one_values}
@@ -420,11 +420,6 @@ module _ (ws : List ℕ) (ok : Words ws) (starts : Starts) {limits : Limits} (mo
 
   module _ (target : ℕ) (l : Located) (s : Site) (place : within run (start_of c e) target ≡ some l)
       (spotted : Spotted (fault_at ws target) target run (start_of c e) 1 l s) where
-    pub known_standing : Stands (length c.engines) c.issued l
-    known_standing =
-        standing ws ok (length c.engines) c.issued known.readable.fitting.few known.readable.fitting.word run fit.sound
-        (start_of c e) run_stands (omega arith) limits run_deep run_short target l s place spotted
-
     pub known_lone :
         (end : ℕ) (notes : List ℕ) → Right ws notes → (fresh : List ℕ) → Roomy ws fresh →
         Spacious (rule_w limits ws notes (record { start = start_of c e; end = end; site = s }) (kind (as_node l.process)) (length c.engines * 65536 + c.issued) fresh) fresh →

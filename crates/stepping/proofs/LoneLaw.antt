@@ -16,7 +16,7 @@ use Rattle.sock.specs.Frames.{Located}
 use Rattle.sock.specs.Rules.{alone, unvalued, move_of}
 use Rattle.sock.specs.Calls.{Spot as Place, not_decimal, installing, refused, engine_at}
 use Rattle.sock.proofs.Located.{start_of}
-use Rattle.reading.specs.declared.survey.Starts.{Starts}
+use Rattle.reading.specs.Survey.{Starts}
 use Rattle.reading.proofs.Combining.{Words}
 use Rattle.reading.proofs.Known.{Known, known_length}
 use Rattle.reading.proofs.Standing.{start_next}
@@ -30,7 +30,7 @@ use Rattle.scopes.proofs.Scratch.{Roomy, Spacious}
 use Rattle.layout.specs.declared.limit.Limits.{Limits}
 use Rattle.layout.specs.Limits.{figures}
 use Rattle.stepping.specs.declared.bundles.Side.{Side}
-use Rattle.stepping.specs.Lent.{Modest}
+use Rattle.stepping.proofs.Modest.{Modest}
 use Rattle.stepping.specs.Answering.{Answered, answered, refusing, one_w}
 use Rattle.stepping.specs.Alone.{rule_w, lone_w, large, small, short_w, alone_w, surely}
 use Rattle.stepping.proofs.Goal.{given, given_refused}

@@ -26,7 +26,7 @@ use Rattle.sock.proofs.Located.{engine_fits, start_of}
 use Rattle.sock.proofs.Measures.{words_scope, words_executor, size_scope, depth_scope}
 use Rattle.sock.proofs.ByKind.{run_kind, kind_as_node, done_kind}
 use Rattle.sock.proofs.Positions.{at_head, at_past}
-use Rattle.reading.specs.declared.survey.Starts.{Starts}
+use Rattle.reading.specs.Survey.{Starts}
 use Rattle.skipping.specs.Pass.{pass_list}
 use Rattle.reading.proofs.Combining.{Words}
 use Rattle.skipping.proofs.Notes.{Right, pass_entries_lem}
@@ -46,7 +46,7 @@ use Rattle.rules.proofs.Shapes.{Shape, assigns, branches, repeats, chooses, hear
 use Rattle.layout.specs.declared.limit.Limits.{Limits}
 use Rattle.layout.specs.Limits.{figures}
 use Rattle.rules.proofs.Depths.{Shallow}
-use Rattle.stepping.specs.Lent.{Modest}
+use Rattle.stepping.proofs.Modest.{Modest}
 use Rattle.stepping.specs.Stepping.{body_nil, by_kind, moves_w}
 use Rattle.sock.proofs.Fits.{Fits, fits}
 use Rattle.sock.proofs.Running.{as_node_fits}

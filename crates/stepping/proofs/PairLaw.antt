@@ -19,7 +19,7 @@ use Rattle.sock.specs.Frames.{Located, plug}
 use Rattle.sock.specs.Rules.{Message, sends, move_of, Exchange, exchange}
 use Rattle.sock.specs.Calls.{Spot as Place, no_fit, Numbers, engine_at, with_engine}
 use Rattle.sock.proofs.Located.{start_of}
-use Rattle.reading.specs.declared.survey.Starts.{Starts}
+use Rattle.reading.specs.Survey.{Starts}
 use Rattle.reading.proofs.Combining.{Words}
 use Rattle.reading.proofs.Known.{Known, known_length, known_issued}
 use Rattle.reading.proofs.Standing.{start_next}
@@ -37,11 +37,10 @@ use Rattle.rules.proofs.Stores.{stored, stored_none}
 use Rattle.rules.proofs.Outcomes.{Ruled, too_deep, ruled, becomes_ruled}
 use Rattle.layout.specs.declared.limit.Limits.{Limits}
 use Rattle.layout.specs.Limits.{figures}
-use Rattle.stepping.specs.Lent.{Modest}
-use Rattle.stepping.specs.declared.answer.Told.{Told}
+use Rattle.stepping.proofs.Modest.{Modest}
 use Rattle.stepping.specs.Bundles.{Encounter}
 use Rattle.stepping.specs.declared.bundles.Side.{Side}
-use Rattle.stepping.specs.Answering.{changed, answered, refusing, two_w}
+use Rattle.stepping.specs.Answering.{Told, changed, answered, refusing, two_w}
 use Rattle.stepping.specs.Meeting.{fit_w, serial_w, send_w, receive_w}
 use Rattle.stepping.specs.Exchanging.{blank, lent, sender_w, receiver_w, ordered_w, next_of, issued_of, fault_of, carry_w, spent_w, meet_w, between_w}
 use Rattle.stepping.proofs.Goal.{given, given_refused, fitted, fitted_spent}

@@ -16,7 +16,7 @@ use Rattle.sock.specs.Rules.{Message, sends, move_of, exchange}
 use Rattle.sock.specs.Calls.{engine_at}
 use Rattle.sock.proofs.Fits.{Sound, seq_sound, par_sound, scope_sound, executor_sound, SoundFrame, seq_frame_sound, left_frame_sound, right_frame_sound, scope_frame_sound, executor_frame_sound, SoundFrames, no_frames, one_frame}
 use Rattle.sock.proofs.Located.{wrap, engine_fits, start_of, words_after, size_positive}
-use Rattle.reading.specs.declared.survey.Starts.{Starts}
+use Rattle.reading.specs.Survey.{Starts}
 use Rattle.reading.proofs.Combining.{Words}
 use Rattle.reading.proofs.Known.{Known, known_length}
 use Rattle.finding.specs.declared.find.Site.{Site}
@@ -28,7 +28,7 @@ use Rattle.rules.proofs.Depths.{wrap_depth, Shallow, shallow}
 use Rattle.scopes.proofs.ScopeWords.{inner_sound}
 use Rattle.layout.specs.declared.limit.Limits.{Limits}
 use Rattle.layout.specs.Limits.{figures}
-use Rattle.stepping.specs.Lent.{Modest}
+use Rattle.stepping.proofs.Modest.{Modest}
 use Rattle.stepping.specs.Exchanging.{blank, lent}
 use Rattle.stepping.proofs.Results.{one_stands, one_values}
 use Rattle.stepping.proofs.Pairs.{Pairs, sender_pairs}

@@ -20,7 +20,7 @@ use Rattle.rules.specs.Editing.{Edit}
 use Rattle.rules.proofs.Edits.{Ordered, Edits, part_first, fresh_room}
 use Rattle.rules.proofs.Stores.{stored, stored_length}
 use Rattle.layout.specs.declared.limit.Limits.{Limits}
-use Rattle.stepping.specs.Lent.{Modest}
+use Rattle.stepping.proofs.Modest.{Modest}
 use Rattle.stepping.specs.Writing.{engine_w}
 use Rattle.stepping.specs.Answering.{sized_w, write_one_w, length_of}
 use Rattle.stepping.proofs.Overs.{Wrote, wrote_copy}
@@ -151,9 +151,6 @@ module _ (c : Config) (fits : FitsConfig c) (e : ℕ) (h : e < length c.engines)
       where
         regrouped : (a b x d : List ℕ) → a ++ ((b ++ x) ++ d) ≡ ((a ++ b) ++ x) ++ d
         regrouped a b x d = simp append_assoc
-
-    before_end : start ≤ end
-    before_end = omega arith
 
     next_length : length (encode next) ≡ start + size q + length (words_after c e)
     unfolding size

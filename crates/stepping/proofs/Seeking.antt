@@ -15,7 +15,7 @@ use Rattle.sock.specs.Rules.{also}
 use Rattle.sock.specs.Calls.{Spot as Place, engine_at, enabled_at}
 use Rattle.sock.proofs.Fits.{Sound}
 use Rattle.sock.proofs.Located.{start_of, engine_fits}
-use Rattle.reading.specs.declared.survey.Starts.{Starts}
+use Rattle.reading.specs.Survey.{Starts}
 use Rattle.reading.proofs.Combining.{Words}
 use Rattle.reading.proofs.Known.{Known, known_length}
 use Rattle.skipping.proofs.Notes.{Right}
@@ -30,7 +30,7 @@ use Rattle.finding.proofs.Spots.{Spotted}
 use Rattle.finding.proofs.Search.{missed, found}
 use Rattle.layout.specs.declared.limit.Limits.{Limits}
 use Rattle.layout.specs.Limits.{figures}
-use Rattle.stepping.specs.Lent.{Modest}
+use Rattle.stepping.proofs.Modest.{Modest}
 use Rattle.stepping.proofs.Results.{one_stands, one_behind, one_length}
 use Rattle.stepping.proofs.Given.{depth_at}
 

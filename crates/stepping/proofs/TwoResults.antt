@@ -19,7 +19,7 @@ use Rattle.rules.specs.declared.store.Store.{Store}
 use Rattle.rules.proofs.Edits.{Edits, part_first, fresh_room}
 use Rattle.rules.proofs.Stores.{stored, stored_length}
 use Rattle.layout.specs.declared.limit.Limits.{Limits}
-use Rattle.stepping.specs.Lent.{Modest}
+use Rattle.stepping.proofs.Modest.{Modest}
 use Rattle.stepping.specs.Writing.{Written, engine_w}
 use Rattle.stepping.specs.Answering.{changed, sized_w, write_two_w}
 use Rattle.stepping.proofs.Overs.{over_length, over_then, Wrote, wrote_copy}

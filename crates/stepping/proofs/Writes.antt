@@ -27,9 +27,6 @@ use Rattle.stepping.proofs.Overs.{Over, over_length, over_then, over_set, Wrote,
 front_room : (a b whole : List ℕ) (n : ℕ) → a ++ b ≡ whole → length whole ≤ n → length a ≤ n
 front_room a b whole n e h = omega (arith, ap length e, length-append a b)
 
-zero_room : (a b whole : List ℕ) (n : ℕ) → a ++ b ≡ whole → length whole ≤ n → 0 + length a ≤ n
-zero_room a b whole n e h = let k = front_room a b whole n e h in omega arith
-
 -- ---- a process under an edit
 
 module _ (ws : List ℕ) (start end : ℕ) (p : Edit) (fresh : List ℕ) (q : Run) (edits : Edits ws start end p fresh q) (inside : end ≤ length ws)

@@ -1,12 +1,14 @@
 -- The answer of a step and the result written, as the code goes.
 use Rattle.std.specs.Prelude.{ℕ, ◌-◌, ◌%◌, cond, List, ltb, eqb, length, set}
+use Rattle.sock.specs.Words.{bit}
+use Rattle.sock.specs.Calls.{Answer}
 use Rattle.layout.specs.Positions.{onward}
 use Rattle.rules.specs.Editing.{Edit}
 use Rattle.layout.specs.declared.limit.Limits.{Limits}
-use Rattle.stepping.specs.declared.answer.Answer.{Answer}
+use Rattle.layout.specs.Kinds.{number_of}
 use Rattle.rules.specs.Editing.{made}
 use Rattle.stepping.specs.declared.answer.Change as code
-use Rattle.stepping.specs.declared.answer.Told.{Told}
+use Rattle.stepping.specs.declared.answer.Told as given
 use Rattle.stepping.specs.Writing.{Written, copy_w, engine_w}
 
 -- an answer, and the output afterwards
@@ -53,6 +55,16 @@ changing p = record { start = p.start; end = p.end; edit = made p.edit }
 
 abbrev pub changed : ℕ → ℕ → Edit → Change
 changed start end p = record { start = start; end = end; edit = p }
+
+-- what an exchange answers, and the serials issued after it
+pub record Told : Type 0 where
+  pub kind : ℕ
+  pub serial : ℕ
+  pub fault : ℕ
+  pub issued : ℕ
+
+abbrev pub telling : given.Told → Told
+telling t = record { kind = number_of t.kind; serial = t.serial; fault = bit t.fault; issued = t.issued }
 
 unfoldable pub write_two_w : List ℕ → Change → List ℕ → Change → List ℕ → ℕ → List ℕ → List ℕ
 write_two_w ws p fresh q fresh2 issued out =

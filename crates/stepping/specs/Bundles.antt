@@ -1,16 +1,26 @@
 -- What the step hands on in one, as the code has it.
-use Rattle.std.specs.Prelude.{ℕ, ◌+◌, ◌-◌, ◌*◌, get_or}
+use Rattle.std.specs.Prelude.{ℕ, List, ◌+◌, ◌-◌, ◌*◌, get_or}
 use Rattle.sock.specs.Calls as sock
 use Rattle.finding.specs.declared.find.Site.{Site}
 use Rattle.layout.specs.Kinds.{number_of}
 use Rattle.stepping.specs.declared.bundles.Encounter as code
-use Rattle.stepping.specs.declared.bundles.Engines.{Engines}
+use Rattle.stepping.specs.declared.bundles.Engines.{Engines as Surveyed}
 use Rattle.stepping.specs.declared.bundles.Numbers.{Numbers}
 use Rattle.stepping.specs.declared.bundles.Side.{Side}
 
 -- the code's numbers as those of the definitions
 abbrev pub numbers_as : Numbers → sock.Numbers
 numbers_as k = record { engine = k.engine; position = k.position; second = k.second; second_position = k.second_position; branch = k.branch }
+
+-- how many engines there are, the serials issued, and where each one's process begins
+pub record Engines : Type 0 where
+  pub count : ℕ
+  pub issued : ℕ
+  pub starts : List ℕ
+
+-- the code's as that
+abbrev pub engines_of : Surveyed → Engines
+engines_of g = record { count = g.found.engines; issued = g.issued; starts = g.found.starts }
 
 abbrev pub bound_of : Engines → ℕ
 bound_of g = g.count * 65536 + g.issued

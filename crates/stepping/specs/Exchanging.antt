@@ -1,15 +1,13 @@
 -- A step between two different engines, as the code goes.
 use Rattle.std.specs.Prelude.{ℕ, ◌+◌, ◌-◌, Bool, false, cond, List, ltb, eqb, length, replicate, take, drop}
 use Rattle.sock.specs.Kind
-use Rattle.rules.specs.declared.pair.Offer.{Offer}
 use Rattle.rules.specs.Editing.{Edit}
 use Rattle.rules.specs.Rewriting.{at}
-use Rattle.rules.specs.Offering.{offer_w}
+use Rattle.rules.specs.Offering.{Offer, offer_w}
 use Rattle.rules.specs.Editing.{Edited, plain_w}
 use Rattle.layout.specs.declared.limit.Limits.{Limits}
-use Rattle.stepping.specs.declared.answer.Told.{Told}
 use Rattle.stepping.specs.Bundles.{Encounter}
-use Rattle.stepping.specs.Answering.{Answered, answered, refusing, changed, two_w}
+use Rattle.stepping.specs.Answering.{Answered, Told, answered, refusing, changed, two_w}
 use Rattle.stepping.specs.Meeting.{fit_w, serial_w, send_w, receive_w}
 
 unfoldable pub sender_w : List ℕ → Encounter → ℕ → List ℕ → Edited

@@ -3,7 +3,6 @@ pub mod Answering
 pub mod Answers
 pub mod Bundles
 pub mod Exchanging
-pub mod Lent
 pub mod Meeting
 pub mod Stepping
 pub mod Writing

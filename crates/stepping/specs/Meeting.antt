@@ -4,10 +4,9 @@ use Rattle.sock.specs.Kind
 use Rattle.sock.specs.Words.{first_variable, executors_client, notices_client}
 use Rattle.evaluating.specs.Evaluating.{value_in}
 use Rattle.rules.specs.Storing.{unchanged}
-use Rattle.rules.specs.declared.pair.Offer.{Offer}
 use Rattle.rules.specs.Rewriting.{Rewritten, rewritten, vanishing, at}
 use Rattle.rules.specs.Messages.{hears_w, heard_w, serves_w, served_w, answers_w, answered_w}
-use Rattle.rules.specs.Offering.{fits_w, hear_w, serve_w, ask_w, awaits_w, answer_w, fail_w}
+use Rattle.rules.specs.Offering.{Offer, fits_w, hear_w, serve_w, ask_w, awaits_w, answer_w, fail_w}
 
 unfoldable pub addressed_w : List ℕ → List ℕ → ℕ → Bool
 addressed_w ws vs receiver = eqb (value_in vs (first_variable (at ws 1))) receiver

@@ -14,12 +14,11 @@ use Rattle.finding.specs.declared.find.Found.TheVariants.{Hit, Past}
 use Rattle.finding.specs.Find.{find_w}
 use Rattle.rules.specs.Rewriting.{at}
 use Rattle.layout.specs.declared.limit.Limits.{Limits}
-use Rattle.stepping.specs.declared.bundles.Engines.{Engines}
 use Rattle.stepping.specs.declared.bundles.Numbers.{Numbers}
 use Rattle.layout.specs.Kinds.{counted_as}
 use Rattle.stepping.specs.declared.steps.Way.{Way}
 use Rattle.stepping.specs.declared.steps.Way.TheVariants as ways
-use Rattle.stepping.specs.Bundles.{start_at, side_of, bound_of, encounter_of}
+use Rattle.stepping.specs.Bundles.{Engines, start_at, side_of, bound_of, encounter_of}
 use Rattle.stepping.specs.Answering.{Answered, answered, refusing}
 use Rattle.stepping.specs.Exchanging.{between_w}
 use Rattle.stepping.specs.Alone.{alone_w}
@@ -81,5 +80,4 @@ step_w limits ws blank k out =
     let g : Engines = record { count = n; issued = at ws 1; starts = s.starts } in
     let start = start_at g k.engine in
     cond (eqb n 0) (answered (refusing 1) out)
-    (cond (ltb 8 n) (answered (refusing 1) out)
-    (cond (leb n k.engine) (answered (refusing 2) out) (found_w limits ws notes g k out (find_w 64 ws notes (onward start k.position) 1 start))))
+    (cond (leb n k.engine) (answered (refusing 2) out) (found_w limits ws notes g k out (find_w 64 ws notes (onward start k.position) 1 start)))

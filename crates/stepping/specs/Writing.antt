@@ -5,6 +5,7 @@ use Rattle.layout.specs.Positions.{onward}
 use Rattle.writers.specs.Writing.{pasted, pasted_end}
 use Rattle.rules.specs.Editing.{Edit}
 use Rattle.rules.specs.declared.store.Store.{Store}
+use Rattle.stepping.specs.declared.writing.Output.{Output}
 
 -- a place in the output, and the output
 pub record Written : Type 0 where
@@ -13,6 +14,10 @@ pub record Written : Type 0 where
 
 abbrev pub written : ℕ → List ℕ → Written
 written to out = record { to = to; out = out }
+
+-- the code's output as that
+abbrev pub reached : Output → Written
+reached o = written o.to o.words.now
 
 -- the words from..upto of ws behind what is written
 unfoldable pub copy_w : List ℕ → ℕ → ℕ → Written → Written

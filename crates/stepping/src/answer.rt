@@ -1,48 +1,34 @@
 // The answer of a step, and the result written if it fits.
-ghost use Rattle.std.specs.Prelude.{◌≡◌, ◌-◌};
+ghost use Rattle.std.specs.Prelude.{◌≡◌, ◌-◌, eqb};
+ghost use Rattle.sock.specs.Calls.{number, short};
+ghost use Rattle.layout.specs.Kinds.{number_of};
 ghost use Rattle.layout.specs.Refusals.{number_in};
 ghost use Rattle.rules.specs.Editing.{made};
-ghost use Rattle.stepping.specs.Answering.{changing, refusing, accepting, sized_w, write_one_w, length_of, one_w, write_two_w, two_w};
+ghost use Rattle.stepping.specs.Answers.{told};
+ghost use Rattle.stepping.specs.Answering.{changing, telling, sized_w, write_one_w, length_of, one_w, write_two_w, two_w};
 
-use crate::writing::engine;
+use crate::writing::Output;
+use layout::kind::Kind;
 use layout::limit::Limits;
-use layout::number::further;
+use layout::number::{further, word_of};
 use layout::refusal::Refusal;
 use rules::edit::Edit;
-use writers::write::{copy, put};
+use writers::write::put;
 
-// A refusal's number, or 0; the kind of the process that moved, the serial and whether a fault was delivered; the words of the result.
-#[derive(Clone, Copy)]
-pub struct Answer {
-    pub number: u8,
-    pub kind: u8,
+// A step carried out: the kind of the process that moved, the serial and whether a fault was delivered; how many words the result has.
+#[derive(Clone, Copy, Debug, PartialEq, Eq)]
+pub struct Accepted {
+    pub kind: Kind,
     pub serial: u16,
-    pub fault: u8,
+    pub fault: bool,
     pub length: u16,
 }
 
-pub fn refuse(number: u8) -> Answer
-    ensures { result ≡ refusing number }
+// Whether a step was refused since its result is longer than the output: with more scratch it may be accepted.
+pub fn output_short(given: Result<Accepted, Refusal>) -> bool
+    ensures { result ≡ eqb (told given).number (number short) }
 {
-    Answer {
-        number,
-        kind: 0,
-        serial: 0,
-        fault: 0,
-        length: 0,
-    }
-}
-
-pub fn accept(kind: u8, serial: u16, fault: u8, length: u16) -> Answer
-    ensures { result ≡ accepting kind serial fault length }
-{
-    Answer {
-        number: 0,
-        kind,
-        serial,
-        fault,
-        length,
-    }
+    matches!(given, Err(Refusal::OutputShort))
 }
 
 // How many words there are once an edit is carried out on so many; too many where its fresh words alone are.
@@ -59,13 +45,13 @@ fn sized(limits: Limits, words: usize, p: Edit) -> usize
         .saturating_sub(p.end.saturating_sub(p.gap))
 }
 
-#[tactic(auto, unfolding(crate::specs::Answering::write_one_w, crate::specs::Writing::copy_w))]
-fn write_one(ws: &[u16], start: usize, end: usize, p: Edit, fresh: &[u16], out: &mut [u16]) -> usize
-    ensures place { result ≡ (write_one_w ws.now start end (made p) fresh.now out.old).to }
-    ensures written { out.new ≡ (write_one_w ws.now start end (made p) fresh.now out.old).out }
+#[tactic(auto, unfolding(crate::specs::Answering::write_one_w))]
+fn write_one(ws: &[u16], start: usize, end: usize, p: Edit, fresh: &[u16], out: &mut [u16])
+    ensures { out.new ≡ (write_one_w ws.now start end (made p) fresh.now out.old).out }
 {
-    let t = engine(ws, 0, start, end, p, fresh, out, 0);
-    copy(ws, end, ws.len(), out, t)
+    let mut output = Output { words: out, to: 0 };
+    output.engine(ws, 0, start, end, p, fresh);
+    output.copy(ws, end, ws.len());
 }
 
 // Whether so many words are not too many, and find room.
@@ -83,26 +69,30 @@ fn fitting(limits: Limits, length: usize, room: usize) -> Result<(), Refusal>
 }
 
 // One engine's process start..end under an edit.
-#[tactic(auto, unfolding(crate::specs::Answering::one_w))]
+#[tactic(auto, using(layout::proofs::Refusing::never_zero), unfolding(crate::specs::Answering::one_w))]
 pub fn one(
     ws: &[u16],
     start: usize,
     end: usize,
     p: Edit,
-    kind: u8,
+    kind: Kind,
     limits: Limits,
     fresh: &[u16],
     out: &mut [u16],
-) -> Answer
-    ensures answered { result ≡ (one_w limits ws.now start end (made p) kind fresh.now out.old).answer }
-    ensures written { out.new ≡ (one_w limits ws.now start end (made p) kind fresh.now out.old).out }
+) -> Result<Accepted, Refusal>
+    ensures answered { told result ≡ (one_w limits ws.now start end (made p) (number_of kind) fresh.now out.old).answer }
+    ensures written { out.new ≡ (one_w limits ws.now start end (made p) (number_of kind) fresh.now out.old).out }
 {
-    let length = sized(limits, ws.len(), p);
-    if let Err(refusal) = fitting(limits, length, out.len()) {
-        return refuse(u8::from(refusal));
-    }
+    let size = sized(limits, ws.len(), p);
+    fitting(limits, size, out.len())?;
     write_one(ws, start, end, p, fresh, out);
-    accept(kind, 0, 0, (length % 65536) as u16)
+    let length = word_of(size);
+    Ok(Accepted {
+        kind,
+        serial: 0,
+        fault: false,
+        length,
+    })
 }
 
 // A process start..end, and the edit of it.
@@ -116,12 +106,13 @@ pub struct Change {
 // What an exchange answers, and the serials issued after it.
 #[derive(Clone, Copy)]
 pub struct Told {
-    pub kind: u8,
+    pub kind: Kind,
     pub serial: u16,
-    pub fault: u8,
+    pub fault: bool,
     pub issued: u16,
 }
 
+#[tactic(auto, unfolding(crate::specs::Answering::write_two_w))]
 fn write_two(
     ws: &[u16],
     p: Change,
@@ -130,40 +121,41 @@ fn write_two(
     fresh2: &[u16],
     issued: u16,
     out: &mut [u16],
-) -> usize
-    ensures nothing { result ≡ 0 }
-    ensures written { out.new ≡ write_two_w ws.now (changing p) fresh.now (changing q) fresh2.now issued out.old }
+)
+    ensures { out.new ≡ write_two_w ws.now (changing p) fresh.now (changing q) fresh2.now issued out.old }
 {
-    let first = p.edit;
-    let second = q.edit;
-    let t = engine(ws, 0, p.start, p.end, first, fresh, out, 0);
-    let u = engine(ws, p.end, q.start, q.end, second, fresh2, out, t);
-    copy(ws, q.end, ws.len(), out, u);
-    put(out, 1, issued);
-    0
+    let mut output = Output { words: out, to: 0 };
+    output.engine(ws, 0, p.start, p.end, p.edit, fresh);
+    output.engine(ws, p.end, q.start, q.end, q.edit, fresh2);
+    output.copy(ws, q.end, ws.len());
+    put(output.words, 1, issued);
 }
 
 // Two engines' processes under an edit each, in the order of the words, and the serials issued.
-#[tactic(auto, unfolding(crate::specs::Answering::two_w))]
+#[tactic(auto, using(layout::proofs::Refusing::never_zero), unfolding(crate::specs::Answering::two_w))]
 pub fn two(
     ws: &[u16],
     p: Change,
     fresh: &[u16],
     q: Change,
     fresh2: &[u16],
-    told: Told,
+    t: Told,
     limits: Limits,
     out: &mut [u16],
-) -> Answer
-    ensures answered { result ≡ (two_w limits ws.now (changing p) fresh.now (changing q) fresh2.now told out.old).answer }
-    ensures written { out.new ≡ (two_w limits ws.now (changing p) fresh.now (changing q) fresh2.now told out.old).out }
+) -> Result<Accepted, Refusal>
+    ensures answered { told result ≡ (two_w limits ws.now (changing p) fresh.now (changing q) fresh2.now (telling t) out.old).answer }
+    ensures written { out.new ≡ (two_w limits ws.now (changing p) fresh.now (changing q) fresh2.now (telling t) out.old).out }
 {
     let first = p.edit;
     let second = q.edit;
-    let length = sized(limits, sized(limits, ws.len(), first), second);
-    if let Err(refusal) = fitting(limits, length, out.len()) {
-        return refuse(u8::from(refusal));
-    }
-    write_two(ws, p, fresh, q, fresh2, told.issued, out);
-    accept(told.kind, told.serial, told.fault, (length % 65536) as u16)
+    let size = sized(limits, sized(limits, ws.len(), first), second);
+    fitting(limits, size, out.len())?;
+    write_two(ws, p, fresh, q, fresh2, t.issued, out);
+    let length = word_of(size);
+    Ok(Accepted {
+        kind: t.kind,
+        serial: t.serial,
+        fault: t.fault,
+        length,
+    })
 }

@@ -1,12 +1,14 @@
 // What the step hands on in one: the numbers of a call, the engines of a configuration, and a process found in one of them.
 ghost use Rattle.std.specs.Prelude.{◌≡◌, ◌-◌, ◌≤◌, ◌<◌};
 ghost use Rattle.layout.specs.Kinds.{number_of};
-ghost use Rattle.stepping.specs.Bundles.{bound_of, side_of, met, encounter_of};
+ghost use Rattle.stepping.specs.Bundles.{engines_of, bound_of, side_of, met, encounter_of};
 
 use finding::find::Site;
 use layout::kind::Kind;
 use layout::limit::VALUES;
 use layout::number::wide;
+use layout::unit::WORD;
+use reading::starts::Starts;
 
 // Engine and position of the process that moves; a second engine, a position there, and a branch.
 #[derive(Clone, Copy)]
@@ -18,20 +20,18 @@ pub struct Numbers {
     pub branch: u16,
 }
 
-// How many engines there are, the serials issued, and where each one's process begins.
+// How many engines there are and where each one's process begins, and the serials issued.
 #[derive(Clone, Copy)]
 pub struct Engines {
-    pub count: usize,
+    pub found: Starts,
     pub issued: u16,
-    pub starts: [usize; 9],
 }
 
 // The bound of engines and serials, as the reader takes it.
 pub fn bound(g: Engines) -> usize
-    requires { g.count ≤ 8 }
-    ensures { result ≡ bound_of g }
+    ensures { result ≡ bound_of (engines_of g) }
 {
-    g.count * 65536 + wide(g.issued)
+    g.found.engines * WORD + wide(g.issued)
 }
 
 // An engine's process start..end, and the process found in it.
@@ -51,10 +51,10 @@ pub fn end_before(start: usize) -> usize
 
 pub fn side_in(g: Engines, engine: u16, site: Site) -> Side
     requires { engine < 8 }
-    ensures { result ≡ side_of g engine site }
+    ensures { result ≡ side_of (engines_of g) engine site }
 {
     let e = wide(engine);
-    let starts = g.starts;
+    let starts = g.found.starts;
     let start = starts[e];
     let end = end_before(starts[e + 1]);
     Side { start, end, site }
@@ -73,7 +73,7 @@ pub struct Encounter {
 
 pub fn meeting_of(g: Engines, k: Numbers, kind: Kind, a: Site, b: Site) -> Encounter
     requires { (k.engine < 8) × (k.second < 8) }
-    ensures { met result ≡ encounter_of g k (number_of kind) a b }
+    ensures { met result ≡ encounter_of (engines_of g) k (number_of kind) a b }
 {
     let sender = side_in(g, k.engine, a);
     let receiver = side_in(g, k.second, b);

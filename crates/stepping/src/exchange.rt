@@ -1,17 +1,21 @@
 // A step between two different engines, the sender's and the receiver's.
 ghost use Rattle.std.specs.Prelude.{◌≡◌};
+ghost use Rattle.sock.specs.Words.{bit};
 ghost use Rattle.layout.specs.Kinds.{number_of};
 ghost use Rattle.rules.specs.Editing.{made};
+ghost use Rattle.rules.specs.Offering.{standing};
+ghost use Rattle.stepping.specs.Answers.{told};
 ghost use Rattle.stepping.specs.Answering.{changed, changing};
 ghost use Rattle.stepping.specs.Bundles.{met};
 ghost use Rattle.stepping.specs.Exchanging.{sender_w, receiver_w, next_of, issued_of, fault_of, carry_w, spent_w, meet_w, between_w};
 
-use crate::answer::{Answer, Change, Told, refuse, two};
+use crate::answer::{Accepted, Change, Told, two};
 use crate::bundles::{Encounter, Side};
 use crate::meeting::{fit, receive, send, serial_of};
 use layout::kind::Kind;
 use layout::limit::{Limits, VALUES};
-use layout::number::{LARGEST, wide, word};
+use layout::number::{LARGEST, word};
+use layout::refusal::Refusal;
 use rules::edit::{Edit, plain};
 use rules::pair::{Offer, offered};
 
@@ -39,8 +43,8 @@ fn receiver(
     serial: u16,
     fresh: &mut [u16],
 ) -> Edit
-    ensures edited { made result ≡ (receiver_w part.now values.now other.now o (met x) serial fresh.old).edit }
-    ensures fresh { fresh.new ≡ (receiver_w part.now values.now other.now o (met x) serial fresh.old).fresh }
+    ensures edited { made result ≡ (receiver_w part.now values.now other.now (standing o) (met x) serial fresh.old).edit }
+    ensures fresh { fresh.new ≡ (receiver_w part.now values.now other.now (standing o) (met x) serial fresh.old).fresh }
 {
     let t = receive(part, values, other, o, x.kind, x.engine, serial, fresh);
     let m = x.receiver;
@@ -82,13 +86,10 @@ fn issued_of(kind: Kind, issued: u16, next: u16) -> u16
 }
 
 #[tactic(auto, unfolding(crate::specs::Exchanging::fault_of))]
-fn fault_of(kind: Kind) -> u8
-    ensures { result ≡ fault_of (number_of kind) }
+fn delivers(kind: Kind) -> bool
+    ensures { bit result ≡ fault_of (number_of kind) }
 {
-    match kind {
-        Kind::Notice => 1,
-        _ => 0,
-    }
+    matches!(kind, Kind::Notice)
 }
 
 // The two fit. Their edits are carried out in the order of the engines.
@@ -101,9 +102,9 @@ fn carry(
     x: Encounter,
     limits: Limits,
     out: &mut [u16],
-) -> Answer
-    ensures answered { result ≡ (carry_w limits ws.now part.now values.now other.now o (met x) out.old).answer }
-    ensures written { out.new ≡ (carry_w limits ws.now part.now values.now other.now o (met x) out.old).out }
+) -> Result<Accepted, Refusal>
+    ensures answered { told result ≡ (carry_w limits ws.now part.now values.now other.now (standing o) (met x) out.old).answer }
+    ensures written { out.new ≡ (carry_w limits ws.now part.now values.now other.now (standing o) (met x) out.old).out }
 {
     let issued = word(ws, 1);
     let next = next_of(issued);
@@ -112,10 +113,10 @@ fn carry(
     let first = sender(part, x, serial, &mut fresh);
     let mut fresh2 = [0u16; SCRATCH];
     let second = receiver(part, values, other, o, x, serial, &mut fresh2);
-    let told = Told {
-        kind: u8::from(x.kind),
+    let t = Told {
+        kind: x.kind,
         serial,
-        fault: fault_of(x.kind),
+        fault: delivers(x.kind),
         issued: issued_of(x.kind, issued, next),
     };
     let a = x.sender;
@@ -123,9 +124,9 @@ fn carry(
     let p = change(a, first);
     let q = change(b, second);
     if x.engine < x.second {
-        return two(ws, p, &fresh, q, &fresh2, told, limits, out);
+        return two(ws, p, &fresh, q, &fresh2, t, limits, out);
     }
-    two(ws, q, &fresh2, p, &fresh, told, limits, out)
+    two(ws, q, &fresh2, p, &fresh, t, limits, out)
 }
 
 // Whether a solicit finds no serial left.
@@ -140,7 +141,7 @@ fn spent(ws: &[u16], kind: Kind) -> bool
 }
 
 // The words from each process's position on are handed to the rule, with the sender's values.
-#[tactic(auto, unfolding(crate::specs::Exchanging::meet_w))]
+#[tactic(auto, using(crate::proofs::Offered::fit_offered), unfolding(crate::specs::Exchanging::meet_w))]
 fn meet(
     ws: &[u16],
     part: &[u16],
@@ -149,33 +150,29 @@ fn meet(
     x: Encounter,
     limits: Limits,
     out: &mut [u16],
-) -> Answer
-    ensures answered { result ≡ (meet_w limits ws.now part.now values.now other.now (met x) out.old).answer }
+) -> Result<Accepted, Refusal>
+    ensures answered { told result ≡ (meet_w limits ws.now part.now values.now other.now (met x) out.old).answer }
     ensures written { out.new ≡ (meet_w limits ws.now part.now values.now other.now (met x) out.old).out }
 {
-    let o = offered(other, x.branch);
-    if fit(
-        part,
-        values,
-        other,
-        o,
-        x.kind,
-        x.branch,
-        wide(x.engine),
-        wide(x.second),
-    ) {
-        if spent(ws, x.kind) {
-            return refuse(7);
-        }
-        return carry(ws, part, values, other, o, x, limits, out);
+    let o = offered(other, x.branch).ok_or(Refusal::NoFit)?;
+    if !fit(part, values, other, o, x.kind, x.branch, x.engine, x.second) {
+        return Err(Refusal::NoFit);
     }
-    refuse(5)
+    if spent(ws, x.kind) {
+        return Err(Refusal::SerialsSpent);
+    }
+    carry(ws, part, values, other, o, x, limits, out)
 }
 
 // That the places are inside is known of all that was found.
 #[tactic(auto, unfolding(crate::specs::Exchanging::between_w))]
-pub(crate) fn between(ws: &[u16], x: Encounter, limits: Limits, out: &mut [u16]) -> Answer
-    ensures answered { result ≡ (between_w limits ws.now (met x) out.old).answer }
+pub(crate) fn between(
+    ws: &[u16],
+    x: Encounter,
+    limits: Limits,
+    out: &mut [u16],
+) -> Result<Accepted, Refusal>
+    ensures answered { told result ≡ (between_w limits ws.now (met x) out.old).answer }
     ensures written { out.new ≡ (between_w limits ws.now (met x) out.old).out }
 {
     let a = x.sender;
@@ -184,19 +181,10 @@ pub(crate) fn between(ws: &[u16], x: Encounter, limits: Limits, out: &mut [u16])
     let at = a.site.at;
     let to = b.site.at;
     if x.engine == x.second {
-        return refuse(5);
+        return Err(Refusal::NoFit);
     }
-    if start < VALUES {
-        return refuse(5);
-    }
-    if ws.len() < start {
-        return refuse(5);
-    }
-    if ws.len() < at {
-        return refuse(5);
-    }
-    if ws.len() < to {
-        return refuse(5);
+    if start < VALUES || ws.len() < start || ws.len() < at || ws.len() < to {
+        return Err(Refusal::NoFit);
     }
     let from = start - VALUES;
     meet(ws, &ws[at..], &ws[from..start], &ws[to..], x, limits, out)

@@ -5,6 +5,7 @@ pub mod alone;
 pub mod answer;
 pub mod bundles;
 pub mod exchange;
+pub mod limits;
 pub mod meeting;
 pub mod steps;
 pub mod writing;

@@ -1,13 +1,14 @@
 // Between two engines: whether sender and receiver fit, and what each turns into.
 ghost use Rattle.std.specs.Prelude.{◌≡◌};
 ghost use Rattle.layout.specs.Kinds.{number_of};
+ghost use Rattle.rules.specs.Offering.{standing};
 ghost use Rattle.rules.specs.Rewriting.{turned};
 ghost use Rattle.stepping.specs.Meeting.{addressed_w, replies_w, replied_w, taker_of, counts_w, takes_w, fit_w, send_w, receive_w, serial_w};
 
 use evaluating::evaluate::variable;
 use layout::field::{executors_client, first_variable, notices_client};
 use layout::kind::Kind;
-use layout::number::word;
+use layout::number::{wide, word};
 use rules::message;
 use rules::pair::{Offer, answer, ask, awaits, fail, fits, hear, serve};
 use rules::rewriting::{Rewriting, to_nil};
@@ -15,11 +16,11 @@ use rules::store::nothing;
 
 // Whether a notify or solicit is sent to the engine that receives.
 #[tactic(auto, unfolding(crate::specs::Meeting::addressed_w))]
-fn addressed(part: &[u16], values: &[u16], receiver: usize) -> bool
+fn addressed(part: &[u16], values: &[u16], receiver: u16) -> bool
     ensures { result ≡ addressed_w part.now values.now receiver }
 {
     let z = variable(values, first_variable(word(part, 1)));
-    (z as usize) == receiver
+    z == u32::from(receiver)
 }
 
 // Whether an executor's reply or a notice's fault, which names `client`, has its waiter in `other`.
@@ -29,34 +30,29 @@ fn replies(
     other: &[u16],
     client: usize,
     branch: usize,
-    sender: usize,
-    receiver: usize,
+    sender: u16,
+    receiver: u16,
 ) -> bool
     ensures { result ≡ replies_w part.now other.now client branch sender receiver }
 {
-    if branch != 0 {
-        return false;
-    }
-    awaits(
-        other,
-        word(part, 0),
-        word(part, 2),
-        client,
-        sender,
-        receiver,
-    )
+    branch == 0
+        && awaits(
+            other,
+            word(part, 0),
+            word(part, 2),
+            client,
+            wide(sender),
+            wide(receiver),
+        )
 }
 
 // Whether an executor's reply has its waiter in `other`, and that has as many variables.
 #[tactic(auto, unfolding(crate::specs::Meeting::replied_w))]
-fn answers(part: &[u16], other: &[u16], branch: usize, sender: usize, receiver: usize) -> bool
+fn answers(part: &[u16], other: &[u16], branch: usize, sender: u16, receiver: u16) -> bool
     ensures { result ≡ replied_w part.now other.now branch sender receiver }
 {
     let client = executors_client(word(part, 1));
-    if replies(part, other, client, branch, sender, receiver) {
-        return message::answers(part, other);
-    }
-    false
+    replies(part, other, client, branch, sender, receiver) && message::answers(part, other)
 }
 
 // The kind that hears a notify, and a solicit.
@@ -84,7 +80,7 @@ fn counts(part: &[u16], other: &[u16], guard: usize, kind: Kind) -> bool
 // Whether a notify, or a solicit, is for what `other` offers.
 #[tactic(auto, unfolding(crate::specs::Meeting::takes_w))]
 fn takes(part: &[u16], other: &[u16], o: Offer, kind: Kind) -> bool
-    ensures { result ≡ takes_w part.now other.now o (number_of kind) }
+    ensures { result ≡ takes_w part.now other.now (standing o) (number_of kind) }
 {
     if fits(other, o, taker(kind), word(part, 0)) {
         return counts(part, other, o.guard, kind);
@@ -101,10 +97,10 @@ pub(crate) fn fit(
     o: Offer,
     kind: Kind,
     branch: usize,
-    sender: usize,
-    receiver: usize,
+    sender: u16,
+    receiver: u16,
 ) -> bool
-    ensures { result ≡ fit_w part.now values.now other.now o (number_of kind) branch sender receiver }
+    ensures { result ≡ fit_w part.now values.now other.now (standing o) (number_of kind) branch sender receiver }
 {
     match kind {
         Kind::Executor => answers(part, other, branch, sender, receiver),
@@ -158,8 +154,8 @@ pub(crate) fn receive(
     serial: u16,
     fresh: &mut [u16],
 ) -> Rewriting
-    ensures rewritten { turned result ≡ (receive_w part.now values.now other.now o (number_of kind) client serial fresh.old).rewriting }
-    ensures fresh { fresh.new ≡ (receive_w part.now values.now other.now o (number_of kind) client serial fresh.old).fresh }
+    ensures rewritten { turned result ≡ (receive_w part.now values.now other.now (standing o) (number_of kind) client serial fresh.old).rewriting }
+    ensures fresh { fresh.new ≡ (receive_w part.now values.now other.now (standing o) (number_of kind) client serial fresh.old).fresh }
 {
     let guard = o.guard;
     match kind {

@@ -5,7 +5,13 @@ use Rattle.cabinet.proofs.engines_bytes.let_go.Goals as goal
 
 pub hand_out-requires : goal.hand_out-requires
 hand_out-requires c =
-    let_go_fits (c.args.ws.now) (c.args.res.now) _ (c.args.out.now) (c.leave-w.result) (c.leave-w.ensures.answered) (c.leave-w.ensures.wrote) (c.requires)
+    let l = c.leave-given.ensures in
+    let_go_fits c.args.ws.now c.args.res.now _ c.args.out.now _ l.answered l.wrote c.requires
 
 pub returns : goal.returns
-returns c = record { answered = c.hand_out.ensures.answered ∙ let_go_answer (c.args.ws.now) (c.args.res.now) _ (c.args.out.now) (c.leave-w.result) (c.leave-w.ensures.answered) (c.leave-w.ensures.wrote) (c.requires); wrote = c.hand_out.ensures.wrote ∙ let_go_output (c.args.ws.now) (c.args.res.now) _ (c.args.out.now) (c.leave-w.result) (c.leave-w.ensures.answered) (c.leave-w.ensures.wrote) (c.requires) }
+returns c =
+    let l = c.leave-given.ensures in
+    record {
+      answered = c.hand_out.ensures.answered ∙ let_go_answer c.args.ws.now c.args.res.now _ c.args.out.now _ l.answered l.wrote c.requires;
+      wrote = c.hand_out.ensures.wrote ∙ let_go_output c.args.ws.now c.args.res.now _ c.args.out.now _ l.answered l.wrote c.requires;
+    }

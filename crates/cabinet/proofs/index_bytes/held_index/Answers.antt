@@ -1,9 +1,12 @@
 -- `held_index` of `cabinet::index_bytes` meets its contract.
 use mathlib.Core.Path.{◌∙◌}
-use Rattle.bytewise.proofs.Parts.{first_part}
-use Rattle.cabinet.proofs.Indexing.{order_held, words_held}
+use Rattle.cabinet.proofs.Indexing.{part_first, order_held, words_held}
 use Rattle.cabinet.proofs.index_bytes.held_index.Goals as goal
 
 pub returns : goal.returns
 returns c =
-    let h = c.hold_part-n.ensures in record { ordered = c.in_order.ensures ∙ order_held c.args.index.now _ (first_part _ 2049 _ _ _ _ c.requires h.0 h.1); held = words_held _ c.args.index.now _ _ c.requires h.1 }
+    let h = c.hold_part-n.ensures in
+    record {
+      ordered = c.in_order.ensures ∙ order_held c.args.index.now _ (part_first 2049 _ _ _ _ c.requires h.0 h.1);
+      held = words_held _ c.args.index.now _ _ c.requires h.1;
+    }

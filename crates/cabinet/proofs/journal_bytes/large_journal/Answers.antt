@@ -1,14 +1,9 @@
 -- `large_journal` of `cabinet::journal_bytes` meets its contract.
 use native.Mathlib.Omega.{arith}
 use mathlib.Core.Path.{refl, ◌∙◌}
-use borrow.Author.Rules.{rules}
 use Rattle.sock.specs.Configuration.{standard}
-use Rattle.stepping.proofs.Modest.{modest_standard}
 use Rattle.cabinet.proofs.Journaling.{large_journal_given, large_journal_output, large_journal_written}
 use Rattle.cabinet.proofs.journal_bytes.large_journal.Goals as goal
-
-pub journal_in-requires : goal.journal_in-requires
-journal_in-requires c = record { modest = modest_standard refl; sizes = search rules }
 
 pub returns : goal.returns
 returns c =

@@ -12,7 +12,7 @@ returns c =
     let part = c.held_part-noted.ensures in
     let room = length-take-le _ _ (omega (arith, r.1, c.requires)) ∙ r.0 in
     record {
-      answered = back_answer _ _ ws _ _ c.args.out.now part _ room c.taken_back.result c.taken_back.ensures.answered;
+      answered = back_answer _ _ ws _ _ c.args.out.now part _ room _ c.taken_back.ensures.answered;
       wrote = c.taken_back.ensures.wrote ∙ back_output _ _ ws _ _ c.args.out.now part _ room;
       held = back_held _ _ ws _ _ c.args.out.now part _ r.0 c.args.res.now _ (omega (arith, r.1, c.requires)) c.taken_back.ensures.held;
     }

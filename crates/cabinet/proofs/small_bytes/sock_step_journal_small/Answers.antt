@@ -1,15 +1,10 @@
 -- `sock_step_journal_small` of `cabinet::small_bytes` meets its contract.
 use native.Mathlib.Omega.{arith}
 use mathlib.Core.Path.{refl, ap, ◌∙◌}
-use borrow.Author.Rules.{rules}
 use Rattle.bytewise.specs.Held.{packed_as}
 use Rattle.sock.specs.Cabinets.{small}
-use Rattle.stepping.proofs.Modest.{modest_small}
 use Rattle.cabinet.proofs.Journaling.{large_journal_answer, large_journal_output, large_journal_written}
 use Rattle.cabinet.proofs.small_bytes.sock_step_journal_small.Goals as goal
-
-pub journal_in-requires : goal.journal_in-requires
-journal_in-requires c = record { modest = modest_small refl; sizes = search rules }
 
 pub returns : goal.returns
 returns c =

@@ -1,15 +1,10 @@
 -- `sock_step_small` of `cabinet::small_bytes` meets its contract.
 use native.Mathlib.Omega.{arith}
-use mathlib.Core.Path.{refl, ap, ◌∙◌}
-use borrow.Author.Rules.{rules}
+use mathlib.Core.Path.{ap, ◌∙◌}
 use Rattle.bytewise.specs.Held.{packed_as}
 use Rattle.sock.specs.Cabinets.{small}
-use Rattle.stepping.proofs.Modest.{modest_small}
 use Rattle.bytewise.proofs.Stepping.{large_answer, large_output}
 use Rattle.cabinet.proofs.small_bytes.sock_step_small.Goals as goal
-
-pub step_in-requires : goal.step_in-requires
-step_in-requires c = record { modest = modest_small refl; sizes = search rules }
 
 pub returns : goal.returns
 returns c =

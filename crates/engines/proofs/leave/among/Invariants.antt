@@ -6,4 +6,4 @@ use Rattle.engines.specs.Leaving.{all_read}
 use Rattle.engines.proofs.leave.among.Given as goal
 
 abbrev pub invariant-loop-e : goal.invariant-loop-e
-invariant-loop-e l = all_read (process_end 64 l.ws l.bound 11) l.starts (l.n - l.e) l.e ≡ all_read (process_end 64 l.ws l.bound 11) l.starts l.n 0
+invariant-loop-e l = all_read (process_end 64 l.ws l.bound 11) l.starts (l.initial.e-end - l.e) l.e ≡ all_read (process_end 64 l.ws l.bound 11) l.starts l.initial.e-end 0

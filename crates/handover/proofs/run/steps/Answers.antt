@@ -1,7 +1,7 @@
 -- `steps` prints what the definition says.
-use Rattle.std.proofs.Common.{◌≡◌, arith, length, length-take-le, take, ap}
+use Rattle.std.proofs.Common.{◌≡◌, arith, length, length-take-le, take}
 use lib.Seq.{take_all}
-use Rattle.handover.specs.Printed.{last_line, defined_as, steps_text, most_steps}
+use Rattle.handover.specs.Printed.{last_line, steps_text, most_steps}
 use Rattle.handover.proofs.Reading.{known, completed, reads}
 use Rattle.handover.proofs.Going.{gone_none, gone_all, gone_last, gone_next}
 use Rattle.handover.proofs.run.steps.Goals as goal
@@ -19,7 +19,7 @@ loop-number-preserved g c =
     let size : length buf ≡ 10 = got.same_length in
     let all : take c.in_ok-got.got buf ≡ buf = take_all c.in_ok-got.got buf (omega (arith, size)) in
     let full = rw all at r in
-    let line = rw (ap defined_as c.advance-answer.ensures.answer) at c.in_ok-step_line.ensures in
+    let line = rw c.advance-answer.ensures.answer at c.in_ok-step_line.ensures in
     rw c.advance-answer.ensures.words (gone_next _ _ _ _ _ _ _ (omega arith) h buf _ full size _ line)
 
 pub returns-then-got-lt-STEP_SIZE : goal.returns-then-got-lt-STEP_SIZE

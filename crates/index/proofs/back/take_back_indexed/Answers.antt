@@ -1,7 +1,8 @@
 -- `take_back_indexed` of `index::back` meets its contract: the taking back, and the index of what it restored.
-use mathlib.Core.Path.{sym, ◌∙◌}
+use mathlib.Core.Path.{refl, sym, ◌∙◌}
+use borrow.Author.Tests.{eqb-false}
 use lib.Seq.{length-take-le}
-use Rattle.index.proofs.Forming.{order_long}
+use Rattle.layout.proofs.Refusing.{never_zero}
 use Rattle.index.proofs.Answering.{back_unlisted, back_refuses, back_within, back_accepts}
 use Rattle.index.proofs.back.take_back_indexed.Goals as goal
 
@@ -12,23 +13,31 @@ pub returns-then-not-in_order : goal.returns-then-not-in_order
 returns-then-not-in_order c =
     let a = c.args in as_answered_wrote_relisted (back_unlisted a.ws.now a.journal.now a.out.now a.index.now (sym c.in_order.ensures ∙ c.if-not-in_order.true))
 
-pub returns-then-t-ne0 : goal.returns-then-t-ne0
-returns-then-t-ne0 c =
-    let a = c.args in as_answered_wrote_relisted (back_refuses a.ws.now a.journal.now a.out.now a.index.now (sym c.in_order.ensures ∙ c.if-not-in_order.false) c.take_back-t.result c.take_back-t.ensures.answered _ c.take_back-t.ensures.wrote c.if-t-ne0.true)
+pub returns-in_err-length-clause-wrote : goal.returns-in_err-length-clause-wrote
+returns-in_err-length-clause-wrote c =
+    let a = c.args in
+    let r = c.in_err-length.ensures in
+    (back_refuses a.ws.now a.journal.now a.out.now a.index.now (sym c.in_order.ensures ∙ c.if-not-in_order.false) _ r.answered _ r.wrote (eqb-false _ 0 (never_zero c.in_err-length.field-0.0))).1.0
+
+pub returns-in_err-length-clause-relisted : goal.returns-in_err-length-clause-relisted
+returns-in_err-length-clause-relisted c =
+    let a = c.args in
+    let r = c.in_err-length.ensures in
+    (back_refuses a.ws.now a.journal.now a.out.now a.index.now (sym c.in_order.ensures ∙ c.if-not-in_order.false) _ r.answered _ r.wrote (eqb-false _ 0 (never_zero c.in_err-length.field-0.0))).1.1
 
 pub slice_bounds-list_anew-end : goal.slice_bounds-list_anew-end
 slice_bounds-list_anew-end c =
     let a = c.args in
-    back_within a.ws.now a.journal.now a.out.now a.index.now (sym c.in_order.ensures ∙ c.if-not-in_order.false) c.take_back-t.result c.take_back-t.ensures.answered _ c.take_back-t.ensures.wrote c.if-t-ne0.false c.wide-n.result c.wide-n.ensures.0
+    let t = c.in_ok-length.ensures in
+    back_within a.ws.now a.journal.now a.out.now a.index.now (sym c.in_order.ensures ∙ c.if-not-in_order.false) _ t.answered _ t.wrote refl _ c.from.ensures
 
 pub slice_bounds-list_anew-end-2 : goal.slice_bounds-list_anew-end-2
 slice_bounds-list_anew-end-2 c =
     let a = c.args in
-    sym (length-take-le _ _ (back_within a.ws.now a.journal.now a.out.now a.index.now (sym c.in_order.ensures ∙ c.if-not-in_order.false) c.take_back-t.result c.take_back-t.ensures.answered _ c.take_back-t.ensures.wrote c.if-t-ne0.false c.wide-n.result c.wide-n.ensures.0))
-
-pub list_anew-requires : goal.list_anew-requires
-list_anew-requires c = order_long c.args.index.now (sym c.in_order.ensures ∙ c.if-not-in_order.false)
+    let t = c.in_ok-length.ensures in
+    sym (length-take-le _ _ (back_within a.ws.now a.journal.now a.out.now a.index.now (sym c.in_order.ensures ∙ c.if-not-in_order.false) _ t.answered _ t.wrote refl _ c.from.ensures))
 
 pub returns : goal.returns
 returns c =
-    let a = c.args in as_answered_wrote_relisted (back_accepts a.ws.now a.journal.now a.out.now a.index.now (sym c.in_order.ensures ∙ c.if-not-in_order.false) c.take_back-t.result c.take_back-t.ensures.answered _ c.take_back-t.ensures.wrote c.if-t-ne0.false c.wide-n.result c.wide-n.ensures.0 _ c.list_anew.ensures)
+    let a = c.args in
+    let t = c.in_ok-length.ensures in as_answered_wrote_relisted (back_accepts a.ws.now a.journal.now a.out.now a.index.now (sym c.in_order.ensures ∙ c.if-not-in_order.false) _ t.answered _ t.wrote refl _ c.from.ensures _ c.list_anew.ensures)

@@ -1,17 +1,18 @@
 -- `begin_index` of `index::begin` meets its contract.
-use mathlib.Core.Path.{◌∙◌}
+use mathlib.Core.Path.{refl, ◌∙◌}
+use borrow.Author.Tests.{eqb-false}
+use Rattle.layout.proofs.Refusing.{never_zero}
 use Rattle.index.proofs.Answering.{all_cleared, begin_short, begin_refused, begin_done}
 use Rattle.index.proofs.begin.begin_index.Goals as goal
 
-as_answered_begun : {A B : Type 0} → A × B → record { answered : A; begun : B }
-as_answered_begun p = record { answered = p.0; begun = p.1 }
+pub returns-then-index-lt-WORDS-clause-begun : goal.returns-then-index-lt-WORDS-clause-begun
+returns-then-index-lt-WORDS-clause-begun c = (begin_short c.args.ws.now c.args.index.now c.if-index-lt-WORDS.true).1
 
-pub returns-then-index-lt-WORDS : goal.returns-then-index-lt-WORDS
-returns-then-index-lt-WORDS c = as_answered_begun (begin_short c.args.ws.now c.args.index.now c.if-index-lt-WORDS.true)
+pub returns-in_err-check_start-clause-begun : goal.returns-in_err-check_start-clause-begun
+returns-in_err-check_start-clause-begun c =
+    (begin_refused c.args.ws.now c.args.index.now c.if-index-lt-WORDS.false _ c.in_err-check_start.ensures (eqb-false _ 0 (never_zero c.in_err-check_start.field-0.0))).1
 
-pub returns-then-n-ne0 : goal.returns-then-n-ne0
-returns-then-n-ne0 c = as_answered_begun (begin_refused c.args.ws.now c.args.index.now c.if-index-lt-WORDS.false c.check_start-n.result c.check_start-n.ensures c.if-n-ne0.true)
-
-pub returns : goal.returns
-returns c =
-    let b = begin_done c.args.ws.now c.args.index.now c.if-index-lt-WORDS.false c.check_start-n.result c.check_start-n.ensures c.if-n-ne0.false in record { answered = b.0; begun = c.clear.ensures ∙ all_cleared c.args.index.now ∙ b.1 }
+pub returns-clause-begun : goal.returns-clause-begun
+returns-clause-begun c =
+    c.clear.ensures ∙ all_cleared c.args.index.now
+    ∙ (begin_done c.args.ws.now c.args.index.now c.if-index-lt-WORDS.false 0 c.in_ok-check_start.ensures refl).1

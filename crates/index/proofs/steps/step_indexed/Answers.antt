@@ -1,5 +1,7 @@
 -- `step_indexed` of `index::steps` meets its contract: the step with a journal, and what follows by its answer.
-use mathlib.Core.Path.{sym, ◌∙◌}
+use mathlib.Core.Path.{refl, sym, ◌∙◌}
+use borrow.Author.Tests.{eqb-false}
+use Rattle.layout.proofs.Refusing.{never_zero}
 use Rattle.stepping.specs.Bundles.{numbers_as}
 use Rattle.index.proofs.Answering.{step_unlisted, step_refuses, step_accepts}
 use Rattle.index.proofs.steps.step_indexed.Goals as goal
@@ -9,13 +11,27 @@ as_answered_wrote_noted_followed p = record { answered = p.0; wrote = p.1.0; not
 
 pub returns-then-not-in_order : goal.returns-then-not-in_order
 returns-then-not-in_order c =
-    let a = c.args in
-    let u = step_unlisted a.ws.now (numbers_as a.k) a.out.now a.journal.now a.index.now (sym c.in_order.ensures ∙ c.if-not-in_order.true) in as_answered_wrote_noted_followed ((c.refuse.ensures ∙ u.0, u.1))
+    let a = c.args in as_answered_wrote_noted_followed (step_unlisted a.ws.now (numbers_as a.k) a.out.now a.journal.now a.index.now (sym c.in_order.ensures ∙ c.if-not-in_order.true))
 
-pub returns-then-a-ne0 : goal.returns-then-a-ne0
-returns-then-a-ne0 c =
-    let a = c.args in as_answered_wrote_noted_followed (step_refuses a.ws.now (numbers_as a.k) a.out.now a.journal.now a.index.now (sym c.in_order.ensures ∙ c.if-not-in_order.false) c.step-a.result c.step-a.ensures.answered _ _ c.step-a.ensures.wrote c.step-a.ensures.noted c.if-a-ne0.true)
+pub returns-in_err-given-clause-wrote : goal.returns-in_err-given-clause-wrote
+returns-in_err-given-clause-wrote c =
+    let a = c.args in
+    let r = c.in_err-given.ensures in
+    (step_refuses a.ws.now (numbers_as a.k) a.out.now a.journal.now a.index.now (sym c.in_order.ensures ∙ c.if-not-in_order.false) _ r.answered _ _ r.wrote r.noted (eqb-false _ 0 (never_zero c.in_err-given.field-0.0))).1.0
+
+pub returns-in_err-given-clause-noted : goal.returns-in_err-given-clause-noted
+returns-in_err-given-clause-noted c =
+    let a = c.args in
+    let r = c.in_err-given.ensures in
+    (step_refuses a.ws.now (numbers_as a.k) a.out.now a.journal.now a.index.now (sym c.in_order.ensures ∙ c.if-not-in_order.false) _ r.answered _ _ r.wrote r.noted (eqb-false _ 0 (never_zero c.in_err-given.field-0.0))).1.1.0
+
+pub returns-in_err-given-clause-followed : goal.returns-in_err-given-clause-followed
+returns-in_err-given-clause-followed c =
+    let a = c.args in
+    let r = c.in_err-given.ensures in
+    (step_refuses a.ws.now (numbers_as a.k) a.out.now a.journal.now a.index.now (sym c.in_order.ensures ∙ c.if-not-in_order.false) _ r.answered _ _ r.wrote r.noted (eqb-false _ 0 (never_zero c.in_err-given.field-0.0))).1.1.1
 
 pub returns : goal.returns
 returns c =
-    let a = c.args in as_answered_wrote_noted_followed (step_accepts a.ws.now (numbers_as a.k) a.out.now a.journal.now a.index.now (sym c.in_order.ensures ∙ c.if-not-in_order.false) c.step-a.result c.step-a.ensures.answered _ _ c.step-a.ensures.wrote c.step-a.ensures.noted c.if-a-ne0.false _ c.follow.ensures)
+    let a = c.args in
+    let g = c.in_ok-given.ensures in as_answered_wrote_noted_followed (step_accepts a.ws.now (numbers_as a.k) a.out.now a.journal.now a.index.now (sym c.in_order.ensures ∙ c.if-not-in_order.false) _ g.answered _ _ g.wrote g.noted refl _ c.follow.ensures)

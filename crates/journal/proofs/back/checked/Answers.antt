@@ -1,7 +1,7 @@
 -- `checked` of `journal::back` meets its contract.
 use Prim.Native.Nat.{ℕ}
 use native.Mathlib.Omega.{arith}
-use mathlib.Core.Path.{◌≡◌, sym, ap, ◌∙◌}
+use mathlib.Core.Path.{refl, sym, ap, ◌∙◌}
 use mathlib.Core.List.{List}
 use lib.ListN.{length}
 use Rattle.sock.specs.Calls.{check_readable, over}
@@ -9,30 +9,33 @@ use Rattle.sock.specs.Configuration.{standard}
 use Rattle.sock.specs.Journal.{put_back}
 use Rattle.journal.specs.Back.{said}
 use Rattle.writers.proofs.Over.{over_length, pasted_first}
-use Rattle.journal.proofs.Restoring.{put_words, put_laid, old_length, gives_refused, gives_done, not_read, not_fitting, is_restored}
+use Rattle.journal.proofs.Restoring.{put_words, put_laid, old_length, gives_refused, gives_done, unread_err, read_ok, not_read, not_fitting, is_restored}
 use Rattle.journal.proofs.back.checked.Goals as goal
 
-pub returns-then-check_readable-ne0 : goal.returns-then-check_readable-ne0
-returns-then-check_readable-ne0 c =
+pub returns-then-is_err : goal.returns-then-is_err
+returns-then-is_err c =
     let old : List ℕ = put_back (said (c.args.c) (c.args.journal.now)) (c.args.ws.now) in
     let w = put_words (c.args.c) (c.args.ws.now) (c.args.journal.now) (c.args.scratch.now) _ _ (c.requires.0) (c.requires.1) (c.wide-n.ensures.0) (c.put_back.ensures) in
-    let u : check_readable standard old ≡ 0 → ⊥ = λ z. c.if-check_readable-ne0.true (c.check_readable.ensures ∙ ap (check_readable standard) w ∙ z) in
-    let g = gives_refused _ (c.args.out.now) (not_read old (length (c.args.out.now)) u) (c.refuse.ensures) in record { answered = g.answer; wrote = g.output }
+    let u = unread_err _ _ (c.check_readable.ensures ∙ ap (check_readable standard) w) (sym c.is_err.ensures.value ∙ c.if-is_err.true) in
+    let g = gives_refused _ (c.args.out.now) (not_read old (length (c.args.out.now)) u) refl in
+    record { answered = g.answer; wrote = g.output }
 
 pub returns-then-out-n : goal.returns-then-out-n
 returns-then-out-n c =
     let old : List ℕ = put_back (said (c.args.c) (c.args.journal.now)) (c.args.ws.now) in
     let w = put_words (c.args.c) (c.args.ws.now) (c.args.journal.now) (c.args.scratch.now) _ _ (c.requires.0) (c.requires.1) (c.wide-n.ensures.0) (c.put_back.ensures) in
-    let u : check_readable standard old ≡ 0 = sym (c.check_readable.ensures ∙ ap (check_readable standard) w) ∙ c.if-check_readable-ne0.false in
+    let u = read_ok _ _ (c.check_readable.ensures ∙ ap (check_readable standard) w) (sym c.is_err.ensures.value ∙ c.if-is_err.false) in
     let l = old_length (c.args.c) (c.args.ws.now) (c.args.journal.now) (c.requires.0) in
-    let g = gives_refused _ (c.args.out.now) (not_fitting old (length (c.args.out.now)) u (omega (arith, l, c.if-out-n.true, c.wide-n.ensures.0))) (c.refuse-then-out-n.ensures) in record { answered = g.answer; wrote = g.output }
+    let g = gives_refused _ (c.args.out.now) (not_fitting old (length (c.args.out.now)) u (omega (arith, l, c.if-out-n.true, c.wide-n.ensures.0))) refl in
+    record { answered = g.answer; wrote = g.output }
 
 pub returns : goal.returns
 returns c =
     let old : List ℕ = put_back (said (c.args.c) (c.args.journal.now)) (c.args.ws.now) in
     let w = put_words (c.args.c) (c.args.ws.now) (c.args.journal.now) (c.args.scratch.now) _ _ (c.requires.0) (c.requires.1) (c.wide-n.ensures.0) (c.put_back.ensures) in
-    let u : check_readable standard old ≡ 0 = sym (c.check_readable.ensures ∙ ap (check_readable standard) w) ∙ c.if-check_readable-ne0.false in
+    let u = read_ok _ _ (c.check_readable.ensures ∙ ap (check_readable standard) w) (sym c.is_err.ensures.value ∙ c.if-is_err.false) in
     let l = old_length (c.args.c) (c.args.ws.now) (c.args.journal.now) (c.requires.0) in
     let k = ap length (c.put_back.ensures ∙ put_laid (c.args.c) (c.args.ws.now) (c.args.journal.now) (c.requires.0) (c.args.scratch.now) (c.requires.1)) ∙ over_length old (c.args.scratch.now) (omega (arith, l, c.requires.1)) in
     let o = c.copy.ensures.1 ∙ pasted_first _ _ (c.args.out.now) (omega (arith, k, c.requires.1, c.wide-n.ensures.0)) (omega (arith, c.if-out-n.false)) ∙ ap (λ (us : List ℕ). over us (c.args.out.now)) w in
-    let g = gives_done _ (c.args.out.now) _ (is_restored old (length (c.args.out.now)) u (omega (arith, l, c.if-out-n.false, c.wide-n.ensures.0))) (ap (λ (n : ℕ). record { number = 0; length = n }) (sym l)) o in record { answered = g.answer; wrote = g.output }
+    let g = gives_done _ (c.args.out.now) _ (is_restored old (length (c.args.out.now)) u (omega (arith, l, c.if-out-n.false, c.wide-n.ensures.0))) (ap (λ (n : ℕ). record { number = 0; length = n }) (sym l)) o in
+    record { answered = g.answer; wrote = g.output }

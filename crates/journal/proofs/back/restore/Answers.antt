@@ -1,5 +1,6 @@
 -- `restore` of `journal::back` meets its contract.
 use native.Mathlib.Omega.{arith}
+use mathlib.Core.Path.{refl}
 use lib.ListN.{length}
 use Rattle.sock.specs.Journal.{put_back}
 use Rattle.journal.specs.Back.{said}
@@ -9,4 +10,5 @@ use Rattle.journal.proofs.back.restore.Goals as goal
 pub returns-then-n-gt-LONGEST : goal.returns-then-n-gt-LONGEST
 returns-then-n-gt-LONGEST c =
     let l = old_length (c.args.c) (c.args.ws.now) (c.args.journal.now) (c.requires) in
-    let g = gives_refused _ (c.args.out.now) (not_long (put_back (said (c.args.c) (c.args.journal.now)) (c.args.ws.now)) (length (c.args.out.now)) (omega (arith, l, c.if-n-gt-LONGEST.true, c.wide-n.ensures.0))) (c.refuse.ensures) in record { answered = g.answer; wrote = g.output }
+    let g = gives_refused _ (c.args.out.now) (not_long (put_back (said (c.args.c) (c.args.journal.now)) (c.args.ws.now)) (length (c.args.out.now)) (omega (arith, l, c.if-n-gt-LONGEST.true, c.wide-n.ensures.0))) refl in
+    record { answered = g.answer; wrote = g.output }

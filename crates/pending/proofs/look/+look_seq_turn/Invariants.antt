@@ -17,7 +17,7 @@ decreases-turn l = l.depth * 3 + 2
 
 abbrev pub invariant-look-loop-i : goal.invariant-look-loop-i
 invariant-look-loop-i l =
-    loop_w l.turns (turn_w (look_w (l.depth - 1) l.ws l.notes) l.ws l.notes) l.end l.i l.n ≡ look_w l.depth l.ws l.notes l.at l.end l.count
+    loop_w l.turns (turn_w (look_w (l.depth - 1) l.noted.ws.now l.noted.notes.now) l.noted.ws.now l.noted.notes.now) l.end l.i l.n ≡ look_w l.depth l.noted.ws.now l.noted.notes.now l.at l.end l.count
 
 abbrev pub decreases-look-loop-i : goal.decreases-look-loop-i
 decreases-look-loop-i l = l.turns

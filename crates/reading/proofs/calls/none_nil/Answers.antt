@@ -15,5 +15,5 @@ use Rattle.reading.proofs.calls.none_nil.Goals as goal
 pub returns : goal.returns
 returns c =
     let a = c.args in
-    all_from_yields_List (λ i. not (eqb (at a.ws.now i) 0)) _ _ c.all.result c.all.ensures.ran (YieldsList-from_slice (take a.n a.starts) (search rules)) (λ x b q k. search (rules, tests))
-    ∙ sym (nil_all a.ws.now a.starts a.n (omega arith))
+    all_from_yields_List (λ i. not (eqb (at a.ws.now i) 0)) _ _ c.all.result c.all.ensures.ran (YieldsList-from_slice (take a.s.engines a.s.starts) (search rules)) (λ x b q k. search (rules, tests))
+    ∙ sym (nil_all a.ws.now a.s.starts a.s.engines (omega arith))

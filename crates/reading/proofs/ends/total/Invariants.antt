@@ -7,6 +7,6 @@ use Rattle.reading.proofs.ends.total.Given as goal
 
 abbrev pub invariant-loop-e : goal.invariant-loop-e
 invariant-loop-e l =
-    (total_from (tally_at l.depth l.ws l.serial l.bound) l.starts (l.n - l.e) l.e l.waiters l.workers ≡ total_from (tally_at l.depth l.ws l.serial l.bound) l.starts l.n 0 0 0)
+    (total_from (tally_at l.depth l.ws l.serial l.bound) l.starts (l.initial.e-end - l.e) l.e l.waiters l.workers ≡ total_from (tally_at l.depth l.ws l.serial l.bound) l.starts l.initial.e-end 0 0 0)
     × (l.waiters ≤ l.e * 65536)
     × (l.workers ≤ l.e * 65536)

@@ -5,19 +5,16 @@
 use Prim.Native.Nat.{ℕ, ◌+◌, ◌*◌, ◌-◌}
 use native.Mathlib.Omega.{arith}
 use mathlib.Core.Path.{◌≡◌, refl, sym, ap, ◌∙◌}
-use mathlib.Core.Logic.{inl, inr}
 use Rattle.reading.proofs.Fitting.{slot_small}
 use Rattle.reading.proofs.Given.{as_none, as_some, none_end, some_end}
-use Rattle.reading.proofs.Walks.{branches_done, choice_in}
 use Rattle.reading.proofs.Later.{begins, Ready, small, three_tests, too_deep_lem, no_words, whole_fails, read_last, read_next, leaf_last, leaf_next, part_next, past_node, past_whole}
-use Rattle.layout.specs.declared.kind.Kind.TheVariants as kinds
 use Rattle.layout.specs.declared.mark.Mark.TheVariants as marks
-use Rattle.layout.proofs.Named.{at_mark, head_kind}
 use Rattle.sock.proofs.Tests.{tests}
-use Rattle.reading.proofs.Walks.{process_node}
 use Rattle.reading.specs.Tables.{shape_of}
-use Rattle.reading.specs.Walk.{expr_end, slot_of}
-use Rattle.reading.specs.Walk.{when, process_end, branches_end, marked_end, node_end}
+use Rattle.layout.specs.declared.kind.Kind.TheVariants as kinds
+use Rattle.layout.proofs.Named.{at_mark, head_kind}
+use Rattle.reading.proofs.Walks.{process_node, entries_next}
+use Rattle.reading.specs.Walk.{when, expr_end, process_end, marked_end, node_end, slot_of}
 use Rattle.reading.proofs.reader.+branch_choice_executor_list_marked_node_process_repeat_request_resting_scope_solicit_two_waiter_whole.Goals as goal
 use Rattle.reading.proofs.reader.+branch_choice_executor_list_marked_node_process_repeat_request_resting_scope_solicit_two_waiter_whole.Goals.{node-After-rest_context-c, process-Then-ready}
 
@@ -25,11 +22,11 @@ use Rattle.reading.proofs.reader.+branch_choice_executor_list_marked_node_proces
 node_by_kind :
     (t : ℕ) (k : node-After-rest_context-c t) →
     let a = k.args in
-    process_end a.depth a.ws.now a.bound a.context a.at
-    ≡ node_end (expr_end (a.depth - 1) a.ws.now) (process_end (a.depth - 1) a.ws.now a.bound) a.ws.now a.context a.bound k.wide-h.result a.at
+    process_end a.depth a.ws.now a.bound a.context.number a.at
+    ≡ node_end (expr_end (a.depth - 1) a.ws.now) (process_end (a.depth - 1) a.ws.now a.bound) a.ws.now a.context.number a.bound k.wide-h.result a.at
 node_by_kind t k =
     let a = k.args in
-    process_node a.depth a.ws.now a.bound a.context a.at _ _ k.if-depth-eq0.false k.if-ws-at.false k.wide-h.ensures.0 k.head_mask.ensures k.if-h-head_mask-ne0.false
+    process_node a.depth a.ws.now a.bound a.context.number a.at _ _ k.if-depth-eq0.false k.if-ws-at.false k.wide-h.ensures.0 k.head_mask.ensures k.if-h-head_mask-ne0.false
 
 -- what is known where a node is read by its parts
 process_ready :
@@ -49,33 +46,24 @@ process_ready t k =
       fit = tests.2;
     }
 
-pub node-returns-in-Choice : goal.node-returns-in-Choice
-unfolding node_end
-node-returns-in-Choice t c =
-    rw (node_by_kind t (goal.at.node-returns-in-Choice t c).After-rest_context-c) (simp (← c.choice.ensures, (head_kind kinds.Choice c.wide-h.ensures.0 c.in-Choice.ensures (omega arith)), ← c.rest_context-c.ensures.0))
-
-pub node-returns-in-Solicit : goal.node-returns-in-Solicit
-unfolding node_end
-node-returns-in-Solicit t c =
-    rw (node_by_kind t (goal.at.node-returns-in-Solicit t c).After-rest_context-c) (simp (← c.solicit.ensures, (head_kind kinds.Solicit c.wide-h.ensures.0 c.in-Solicit.ensures (omega arith)), ← c.rest_context-c.ensures.0))
-
-pub node-returns-in-Scope : goal.node-returns-in-Scope
-unfolding node_end
-node-returns-in-Scope t c =
-    rw (node_by_kind t (goal.at.node-returns-in-Scope t c).After-rest_context-c) (simp (← c.scope.ensures, (head_kind kinds.Scope c.wide-h.ensures.0 c.in-Scope.ensures (omega arith)), ← c.rest_context-c.ensures.0))
-
-pub node-returns-in-Inst : goal.node-returns-in-Inst
-unfolding node_end
-node-returns-in-Inst t c =
-    rw (node_by_kind t (goal.at.node-returns-in-Inst t c).After-rest_context-c) (simp (← c.list.ensures, (head_kind kinds.Inst c.wide-h.ensures.0 c.in-Inst.ensures (omega arith)), ← c.rest_context-c.ensures.0))
-
 pub node-returns-in-Waiter : goal.node-returns-in-Waiter
 unfolding node_end
 node-returns-in-Waiter t c =
     rw (node_by_kind t (goal.at.node-returns-in-Waiter t c).After-rest_context-c) (simp (← c.waiter.ensures, (head_kind kinds.Waiter c.wide-h.ensures.0 c.in-Waiter.ensures (omega arith)), ← c.rest_context-c.ensures.0))
 
+pub node-returns-in-Par : goal.node-returns-in-Par
+unfolding node_end
+node-returns-in-Par t c =
+    rw (node_by_kind t (goal.at.node-returns-in-Par t c).After-rest_context-c) (simp (← c.two-in-Par.ensures, (head_kind kinds.Par c.wide-h.ensures.0 c.in-Par.ensures (omega arith)), ← c.full_context-side.ensures))
+
+pub list-loop-preserved : goal.list-loop-preserved
+list-loop-preserved t c =
+    let a = c.args in
+    let e = some_end _ _ c.in_ok-a.ensures in
+    (entries_next (process_end a.depth a.ws.now a.bound) a.ws.now a.context.number c.unwrap_or-wanted.result c.wide-count.result c.loop.counter c.loop.least c.loop.met c.loop.a _ _ _ _ c.loop-test.true c.in_ok-key.ensures.0 c.entry_context.ensures c.in_ok-a.ensures c.met_by-met.ensures ∙ c.loop.invariant.0, omega (arith, e.1))
+
 pub process-loop-a-init : goal.process-loop-a-init
-process-loop-a-init t c = begins _ _ _ _ _ c.requires
+process-loop-a-init t c = begins _ _ _ _ _ c.args.context.below
 
 pub process-ready-requires : goal.process-ready-requires
 process-ready-requires t c = (c.loop-a-test.true, (slot_small _ _ _ c.loop-a.invariant.3 c.wide.ensures.1 (c.shape-t.ensures ∙ ap shape_of c.slot.ensures)).2)
@@ -95,41 +83,6 @@ process-loop-a-smaller-else-p-eq0 t c = past_node _ _ _ _ _ _ _ _ _ c.loop-a.inv
 pub process-loop-a-preserved-else-p-eq0 : goal.process-loop-a-preserved-else-p-eq0
 process-loop-a-preserved-else-p-eq0 t c = part_next _ _ _ _ _ _ _ _ _ c.loop-a.invariant _ (process_ready t (goal.at.process-loop-a-preserved-else-p-eq0 t c).Then-ready) c.part-c.result c.part.result ((c.loop-a.d - 1) * 16 + c.part.result) c.if-p-eq0.false c.part-c.ensures c.part.ensures refl
 
-pub node-returns-in-If : goal.node-returns-in-If
-unfolding node_end
-node-returns-in-If t c =
-    rw (node_by_kind t (goal.at.node-returns-in-If t c).After-rest_context-c) (simp (← c.branch-ws.ensures, (head_kind kinds.If c.wide-h.ensures.0 c.in-If.ensures (omega arith)), ← c.rest_context-c.ensures.0))
-
-pub node-returns-in-Request : goal.node-returns-in-Request
-unfolding node_end
-node-returns-in-Request t c =
-    rw (node_by_kind t (goal.at.node-returns-in-Request t c).After-rest_context-c) (simp (← c.request.ensures, (head_kind kinds.Request c.wide-h.ensures.0 c.in-Request.ensures (omega arith)), ← c.rest_context-c.ensures.0))
-
-pub node-returns-in-Executor : goal.node-returns-in-Executor
-unfolding node_end
-node-returns-in-Executor t c =
-    rw (node_by_kind t (goal.at.node-returns-in-Executor t c).After-rest_context-c) (simp (← c.executor.ensures, (head_kind kinds.Executor c.wide-h.ensures.0 c.in-Executor.ensures (omega arith)), ← c.rest_context-c.ensures.0))
-
-pub node-returns-in-Notice : goal.node-returns-in-Notice
-unfolding node_end
-node-returns-in-Notice t c =
-    rw (node_by_kind t (goal.at.node-returns-in-Notice t c).After-rest_context-c) (simp (← c.notice.ensures, (head_kind kinds.Notice c.wide-h.ensures.0 c.in-Notice.ensures (omega arith)), ← c.rest_context-c.ensures.0))
-
-pub node-returns-in-Throw : goal.node-returns-in-Throw
-unfolding node_end
-node-returns-in-Throw t c =
-    let a = c.args in
-    let here : a.at + 1 ≡ process_end a.depth a.ws.now a.bound a.context a.at =
-    rw (node_by_kind t (goal.at.node-returns-in-Throw t c).After-rest_context-c)
-    (elim c.in-Throw.is [
-      | inl e ↦ simp (head_kind kinds.Throw c.wide-h.ensures.0 (sym e ∙ c.of.ensures) (omega arith), ← c.rest_context-c.ensures.0)
-      | inr r ↦ elim r [
-        | inl e ↦ simp (head_kind kinds.Comp c.wide-h.ensures.0 (sym e ∙ c.of.ensures) (omega arith), ← c.rest_context-c.ensures.0)
-        | inr e ↦ simp (head_kind kinds.Ch c.wide-h.ensures.0 (sym e ∙ c.of.ensures) (omega arith), ← c.rest_context-c.ensures.0)
-      ]
-    ]) in
-    as_some _ _ here (λ z. absurd (omega arith))
-
 pub marked-returns-in_default-3 : goal.marked-returns-in_default-3
 unfolding marked_end when
 marked-returns-in_default-3 t c =
@@ -145,14 +98,6 @@ marked-returns-in_default-4 t c =
     let none : marked_end (process_end a.depth a.ws.now a.bound) a.ws.now a.h a.fault a.at ≡ 0 =
     simp (tests, c.if-fault-eq0-3.false, at_mark marks.OwnName c.in-OwnName.ensures (omega arith)) in
     as_none _ (sym none)
-
-pub choice-returns : goal.choice-returns
-choice-returns t c =
-    let a = c.args in
-    let sub = process_end a.depth a.ws.now a.bound in
-    let done : c.loop.a ≡ branches_end sub a.context a.count a.at =
-    sym (branches_done sub a.context a.count c.loop.counter c.loop.a c.loop-test.false) ∙ c.loop.invariant.0 in
-    as_some _ _ (done ∙ choice_in sub a.context a.count a.at (omega arith) (omega arith)) (λ z. absurd (omega (arith, z, c.loop.invariant.1)))
 
 pub process-returns-then-d-eq0 : goal.process-returns-then-d-eq0
 process-returns-then-d-eq0 t c = as_none _ (too_deep_lem _ _ _ _ _ _ _ _ _ c.loop-a.invariant c.if-d-eq0.true)

@@ -56,18 +56,18 @@ decreases-whole l = l.depth * 8 + 1
 
 abbrev pub invariant-choice-loop : goal.invariant-choice-loop
 invariant-choice-loop l =
-    (branches_end (process_end l.depth l.ws l.bound) l.context (l.count - l.counter) l.a ≡ branches_end (process_end l.depth l.ws l.bound) l.context l.count l.initial.a)
+    (branches_end (process_end l.depth l.ws l.bound) l.c.number (l.count - l.counter) l.a ≡ branches_end (process_end l.depth l.ws l.bound) l.c.number l.count l.initial.a)
     × (0 < l.a)
 
 abbrev pub invariant-list-loop : goal.invariant-list-loop
 invariant-list-loop l =
-    (entries_end (process_end l.depth l.ws l.bound) l.ws l.context l.wanted (l.count - l.counter) l.least l.met l.a
-    ≡ entries_end (process_end l.depth l.ws l.bound) l.ws l.context l.wanted l.count l.initial.least l.initial.met l.initial.a)
+    (entries_end (process_end l.depth l.ws l.bound) l.ws l.context.number l.wanted (l.count - l.counter) l.least l.met l.a
+    ≡ entries_end (process_end l.depth l.ws l.bound) l.ws l.context.number l.wanted l.count l.initial.least l.initial.met l.initial.a)
     × (0 < l.a)
 
 abbrev pub invariant-process-loop-a : goal.invariant-process-loop-a
 invariant-process-loop-a l =
-    Going l.ws l.bound (process_end l.depth l.ws l.bound l.context l.at) l.depth l.later l.n l.a l.d l.c
+    Going l.ws l.bound (process_end l.depth l.ws l.bound l.fn.context.number l.at) l.depth l.later l.n l.a l.d l.c
 
 abbrev pub decreases-process-loop-a : goal.decreases-process-loop-a
 decreases-process-loop-a l = length l.ws - l.a

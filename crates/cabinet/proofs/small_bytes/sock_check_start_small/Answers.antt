@@ -1,9 +1,0 @@
--- `sock_check_start_small` of `cabinet::small_bytes` meets its contract.
-use native.Mathlib.Omega.{arith}
-use mathlib.Core.Path.{◌∙◌}
-use Rattle.sock.specs.Cabinets.{small}
-use Rattle.bytewise.proofs.Holding.{start_as}
-use Rattle.cabinet.proofs.small_bytes.sock_check_start_small.Goals as goal
-
-pub returns : goal.returns
-returns c = c.start_at.ensures ∙ start_as small 2048 (omega arith) _ _ c.held.ensures

@@ -1,1 +1,0 @@
--- `moving` of `stepping::steps` meets its contract: the code is its mirror in specs/.
