@@ -11,7 +11,7 @@ ghost use Rattle.searching.specs.Answers.{pending_as};
 use crate::packing::refused;
 use crate::words::held;
 use layout::context::ROOT;
-use layout::limit::{LONGEST, STANDARD, VALUES};
+use layout::limit::{LONGEST, STANDARD};
 use layout::number::wide;
 use layout::refusal::{Refusal, number};
 use reading::ends::EndCounts;
@@ -68,13 +68,10 @@ fn place(ws: &[u16], s: Starts, e: usize) -> u64
     requires { starts_of s ≡ surveyed standard 11 ws.now }
     ensures { result ≡ packed_part (process_part standard ws.now e) }
 {
-    if s.engines <= e {
-        return 0;
+    match s.process(e) {
+        None => 0,
+        Some((first, end)) => (first as u64) * FIRST + ((end - first) as u64),
     }
-    let starts = s.starts;
-    let first = starts[e];
-    let end = starts[e + 1] - VALUES;
-    (first as u64) * FIRST + ((end - first) as u64)
 }
 
 fn part(ws: &[u16], engine: u16) -> u64

@@ -33,7 +33,7 @@ pub fn numbered(given: Result<u16, Refusal>) -> u64
     }
 }
 
-// A step's answer: the number, kind and fault in 8 bits each, 8 zero, serial and length in 16 each.
+// A step's answer: the number, kind and fault in 8 bits each, 8 zero, serial, 0 for none, and length in 16 each.
 pub fn pack(given: Result<Accepted, Refusal>) -> u64
     ensures { result ≡ packed_as (told given) }
 {
@@ -41,7 +41,7 @@ pub fn pack(given: Result<Accepted, Refusal>) -> u64
         Ok(a) => {
             u64::from(u8::from(a.kind)) * KIND
                 + u64::from(a.fault) * FAULT
-                + u64::from(a.serial) * SERIAL
+                + u64::from(a.serial.unwrap_or(0)) * SERIAL
                 + u64::from(a.length)
         }
         Err(refusal) => refused(refusal),

@@ -42,7 +42,7 @@ pub fn room_of(bytes: usize, most: usize) -> usize
     most.min(half)
 }
 
-// The step on words at the limits given, its result written to `res` first.
+// The step on words at the limits given, its result written to `res` first, as far as the output has room for it.
 #[tactic(auto, unfolding(sock::specs::Calls::step_answer))]
 pub fn written<const NOTES: usize>(
     ws: &[u16],
@@ -51,12 +51,14 @@ pub fn written<const NOTES: usize>(
     res: &mut [u16],
     out: &mut [u8],
 ) -> Result<Accepted, Refusal>
-    requires { (NOTES < 2 ^ 32) × (length res.old * 2 ≤ length out.old) }
-    ensures answered { told result ≡ answer_of (calls.step (figures m.limits) ws.now (numbers_as k) (length res.old)) }
-    ensures wrote { out.new ≡ bytes_after (calls.step (figures m.limits) ws.now (numbers_as k) (length res.old)) out.old }
+    requires { NOTES < 2 ^ 32 }
+    ensures answered { told result ≡ answer_of (calls.step (figures m.limits) ws.now (numbers_as k) (room_of (length res.old) (length out.old))) }
+    ensures wrote { out.new ≡ bytes_after (calls.step (figures m.limits) ws.now (numbers_as k) (room_of (length res.old) (length out.old))) out.old }
 {
-    let a = step_at::<NOTES>(ws, k, m, res)?;
-    spread(&res[..usize::from(a.length)], out);
+    let room = room_of(out.len(), res.len());
+    let part = &mut res[..room];
+    let a = step_at::<NOTES>(ws, k, m, part)?;
+    spread(&part[..usize::from(a.length)], out);
     Ok(a)
 }
 
@@ -73,8 +75,7 @@ pub fn step_in<const WORDS: usize, const NOTES: usize, const RESULT: usize>(
 {
     let mut scratch = [0u16; WORDS];
     let mut result = [0u16; RESULT];
-    let room = room_of(out.len(), RESULT);
-    written::<NOTES>(held(config, &mut scratch), k, m, &mut result[..room], out)
+    written::<NOTES>(held(config, &mut scratch), k, m, &mut result, out)
 }
 
 // With scratch for every configuration and every result.

@@ -15,7 +15,8 @@ fn fill(pairs: &[[u8; 2]], ws: &mut [u16])
     }
 }
 
-// How many words the bytes are, and the words over the first of `ws`; none where the length is odd, or `ws` has too little room for them.
+// How many words the bytes are, and the words over the first of `ws`; none where the length is odd, or `ws` has too little room for them. That
+// is 0, not `None`: the definitions' `held` is no words there as well, and each caller would take 0 for `None`.
 #[tactic(auto, using(crate::proofs::Holding::odd_laid, crate::proofs::Holding::long_laid))]
 pub fn hold(bytes: &[u8], ws: &mut [u16]) -> usize
     ensures { (result ≡ length (held (length ws.old) bytes.now)) × (ws.new ≡ over (held (length ws.old) bytes.now) ws.old) × (result ≤ length ws.old) }

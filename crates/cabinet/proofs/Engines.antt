@@ -11,9 +11,9 @@ use lib.ListN.{length, drop, length-append}
 use lib.Seq.{take_at}
 use borrow.Author.Tests.{leb-true, le-leb, lt-leb, eqb-false}
 use Rattle.sock.specs.Configuration.{standard, Engine, Config, encode, read_config}
-use Rattle.sock.specs.Calls.{unreadable, not_fresh, long, short, still_at_work, Result, refused, done, ◌>>=◌, ◌>>◌, ◌!◌, ◌unless◌, passed}
+use Rattle.sock.specs.Calls.{unreadable, not_fresh, long, short, still_at_work, Result, refused, done, ◌>>=◌, ◌>>◌, ◌!◌, ◌unless◌, passed, over}
 use Rattle.sock.specs.Journal.{Taken, taken_of, restored_over}
-use Rattle.sock.specs.Bytes.{words_of, words_or_none, packed_taken, restored_bytes}
+use Rattle.sock.specs.Bytes.{words_of, words_or_none, packed_taken, restored_bytes, bytes_of}
 use Rattle.sock.specs.Engines.{newcomer, with_next, admitting, join, join_answer, join_output, without_last, may_leave, leave, leave_answer, leave_output}
 use Rattle.sock.specs.EnginesBytes.{byte_join, byte_join_answer, byte_join_output, byte_leave, byte_leave_answer, byte_leave_output}
 use Rattle.sock.proofs.Logic.{true_test}
@@ -28,10 +28,10 @@ use Rattle.layout.specs.Refusals.{number_in}
 use Rattle.std.specs.Result.{result_and}
 use Rattle.layout.proofs.Refusing.{never_zero}
 use Rattle.std.specs.Prelude as code
-use Rattle.std.specs.Prelude.{Ok, Err, IfOk}
+use Rattle.std.specs.Prelude.{Ok, Err, IfOk, take}
 use Rattle.engines.specs.Answers.{written_in}
 use Rattle.bytewise.specs.Held.{held, numbered_as, room_of}
-use Rattle.cabinet.specs.Handed.{handed_out, too_long}
+use Rattle.cabinet.specs.Handed.{too_long}
 use Rattle.bytewise.proofs.Holding.{held_short, read_as}
 use Rattle.cabinet.proofs.Journaling.{leb_room}
 
@@ -40,6 +40,10 @@ sure_any (refused f) = sure_refused
 sure_any (done a) = sure_done tt
 
 -- ---- what is handed out
+
+abbrev handed_out : code.Result ℕ Refusal → List ℕ → List ℕ → List ℕ
+handed_out (Ok n) result out = over (bytes_of (take n result)) out
+handed_out (Err r) result out = out
 
 abbrev Handed : code.Result ℕ Refusal → List ℕ → List ℕ → Type 0
 Handed g r1 out = IfOk g (λ n. (n ≤ length r1) × (n * 2 ≤ length out))
@@ -65,7 +69,7 @@ handed_number (Ok n) (done us) a = let m = ap (λ (t : Taken). t.length) a in om
 handed_is :
     (g : code.Result ℕ Refusal) (x : Result (List ℕ)) (r0 r1 out : List ℕ) → written_in g ≡ taken_of x → r1 ≡ restored_over x r0 →
     handed_out g r1 out ≡ restored_bytes x out
-unfolding taken_of restored_over restored_bytes handed_out
+unfolding taken_of restored_over restored_bytes
 handed_is (Err r) (refused f) r0 r1 out a b = refl
 handed_is (Err r) (done us) r0 r1 out a b = absurd (eqb-false _ 0 (never_zero r) (ap (λ (t : Taken). t.number) a))
 handed_is (Ok n) (refused f) r0 r1 out a b = absurd (omega (arith, ap (λ (t : Taken). t.number) a, refusal_number f))

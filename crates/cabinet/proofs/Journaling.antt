@@ -75,9 +75,6 @@ module _ (limits : Limits) (low : limits.longest ≤ 8192) (ws : List ℕ) (k : 
     made_length : length (take size r1) ≡ size
     made_length = length-take-le size r1 fits_scratch
 
-    pub fits_out : length r0 * 2 ≤ length out → length (take size r1) * 2 ≤ length out
-    fits_out h = omega (arith, made_length, scratch_fits limits low ws k r0 [] words c e w r1 q)
-
     pub made_out : over (bytes_of (take size r1)) out ≡ bytes_after (journal_step limits ws k (length r0) (length words)) out
     made_out = ap (λ (i : ℕ). over (bytes_of (take i r1)) out) same-size ∙ ap (λ (u : List ℕ). over (bytes_of u) out) (scratch_words limits low ws k r0 [] words c e w r1 q) ∙ bytes_of_done out whole
 
@@ -91,9 +88,6 @@ module _ (limits : Limits) (low : limits.longest ≤ 8192) (ws : List ℕ) (k : 
 
       pub fits_words : m ≤ length words1
       fits_words = omega (arith, count, w.room, ap length laid ∙ over_length (journal_of ws (encode w.next.config)) words w.room)
-
-      pub fits_journal : length words * 2 ≤ length journal → length (take m words1) * 2 ≤ length journal
-      fits_journal h = omega (arith, length-take-le m words1 fits_words, count, w.room)
 
       pub made_journal : over (bytes_of (take m words1)) journal ≡ journal_bytes_after ws (journal_step limits ws k (length r0) (length words)) journal
       made_journal =

@@ -107,9 +107,6 @@ module _ (ws words r0 r1 : List ℕ) (t : Taken) (a : t ≡ take_back_answer sta
     pub fits_result : t.length ≤ length r1
     fits_result = omega (arith, long, ap length words_are ∙ length-append got.0 (drop (length got.0) r0))
 
-    pub fits_bytes : length r0 * 2 ≤ length out → t.length * 2 ≤ length out
-    fits_bytes h = omega (arith, long, fits)
-
     pub taken_done : over (bytes_of (take t.length r1)) out ≡ restored_bytes (take_back standard ws words (length r0)) out
     taken_done =
         ap (λ (n : ℕ). over (bytes_of (take n r1)) out) long

@@ -1,12 +1,12 @@
 // Joining and leaving on bytes.
-ghost use Rattle.std.specs.Prelude.{◌≡◌, ◌*◌, ◌≤◌, length, IfOk};
+ghost use Rattle.std.specs.Prelude.{◌≡◌, length};
 ghost use Rattle.sock.specs.Configuration.{standard};
 ghost use Rattle.sock.specs.Journal.{taken_of};
 ghost use Rattle.sock.specs.Bytes.{packed_taken, restored_bytes};
 ghost use Rattle.sock.specs.Engines.{join, leave};
 ghost use Rattle.sock.specs.EnginesBytes.{byte_join_answer, byte_join_output, byte_leave_answer, byte_leave_output};
-ghost use Rattle.bytewise.specs.Held.{numbered_as};
-ghost use Rattle.cabinet.specs.Handed.{handed_out, too_long};
+ghost use Rattle.bytewise.specs.Held.{numbered_as, room_of};
+ghost use Rattle.cabinet.specs.Handed.{too_long};
 
 use bytewise::packing::numbered;
 use bytewise::stepping_bytes::{room_of, spread};
@@ -21,40 +21,31 @@ const NEWCOMER: usize = 16384;
 
 const NEWCOMER_BYTES: usize = 2 * NEWCOMER;
 
-// What was written to scratch, if it was, as bytes over the output; the answer packed.
-#[tactic(auto, unfolding(crate::specs::Handed::handed_out))]
-fn hand_out(given: Result<u16, Refusal>, res: &[u16], out: &mut [u8]) -> u64
-    requires { IfOk given (λ n. (n ≤ length res.now) × (n * 2 ≤ length out.old)) }
-    ensures answered { result ≡ numbered_as given }
-    ensures wrote { out.new ≡ handed_out given res.now out.old }
+// Joining on words, the result written to scratch first, as far as the output has room for it.
+fn let_in(ws: &[u16], engine: &[u16], res: &mut [u16], out: &mut [u8]) -> Result<u16, Refusal>
+    ensures answered { numbered_as result ≡ packed_taken (taken_of (join standard ws.now engine.now (room_of (length res.old) (length out.old)))) }
+    ensures wrote { out.new ≡ restored_bytes (join standard ws.now engine.now (room_of (length res.old) (length out.old))) out.old }
 {
-    if let Ok(length) = given {
-        spread(&res[..usize::from(length)], out);
-    }
-    numbered(given)
-}
-
-// Joining on words, the result written to scratch first.
-fn let_in(ws: &[u16], engine: &[u16], res: &mut [u16], out: &mut [u8]) -> u64
-    requires { length res.old * 2 ≤ length out.old }
-    ensures answered { result ≡ packed_taken (taken_of (join standard ws.now engine.now (length res.old))) }
-    ensures wrote { out.new ≡ restored_bytes (join standard ws.now engine.now (length res.old)) out.old }
-{
-    let given = join(ws, engine, res);
-    hand_out(given, res, out)
+    let room = room_of(out.len(), res.len());
+    let part = &mut res[..room];
+    let length = join(ws, engine, part)?;
+    spread(&part[..usize::from(length)], out);
+    Ok(length)
 }
 
 // Leaving on words, the same way.
-fn let_go(ws: &[u16], res: &mut [u16], out: &mut [u8]) -> u64
-    requires { length res.old * 2 ≤ length out.old }
-    ensures answered { result ≡ packed_taken (taken_of (leave standard ws.now (length res.old))) }
-    ensures wrote { out.new ≡ restored_bytes (leave standard ws.now (length res.old)) out.old }
+fn let_go(ws: &[u16], res: &mut [u16], out: &mut [u8]) -> Result<u16, Refusal>
+    ensures answered { numbered_as result ≡ packed_taken (taken_of (leave standard ws.now (room_of (length res.old) (length out.old)))) }
+    ensures wrote { out.new ≡ restored_bytes (leave standard ws.now (room_of (length res.old) (length out.old))) out.old }
 {
-    let given = leave(ws, res);
-    hand_out(given, res, out)
+    let room = room_of(out.len(), res.len());
+    let part = &mut res[..room];
+    let length = leave(ws, part)?;
+    spread(&part[..usize::from(length)], out);
+    Ok(length)
 }
 
-// The answer to a newcomer that is not read: who may not be admitted goes before 9.
+// The answer to a newcomer that is not read: who may not be admitted goes before `TooLong`.
 #[tactic(auto, using(crate::proofs::Engines::unread_answer))]
 fn unread(ws: &[u16]) -> u64
     ensures { result ≡ packed_taken (taken_of (too_long standard ws.now)) }
@@ -75,8 +66,7 @@ pub fn sock_join(config: &[u8], newcomer: &[u8], out: &mut [u8]) -> u64
     let mut engine = [0u16; NEWCOMER];
     let news = held(newcomer, &mut engine);
     let mut result = [0u16; LONGEST];
-    let room = room_of(out.len(), LONGEST);
-    let_in(ws, news, &mut result[..room], out)
+    numbered(let_in(ws, news, &mut result, out))
 }
 
 // Leaving, packed as joining is. A refusal changes no byte.
@@ -87,6 +77,5 @@ pub fn sock_leave(config: &[u8], out: &mut [u8]) -> u64
     let mut scratch = [0u16; LONGEST];
     let ws = held(config, &mut scratch);
     let mut result = [0u16; LONGEST];
-    let room = room_of(out.len(), LONGEST);
-    let_go(ws, &mut result[..room], out)
+    numbered(let_go(ws, &mut result, out))
 }

@@ -25,14 +25,15 @@ use stepping::answer::Accepted;
 use stepping::bundles::Numbers;
 
 // Whether the index lent is in order; its words, as many as an index has, over the first of `serials`.
-fn held_index(index: &[u8], serials: &mut [u16]) -> bool
-    requires { length serials.old ≡ 2049 }
+fn held_index(index: &[u8], serials: &mut [u16; WORDS]) -> bool
     ensures ordered { result ≡ in_order (words_in index.now) }
     ensures held { serials.new ≡ over (take 2049 (words_in index.now)) serials.old }
 {
     let n = hold_part(index, serials);
     in_order(&serials[..n])
 }
+
+// `begin`, `stepped` and `taken_back` have the frames of `index`'s calls on words. Why one function for both is no plainer stands beside those.
 
 // The 2,049 words of an index are zeros, once it is long enough and the start is one.
 fn begin(config: &[u8], index: &mut [u8]) -> Result<(), Refusal>

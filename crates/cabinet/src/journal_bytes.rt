@@ -31,7 +31,8 @@ const JOURNAL: usize = COUNTS + 2 * LONGEST;
 
 const SHORT_JOURNAL: usize = COUNTS + SHORT + TWICE;
 
-// The step on words at the limits given, with so many notes; its result and its journal are written to scratch first.
+// The step on words at the limits given, with so many notes; its result and its journal are written to scratch first, as far as output and
+// journal have room for them.
 pub(crate) fn journaled<const NOTES: usize>(
     ws: &[u16],
     k: Numbers,
@@ -41,16 +42,20 @@ pub(crate) fn journaled<const NOTES: usize>(
     out: &mut [u8],
     journal: &mut [u8],
 ) -> Result<Accepted, Refusal>
-    requires { (NOTES < 2 ^ 32) × (length res.old * 2 ≤ length out.old) × (length words.old * 2 ≤ length journal.old) }
-    ensures answered { told result ≡ answer_of (journal_step (figures m.limits) ws.now (numbers_as k) (length res.old) (length words.old)) }
-    ensures wrote { out.new ≡ bytes_after (journal_step (figures m.limits) ws.now (numbers_as k) (length res.old) (length words.old)) out.old }
-    ensures noted { journal.new ≡ journal_bytes_after ws.now (journal_step (figures m.limits) ws.now (numbers_as k) (length res.old) (length words.old)) journal.old }
+    requires { NOTES < 2 ^ 32 }
+    ensures answered { told result ≡ answer_of (journal_step (figures m.limits) ws.now (numbers_as k) (room_of (length res.old) (length out.old)) (room_of (length words.old) (length journal.old))) }
+    ensures wrote { out.new ≡ bytes_after (journal_step (figures m.limits) ws.now (numbers_as k) (room_of (length res.old) (length out.old)) (room_of (length words.old) (length journal.old))) out.old }
+    ensures noted { journal.new ≡ journal_bytes_after ws.now (journal_step (figures m.limits) ws.now (numbers_as k) (room_of (length res.old) (length out.old)) (room_of (length words.old) (length journal.old))) journal.old }
 {
-    let c = compare::<NOTES>(ws, k, m, words.len(), res)?;
+    let room = room_of(out.len(), res.len());
+    let most = room_of(journal.len(), words.len());
+    let part = &mut res[..room];
+    let noted = &mut words[..most];
+    let c = compare::<NOTES>(ws, k, m, noted.len(), part)?;
     let n = usize::from(c.accepted.length);
-    spread(&res[..n], out);
-    let m = lay(ws, &res[..n], c.alike.first, c.alike.last, words);
-    spread(&words[..m], journal);
+    spread(&part[..n], out);
+    let end = lay(ws, &part[..n], c.alike.first, c.alike.last, noted);
+    spread(&noted[..end], journal);
     Ok(c.accepted)
 }
 
@@ -74,18 +79,9 @@ pub(crate) fn journal_in<
 {
     let mut scratch = [0u16; WORDS];
     let mut result = [0u16; RESULT];
-    let room = room_of(out.len(), RESULT);
     let mut words = [0u16; JOURNAL];
-    let most = room_of(journal.len(), JOURNAL);
-    journaled::<NOTES>(
-        held(config, &mut scratch),
-        k,
-        m,
-        &mut result[..room],
-        &mut words[..most],
-        out,
-        journal,
-    )
+    let ws = held(config, &mut scratch);
+    journaled::<NOTES>(ws, k, m, &mut result, &mut words, out, journal)
 }
 
 // With scratch for every configuration, every result and every journal.
@@ -102,7 +98,7 @@ fn large_journal(
     journal_in::<LONGEST, MANY, LONGEST, JOURNAL>(k, STANDARD, config, out, journal)
 }
 
-// The step with a journal. As in the step, a short configuration is first tried with short scratch; 10 may then be for that alone.
+// The step with a journal. As in the step, a short configuration is first tried with short scratch; `OutputShort` may then be for that alone.
 pub(crate) fn step_journal(
     k: Numbers,
     config: &[u8],
@@ -148,27 +144,14 @@ pub fn sock_step_journal(
     pack(step_journal(k, config, out, journal))
 }
 
-// Taking back on words, what is restored written to scratch first.
-fn taken_back(ws: &[u16], words: &[u16], res: &mut [u16], out: &mut [u8]) -> Result<u16, Refusal>
-    requires { length res.old * 2 ≤ length out.old }
-    ensures answered { taken_as result ≡ taken_of (take_back standard ws.now words.now (length res.old)) }
-    ensures wrote { out.new ≡ restored_bytes (take_back standard ws.now words.now (length res.old)) out.old }
-    ensures held { res.new ≡ take_back_output standard ws.now words.now res.old }
-{
-    let length = take_back(ws, words, res)?;
-    spread(&res[..usize::from(length)], out);
-    Ok(length)
-}
-
-// Taking back on bytes, what is restored in the first words of `result`. Words past those that a journal of two configurations may have are not part
+// Taking back on bytes, what is restored in the first words of `res`. Words past those that a journal of two configurations may have are not part
 // of any, so they need not be held.
 pub(crate) fn take_back_bytes(
     config: &[u8],
     journal: &[u8],
-    res: &mut [u16],
+    res: &mut [u16; LONGEST],
     out: &mut [u8],
 ) -> Result<u16, Refusal>
-    requires { length res.old ≡ 8192 }
     ensures answered { taken_as result ≡ taken_of (byte_take_back config.now journal.now (length out.old / 2)) }
     ensures wrote { out.new ≡ byte_restored config.now journal.now out.old }
     ensures held { res.new ≡ restored_over (byte_take_back config.now journal.now (length out.old / 2)) res.old }
@@ -178,7 +161,9 @@ pub(crate) fn take_back_bytes(
     let mut words = [0u16; JOURNAL];
     let noted = held_part(journal, &mut words);
     let room = room_of(out.len(), LONGEST);
-    taken_back(ws, noted, &mut res[..room], out)
+    let length = take_back(ws, noted, &mut res[..room])?;
+    spread(&res[..usize::from(length)], out);
+    Ok(length)
 }
 
 // Taking back: from the top, the number in 8 bits, 40 zero, the length in 16. A refusal changes no byte.

@@ -39,70 +39,128 @@ pub enum Found {
     Past(usize),
 }
 
+// Levels are counted up to this.
+const LEVELS: usize = 32767;
+
 // The enabled process whose head is at `target`, in the process at `at`, `level` levels deep; or where that process ends. More levels than
 // 32,767 are counted as so many.
 pub fn locate(noted: &Noted, at: usize, target: usize, depth: usize, level: usize) -> Found
     ensures { result ≡ find_w (at_most depth) noted.now.ws.now noted.now.notes.now target (at_most level) at }
 {
-    find(noted, at, target, at_most(depth), at_most(level))
+    let search = Search {
+        noted: *noted,
+        target,
+    };
+    search.find(at, depth.min(LEVELS), level.min(LEVELS))
 }
 
-// Levels are counted below this.
-const LEVELS: usize = 32768;
-
-fn at_most(levels: usize) -> usize
-    ensures { (result ≡ at_most levels) × (result < 32768) }
-{
-    if levels < LEVELS { levels } else { LEVELS - 1 }
+// What stays the same all through a search: the words, and the position that is looked for.
+#[derive(Clone, Copy)]
+struct Search<'a> {
+    noted: Noted<'a>,
+    target: usize,
 }
 
-// The same. A process whose end is marked and that does not have the target is passed at once: where all are marked, the search goes down
-// one way only.
-#[cycle(find_in_par_node)]
-#[tactic(auto, unfolding(crate::specs::Find::find_w))]
-fn find(noted: &Noted, at: usize, target: usize, depth: usize, level: usize) -> Found
-    requires { level + depth < 65536 }
-    ensures { result ≡ find_w depth noted.now.ws.now noted.now.notes.now target level at }
-{
-    if depth == 0 {
-        return Found::Past(0);
+impl<'a> Search<'a> {
+    // The enabled process whose head is at the target. A process whose end is marked and that does not have the target is passed at once: where
+    // all are marked, the search goes down one way only.
+    #[cycle(find_in_par_node)]
+    #[tactic(auto, unfolding(crate::specs::Find::find_w))]
+    fn find(&self, at: usize, depth: usize, level: usize) -> Found
+        requires { level + depth < 65536 }
+        ensures { result ≡ find_w depth self.now.noted.ws.now self.now.noted.notes.now self.now.target level at }
+    {
+        if depth == 0 {
+            return Found::Past(0);
+        }
+        if self.noted.ws.len() <= at {
+            return Found::Past(0);
+        }
+        if at == self.target {
+            return here(&self.noted, at, depth, level);
+        }
+        let e = self.noted.note(at);
+        if outside(at, self.target, e) {
+            return Found::Past(e);
+        }
+        self.node(at, depth - 1, level)
     }
-    if noted.ws.len() <= at {
-        return Found::Past(0);
-    }
-    if at == target {
-        return here(noted, at, depth, level);
-    }
-    let e = noted.note(at);
-    if outside(at, target, e) {
-        return Found::Past(e);
-    }
-    node(noted, at, target, depth - 1, level)
-}
 
-// By the kind of the process at `at`, whose parts are `depth` levels deep at most; the target is not its head.
-#[cycle(find_in_par_node)]
-#[tactic(auto, unfolding(crate::specs::Find::node_w))]
-fn node(noted: &Noted, at: usize, target: usize, depth: usize, level: usize) -> Found
-    requires { (level + 1 + depth < 65536) × (at < length noted.now.ws.now) }
-    ensures { result ≡ node_w (find_w depth noted.now.ws.now noted.now.notes.now target (level + 1)) depth noted.now.ws.now noted.now.notes.now target level (kind_of (get_or noted.now.ws.now at 0)) at }
-{
-    match Kind::of(noted.ws[at]) {
-        Kind::Seq => {
-            let f = find(noted, at + 1, target, depth, level + 1);
-            in_seq(noted, at, f, depth)
+    // By the kind of the process at `at`, whose parts are `depth` levels deep at most; the target is not its head.
+    #[cycle(find_in_par_node)]
+    #[tactic(auto, unfolding(crate::specs::Find::node_w))]
+    fn node(&self, at: usize, depth: usize, level: usize) -> Found
+        requires { (level + 1 + depth < 65536) × (at < length self.now.noted.ws.now) }
+        ensures { result ≡ node_w (find_w depth self.now.noted.ws.now self.now.noted.notes.now self.now.target (level + 1)) depth self.now.noted.ws.now self.now.noted.notes.now self.now.target level (kind_of (get_or self.now.noted.ws.now at 0)) at }
+    {
+        match Kind::of(self.noted.ws[at]) {
+            Kind::Seq => {
+                let f = self.find(at + 1, depth, level + 1);
+                in_seq(&self.noted, at, f, depth)
+            }
+            Kind::Par => self.in_par(at, depth, level + 1),
+            Kind::Scope => {
+                let body = self.noted.pass_list(at + 2, depth);
+                let f = self.find(body, depth, level + 1);
+                self.in_scope(at, level, f, depth)
+            }
+            Kind::Executor => {
+                let body = own_end(self.noted.ws, at);
+                in_body(self.find(body, depth, level + 1))
+            }
+            _ => Found::Past(self.noted.pass(at, depth + 1)),
         }
-        Kind::Par => in_par(noted, at, target, depth, level + 1),
-        Kind::Scope => {
-            let body = noted.pass_list(at + 2, depth);
-            let f = find(noted, body, target, depth, level + 1);
-            in_scope(noted.ws, at, target, level, f, depth)
+    }
+
+    // A side of a par becoming nil, the other takes the par's place.
+    #[cycle(find_in_par_node)]
+    #[tactic(auto, unfolding(crate::specs::Find::par_sides, crate::specs::Find::in_par_w))]
+    fn in_par(&self, at: usize, depth: usize, level: usize) -> Found
+        requires { (level + depth < 65536) × (at + 1 < 18446744073709551616) }
+        ensures { result ≡ in_par_w (find_w depth self.now.noted.ws.now self.now.noted.notes.now self.now.target level) at }
+    {
+        match self.find(at + 1, depth, level) {
+            Found::Hit(s) => left(at, s),
+            Found::Past(e) => beside(at, e, self.find(e, depth, level)),
         }
-        Kind::Executor => {
-            let body = own_end(noted.ws, at);
-            in_body(find(noted, body, target, depth, level + 1))
+    }
+
+    // The body of the scope at `at` becoming nil, a nil stands there.
+    #[tactic(auto, unfolding(crate::specs::Find::in_scope_w))]
+    fn in_scope(&self, at: usize, level: usize, f: Found, depth: usize) -> Found
+        requires { at < length self.now.noted.ws.now }
+        ensures { result ≡ in_scope_w depth self.now.noted.ws.now self.now.target level at f }
+    {
+        match f {
+            Found::Past(e) => Found::Past(e),
+            Found::Hit(s) => Found::Hit(shut(
+                s,
+                scope_of(at, s.scope),
+                level_of(level, s.scope, s.scope_level),
+                self.catcher_of(at, s.catcher, depth),
+            )),
         }
-        _ => Found::Past(noted.pass(at, depth + 1)),
+    }
+
+    // The scope that catches, if `catcher` does in the body. Only a throw asks for it, so no list is passed for any other process.
+    #[tactic(auto, unfolding(crate::specs::Find::catcher_of))]
+    fn catcher_of(&self, at: usize, catcher: usize, depth: usize) -> usize
+        requires { at < length self.now.noted.ws.now }
+        ensures { result ≡ catcher_of depth self.now.noted.ws.now self.now.target at catcher }
+    {
+        match fault_at(self.noted.ws, self.target) {
+            None => 0,
+            Some(fault) => {
+                if catcher != 0 {
+                    return catcher;
+                }
+                if catches(self.noted.ws, at, fault, depth) {
+                    at
+                } else {
+                    0
+                }
+            }
+        }
     }
 }
 
@@ -202,19 +260,6 @@ fn in_seq(noted: &Noted, at: usize, f: Found, depth: usize) -> Found
     }
 }
 
-// A side of a par becoming nil, the other takes the par's place.
-#[cycle(find_in_par_node)]
-#[tactic(auto, unfolding(crate::specs::Find::par_sides, crate::specs::Find::in_par_w))]
-fn in_par(noted: &Noted, at: usize, target: usize, depth: usize, level: usize) -> Found
-    requires { (level + depth < 65536) × (at < length noted.now.ws.now) }
-    ensures { result ≡ in_par_w (find_w depth noted.now.ws.now noted.now.notes.now target level) at }
-{
-    match find(noted, at + 1, target, depth, level) {
-        Found::Hit(s) => left(at, s),
-        Found::Past(e) => beside(at, e, find(noted, e, target, depth, level)),
-    }
-}
-
 // The left side has the process.
 #[tactic(auto, unfolding(crate::specs::Find::left_w))]
 fn left(at: usize, s: Site) -> Found
@@ -243,7 +288,7 @@ fn beside(at: usize, e: usize, f: Found) -> Found
     }
 }
 
-// The body of a scope or an executor becoming nil, a nil stands there.
+// The body of an executor becoming nil, a nil stands there.
 #[tactic(auto, unfolding(crate::specs::Find::in_body_w))]
 fn in_body(f: Found) -> Found
     ensures { result ≡ in_body_w f }
@@ -251,22 +296,6 @@ fn in_body(f: Found) -> Found
     match f {
         Found::Past(e) => Found::Past(e),
         Found::Hit(s) => Found::Hit(shut(s, s.scope, s.scope_level, s.catcher)),
-    }
-}
-
-#[tactic(auto, unfolding(crate::specs::Find::in_scope_w))]
-fn in_scope(ws: &[u16], at: usize, target: usize, level: usize, f: Found, depth: usize) -> Found
-    requires { at < length ws.now }
-    ensures { result ≡ in_scope_w depth ws.now target level at f }
-{
-    match f {
-        Found::Past(e) => Found::Past(e),
-        Found::Hit(s) => Found::Hit(shut(
-            s,
-            scope_of(at, s.scope),
-            level_of(level, s.scope, s.scope_level),
-            catcher_of(ws, at, target, s.catcher, depth),
-        )),
     }
 }
 
@@ -284,23 +313,6 @@ fn level_of(level: usize, scope: usize, inner: usize) -> usize
     ensures { result ≡ level_of level scope inner }
 {
     if scope == 0 { level } else { inner }
-}
-
-// The scope that catches, if `catcher` does in the body. Only a throw asks for it, so no list is passed for any other process.
-#[tactic(auto, unfolding(crate::specs::Find::catcher_of))]
-fn catcher_of(ws: &[u16], at: usize, target: usize, catcher: usize, depth: usize) -> usize
-    requires { at < length ws.now }
-    ensures { result ≡ catcher_of depth ws.now target at catcher }
-{
-    match fault_at(ws, target) {
-        None => 0,
-        Some(fault) => {
-            if catcher != 0 {
-                return catcher;
-            }
-            if catches(ws, at, fault, depth) { at } else { 0 }
-        }
-    }
 }
 
 // The fault that the process at `target` throws, as a key; none if it is no throw.

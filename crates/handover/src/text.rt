@@ -49,7 +49,12 @@ fn parts(given: Result<Accepted, Refusal>) -> (u8, u8, u16, u8)
     ensures { (result.0 ≡ (told given).number) × (result.1 ≡ (told given).kind) × (result.2 ≡ (told given).serial) × (result.3 ≡ (told given).fault) }
 {
     match given {
-        Ok(a) => (0, u8::from(a.kind), a.serial, u8::from(a.fault)),
+        Ok(a) => (
+            0,
+            u8::from(a.kind),
+            a.serial.unwrap_or(0),
+            u8::from(a.fault),
+        ),
         Err(refusal) => (u8::from(refusal), 0, 0, 0),
     }
 }

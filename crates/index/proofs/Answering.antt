@@ -12,11 +12,11 @@ use Rattle.std.specs.Bool.{then_some}
 use lib.Dec.{eqb}
 use lib.ListN.{length, get_or, take, drop, replicate, length-append}
 use lib.Seq.{take-append_seam}
-use borrow.Author.Tests.{le-leb, lt-leb, eq-eqb, ne_eqb, eqb-false}
+use borrow.Author.Tests.{le-leb, lt-leb, ne_eqb, eqb-false}
 use Rattle.sock.specs.Configuration.{Config, standard, read_config}
 use Rattle.sock.specs.Calls.{index_short, number, Result, refused, done, ◌>>=◌, ◌>>◌, ◌!◌, ◌unless◌, Numbers, Stepped, Answer, answer_of, output_of, over, start, passed, check_start}
 use Rattle.sock.specs.Journal.{Taken, journal_step, journal_after, journal_answer, journal_output, journal_written, take_back, taken_of, restored_over, take_back_answer, take_back_output}
-use Rattle.sock.specs.Index.{rising, index_of, open_of, put_in, take_out, open_after, beginning, index_after, begin_answer, begin_index, IndexedStep, indexed_step, mapped, step_of, indexed_answer, indexed_output, indexed_journal, indexed_index, IndexedBack, indexed_back, restored_in, indexed_taken, indexed_restored, indexed_relisted, told_of, asked, open_count, oldest}
+use Rattle.sock.specs.Index.{rising, index_of, open_of, open_after, beginning, index_after, begin_answer, begin_index, IndexedStep, indexed_step, mapped, step_of, indexed_answer, indexed_output, indexed_journal, indexed_index, IndexedBack, indexed_back, restored_in, indexed_taken, indexed_restored, indexed_relisted, told_of, asked, open_count, oldest}
 use Rattle.sock.proofs.Accepted.{number_positive}
 use Rattle.sock.proofs.Index.{Lists}
 use Rattle.layout.specs.declared.refusal.Refusal.TheVariants.{NoIndex}
@@ -134,25 +134,6 @@ module _ (ws index : List ℕ) where
     begin_done h =
         let z : passed (start standard ws) ≡ 0 = sym by_start ∙ h in
         (sym (answer_by (start standard ws) (begins long) ∙ z), done_lays (start standard ws) (begins long) z)
-
--- ---- by the kind answered
-
-module _ (kind serial : ℕ) (ss : List ℕ) where
-  pub open_put : kind ≡ 10 → put_in serial ss ≡ open_by kind serial ss
-  unfolding open_by
-  open_put e = rw (eq-eqb kind 10 e)
-
-  pub open_reply : kind ≡ 16 → take_out serial ss ≡ open_by kind serial ss
-  unfolding open_by
-  open_reply e = rw (ne_eqb kind 10 (λ q. omega arith), eq-eqb kind 16 e)
-
-  pub open_notice : kind ≡ 18 → take_out serial ss ≡ open_by kind serial ss
-  unfolding open_by
-  open_notice e = rw (ne_eqb kind 10 (λ q. omega arith), ne_eqb kind 16 (λ q. omega arith), eq-eqb kind 18 e)
-
-  pub open_same : (kind ≡ 10 → ⊥) → (kind ≡ 16 → ⊥) → (kind ≡ 18 → ⊥) → ss ≡ open_by kind serial ss
-  unfolding open_by
-  open_same a b c = rw (ne_eqb kind 10 a, ne_eqb kind 16 b, ne_eqb kind 18 c)
 
 -- ---- a step
 

@@ -9,8 +9,11 @@ use crate::waiters::list_anew;
 use journal::back::take_back;
 use layout::refusal::Refusal;
 
+// `cabinet` has this frame on bytes. One function for both would lend the call what it restores to, as in `steps`, and ask besides that no
+// length that the call answers is above that: it is no plainer than these lines.
+
 // A refusal changes no word of what is lent, and words past the index's 2,049 stay.
-#[tactic(auto, using(crate::proofs::Forming::order_long, crate::proofs::Answering::back_refuses))]
+#[tactic(auto, using(crate::proofs::Forming::order_long))]
 pub fn take_back_indexed(
     ws: &[u16],
     journal: &[u16],

@@ -17,6 +17,8 @@ pub(crate) fn clear(index: &mut [u16], from: usize)
     index[from..WORDS].fill(0);
 }
 
+// `cabinet` has this frame on bytes. To call this one it would hold the index's old words only to overwrite them, and be no shorter.
+
 // 17 if fewer than 2,049 words are lent, then 1 and 11 as the start check; else the 2,049 words are zeros. A refusal changes no word.
 #[tactic(auto, using(crate::proofs::Answering::begin_short, crate::proofs::Answering::begin_refused, crate::proofs::Answering::begin_done))]
 pub fn begin_index(ws: &[u16], index: &mut [u16]) -> Result<(), Refusal>

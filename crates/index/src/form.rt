@@ -1,6 +1,5 @@
 // Whether words are an index in order: the count, so many serials that rise strictly from above 0, and zeros behind them.
-ghost use Rattle.std.specs.Prelude.{◌≡◌, ◌==◌};
-ghost use Rattle.std.specs.List.{list_all};
+ghost use Rattle.std.specs.Prelude.{◌≡◌};
 ghost use Rattle.sock.specs.Index.{rising};
 ghost use Rattle.index.specs.Form.{in_order};
 
@@ -25,13 +24,7 @@ fn rises(words: &[u16]) -> bool
     true
 }
 
-// Whether all words are 0.
-fn zeros(words: &[u16]) -> bool
-    ensures { result ≡ list_all (λ w. w == 0) words.now }
-{
-    words.iter().all(|word| *word == 0)
-}
-
+#[tactic(auto, using(crate::proofs::Forming::order_short, crate::proofs::Forming::order_many, crate::proofs::Forming::order_falls))]
 pub fn in_order(index: &[u16]) -> bool
     ensures { result ≡ in_order index.now }
 {
@@ -45,5 +38,5 @@ pub fn in_order(index: &[u16]) -> bool
     if !rises(&index[1..n + 1]) {
         return false;
     }
-    zeros(&index[n + 1..WORDS])
+    index[n + 1..WORDS].iter().all(|word| *word == 0)
 }

@@ -1,5 +1,5 @@
 // The step that is lent an index: 17 before all others; an accepted solicit puts its serial in, and a delivery takes it out.
-ghost use Rattle.std.specs.Prelude.{◌≡◌, true};
+ghost use Rattle.std.specs.Prelude.{◌≡◌, true, unwrap_or};
 ghost use Rattle.sock.specs.Configuration.{standard};
 ghost use Rattle.sock.specs.Calls.{over};
 ghost use Rattle.sock.specs.Index.{index_of, indexed_answer, indexed_output, indexed_journal, indexed_index};
@@ -15,12 +15,13 @@ use layout::refusal::Refusal;
 use stepping::answer::Accepted;
 use stepping::bundles::Numbers;
 
-// The index after an accepted step, by the kind and the serial answered.
+// The index after an accepted step, by the kind and the serial answered; none is as 0, since a kind that opens or closes one has it.
 #[tactic(auto, using(crate::proofs::Forming::laid_back), unfolding(crate::specs::Form::open_by))]
-pub fn follow(index: &mut [u16], kind: Kind, serial: u16)
+pub fn follow(index: &mut [u16], kind: Kind, serial: Option<u16>)
     requires { in_order index.old ≡ true }
-    ensures { index.new ≡ over (index_of (open_by (number_of kind) serial (serials_in index.old))) index.old }
+    ensures { index.new ≡ over (index_of (open_by (number_of kind) (unwrap_or serial 0) (serials_in index.old))) index.old }
 {
+    let serial = serial.unwrap_or(0);
     match kind {
         Kind::Solicit => put(index, serial),
         Kind::Executor | Kind::Notice => take(index, serial),
@@ -28,8 +29,11 @@ pub fn follow(index: &mut [u16], kind: Kind, serial: u16)
     }
 }
 
+// `cabinet` has this frame on bytes. One function for both that takes the call as a closure is no plainer than these lines: of what a closure
+// borrows nothing is known where it isn't called, so output and journal would go through it, and its contract would say of each what it is
+// after the call and without one.
+
 // The step with a journal and an index. A refusal changes no word of what is lent, and words past the index's 2,049 stay.
-#[tactic(auto, using(crate::proofs::Answering::step_refuses))]
 pub fn step_indexed(
     ws: &[u16],
     k: Numbers,

@@ -7,7 +7,7 @@ use mathlib.Core.Bool.{Bool, true, false, cond}
 use mathlib.Core.List.{List}
 use lib.Dec.{leb, ltb}
 use lib.ListN.{length, take, drop}
-use lib.Seq.{length-take-le, take-append_seam}
+use lib.Seq.{take-append_seam}
 use borrow.Author.Tests.{le-leb, lt-leb, leb-true, ltb-true, ltb-false}
 use Rattle.sock.specs.Configuration.{Limits, encode}
 use Rattle.sock.specs.Calls.{Refusal, journal_short, short, Result, refused, done, ◌>>=◌, ◌>>◌, ◌unless◌, Numbers as Asked, Stepped, step, Answer, answer_of, output_of, step_answer, step_output, over}
@@ -41,10 +41,6 @@ room_least most room = by (ltb most room) refl
     by : (b : Bool) → ltb most room ≡ b → min most room ≡ cond b most room
     by true e = let h = ltb-true most room e in omega arith
     by false e = let h = ltb-false most room e in omega arith
-
--- a part of scratch
-pub part_fits : {n : ℕ} (room : ℕ) (l : List ℕ) → room ≤ length l → room ≤ n → length (take room l) ≤ n
-part_fits room l h b = rw (length-take-le room l h) b
 
 room_below : (most room : ℕ) → room_in most room ≤ room
 unfolding room_in

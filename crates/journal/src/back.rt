@@ -69,7 +69,7 @@ fn left(ws: &[u16], journal: &[u16], c: Counts) -> bool
 
 // The words before the step, over the first of `scratch`.
 #[tactic(auto, unfolding(crate::specs::Back::put_w))]
-fn put_back(ws: &[u16], journal: &[u16], c: Counts, scratch: &mut [u16]) -> usize
+fn put_back(ws: &[u16], journal: &[u16], c: Counts, scratch: &mut [u16])
     ensures { scratch.new ≡ put_w c ws.now journal.now scratch.old }
 {
     let first = wide(c.first);
@@ -82,7 +82,7 @@ fn put_back(ws: &[u16], journal: &[u16], c: Counts, scratch: &mut [u16]) -> usiz
         ws.len(),
         scratch,
         first + was,
-    )
+    );
 }
 
 // What was before is read, and written if it fits.

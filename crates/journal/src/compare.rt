@@ -1,6 +1,7 @@
 // How many first and how many last words two rows of words have alike. Both go by blocks of sixteen words, which the compiler compares many
 // words at a time since nothing is decided inside a block, and then word by word. The two directions stay two functions each: one for both
-// would take as closures how a block and a word compare, and in its contract that the two agree, which is longer than the loops.
+// would take as closures how a block and a word compare, and in its contract that the two agree, which is longer than the loops; and an iterator
+// from either end (`iter()`, `iter().rev()`) has words but no blocks.
 ghost use Rattle.std.specs.Prelude.{◌≡◌, reverse, ◌+◌, ◌≤◌, min, length, take, drop};
 ghost use Rattle.sock.specs.Journal.{alike, same_words};
 ghost use Rattle.journal.specs.Comparing.{both_of};
@@ -24,10 +25,11 @@ fn same_block(a: &[u16], i: usize, b: &[u16], j: usize) -> bool
 
 // From `i` on, word by word.
 #[tactic(auto, using(crate::proofs::Comparing::first_word, crate::proofs::Comparing::first_stop, crate::proofs::Comparing::first_end))]
-fn first_words(a: &[u16], b: &[u16], i: usize, n: usize) -> usize
-    requires { (i ≤ n) × (n ≡ min (length a.now) (length b.now)) }
+fn first_words(a: &[u16], b: &[u16], i: usize) -> usize
+    requires { i ≤ min (length a.now) (length b.now) }
     ensures { result ≡ i + alike (drop i a.now) (drop i b.now) }
 {
+    let n = a.len().min(b.len());
     for k in i..n {
         if a[k] != b[k] {
             return k;
@@ -45,18 +47,19 @@ pub fn first_alike(a: &[u16], b: &[u16]) -> usize
     for block in 0..n / BLOCK {
         let i = block * BLOCK;
         if !same_block(a, i, b, i) {
-            return first_words(a, b, i, n);
+            return first_words(a, b, i);
         }
     }
-    first_words(a, b, n / BLOCK * BLOCK, n)
+    first_words(a, b, n / BLOCK * BLOCK)
 }
 
 // From the `i` last on, word by word.
 #[tactic(auto, using(crate::proofs::Comparing::last_word, crate::proofs::Comparing::last_stop, crate::proofs::Comparing::last_end))]
-fn last_words(a: &[u16], b: &[u16], i: usize, n: usize) -> usize
-    requires { (i ≤ n) × (n ≡ min (length a.now) (length b.now)) }
+fn last_words(a: &[u16], b: &[u16], i: usize) -> usize
+    requires { i ≤ min (length a.now) (length b.now) }
     ensures { result ≡ i + alike (drop i (reverse a.now)) (drop i (reverse b.now)) }
 {
+    let n = a.len().min(b.len());
     for k in i..n {
         if a[a.len() - 1 - k] != b[b.len() - 1 - k] {
             return k;
@@ -74,10 +77,10 @@ pub fn last_alike(a: &[u16], b: &[u16]) -> usize
     for block in 0..n / BLOCK {
         let i = block * BLOCK;
         if !same_block(a, a.len() - i - BLOCK, b, b.len() - i - BLOCK) {
-            return last_words(a, b, i, n);
+            return last_words(a, b, i);
         }
     }
-    last_words(a, b, n / BLOCK * BLOCK, n)
+    last_words(a, b, n / BLOCK * BLOCK)
 }
 
 // The first words alike, and the last ones in what is left behind them.

@@ -1,6 +1,7 @@
 // Killing with a fault, into scratch. A scope around the position from which a fault climbs turns zombie with mark 0, any other one with
 // mark 2; but for that the climb does what killing does. What it need not look into it passes over by the notes noted of it, not word by
-// word. Total: what does not fit can't be killed.
+// word. Total: what does not fit can't be killed. An output and a place in it stay two parameters: words are written at places
+// before the one reached too, to which a value of both would have to be set back, and each method would say besides that the output is the same.
 ghost use Rattle.std.specs.Prelude.{◌≡◌};
 ghost use Rattle.killing.specs.Killing.{stopped, head_for, dead_word};
 ghost use Rattle.killing.specs.Killing.{notice_w, waiter_w, kept_w, list_end_w, list_w, turned_w, vanished_w, kill_w, gone_w, seq_w, par_w, right_w, scope_w, zombie_w, live_w, executor_w};
@@ -49,7 +50,8 @@ pub struct Scope {
 }
 
 impl<'a> Killing<'a> {
-    #[cycle(executor_kill_live_par_right_scope_seq_zombie)]
+    // What stands at `at`, killed, from the place `to` on.
+    #[cycle(executor_kill_live_par_part_right_scope_seq_zombie)]
     #[tactic(auto, unfolding(crate::specs::Killing::kill_w, crate::specs::Killing::kind_w))]
     pub fn kill(&self, at: usize, depth: usize, out: &mut [u16], to: usize) -> Moved
         ensures { let killed = kill_w depth self.now.noted.ws.now self.now.noted.notes.now self.now.fault self.now.hole at out.old to in (result ≡ killed.moved) × (out.new ≡ killed.out) }
@@ -72,8 +74,20 @@ impl<'a> Killing<'a> {
         }
     }
 
+    // As `kill`; what just becomes nil does not go through it, which is faster.
+    #[cycle(executor_kill_live_par_part_right_scope_seq_zombie)]
+    #[tactic(auto, unfolding(crate::specs::Killing::kill_w, crate::specs::Killing::kind_w, crate::specs::Killing::gone_w, crate::specs::Killing::gone_kind))]
+    fn part(&self, at: usize, depth: usize, out: &mut [u16], to: usize) -> Moved
+        ensures { let killed = kill_w depth self.now.noted.ws.now self.now.noted.notes.now self.now.fault self.now.hole at out.old to in (result ≡ killed.moved) × (out.new ≡ killed.out) }
+    {
+        if depth != 0 && gone(self.noted.ws, at) {
+            return self.vanish(at, depth, out, to);
+        }
+        self.kill(at, depth, out, to)
+    }
+
     // A seq keeps its first, killed.
-    #[cycle(executor_kill_live_par_right_scope_seq_zombie)]
+    #[cycle(executor_kill_live_par_part_right_scope_seq_zombie)]
     #[tactic(auto, unfolding(crate::specs::Killing::goes, crate::specs::Killing::seq_on, crate::specs::Killing::seq_w))]
     fn seq(&self, at: usize, depth: usize, out: &mut [u16], to: usize) -> Moved
         ensures { let killed = seq_w depth (kill_w depth self.now.noted.ws.now self.now.noted.notes.now self.now.fault self.now.hole) self.now.noted.ws.now self.now.noted.notes.now at out.old to in (result ≡ killed.moved) × (out.new ≡ killed.out) }
@@ -90,14 +104,14 @@ impl<'a> Killing<'a> {
     }
 
     // A par without its sides that are nil. A left side that just becomes nil is passed over, so it takes no call and no word.
-    #[cycle(executor_kill_live_par_right_scope_seq_zombie)]
+    #[cycle(executor_kill_live_par_part_right_scope_seq_zombie)]
     #[tactic(auto, unfolding(crate::specs::Killing::goes, crate::specs::Killing::left_on, crate::specs::Killing::par_w))]
     fn par(&self, at: usize, depth: usize, out: &mut [u16], to: usize) -> Moved
         ensures { let killed = par_w depth (kill_w depth self.now.noted.ws.now self.now.noted.notes.now self.now.fault self.now.hole) self.now.noted.ws.now self.now.noted.notes.now at out.old to in (result ≡ killed.moved) × (out.new ≡ killed.out) }
     {
         if gone(self.noted.ws, at) {
             let right = self.noted.pass(at, depth);
-            return self.kill(right, depth, out, to);
+            return self.part(right, depth, out, to);
         }
         let one = put(out, to, head::PAR);
         let p = self.kill(at, depth, out, one);
@@ -105,13 +119,13 @@ impl<'a> Killing<'a> {
             return stuck();
         }
         if p.nil == 1 {
-            return self.kill(p.end, depth, out, to);
+            return self.part(p.end, depth, out, to);
         }
         self.right(p, depth, out, one)
     }
 
     // The right side of a par whose left, killed, stands from `one` on; if it just becomes nil, it too is passed over.
-    #[cycle(executor_kill_live_par_right_scope_seq_zombie)]
+    #[cycle(executor_kill_live_par_part_right_scope_seq_zombie)]
     #[tactic(auto, unfolding(crate::specs::Killing::goes, crate::specs::Killing::right_on, crate::specs::Killing::right_w))]
     fn right(&self, left: Moved, depth: usize, out: &mut [u16], one: usize) -> Moved
         ensures { let killed = right_w depth (kill_w depth self.now.noted.ws.now self.now.noted.notes.now self.now.fault self.now.hole) self.now.noted.ws.now self.now.noted.notes.now left.end out.old one left.to in (result ≡ killed.moved) × (out.new ≡ killed.out) }
@@ -145,7 +159,7 @@ impl<'a> Killing<'a> {
         }
     }
 
-    #[cycle(executor_kill_live_par_right_scope_seq_zombie)]
+    #[cycle(executor_kill_live_par_part_right_scope_seq_zombie)]
     #[tactic(auto, unfolding(crate::specs::Killing::scope_at, crate::specs::Killing::scope_w))]
     fn scope(&self, at: usize, depth: usize, out: &mut [u16], to: usize) -> Moved
         ensures { let killed = scope_w depth (kill_w depth self.now.noted.ws.now self.now.noted.notes.now self.now.fault self.now.hole) self.now.noted.ws.now self.now.noted.notes.now self.now.hole at out.old to in (result ≡ killed.moved) × (out.new ≡ killed.out) }
@@ -173,7 +187,7 @@ impl<'a> Killing<'a> {
     }
 
     // A zombie stays as it is, if its body can be killed.
-    #[cycle(executor_kill_live_par_right_scope_seq_zombie)]
+    #[cycle(executor_kill_live_par_part_right_scope_seq_zombie)]
     #[tactic(auto, unfolding(crate::specs::Killing::goes, crate::specs::Killing::zombie_on, crate::specs::Killing::zombie_w))]
     fn zombie(&self, s: Scope, depth: usize, out: &mut [u16], to: usize) -> Moved
         ensures { let killed = zombie_w (kill_w depth self.now.noted.ws.now self.now.noted.notes.now self.now.fault self.now.hole) self.now.noted.ws.now s.at s.body out.old to in (result ≡ killed.moved) × (out.new ≡ killed.out) }
@@ -211,7 +225,7 @@ impl<'a> Killing<'a> {
     }
 
     // A live scope turns zombie, with no marked fault, its list as it is and its body killed.
-    #[cycle(executor_kill_live_par_right_scope_seq_zombie)]
+    #[cycle(executor_kill_live_par_part_right_scope_seq_zombie)]
     #[tactic(auto, unfolding(crate::specs::Killing::goes, crate::specs::Killing::live_on, crate::specs::Killing::live_w))]
     fn live(&self, s: Scope, depth: usize, out: &mut [u16], to: usize) -> Moved
         ensures { let killed = live_w (kill_w depth self.now.noted.ws.now self.now.noted.notes.now self.now.fault self.now.hole) self.now.noted.ws.now self.now.hole s.at s.body out.old to in (result ≡ killed.moved) × (out.new ≡ killed.out) }
@@ -249,7 +263,7 @@ impl<'a> Killing<'a> {
     }
 
     // An executor becomes its killed body, which stands behind its own words, par a notice.
-    #[cycle(executor_kill_live_par_right_scope_seq_zombie)]
+    #[cycle(executor_kill_live_par_part_right_scope_seq_zombie)]
     #[tactic(auto, unfolding(crate::specs::Killing::goes, crate::specs::Killing::executor_on, crate::specs::Killing::executor_w))]
     fn executor(&self, at: usize, depth: usize, out: &mut [u16], to: usize) -> Moved
         ensures { let killed = executor_w (kill_w depth self.now.noted.ws.now self.now.noted.notes.now self.now.fault self.now.hole) self.now.noted.ws.now self.now.fault at out.old to in (result ≡ killed.moved) × (out.new ≡ killed.out) }
@@ -258,7 +272,7 @@ impl<'a> Killing<'a> {
             return stuck();
         }
         let one = put(out, to, head::PAR);
-        let p = self.kill(own_end(self.noted.ws, at), depth, out, one);
+        let p = self.part(own_end(self.noted.ws, at), depth, out, one);
         if p.end == 0 {
             return stuck();
         }
@@ -361,7 +375,7 @@ fn copy_list(ws: &[u16], at: usize, end: usize, out: &mut [u16], to: usize) -> u
 fn dead_word(w: u16) -> u16
     ensures { result ≡ dead_word w }
 {
-    killed::waiter_word(1, w)
+    killed::waiter_word(true, w)
 }
 
 // A notice stays.

@@ -1,5 +1,5 @@
--- The refusals as the definitions name them, and so their numbers.
-use Rattle.std.specs.Prelude.{ℕ, Result, Ok, Err}
+-- The refusals as the definitions name them, and so their numbers; and their words.
+use Rattle.std.specs.Prelude.{ℕ, List, Result, Ok, Err, codes}
 use Rattle.sock.specs.Calls.{Refusal as Defined, number, unreadable, nobody_there, no_move, no_partner, no_fit, installing, serials_spent, deep, long, short, not_fresh, unknown_serial, not_decimal, unmatched, journal_short, index_short, house_full, still_at_work}
 use Rattle.layout.specs.declared.refusal.Refusal.{Refusal}
 use Rattle.layout.specs.declared.refusal.Refusal.TheVariants.{Unreadable, NoProcess, NoMove, NoPartner, NoFit, Pending, SerialsSpent, TooDeep, TooLong, OutputShort, NotFresh, NoSerial, NotDecimal, Unmatched, JournalShort, NoIndex, Full, AtWork}
@@ -31,3 +31,24 @@ refusal_number r = number (refusal_of r)
 abbrev pub number_in : {A : Type 0} → Result A Refusal → ℕ
 number_in (Ok a) = 0
 number_in (Err r) = refusal_number r
+
+-- what a refusal prints
+abbrev pub text_of : Refusal → List ℕ
+text_of Unreadable = codes "unreadable"
+text_of NoProcess = codes "no process there"
+text_of NoMove = codes "no move"
+text_of NoPartner = codes "no partner"
+text_of NoFit = codes "no fit"
+text_of Pending = codes "a pending process beside the throw"
+text_of SerialsSpent = codes "serials spent"
+text_of TooDeep = codes "too deep"
+text_of TooLong = codes "too long"
+text_of OutputShort = codes "output too short"
+text_of NotFresh = codes "not fresh"
+text_of NoSerial = codes "no such serial"
+text_of NotDecimal = codes "not decimal"
+text_of Unmatched = codes "journal does not match"
+text_of JournalShort = codes "journal too short"
+text_of NoIndex = codes "index not in order"
+text_of Full = codes "no room for an engine"
+text_of AtWork = codes "the engine is at work"

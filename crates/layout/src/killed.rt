@@ -1,5 +1,6 @@
 // The heads and words that killing writes, from those that it finds.
 ghost use Rattle.std.specs.Prelude.{◌≡◌};
+ghost use Rattle.sock.specs.Words.{bit};
 ghost use Rattle.layout.specs.Kinds.{mark_number};
 ghost use Rattle.layout.specs.Killed.{zombie_head, notice_head, notice_word, waiter_word};
 
@@ -26,9 +27,9 @@ pub fn notice_word(fault: u16, w: u16) -> u16
     fault % 64 * 1024 + w / 8192 * 128
 }
 
-// A waiter's first word with another bit for dead. Any number was taken for it, of which the lowest bit counts; a bool would ask more.
-pub fn waiter_word(dead: u16, w: u16) -> u16
-    ensures { result ≡ waiter_word dead w }
+// A waiter's first word with another bit for dead.
+pub fn waiter_word(dead: bool, w: u16) -> u16
+    ensures { result ≡ waiter_word (bit dead) w }
 {
-    dead % 2 * 32768 + w % 32768
+    u16::from(dead) * 32768 + w % 32768
 }

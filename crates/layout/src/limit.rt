@@ -23,10 +23,7 @@ pub const STANDARD: Limits = Limits {
 pub fn standard() -> Limits
     ensures { figures result ≡ standard }
 {
-    Limits {
-        deepest: DEEPEST,
-        longest: LONGEST,
-    }
+    STANDARD
 }
 
 // The limits of the swing bridge cabinet (document 02, i).

@@ -1,5 +1,6 @@
-// Where a process's own words end: its head, its fixed words and its lists of variables. The fixed table of kinds decides. Behind the words
-// all ends are 0.
+// Where a process's own words end: its head, its fixed words and its lists of variables. The fixed table of kinds decides. Of what begins behind
+// the words the end is 0 (of no list, where it would begin), and no `Option`: whoever passes over goes on from an end and does not ask whether
+// there is one, so each would unwrap it with 0.
 ghost use Rattle.std.specs.Prelude.{◌≡◌, ◌<◌};
 ghost use Rattle.layout.specs.Kinds.{number_of};
 ghost use Rattle.layout.specs.Own.{variables_end, lists_end, own_form, own_end};

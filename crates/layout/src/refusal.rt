@@ -1,6 +1,6 @@
 // What a call refuses with, by name and by number.
-ghost use Rattle.std.specs.Prelude.{◌≡◌};
-ghost use Rattle.layout.specs.Refusals.{refusal_number, number_in};
+ghost use Rattle.std.specs.Prelude.{◌≡◌, Some};
+ghost use Rattle.layout.specs.Refusals.{refusal_number, number_in, text_of};
 
 use std::error::Error;
 use std::fmt;
@@ -65,6 +65,8 @@ pub fn number(answer: Result<(), Refusal>) -> u8
 }
 
 impl fmt::Display for Refusal {
+    ghost output = { λ refusal. Some (text_of refusal) };
+
     fn fmt<W: fmt::Write>(&self, f: &mut fmt::Formatter<W>) -> fmt::Result {
         f.write_str(match self {
             Refusal::Unreadable => "unreadable",

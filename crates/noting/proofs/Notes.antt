@@ -6,7 +6,7 @@ use native.Mathlib.Numerals.{sub-one}
 use mathlib.Core.Path.{◌≡◌, refl, sym, ap, ◌∙◌}
 use mathlib.Core.Bool.{Bool, true, false, true≢false, ◌&&◌, cond}
 use mathlib.Core.List.{List}
-use borrow.Author.Tests.{le-ltb, eqb-true, eqb-false, ltb-true, ltb-false, leb-false, lt-ltb, ne_eqb}
+use borrow.Author.Tests.{le-ltb, eqb-true, eqb-false, leb-false, lt-ltb, ne_eqb}
 use lib.Bits.{bit_and, and_mask}
 use lib.Dec.{leb, ltb, eqb}
 use lib.ListN.{length}
@@ -138,57 +138,66 @@ par_ends d ws bound c i h m some inside same low high is e y q n =
     record { deep = some; inside = inside; word = same; mask = refl; clear = clear; low = low; high = high } in
     a_par d ws bound c i h (head_mask c (h / 2048)) m head e y three q n
 
--- ---- a throw or a comp, without a look at the table
+-- ---- a throw, a comp or a body's nil, without a look at the table
 
 -- nor has its head: the bits below the name are all that have to be 0
-leaf_clear : (c k h : ℕ) → 8 ≤ c → c < 10 → 13 ≤ k → k < 15 → h % 32 ≡ 0 → bit_and (h + 65536) (head_mask c k) ≡ 0
+throw_clear : (c h : ℕ) → 8 ≤ c → c < 10 → h % 32 ≡ 0 → bit_and (h + 65536) (head_mask c 13) ≡ 0
 unfolding head_mask spare_of allowed placed row_of rows
-leaf_clear c k h low high above below none = rw (mask (eqb c 8) (eqb k 13) refl refl) (and_mask (h + 65536) 5 ∙ spare)
+throw_clear c h low high none = by (eqb c 8) refl
   where
     spare : (h + 65536) % 32 ≡ 0
     spare = omega arith
 
-    mask : (a b : Bool) → eqb c 8 ≡ a → eqb k 13 ≡ b → head_mask c k ≡ 31
-    mask true true p q = rw (eqb-true c 8 p, eqb-true k 13 q)
-    mask true false p q = let next : k ≡ 14 = omega (arith, eqb-false k 13 q) in rw (eqb-true c 8 p, next)
-    mask false true p q = let nine : c ≡ 9 = omega (arith, eqb-false c 8 p) in rw (nine, eqb-true k 13 q)
-    mask false false p q =
-        let nine : c ≡ 9 = omega (arith, eqb-false c 8 p) in
-        let next : k ≡ 14 = omega (arith, eqb-false k 13 q) in
-        rw (nine, next)
+    by : (b : Bool) → eqb c 8 ≡ b → bit_and (h + 65536) (head_mask c 13) ≡ 0
+    by true e = rw (eqb-true c 8 e) (and_mask (h + 65536) 5 ∙ spare)
+    by false e = let nine : c ≡ 9 = omega (arith, eqb-false c 8 e) in rw nine (and_mask (h + 65536) 5 ∙ spare)
 
-leaf_is : (h c : ℕ) → plain_leaf h c ≡ true → (c < 10) × (h % 32 ≡ 0) × (13 ≤ h / 2048) × (h / 2048 < 15)
+comp_clear : (c h : ℕ) → 8 ≤ c → c < 10 → h % 32 ≡ 0 → bit_and (h + 65536) (head_mask c 14) ≡ 0
+unfolding head_mask spare_of allowed placed row_of rows
+comp_clear c h low high none = by (eqb c 8) refl
+  where
+    spare : (h + 65536) % 32 ≡ 0
+    spare = omega arith
+
+    by : (b : Bool) → eqb c 8 ≡ b → bit_and (h + 65536) (head_mask c 14) ≡ 0
+    by true e = rw (eqb-true c 8 e) (and_mask (h + 65536) 5 ∙ spare)
+    by false e = let nine : c ≡ 9 = omega (arith, eqb-false c 8 e) in rw nine (and_mask (h + 65536) 5 ∙ spare)
+
+nil_clear : bit_and (0 + 65536) (head_mask 8 0) ≡ 0
+unfolding head_mask spare_of allowed placed row_of rows
+nil_clear = refl
+
+-- what is a leaf is a throw or a comp with clear bits, or a nil where any process that runs may stand
+leaf_is :
+    {P : Type 0} (h c : ℕ) → plain_leaf h c ≡ true →
+    (c < 10 → h % 32 ≡ 0 → h / 2048 ≡ 13 → P) → (c < 10 → h % 32 ≡ 0 → h / 2048 ≡ 14 → P) → (c ≡ 8 → h ≡ 0 → P) → P
 unfolding plain_leaf
-leaf_is h c e = by (leb 10 c) (eqb (h % 32) 0) (ltb (h / 2048) 13) (ltb (h / 2048) 15) refl refl refl refl e
+leaf_is {P = P} h c e throw comp nil =
+    by (leb 10 c) (eqb (h % 32) 0) (eqb (h / 2048) 13) (eqb (h / 2048) 14) (eqb c 8) (eqb h 0) refl refl refl refl refl refl e
   where
     by :
-        (a b x y : Bool) → leb 10 c ≡ a → eqb (h % 32) 0 ≡ b → ltb (h / 2048) 13 ≡ x → ltb (h / 2048) 15 ≡ y →
-        cond a false (cond b (cond x false y) false) ≡ true → (c < 10) × (h % 32 ≡ 0) × (13 ≤ h / 2048) × (h / 2048 < 15)
-    by true b x y p q r s e = absurd (true≢false (sym e))
-    by false false x y p q r s e = absurd (true≢false (sym e))
-    by false true true y p q r s e = absurd (true≢false (sym e))
-    by false true false false p q r s e = absurd (true≢false (sym e))
-    by false true false true p q r s e = (leb-false 10 c p, eqb-true (h % 32) 0 q, ltb-false (h / 2048) 13 r, ltb-true (h / 2048) 15 s)
+        (a b x y u v : Bool) → leb 10 c ≡ a → eqb (h % 32) 0 ≡ b → eqb (h / 2048) 13 ≡ x → eqb (h / 2048) 14 ≡ y → eqb c 8 ≡ u → eqb h 0 ≡ v →
+        cond a false (cond b (cond x true (cond y true (cond u v false))) false) ≡ true → P
+    by true b x y u v p q r s t w e = absurd (true≢false (sym e))
+    by false false x y u v p q r s t w e = absurd (true≢false (sym e))
+    by false true true y u v p q r s t w e = throw (leb-false 10 c p) (eqb-true (h % 32) 0 q) (eqb-true (h / 2048) 13 r)
+    by false true false true u v p q r s t w e = comp (leb-false 10 c p) (eqb-true (h % 32) 0 q) (eqb-true (h / 2048) 14 s)
+    by false true false false true true p q r s t w e = nil (eqb-true c 8 t) (eqb-true h 0 w)
+    by false true false false true false p q r s t w e = absurd (true≢false (sym e))
+    by false true false false false v p q r s t w e = absurd (true≢false (sym e))
 
 pub leaf_ends :
     (d : ℕ) (ws : List ℕ) (bound c i h : ℕ) (m : List ℕ) → (d ≡ 0 → ⊥) → i < length ws → h ≡ at ws i → 8 ≤ c → c < 12 → plain_leaf h c ≡ true →
     (Some (i + 1) ≡ end_as (process_end d ws bound c i)) × (m ≡ enabled_notes d ws bound c i m)
 unfolding node_end
 leaf_ends d ws bound c i h m some inside same low high is =
-    let p = leaf_is h c is in
-    let clear : bit_and (h + 65536) (head_mask c (h / 2048)) ≡ 0 = leaf_clear c (h / 2048) h low p.0 p.2 p.3 p.1 in
-    let head : Headed d ws c i h (head_mask c (h / 2048)) =
-    record { deep = some; inside = inside; word = same; mask = refl; clear = clear; low = low; high = high } in
-    by (eqb (h / 2048) 13) refl head p.2 p.3
+    leaf_is h c is
+    (λ below clear k. one_word d ws bound c i h (head_mask c (h / 2048)) m (head (rw k (throw_clear c h low below clear))) 13 k (λ h e. rw e refl) (λ z. omega arith) (λ z. omega arith) (λ z. omega arith) (λ z. omega arith))
+    (λ below clear k. one_word d ws bound c i h (head_mask c (h / 2048)) m (head (rw k (comp_clear c h low below clear))) 14 k (λ h e. rw e refl) (λ z. omega arith) (λ z. omega arith) (λ z. omega arith) (λ z. omega arith))
+    (λ body zero. one_word d ws bound c i h (head_mask c (h / 2048)) m (head (rw (body, zero) nil_clear)) 0 (omega (arith, zero)) (λ h e. rw e refl) (λ z. omega arith) (λ z. omega arith) (λ z. omega arith) (λ z. omega arith))
   where
-    by :
-        (b : Bool) → eqb (h / 2048) 13 ≡ b → Headed d ws c i h (head_mask c (h / 2048)) → 13 ≤ h / 2048 → h / 2048 < 15 →
-        (Some (i + 1) ≡ end_as (process_end d ws bound c i)) × (m ≡ enabled_notes d ws bound c i m)
-    by true e head above below =
-        one_word d ws bound c i h (head_mask c (h / 2048)) m head 13 (eqb-true (h / 2048) 13 e) (λ h e. rw e refl) (λ z. omega arith) (λ z. omega arith) (λ z. omega arith) (λ z. omega arith)
-    by false e head above below =
-        let next : h / 2048 ≡ 14 = omega (arith, eqb-false (h / 2048) 13 e) in
-        one_word d ws bound c i h (head_mask c (h / 2048)) m head 14 next (λ h e. rw e refl) (λ z. omega arith) (λ z. omega arith) (λ z. omega arith) (λ z. omega arith)
+    head : bit_and (h + 65536) (head_mask c (h / 2048)) ≡ 0 → Headed d ws c i h (head_mask c (h / 2048))
+    head clear = record { deep = some; inside = inside; word = same; mask = refl; clear = clear; low = low; high = high }
 
 -- ---- engines
 

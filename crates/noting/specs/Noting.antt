@@ -1,7 +1,7 @@
 -- The notes that reading leaves, as the code goes: `end` tells where a process in a context ends, `sub` notes one level down. The notes of
 -- the word at i stand at i * 2, for the process that begins there, and behind it, for the list. The proofs show that each is where the
 -- layout ends; no contract of a call names it.
-use Rattle.std.specs.Prelude.{ℕ, zero, suc, ◌+◌, ◌-◌, ◌*◌, ◌%◌, Bool, false, ◌&&◌, cond, List, leb, ltb, eqb, length, set}
+use Rattle.std.specs.Prelude.{ℕ, zero, suc, ◌+◌, ◌-◌, ◌*◌, ◌%◌, Bool, true, false, ◌&&◌, cond, List, leb, ltb, eqb, length, set}
 use Rattle.std.specs.Int.Bits.{bit_and}
 use Rattle.sock.specs.Kind
 use Rattle.sock.specs.Words.{kind_of, second_of, head_of}
@@ -25,11 +25,13 @@ note_list_w m i e = noted_w 1 m i e
 unfoldable pub plain_par : ℕ → ℕ → Bool
 plain_par h c = cond (leb (running + receiver) c) false (eqb h (head_of Kind.par 0))
 
--- the head of a throw or a comp with no bit that it does not use, in a context where one may stand
+-- the head of a throw or a comp with no bit that it does not use, in a context where one may stand, or of a body that is nil
 unfoldable pub plain_leaf : ℕ → ℕ → Bool
 plain_leaf h c =
     cond (leb (running + receiver) c) false
-    (cond (eqb (second_of h) 0) (cond (ltb (kind_of h) Kind.throw) false (ltb (kind_of h) Kind.cH)) false)
+    (cond (eqb (second_of h) 0)
+    (cond (eqb (kind_of h) Kind.throw) true (cond (eqb (kind_of h) Kind.comp) true (cond (eqb c running) (eqb h (head_of Kind.nil 0)) false)))
+    false)
 
 -- noting in a context, at a position, into notes
 abbrev pub Noting : Type 0
@@ -41,7 +43,9 @@ enabled = running + not_nil
 
 -- the first of a seq is enabled, and where the second ends is noted too
 unfoldable pub seq_notes : (ℕ → ℕ → ℕ) → Noting → ℕ → List ℕ → List ℕ
-seq_notes end sub i m = cond (eqb (end enabled i) 0) (sub enabled i m) (note_w (sub enabled i m) (end enabled i) (end code (end enabled i)))
+seq_notes end sub i m =
+    cond (eqb (end enabled i) 0) (sub enabled i m)
+    (cond (eqb (end code (end enabled i)) 0) (sub enabled i m) (note_w (sub enabled i m) (end enabled i) (end code (end enabled i))))
 
 unfoldable pub par_notes : (ℕ → ℕ → ℕ) → Noting → ℕ → List ℕ → List ℕ
 par_notes end sub i m = cond (eqb (end enabled i) 0) (sub enabled i m) (sub enabled (end enabled i) (sub enabled i m))
@@ -64,9 +68,9 @@ node_notes end sub ws bound h i m =
     (cond (eqb (kind_of h) Kind.scope) (scope_notes end sub ws h i m)
     (cond (eqb (kind_of h) Kind.executor) (executor_notes sub ws bound i m) m)))
 
--- what `inner` notes, and where the process itself ends
+-- what `inner` notes, and where the process itself ends, if it does
 unfoldable pub noting : Noting → (ℕ → ℕ → ℕ) → Noting
-noting inner end c i m = note_w (inner c i m) i (end c i)
+noting inner end c i m = cond (eqb (end c i) 0) (inner c i m) (note_w (inner c i m) i (end c i))
 
 -- what is noted inside a process
 unfoldable pub enabled_notes : ℕ → List ℕ → ℕ → Noting

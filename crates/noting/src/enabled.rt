@@ -36,17 +36,17 @@ impl From<Place> for usize {
     }
 }
 
-// What begins at `at` ends at `end`; 0 is noted where it does not fit.
-fn note<const WHICH: usize>(notes: &mut [u16], at: usize, end: Option<usize>)
+// What begins at `at` ends at `end`.
+fn note<const WHICH: usize>(notes: &mut [u16], at: usize, end: usize)
     requires { WHICH < 2 }
-    ensures { notes.new ≡ noted_w WHICH notes.old at (unwrap_or end 0) }
+    ensures { notes.new ≡ noted_w WHICH notes.old at end }
 {
     if notes.len() <= at {
         return;
     }
     let place = at * 2 + WHICH;
     if place < notes.len() {
-        notes[place] = word_of(end.unwrap_or(0));
+        notes[place] = word_of(end);
     }
 }
 
@@ -64,9 +64,9 @@ pub(crate) fn noted(
     ensures ended { result ≡ end_as (process_end depth ws.now bound (as_context place) at) }
     ensures written { notes.new ≡ notes_w depth ws.now bound (as_context place) at notes.old }
 {
-    let e = enabled(ws, at, depth, place, bound, notes);
+    let e = enabled(ws, at, depth, place, bound, notes)?;
     note::<PROCESS>(notes, at, e);
-    e
+    Some(e)
 }
 
 // The same, but for its own note. A process of one word is read here, since calls would take longer.
@@ -120,14 +120,19 @@ fn plain_par(head: u16, place: Place) -> bool
     place != Place::Root && head == head::PAR
 }
 
-// Whether a head is a throw's or a comp's with no bit that it does not use, and may stand in the context. Many of the other half are these.
+// Whether a head is a throw's or a comp's with no bit that it does not use, and may stand in the context, or a body's nil. Many of the other
+// half are these.
 #[tactic(auto, unfolding(crate::specs::Noting::plain_leaf))]
 fn plain_leaf(head: u16, place: Place) -> bool
     ensures { result ≡ plain_leaf head (as_context place) }
 {
-    place != Place::Root
-        && second_of(head) == 0
-        && matches!(Kind::of(head), Kind::Throw | Kind::Comp)
+    if place == Place::Root || second_of(head) != 0 {
+        return false;
+    }
+    match Kind::of(head) {
+        Kind::Throw | Kind::Comp => true,
+        _ => place == Place::Anywhere && head == head::NIL,
+    }
 }
 
 // The parts of a seq: the first is enabled.
@@ -138,9 +143,9 @@ fn seq(ws: &[u16], at: usize, depth: usize, bound: usize, notes: &mut [u16]) -> 
     ensures written { notes.new ≡ seq_notes (process_end depth ws.now bound) (notes_w depth ws.now bound) at notes.old }
 {
     let a = noted(ws, at, depth, Place::NotNil, bound, notes)?;
-    let e = read(ws, a, depth, CODE, bound);
+    let e = read(ws, a, depth, CODE, bound)?;
     note::<PROCESS>(notes, a, e);
-    e
+    Some(e)
 }
 
 // The sides of a par.
@@ -186,7 +191,7 @@ fn scope(
         return None;
     }
     let e = listed(ws, at, depth, h, bound)?;
-    note::<LIST>(notes, at + 2, Some(e));
+    note::<LIST>(notes, at + 2, e);
     noted(ws, e, depth, Place::Anywhere, bound, notes)
 }
 

@@ -9,7 +9,7 @@ ghost use Rattle.reading.specs.Tally.{none_nil};
 use crate::starts::Starts;
 use crate::survey::survey;
 use layout::context::{FRESH_ROOT, ROOT};
-use layout::limit::{Limits, STANDARD, VALUES};
+use layout::limit::{Limits, STANDARD};
 use layout::number::{wide, word};
 use layout::refusal::Refusal;
 
@@ -74,17 +74,11 @@ pub fn check_start(ws: &[u16]) -> Result<(), Refusal>
 pub fn process_of(ws: &[u16], engine: u16) -> &[u16]
     ensures { result.now ≡ process_of standard ws.now engine }
 {
-    let e = wide(engine);
     match survey(ws, STANDARD, ROOT) {
         None => &ws[..0],
-        Some(s) => {
-            if s.engines <= e {
-                return &ws[..0];
-            }
-            let starts = s.starts;
-            let first = starts[e];
-            let end = starts[e + 1] - VALUES;
-            &ws[first..end]
-        }
+        Some(s) => match s.process(wide(engine)) {
+            None => &ws[..0],
+            Some((first, end)) => &ws[first..end],
+        },
     }
 }

@@ -1,6 +1,6 @@
 // Ends: how many waiting and working ends a serial has. They stand only enabled, so the walk goes where processes are enabled and
 // passes over code by reading it.
-ghost use Rattle.std.specs.Prelude.{◌≡◌, ◌<◌, ◌≤◌, length};
+ghost use Rattle.std.specs.Prelude.{ℕ, ◌≡◌, ◌<◌, ◌≤◌, length, get_or};
 ghost use Rattle.sock.specs.Configuration.{standard};
 ghost use Rattle.sock.specs.Calls as calls;
 ghost use Rattle.reading.specs.Walk.{executor_own, process_end};
@@ -39,123 +39,125 @@ fn serial_at(ws: &[u16], at: usize, serial: usize) -> usize
     requires { at < length ws.now }
     ensures { (result ≡ serial_at ws.now at serial) × (result ≤ 1) }
 {
-    if ws.len() - at < 3 {
-        return 0;
-    }
-    if serial == wide(ws[at + 2]) { 1 } else { 0 }
+    usize::from(ws.get(at + 2).is_some_and(|w| serial == wide(*w)))
 }
 
-// The ends of a serial in the process at `at`.
-#[cycle(tally_tally_executor_tally_par_tally_scope_tally_seq)]
-#[tactic(auto, unfolding(crate::specs::Tally::tally_at, crate::specs::Tally::node_tally, crate::specs::Tally::counted))]
-fn tally(ws: &[u16], at: usize, depth: usize, serial: usize, bound: usize) -> Option<Counted>
-    ensures { result ≡ tally_at depth ws.now serial bound at }
-{
-    if depth == 0 {
-        return None;
-    }
-    if ws.len() <= at {
-        return None;
-    }
-    let d = depth - 1;
-    match Kind::of(ws[at]) {
-        Kind::Seq => tally_seq(ws, at + 1, d, serial, bound),
-        Kind::Par => tally_par(ws, at + 1, d, serial, bound),
-        Kind::Scope => tally_scope(ws, at + 2, d, serial, bound),
-        Kind::Executor => tally_executor(ws, at, d, serial, bound),
-        Kind::Waiter => Some(Counted {
-            end: process(ws, at, depth, RUNNING, bound)?,
-            waiters: serial_at(ws, at, serial),
-            workers: 0,
-        }),
-        Kind::Notice => Some(Counted {
-            end: process(ws, at, depth, RUNNING, bound)?,
-            waiters: 0,
-            workers: serial_at(ws, at, serial),
-        }),
-        _ => Some(Counted {
-            end: process(ws, at, depth, RUNNING, bound)?,
-            waiters: 0,
-            workers: 0,
-        }),
-    }
-}
-
-// Of a seq only the first part is enabled.
-#[cycle(tally_tally_executor_tally_par_tally_scope_tally_seq)]
-#[tactic(auto, unfolding(crate::specs::Tally::seq_tally, crate::specs::Tally::counted, crate::specs::Tally::after))]
-fn tally_seq(ws: &[u16], at: usize, depth: usize, serial: usize, bound: usize) -> Option<Counted>
-    ensures { result ≡ seq_tally (tally_at depth ws.now serial bound) (process_end depth ws.now bound) at }
-{
-    let p = tally(ws, at, depth, serial, bound)?;
-    Some(Counted {
-        end: process(ws, p.end, depth, CODE, bound)?,
-        waiters: p.waiters,
-        workers: p.workers,
-    })
-}
-
-#[cycle(tally_tally_executor_tally_par_tally_scope_tally_seq)]
-#[tactic(auto, unfolding(crate::specs::Tally::par_tally, crate::specs::Tally::after), using(crate::proofs::Counting::par_below))]
-fn tally_par(ws: &[u16], at: usize, depth: usize, serial: usize, bound: usize) -> Option<Counted>
-    ensures { result ≡ par_tally (tally_at depth ws.now serial bound) at }
-{
-    let p = tally(ws, at, depth, serial, bound)?;
-    let q = tally(ws, p.end, depth, serial, bound)?;
-    Some(Counted {
-        end: q.end,
-        waiters: p.waiters + q.waiters,
-        workers: p.workers + q.workers,
-    })
-}
-
-// A scope's list, and its body.
-#[cycle(tally_tally_executor_tally_par_tally_scope_tally_seq)]
-#[tactic(auto, unfolding(crate::specs::Tally::scope_tally))]
-fn tally_scope(ws: &[u16], at: usize, depth: usize, serial: usize, bound: usize) -> Option<Counted>
-    ensures { result ≡ scope_tally (tally_at depth ws.now serial bound) (process_end depth ws.now bound) ws.now at }
-{
-    let body = list(ws, at, depth, CODE, None, bound)?;
-    tally(ws, body, depth, serial, bound)
-}
-
-#[cycle(tally_tally_executor_tally_par_tally_scope_tally_seq)]
-#[tactic(auto, unfolding(crate::specs::Tally::executor_tally, crate::specs::Tally::after), using(crate::proofs::Counting::executor_below))]
-fn tally_executor(
-    ws: &[u16],
-    at: usize,
-    depth: usize,
+// What stays the same all through a tally: the words, the serial, and the bound that the reader takes.
+#[derive(Clone, Copy)]
+struct Tally<'a> {
+    ws: &'a [u16],
     serial: usize,
     bound: usize,
-) -> Option<Counted>
-    requires { at < length ws.now }
-    ensures { result ≡ executor_tally (tally_at depth ws.now serial bound) ws.now serial at (executor_own ws.now bound at) }
-{
-    let body = executor_own(ws, at, bound)?;
-    let p = tally(ws, body, depth, serial, bound)?;
-    Some(Counted {
-        end: p.end,
-        waiters: p.waiters,
-        workers: p.workers + serial_at(ws, at, serial),
-    })
+    ghost words: { (i : ℕ) → get_or ws.now i 0 < 65536 },
+    ghost short: { length ws.now ≤ 65536 },
 }
 
-// The waiters and the workers of a serial in all engines.
-#[tactic(auto, unfolding(crate::specs::Tally::waiters_in, crate::specs::Tally::workers_in), using(crate::proofs::Counting::tally_below, crate::proofs::Counting::total_turn, crate::proofs::Counting::total_end))]
-fn total(ws: &[u16], s: Starts, depth: usize, serial: usize, bound: usize) -> (usize, usize)
-    requires { length ws.now ≤ 65536 }
-    ensures { result ≡ total_from (tally_at depth ws.now serial bound) s.starts s.engines 0 0 0 }
-{
-    let starts = s.starts;
-    let mut waiters = 0;
-    let mut workers = 0;
-    for e in 0..s.engines {
-        if let Some(t) = tally(ws, starts[e], depth, serial, bound) {
-            waiters += t.waiters;
-            workers += t.workers;
+impl<'a> Tally<'a> {
+    // The ends of the serial in the process at `at`.
+    #[cycle(executor_par_scope_seq_tally)]
+    #[tactic(auto, unfolding(crate::specs::Tally::tally_at, crate::specs::Tally::node_tally, crate::specs::Tally::counted))]
+    fn tally(&self, at: usize, depth: usize) -> Option<Counted>
+        ensures { result ≡ tally_at depth self.now.ws.now self.now.serial self.now.bound at }
+    {
+        if depth == 0 {
+            return None;
+        }
+        if self.ws.len() <= at {
+            return None;
+        }
+        let d = depth - 1;
+        match Kind::of(self.ws[at]) {
+            Kind::Seq => self.seq(at + 1, d),
+            Kind::Par => self.par(at + 1, d),
+            Kind::Scope => self.scope(at + 2, d),
+            Kind::Executor => self.executor(at, d),
+            Kind::Waiter => Some(Counted {
+                end: process(self.ws, at, depth, RUNNING, self.bound)?,
+                waiters: serial_at(self.ws, at, self.serial),
+                workers: 0,
+            }),
+            Kind::Notice => Some(Counted {
+                end: process(self.ws, at, depth, RUNNING, self.bound)?,
+                waiters: 0,
+                workers: serial_at(self.ws, at, self.serial),
+            }),
+            _ => Some(Counted {
+                end: process(self.ws, at, depth, RUNNING, self.bound)?,
+                waiters: 0,
+                workers: 0,
+            }),
         }
     }
-    (waiters, workers)
+
+    // Of a seq only the first part is enabled.
+    #[cycle(executor_par_scope_seq_tally)]
+    #[tactic(auto, unfolding(crate::specs::Tally::seq_tally, crate::specs::Tally::counted, crate::specs::Tally::after))]
+    fn seq(&self, at: usize, depth: usize) -> Option<Counted>
+        ensures { result ≡ seq_tally (tally_at depth self.now.ws.now self.now.serial self.now.bound) (process_end depth self.now.ws.now self.now.bound) at }
+    {
+        let p = self.tally(at, depth)?;
+        Some(Counted {
+            end: process(self.ws, p.end, depth, CODE, self.bound)?,
+            waiters: p.waiters,
+            workers: p.workers,
+        })
+    }
+
+    #[cycle(executor_par_scope_seq_tally)]
+    #[tactic(auto, unfolding(crate::specs::Tally::par_tally, crate::specs::Tally::after), using(crate::proofs::Counting::par_below))]
+    fn par(&self, at: usize, depth: usize) -> Option<Counted>
+        ensures { result ≡ par_tally (tally_at depth self.now.ws.now self.now.serial self.now.bound) at }
+    {
+        let p = self.tally(at, depth)?;
+        let q = self.tally(p.end, depth)?;
+        Some(Counted {
+            end: q.end,
+            waiters: p.waiters + q.waiters,
+            workers: p.workers + q.workers,
+        })
+    }
+
+    // A scope's list, and its body.
+    #[cycle(executor_par_scope_seq_tally)]
+    #[tactic(auto, unfolding(crate::specs::Tally::scope_tally))]
+    fn scope(&self, at: usize, depth: usize) -> Option<Counted>
+        ensures { result ≡ scope_tally (tally_at depth self.now.ws.now self.now.serial self.now.bound) (process_end depth self.now.ws.now self.now.bound) self.now.ws.now at }
+    {
+        let body = list(self.ws, at, depth, CODE, None, self.bound)?;
+        self.tally(body, depth)
+    }
+
+    #[cycle(executor_par_scope_seq_tally)]
+    #[tactic(auto, unfolding(crate::specs::Tally::executor_tally, crate::specs::Tally::after), using(crate::proofs::Counting::executor_below))]
+    fn executor(&self, at: usize, depth: usize) -> Option<Counted>
+        requires { at < length self.now.ws.now }
+        ensures { result ≡ executor_tally (tally_at depth self.now.ws.now self.now.serial self.now.bound) self.now.ws.now self.now.serial at (executor_own self.now.ws.now self.now.bound at) }
+    {
+        let body = executor_own(self.ws, at, self.bound)?;
+        let p = self.tally(body, depth)?;
+        Some(Counted {
+            end: p.end,
+            waiters: p.waiters,
+            workers: p.workers + serial_at(self.ws, at, self.serial),
+        })
+    }
+
+    // The waiters and the workers of the serial in all engines.
+    #[tactic(auto, unfolding(crate::specs::Tally::waiters_in, crate::specs::Tally::workers_in), using(crate::proofs::Counting::tally_below, crate::proofs::Counting::total_turn, crate::proofs::Counting::total_end))]
+    fn total(&self, s: Starts, depth: usize) -> (usize, usize)
+        ensures { result ≡ total_from (tally_at depth self.now.ws.now self.now.serial self.now.bound) s.starts s.engines 0 0 0 }
+    {
+        let starts = s.starts;
+        let mut waiters = 0;
+        let mut workers = 0;
+        for e in 0..s.engines {
+            if let Some(t) = self.tally(starts[e], depth) {
+                waiters += t.waiters;
+                workers += t.workers;
+            }
+        }
+        (waiters, workers)
+    }
 }
 
 // Ends: refused if the configuration is not readable, then if the serial is 0 or above issued.
@@ -168,8 +170,12 @@ pub fn ends(ws: &[u16], serial: u16) -> Result<EndCounts, Refusal>
     if !(1..=issued).contains(&serial) {
         return Err(Refusal::NoSerial);
     }
-    let bound = s.engines * WORD + wide(issued);
-    let (waiters, workers) = total(ws, s, DEEPEST, wide(serial), bound);
+    let tally = Tally {
+        ws,
+        serial: wide(serial),
+        bound: s.engines * WORD + wide(issued),
+    };
+    let (waiters, workers) = tally.total(s, DEEPEST);
     // There are no more ends than words, so neither count is cut.
     Ok(EndCounts {
         waiters: word_of(waiters),

@@ -1,10 +1,13 @@
 // The reader: where the process, list or expression that begins at a position ends, none if it does not fit. One pass over the words;
 // depth falls with every level. A context (`layout::context`) is where a process stands. `bound` is n times 65,536 plus issued.
-ghost use Rattle.std.specs.Prelude.{◌≡◌, ◌+◌, ◌%◌, ◌<◌, ◌≤◌, ◌&&◌, ◌||◌, leb, eqb, length, unwrap_or, IfSome};
+ghost use Rattle.std.specs.Prelude.{◌≡◌, ◌+◌, ◌%◌, ◌<◌, ◌≤◌, ◌&&◌, ◌||◌, ◌∷◌, ◌==◌, leb, eqb, length, unwrap_or, IfSome};
+ghost use Rattle.std.specs.List.{list_all, list_any};
+ghost use Rattle.sock.specs.Words.{first_variable};
+ghost use Rattle.sock.specs.Variables.{further_of, distinct};
 ghost use Rattle.layout.specs.Contexts.{running, not_nil};
 ghost use Rattle.layout.specs.Keys.{no_key};
 ghost use Rattle.reading.specs.Walk.{end_as, expr_end, constant_end, operation_end, context_of, rest_of, process_end, two_end, branch_end, repeat_end};
-ghost use Rattle.reading.specs.Walk.{further_end, variables_end, among, distinct_from, receiving_end, one_way_end};
+ghost use Rattle.reading.specs.Walk.{variables_end, receiving_end, one_way_end};
 ghost use Rattle.reading.specs.Walk.{choice_end, fixed_after, request_end, notify_end, solicit_end, list_end, key_as, key_at, entry_context};
 ghost use Rattle.reading.specs.Walk.{scope_end, resting_end, marked_end, end_after, executor_own, executor_end, waiter_end, notice_end};
 ghost use Rattle.reading.specs.Walk.{slot_of, fits_at, part_of, item_end};
@@ -13,7 +16,7 @@ use crate::context::{CODE, Context, HANDLERS, RUNNING};
 use crate::tables;
 use crate::tables::{bit, head_mask, shape};
 use layout::context::{CONTEXTS, EXPRESSION, NOT_NIL, RECEIVER, STRATUM};
-use layout::field::next_variable;
+use layout::field::{first_variable, next_variable};
 use layout::key::{NO_KEY, SCOPE_KEYS};
 use layout::kind::Kind;
 use layout::limit::{BRANCHES, ENGINES, MESSAGE};
@@ -128,8 +131,13 @@ fn fits(ws: &[u16], at: usize, context: usize, t: usize) -> bool
     t / tables::STANDS & bit(context) != 0
 }
 
-// What is left to read is kept in 16 places, of which the first is not used: a part as its depth times `KEPT` plus its context. A node's parts
-// are kept if it stands no deeper than `DEEP`, and no more than `FULL` are kept already.
+// What is left to read is kept in a row of `ROW` places, of which the first is not used. A part is kept as its depth times `KEPT` plus its
+// context, both in one number: it is put by and taken by one word of the row, and the lemmas of `Later` are of numbers. A node's parts are kept
+// if it stands no deeper than `DEEP`, and no more than `FULL` are kept already.
+// Fixed memory, as everywhere, so a row with a count beside it: a `Vec` needs the heap, and a slice that gave places back can't take them again.
+// Both places of a node's other parts are written however many it has, which a push for each would have to ask.
+const ROW: usize = 16;
+
 const KEPT: usize = 16;
 
 const DEEP: usize = 4095;
@@ -171,7 +179,7 @@ pub(crate) fn process(
 ) -> Option<usize>
     ensures { result ≡ end_as (process_end depth ws.now bound context.number at) }
 {
-    let mut later = [0usize; 16];
+    let mut later = [0usize; ROW];
     let mut n = 0;
     let mut a = at;
     let mut d = depth;
@@ -184,30 +192,24 @@ pub(crate) fn process(
         if ready(ws, a, d, c, n, t) {
             let p = t / tables::PARTS % tables::COUNTS;
             a = a + t % tables::WIDTHS;
-            if p == 0 {
-                if n == 0 {
-                    return Some(a);
-                }
-                d = later[n] / KEPT;
-                c = later[n] % KEPT;
-                n = n - 1;
-            } else {
+            if p != 0 {
                 d = d - 1;
                 let last = d * KEPT + part(c, t / tables::OTHERS);
                 later[n + 1] = last;
                 later[n + 2] = last;
                 c = part(c, t / tables::FIRST);
                 n = n + p - 1;
+                continue;
             }
         } else {
             a = whole(ws, a, d, c, bound)?;
-            if n == 0 {
-                return Some(a);
-            }
-            d = later[n] / KEPT;
-            c = later[n] % KEPT;
-            n = n - 1;
         }
+        if n == 0 {
+            return Some(a);
+        }
+        d = later[n] / KEPT;
+        c = later[n] % KEPT;
+        n = n - 1;
     }
     None
 }
@@ -357,24 +359,15 @@ fn fixed(ws: &[u16], at: usize, spare: usize) -> bool
     wide(ws[at + 1]) % spare == 0
 }
 
-// `left` further variables of a list, from `at` on.
-#[tactic(auto, using(crate::proofs::VariableWalks::further_all, crate::proofs::VariableWalks::further_short), unfolding(crate::specs::Walk::when))]
-fn further_variables(ws: &[u16], at: usize, left: usize) -> Option<usize>
-    requires { (0 < at) × (at ≤ length ws.now) }
-    ensures { result ≡ end_as (further_end left ws.now at) }
+// Whether the words are variables: all bits behind those of one are 0.
+fn are_variables(words: &[u16]) -> bool
+    ensures { result ≡ list_all (λ w. w % 2048 == 0) words.now }
 {
-    if ws.len() - at < left {
-        return None;
-    }
-    let end = at + left;
-    ws[at..end]
-        .iter()
-        .all(|w| wide(*w) % unit::FIRST_VARIABLE == 0)
-        .then_some(end)
+    words.iter().all(|w| wide(*w) % unit::FIRST_VARIABLE == 0)
 }
 
 // A list of 1 to 4 variables, whose count is at `at`.
-#[tactic(auto, unfolding(crate::specs::Walk::when, crate::specs::Walk::variables_end))]
+#[tactic(auto, using(crate::proofs::VariableWalks::further_all, crate::proofs::VariableWalks::further_short), unfolding(crate::specs::Walk::when, crate::specs::Walk::variables_end))]
 fn variables(ws: &[u16], at: usize) -> Option<usize>
     ensures { result ≡ end_as (variables_end ws.now at) }
 {
@@ -382,54 +375,42 @@ fn variables(ws: &[u16], at: usize) -> Option<usize>
         return None;
     }
     let c = wide(ws[at]);
-    if c == 0 || MESSAGE < c {
+    if c == 0 || MESSAGE < c || ws.len() - at < c {
         return None;
     }
-    further_variables(ws, at + 1, c - 1)
+    let end = at + c;
+    are_variables(&ws[at + 1..end]).then_some(end)
 }
 
-// Whether the variable x is one of the `left` further ones from `at` on.
-#[tactic(auto, using(crate::proofs::VariableWalks::among_any))]
-fn is_among(ws: &[u16], at: usize, left: usize, x: usize) -> bool
-    requires { at ≤ length ws.now }
-    ensures { result ≡ among left ws.now x at }
+// Whether one of the words is the variable x.
+fn is_among(words: &[u16], x: usize) -> bool
+    ensures { result ≡ list_any (λ w. x == first_variable w) words.now }
 {
-    ws[at..]
-        .iter()
-        .take(left)
-        .any(|w| x == wide(*w) / unit::FIRST_VARIABLE)
+    words.iter().any(|w| x == first_variable(*w))
 }
 
-// Whether `first` and the `left` further variables from `at` on are all different.
+// Whether the variable `first` and those of the words `further` are all different.
 #[tactic(auto, using(crate::proofs::VariableWalks::distinct_turn, crate::proofs::VariableWalks::distinct_end))]
-fn distinct(ws: &[u16], at: usize, left: usize, first: usize) -> bool
-    requires { at ≤ length ws.now }
-    ensures { result ≡ distinct_from left ws.now first at }
+fn distinct(first: usize, further: &[u16]) -> bool
+    ensures { result ≡ distinct (first ∷ further_of further.now) }
 {
     let mut x = first;
-    for i in 0..left {
-        if is_among(ws, at + i, left - i, x) {
+    for (i, w) in further.iter().enumerate() {
+        if is_among(&further[i..], x) {
             return false;
         }
-        if ws.len() <= at + i {
-            return true;
-        }
-        x = wide(ws[at + i]) / unit::FIRST_VARIABLE;
+        x = first_variable(*w);
     }
     true
 }
 
 // A list of variables that receive, the first of which stands elsewhere: none of them twice.
-#[tactic(auto, unfolding(crate::specs::Walk::on, crate::specs::Walk::when, crate::specs::Walk::variables_end, crate::specs::Walk::receiving_end))]
+#[tactic(auto, using(crate::proofs::VariableWalks::list_lent, crate::proofs::VariableWalks::receiving_lent, crate::proofs::VariableWalks::receiving_none, crate::proofs::Given::as_none))]
 fn receiving(ws: &[u16], at: usize, first: usize) -> Option<usize>
     ensures { result ≡ end_as (receiving_end ws.now first at) }
 {
-    if ws.len() <= at {
-        return None;
-    }
-    let e = variables(ws, at)?;
-    let left = wide(ws[at]).saturating_sub(1);
-    distinct(ws, at + 1, left, first).then_some(e)
+    let end = variables(ws, at)?;
+    distinct(first, &ws[at + 1..end]).then_some(end)
 }
 
 // A one-way whose head is `h`.

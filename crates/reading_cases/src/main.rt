@@ -7,7 +7,7 @@ ghost use Rattle.std.specs.Prelude.{OnOk};
 ghost use Rattle.std.specs.Io.KnownBytes.{Appends};
 ghost use Rattle.reading_cases.specs.Printed.{answers_line};
 
-use bytewise::words::hold;
+use bytewise::words::held;
 use cases::{read_case, sum, word};
 use layout::refusal::number;
 use reading::calls::{check_readable, check_start, process_of};
@@ -64,10 +64,10 @@ fn turn<W: Write>(output: &mut W, case: &[u8]) -> io::Result<()> {
         return Ok(());
     };
     let mut ws = [0u16; MOST];
-    let n = hold(bytes, &mut ws);
+    let ws = held(bytes, &mut ws);
     answer(
         output,
-        &ws[..n],
+        ws,
         word(head[2], head[3]),
         word(head[4], head[5]),
         word(head[6], head[7]),

@@ -17,7 +17,7 @@ use Rattle.finding.proofs.Spots.{Spotted}
 use Rattle.finding.proofs.Edits.{part, edited, nil_plain, swap_plain, cut_order}
 use Rattle.layout.specs.Positions.{onward}
 use Rattle.writers.proofs.Laid.{Near, onward_near}
-use Rattle.rules.specs.declared.store.Store.{Store}
+use Rattle.rules.specs.Storing.{Store}
 use Rattle.rules.specs.Rewriting.{Rewriting}
 use Rattle.rules.specs.Editing.{Edit}
 use Rattle.rules.specs.Editing.{hollow_w, nil_w, plain_w}

@@ -24,7 +24,7 @@ use Rattle.sock.proofs.Measures.{words_seq, words_executor, depth_nil, depth_seq
 use Rattle.layout.specs.Own.{variables_end}
 use Rattle.layout.specs.Positions.{onward}
 use Rattle.writers.proofs.Laid.{Near, onward_near, Laid, laid_put, laid_then}
-use Rattle.rules.specs.declared.store.Store.{Store}
+use Rattle.rules.specs.Storing.{Store}
 use Rattle.rules.specs.Rewriting.{Rewriting}
 use Rattle.rules.specs.Rewriting.{vanishing, keeping, at, part_w}
 use Rattle.layout.specs.Heads.{executor_head}

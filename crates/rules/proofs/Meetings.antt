@@ -25,7 +25,7 @@ use Rattle.writers.proofs.Laid.{Near, onward_near}
 use Rattle.evaluating.specs.Evaluating.{value_in}
 use Rattle.layout.specs.Kinds.{counted_as}
 use Rattle.layout.proofs.Named.{counted_is}
-use Rattle.rules.specs.declared.store.Store.{Store}
+use Rattle.rules.specs.Storing.{Store}
 use Rattle.rules.specs.Rewriting.{Rewriting}
 use Rattle.rules.specs.Storing.{unchanged}
 use Rattle.rules.specs.Rewriting.{at}

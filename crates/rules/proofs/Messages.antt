@@ -18,7 +18,7 @@ use Rattle.layout.specs.Positions.{onward}
 use Rattle.layout.proofs.Owns.{list_end_lem}
 use Rattle.writers.proofs.Laid.{Near, onward_near}
 use Rattle.evaluating.specs.Evaluating.{value_in}
-use Rattle.rules.specs.declared.store.Store.{Store}
+use Rattle.rules.specs.Storing.{Store}
 use Rattle.rules.specs.Rewriting.{at}
 use Rattle.rules.specs.Messages.{listed_w, taking_w, carried_w, alike_w}
 use Rattle.rules.proofs.Stores.{valued, stored}

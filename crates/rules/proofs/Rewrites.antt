@@ -28,7 +28,7 @@ use Rattle.evaluating.specs.Evaluating.{ended, evaluated}
 use Rattle.evaluating.proofs.Evaluates.{evaluates}
 use Rattle.writers.proofs.Laid.{Near, Laid, laid_put, laid_then, laid_copy, copy_end}
 use Rattle.rules.specs.Storing.{takes, unchanged}
-use Rattle.rules.specs.declared.store.Store.{Store}
+use Rattle.rules.specs.Storing.{Store}
 use Rattle.rules.specs.Rewriting.{Rewriting}
 use Rattle.layout.specs.declared.limit.Limits.{Limits}
 use Rattle.rules.specs.Rewriting.{Rewritten, rewritten, vanishing, keeping, refused, at, part_w, assign_w, part_end, branch_w, unroll_w, repeat_w}

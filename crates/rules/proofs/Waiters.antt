@@ -29,7 +29,7 @@ use Rattle.skipping.proofs.Skips.{code_end, run_end}
 use Rattle.writers.proofs.Laid.{Near, laid_put}
 use Rattle.layout.specs.Kinds.{counted_as}
 use Rattle.layout.proofs.Named.{counted_not}
-use Rattle.rules.specs.declared.store.Store.{Store}
+use Rattle.rules.specs.Storing.{Store}
 use Rattle.rules.specs.Storing.{unchanged}
 use Rattle.rules.specs.Rewriting.{rewritten, vanishing, keeping, at, part_end}
 use Rattle.layout.specs.Heads.{waiter_head, throw_head}

@@ -8,8 +8,7 @@ use Rattle.layout.specs.declared.refusal.Refusal.{Refusal}
 use Rattle.layout.specs.Refusals.{refusal_number}
 use Rattle.rules.specs.declared.edit.Edit as code_edit
 use Rattle.rules.specs.Rewriting.{Rewriting}
-use Rattle.rules.specs.declared.store.Store.{Store}
-use Rattle.rules.specs.Storing.{unchanged}
+use Rattle.rules.specs.Storing.{Store, unchanged, storing}
 use Rattle.rules.specs.Offering.{Placed, placed}
 
 -- a refusal's number, or 0; the words list..past become the first `listed` fresh words, from..upto the fresh words listed..fresh, and gap..end go
@@ -49,7 +48,7 @@ made p =
       fresh = p.fresh;
       gap = p.gap;
       end = p.end;
-      store = p.store;
+      store = storing p.store;
     }
 
 abbrev pub edit_of : code.Result code_edit.Edit Refusal → Edit
@@ -65,6 +64,11 @@ nil_w s l m f store fresh =
     edited
     (record { number = 0; list = l; past = m; listed = f; from = s.from; upto = s.upto; fresh = w.to; gap = s.gap; end = s.end; store = store })
     w.fresh
+
+-- the words from..upto become the first fresh ones
+abbrev pub replaced_w : ℕ → ℕ → ℕ → ℕ → Edit
+replaced_w start from upto fresh =
+    record { number = 0; list = start; past = start; listed = 0; from = from; upto = upto; fresh = fresh; gap = upto; end = upto; store = unchanged }
 
 unfoldable pub plain_w : Site → ℕ → Rewriting → List ℕ → Edited
 plain_w s start t fresh =

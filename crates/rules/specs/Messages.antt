@@ -6,7 +6,7 @@ use Rattle.layout.specs.Positions.{onward}
 use Rattle.evaluating.specs.Evaluating.{value_in}
 use Rattle.rules.specs.Rewriting.{at}
 use Rattle.rules.specs.declared.store.Taking.{Taking}
-use Rattle.rules.specs.declared.store.Store.{Store}
+use Rattle.rules.specs.Storing.{Store}
 
 -- variable i of the process at a place, with the place of its list's count
 unfoldable pub listed_w : List ℕ → ℕ → ℕ → ℕ → ℕ

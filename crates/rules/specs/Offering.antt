@@ -9,7 +9,7 @@ use Rattle.layout.specs.Positions.{onward}
 use Rattle.rules.specs.Storing.{unchanged}
 use Rattle.rules.specs.Rewriting.{Rewritten, rewritten, vanishing, keeping, at, part_w, part_end}
 use Rattle.rules.specs.Rewriting.{Rewriting}
-use Rattle.rules.specs.declared.store.Store.{Store}
+use Rattle.rules.specs.Storing.{Store}
 use Rattle.rules.specs.declared.pair.Offer as code
 
 -- ---- what is offered

@@ -1,18 +1,18 @@
 -- What a process turns into alone, on words, as the code goes. No contract of a call names it.
-use Rattle.std.specs.Prelude.{ℕ, ◌-◌, Bool, true, false, cond, List, eqb, get_or, set}
+use Rattle.std.specs.Prelude.{ℕ, ◌-◌, Bool, true, false, cond, List, eqb, get_or, set, Option, None, Some}
 use Rattle.sock.specs.Words.{variable_of}
 use Rattle.layout.specs.declared.limit.Limits.{Limits}
 use Rattle.reading.specs.Walk.{process_end}
 use Rattle.skipping.specs.Skip.{skip_end}
 use Rattle.writers.specs.Writing.{pasted, pasted_end}
 use Rattle.evaluating.specs.declared.evaluate.Valued.{Valued}
-use Rattle.rules.specs.Storing.{takes, unchanged}
-use Rattle.rules.specs.declared.store.Store.{Store}
+use Rattle.rules.specs.Storing.{Store, takes, unchanged, storing}
 use Rattle.std.specs.Prelude as code
 use Rattle.std.specs.Prelude.{Ok, Err}
 use Rattle.layout.specs.declared.refusal.Refusal.{Refusal}
 use Rattle.layout.specs.Refusals.{refusal_number}
 use Rattle.rules.specs.declared.rewriting.Rewriting as code_rewriting
+use Rattle.rules.specs.declared.rewriting.Kept.{Kept}
 
 -- a refusal's number, or 0; the process turns into nil, or into the first `fresh` fresh words and, of its own `end` words, those from..upto
 pub record Rewriting : Type 0 where
@@ -35,19 +35,23 @@ rewritten t fresh = record { rewriting = t; fresh = fresh }
 abbrev pub refused : ℕ → Rewriting
 refused n = record { number = n; nil = false; fresh = 0; from = 0; upto = 0; end = 0; store = unchanged }
 
--- the code's rewriting, and its refusal, as such
-abbrev pub turned : code_rewriting.Rewriting → Rewriting
-turned t = record { number = 0; nil = t.nil; fresh = t.fresh; from = t.from; upto = t.upto; end = t.end; store = t.store }
-
-abbrev pub rewriting_of : code.Result code_rewriting.Rewriting Refusal → Rewriting
-rewriting_of (Ok t) = turned t
-rewriting_of (Err r) = refused (refusal_number r)
-
 abbrev pub vanishing : Store → Rewriting
 vanishing s = record { number = 0; nil = true; fresh = 0; from = 0; upto = 0; end = 0; store = s }
 
 abbrev pub keeping : ℕ → ℕ → ℕ → ℕ → Store → Rewriting
 keeping fresh from upto end s = record { number = 0; nil = false; fresh = fresh; from = from; upto = upto; end = end; store = s }
+
+-- the code's rewriting, and its refusal, as such
+abbrev pub kept_as : Option Kept → Store → Rewriting
+kept_as None store = vanishing store
+kept_as (Some k) store = keeping k.fresh k.from k.upto k.end store
+
+abbrev pub turned : code_rewriting.Rewriting → Rewriting
+turned t = kept_as t.kept (storing t.store)
+
+abbrev pub rewriting_of : code.Result code_rewriting.Rewriting Refusal → Rewriting
+rewriting_of (Ok t) = turned t
+rewriting_of (Err r) = refused (refusal_number r)
 
 abbrev pub at : List ℕ → ℕ → ℕ
 at ws i = get_or ws i 0

@@ -1,6 +1,7 @@
 // The rules between two engines: what is offered to a sender, whether the two fit, and what each of them turns into.
 ghost use Rattle.std.specs.Prelude.{◌≡◌, ◌<◌};
 ghost use Rattle.layout.specs.Kinds.{number_of};
+ghost use Rattle.rules.specs.Storing.{storing};
 ghost use Rattle.rules.specs.Rewriting.{turned};
 ghost use Rattle.rules.specs.Offering.{standing, offer_in, bare_w, branch_at, choice_w, offer_w, receives_w, fits_w, hear_w, seq_first, three_to, three_w, serve_w, ask_w, waits_w, awaits_w, answer_w, fail_w};
 
@@ -104,7 +105,7 @@ pub fn fits(part: &[u16], o: Offer, kind: Kind, h: u16) -> bool
 // A one-way hears, and its variables take what the message brings.
 #[tactic(auto, unfolding(crate::specs::Offering::hear_w))]
 pub fn hear(part: &[u16], o: Offer, store: Store) -> Rewriting
-    ensures { turned result ≡ hear_w part.now (standing o) store }
+    ensures { turned result ≡ hear_w part.now (standing o) (storing store) }
 {
     if o.next == 0 {
         return to_nil(store);
@@ -145,8 +146,8 @@ pub fn serve(
     store: Store,
     fresh: &mut [u16],
 ) -> Rewriting
-    ensures rewritten { turned result ≡ (serve_w part.now (standing o) client serial store fresh.old).rewriting }
-    ensures fresh { fresh.new ≡ (serve_w part.now (standing o) client serial store fresh.old).fresh }
+    ensures rewritten { turned result ≡ (serve_w part.now (standing o) client serial (storing store) fresh.old).rewriting }
+    ensures fresh { fresh.new ≡ (serve_w part.now (standing o) client serial (storing store) fresh.old).fresh }
 {
     let h = word(part, o.guard);
     let y = word(part, further(o.guard, 1));
@@ -215,8 +216,8 @@ pub fn awaits(
 // A reply: its variables take what the message brings, and the waiter becomes inst of its list.
 #[tactic(auto, unfolding(crate::specs::Offering::answer_w))]
 pub fn answer(part: &[u16], store: Store, fresh: &mut [u16]) -> Rewriting
-    ensures rewritten { turned result ≡ (answer_w part.now store fresh.old).rewriting }
-    ensures fresh { fresh.new ≡ (answer_w part.now store fresh.old).fresh }
+    ensures rewritten { turned result ≡ (answer_w part.now (storing store) fresh.old).rewriting }
+    ensures fresh { fresh.new ≡ (answer_w part.now (storing store) fresh.old).fresh }
 {
     let g = put(fresh, 0, head::INST);
     let from = variables_end(part, 3);

@@ -9,7 +9,7 @@ use Rattle.finding.specs.declared.find.Site.{Site}
 use Rattle.handling.specs.Taking.{Taken, Took, taken, take_w}
 use Rattle.handling.specs.Updating.{update_by_w}
 use Rattle.rules.specs.Storing.{unchanged}
-use Rattle.rules.specs.Editing.{Edited, edited, nil_w}
+use Rattle.rules.specs.Editing.{Edited, edited, nil_w, replaced_w}
 use Rattle.scopes.specs.Installing.{updated_w}
 
 -- the head of a scope that runs its handler
@@ -40,19 +40,7 @@ unfoldable pub resumed_w : List ℕ → List ℕ → ℕ → ℕ → ℕ → Lis
 resumed_w ws notes start at key fresh =
     let t = take_behind_w ws (onward at 2) key (set (set fresh 0 (resumed_head (get_or ws at 0))) 1 0) in
     let end = onward (pass_list 64 ws notes (onward at 2)) 1 in
-    edited
-    (record {
-      number = 0;
-      list = start;
-      past = start;
-      listed = 0;
-      from = at;
-      upto = end;
-      fresh = taken_to ws t.answer (onward 2 t.answer.to);
-      gap = end;
-      end = end;
-      store = unchanged;
-    })
+    edited (replaced_w start at end (taken_to ws t.answer (onward 2 t.answer.to)))
     (taken_w ws t.answer t.out (onward 2 t.answer.to))
 
 unfoldable pub promoted_to : List ℕ → ℕ → Taken → ℕ → List ℕ → ℕ

@@ -10,9 +10,7 @@ use Rattle.writers.specs.Writing.{pasted, pasted_end}
 use Rattle.pending.specs.Looking.{sides_w}
 use Rattle.killing.specs.Killing.{Killed, kill_w}
 use Rattle.killing.specs.declared.kill.Moved.{Moved}
-use Rattle.rules.specs.Editing.{Edit}
-use Rattle.rules.specs.Storing.{unchanged}
-use Rattle.rules.specs.Editing.{Edited, edited, refused_edit}
+use Rattle.rules.specs.Editing.{Edit, Edited, edited, refused_edit, replaced_w}
 
 unfoldable pub fault_w : List ℕ → ℕ → ℕ
 fault_w ws i = name_of (get_or ws i 0)
@@ -20,8 +18,7 @@ fault_w ws i = name_of (get_or ws i 0)
 -- what was killed, from `a` on, becomes the fresh words
 unfoldable pub cleared_w : ℕ → ℕ → Moved → Edit
 cleared_w start a k =
-    cond (eqb k.end 0) (refused_edit 6)
-    (record { number = 0; list = start; past = start; listed = 0; from = a; upto = k.end; fresh = k.to; gap = k.end; end = k.end; store = unchanged })
+    cond (eqb k.end 0) (refused_edit 6) (replaced_w start a k.end k.to)
 
 unfoldable pub cleared_by : ℕ → ℕ → Killed → Edited
 cleared_by start a k = edited (cleared_w start a k.moved) k.out

@@ -12,7 +12,7 @@ use layout::limit::{Bounds, FUEL};
 use layout::number::{further, word};
 use layout::refusal::Refusal;
 use reading::reader::read;
-use rules::edit::{Edit, become_nil};
+use rules::edit::{Edit, Side, vanish};
 use rules::store::nothing;
 use skipping::pass::Noted;
 use writers::write::copy;
@@ -41,25 +41,25 @@ fn moved(noted: &Noted, s: Site, f: usize, p: Span, fresh: &mut [u16]) -> Edit
     }
 }
 
-// The comp at `s`, in the engine's process that begins at `start`.
+// The comp found in an engine's process.
 #[tactic(auto, unfolding(crate::specs::Compensating::compensated_w))]
 pub fn compensated(
     noted: &Noted,
-    start: usize,
-    s: Site,
+    side: Side,
     bounds: Bounds,
     fresh: &mut [u16],
 ) -> Result<Edit, Refusal>
-    ensures edited { edit_of result ≡ (compensated_w bounds.limits bounds.ends noted.now.ws.now noted.now.notes.now start s fresh.old).edit }
-    ensures fresh { fresh.new ≡ (compensated_w bounds.limits bounds.ends noted.now.ws.now noted.now.notes.now start s fresh.old).fresh }
+    ensures edited { edit_of result ≡ (compensated_w bounds.limits bounds.ends noted.now.ws.now noted.now.notes.now side.start side.site fresh.old).edit }
+    ensures fresh { fresh.new ≡ (compensated_w bounds.limits bounds.ends noted.now.ws.now noted.now.notes.now side.start side.site fresh.old).fresh }
 {
+    let s = side.site;
     if s.scope == 0 {
-        return Ok(become_nil(s, start, start, 0, nothing(), fresh));
+        return Ok(vanish(side, nothing(), fresh));
     }
     let key = scope_key(word(noted.ws, s.at));
     let t = take(noted.ws, further(s.scope, 2), key, FUEL, fresh);
     let Some(p) = t.process else {
-        return Ok(become_nil(s, start, start, 0, nothing(), fresh));
+        return Ok(vanish(side, nothing(), fresh));
     };
     let left = further(bounds.limits.deepest, 1).saturating_sub(s.level);
     if read(noted.ws, p.from, left, CODE, bounds.ends).is_none() {

@@ -13,7 +13,7 @@ use layout::head;
 use layout::limit::FUEL;
 use layout::mark::Mark;
 use layout::number::{further, word};
-use rules::edit::{Edit, become_nil};
+use rules::edit::{Edit, Side, replaced, vanish};
 use rules::store::nothing;
 use skipping::pass::Noted;
 use writers::write::{copy, put};
@@ -69,17 +69,7 @@ fn resumed(noted: &Noted, start: usize, at: usize, key: usize, fresh: &mut [u16]
         Some(p) => copy(noted.ws, p.from, p.upto, fresh, to),
     };
     let end = further(noted.pass_list(l, FUEL), 1);
-    Edit {
-        list: start,
-        past: start,
-        listed: 0,
-        from: at,
-        upto: end,
-        fresh: g,
-        gap: end,
-        end,
-        store: nothing(),
-    }
+    replaced(start, at, end, g)
 }
 
 // The scope becomes nil, and the nearest is updated by its name and the handler under it, or loses its own where there is none.
@@ -99,27 +89,28 @@ fn ending(noted: &Noted, s: Site, key: usize, fresh: &mut [u16]) -> Edit
 
 // The scope with no mark ends: it becomes nil, and hands its handler on where it was killed by nobody and stands in another scope.
 #[tactic(auto, unfolding(crate::specs::Ending::unmarked_w))]
-fn unmarked(noted: &Noted, start: usize, s: Site, key: usize, fresh: &mut [u16]) -> Edit
-    ensures edited { made result ≡ (unmarked_w noted.now.ws.now noted.now.notes.now start s key fresh.old).edit }
-    ensures fresh { fresh.new ≡ (unmarked_w noted.now.ws.now noted.now.notes.now start s key fresh.old).fresh }
+fn unmarked(noted: &Noted, side: Side, key: usize, fresh: &mut [u16]) -> Edit
+    ensures edited { made result ≡ (unmarked_w noted.now.ws.now noted.now.notes.now side.start side.site key fresh.old).edit }
+    ensures fresh { fresh.new ≡ (unmarked_w noted.now.ws.now noted.now.notes.now side.start side.site key fresh.old).fresh }
 {
+    let s = side.site;
     if is_zombie(word(noted.ws, s.at)) || s.scope == 0 {
-        return become_nil(s, start, start, 0, nothing(), fresh);
+        return vanish(side, nothing(), fresh);
     }
     ending(noted, s, key, fresh)
 }
 
-// The scope with nil body at `s`, in the engine's process that begins at `start`.
+// The scope with nil body found in an engine's process.
 #[tactic(auto, unfolding(crate::specs::Ending::ended_w))]
-pub fn ended(noted: &Noted, start: usize, s: Site, fresh: &mut [u16]) -> Edit
-    ensures edited { made result ≡ (ended_w noted.now.ws.now noted.now.notes.now start s fresh.old).edit }
-    ensures fresh { fresh.new ≡ (ended_w noted.now.ws.now noted.now.notes.now start s fresh.old).fresh }
+pub fn ended(noted: &Noted, side: Side, fresh: &mut [u16]) -> Edit
+    ensures edited { made result ≡ (ended_w noted.now.ws.now noted.now.notes.now side.start side.site fresh.old).edit }
+    ensures fresh { fresh.new ≡ (ended_w noted.now.ws.now noted.now.notes.now side.start side.site fresh.old).fresh }
 {
-    let at = s.at;
+    let at = side.site.at;
     let h = word(noted.ws, at);
     let key = key_at(noted.ws, at);
     match Mark::of(h) {
-        Mark::Unmarked => unmarked(noted, start, s, key, fresh),
-        _ => resumed(noted, start, at, key, fresh),
+        Mark::Unmarked => unmarked(noted, side, key, fresh),
+        _ => resumed(noted, side.start, at, key, fresh),
     }
 }

@@ -8,7 +8,7 @@ use handling::update::update;
 use layout::limit::{FUEL, Limits};
 use layout::number::further;
 use layout::refusal::Refusal;
-use rules::edit::{Edit, become_nil};
+use rules::edit::{Edit, Side, become_nil, vanish};
 use rules::store::nothing;
 use skipping::pass::Noted;
 
@@ -30,20 +30,20 @@ pub fn updated(noted: &Noted, s: Site, l: usize, f: usize, fresh: &mut [u16]) ->
     become_nil(s, l, m, f, nothing(), fresh)
 }
 
-// The inst at `s`, in the engine's process that begins at `start`.
+// The inst found in an engine's process.
 #[tactic(auto, unfolding(crate::specs::Installing::installed_w))]
 pub fn installed(
     noted: &Noted,
-    start: usize,
-    s: Site,
+    side: Side,
     limits: Limits,
     fresh: &mut [u16],
 ) -> Result<Edit, Refusal>
-    ensures edited { edit_of result ≡ (installed_w limits noted.now.ws.now noted.now.notes.now start s fresh.old).edit }
-    ensures fresh { fresh.new ≡ (installed_w limits noted.now.ws.now noted.now.notes.now start s fresh.old).fresh }
+    ensures edited { edit_of result ≡ (installed_w limits noted.now.ws.now noted.now.notes.now side.start side.site fresh.old).edit }
+    ensures fresh { fresh.new ≡ (installed_w limits noted.now.ws.now noted.now.notes.now side.start side.site fresh.old).fresh }
 {
+    let s = side.site;
     if s.scope == 0 {
-        return Ok(become_nil(s, start, start, 0, nothing(), fresh));
+        return Ok(vanish(side, nothing(), fresh));
     }
     let l = further(s.scope, 2);
     let u = update(noted.ws, l, further(s.at, 1), FUEL, fresh);

@@ -4,7 +4,6 @@ ghost use Rattle.std.specs.Prelude.{◌≡◌};
 ghost use Rattle.rules.specs.Editing.{edit_of};
 ghost use Rattle.scopes.specs.Throwing.{fault_w, cleared_w, marked_w, body_w, opened_to, opened_w, uncaught_w, caught_w, thrown_w};
 
-use finding::find::Site;
 use killing::kill::{Killing, Moved};
 use layout::field::fault_of;
 use layout::head;
@@ -12,8 +11,7 @@ use layout::limit::FUEL;
 use layout::number::{further, wide, word};
 use layout::refusal::Refusal;
 use pending::sides::any_pending;
-use rules::edit::Edit;
-use rules::store::nothing;
+use rules::edit::{Edit, Side, replaced};
 use skipping::pass::Noted;
 use skipping::skip::has_key;
 use writers::write::{copy, put};
@@ -34,20 +32,10 @@ fn cleared(start: usize, a: usize, k: Moved) -> Result<Edit, Refusal>
     if k.end == 0 {
         return Err(Refusal::Pending);
     }
-    Ok(Edit {
-        list: start,
-        past: start,
-        listed: 0,
-        from: a,
-        upto: k.end,
-        fresh: k.to,
-        gap: k.end,
-        end: k.end,
-        store: nothing(),
-    })
+    Ok(replaced(start, a, k.end, k.to))
 }
 
-// No scope stops the fault. 6 if a side can't be killed.
+// No scope stops the fault. `Pending` if a side can't be killed.
 #[tactic(auto, unfolding(crate::specs::Throwing::uncaught_w, crate::specs::Throwing::cleared_by))]
 fn uncaught(killing: &Killing, start: usize, fresh: &mut [u16]) -> Result<Edit, Refusal>
     ensures edited { edit_of result ≡ (uncaught_w killing.now.noted.ws.now killing.now.noted.notes.now start killing.now.fault killing.now.hole fresh.old).edit }
@@ -92,7 +80,7 @@ fn opened(ws: &[u16], c: usize, body: usize, fault: u16, fresh: &mut [u16]) -> u
     copy(ws, further(c, 2), body, fresh, 2)
 }
 
-// The scope at `c` stops the fault: its body becomes what climbs out of it. 6 as above.
+// The scope at `c` stops the fault: its body becomes what climbs out of it. `Pending` as above.
 #[tactic(auto, unfolding(crate::specs::Throwing::caught_w, crate::specs::Throwing::cleared_by))]
 fn caught(killing: &Killing, start: usize, c: usize, fresh: &mut [u16]) -> Result<Edit, Refusal>
     ensures edited { edit_of result ≡ (caught_w killing.now.noted.ws.now killing.now.noted.notes.now start c killing.now.fault killing.now.hole fresh.old).edit }
@@ -109,17 +97,18 @@ fn caught(killing: &Killing, start: usize, c: usize, fresh: &mut [u16]) -> Resul
 }
 
 #[tactic(auto, unfolding(crate::specs::Throwing::thrown_w))]
-pub fn thrown(noted: &Noted, start: usize, s: Site, fresh: &mut [u16]) -> Result<Edit, Refusal>
-    ensures edited { edit_of result ≡ (thrown_w noted.now.ws.now noted.now.notes.now start s fresh.old).edit }
-    ensures fresh { fresh.new ≡ (thrown_w noted.now.ws.now noted.now.notes.now start s fresh.old).fresh }
+pub fn thrown(noted: &Noted, side: Side, fresh: &mut [u16]) -> Result<Edit, Refusal>
+    ensures edited { edit_of result ≡ (thrown_w noted.now.ws.now noted.now.notes.now side.start side.site fresh.old).edit }
+    ensures fresh { fresh.new ≡ (thrown_w noted.now.ws.now noted.now.notes.now side.start side.site fresh.old).fresh }
 {
+    let s = side.site;
     let killing = Killing {
         noted: *noted,
         fault: fault_at(noted.ws, s.at),
         hole: s.at,
     };
     if s.catcher == 0 {
-        return uncaught(&killing, start, fresh);
+        return uncaught(&killing, side.start, fresh);
     }
-    caught(&killing, start, s.catcher, fresh)
+    caught(&killing, side.start, s.catcher, fresh)
 }

@@ -31,26 +31,31 @@ use Rattle.finding.specs.declared.find.Site.{Site}
 use Rattle.finding.specs.declared.find.Found.{Found}
 use Rattle.finding.specs.Find.{find_w}
 use Rattle.pending.proofs.Looks.{pending_looks}
+use Rattle.std.specs.Prelude.{None}
+use Rattle.stepping.specs.Enabled.{hit_w, site_w, with_site, enabled_w}
+use Rattle.stepping.specs.Bundles.{Engines}
+use Rattle.rules.specs.Rewriting.{at}
 use Rattle.stepping.proofs.Modest.{Modest}
 use Rattle.stepping.proofs.Partners as partners
 use Rattle.stepping.proofs.Seeking.{Seen, placed, Seeks, unseen, seen, seeks, seeks_none}
-use Rattle.searching.specs.Asking.{refusing, counted_w, found_w, asked_w}
+use Rattle.searching.specs.Asking.{refusing, counted_w, searched_w, asked_w}
 
 -- no engine, nothing read; or the engine looked up
 refused_at :
     (limits : Limits) (ws blank : List ℕ) (engine position : ℕ) (s : Starts) → s ≡ surveyed (figures limits) 11 ws → s.engines ≡ 0 →
     asked_w limits ws blank engine position ≡ refusing 1
-unfolding asked_w
+unfolding asked_w enabled_w searched_w
 refused_at limits ws blank engine position s q z = rw (← q, eq-eqb s.engines 0 z)
 
 looked_up :
     (limits : Limits) (ws blank : List ℕ) (engine position : ℕ) (s : Starts) (n : ℕ) → s ≡ surveyed (figures limits) 11 ws →
     s.engines ≡ n → (n ≡ 0 → ⊥) →
     asked_w limits ws blank engine position
-    ≡ cond (leb n engine) (refusing 2)
-    (found_w ws (survey_notes (figures limits) ws blank)
-    (find_w 64 ws (survey_notes (figures limits) ws blank) (onward (get_or s.starts engine 0) position) 1 (get_or s.starts engine 0)))
-unfolding asked_w
+    ≡ searched_w ws (survey_notes (figures limits) ws blank)
+    (with_site (record { count = n; issued = at ws 1; starts = s.starts })
+    (cond (leb n engine) None
+    (hit_w (find_w 64 ws (survey_notes (figures limits) ws blank) (onward (get_or s.starts engine 0) position) 1 (get_or s.starts engine 0)))))
+unfolding asked_w enabled_w site_w
 looked_up limits ws blank engine position s n q z more = rw (← q, z, ne_eqb n 0 more)
 
 module _ {limits : Limits} (modest : Modest limits) (ws : List ℕ) (ok : Words ws) (engine position : ℕ) (low : position < 65536) (blank : List ℕ)
@@ -69,6 +74,9 @@ module _ {limits : Limits} (modest : Modest limits) (ws : List ℕ) (ok : Words 
 
     abbrev n : ℕ
     n = length c.engines
+
+    abbrev g : Engines
+    g = record { count = n; issued = at ws 1; starts = s.starts }
 
     -- the process found is searched
     counted_law :
@@ -97,28 +105,29 @@ module _ {limits : Limits} (modest : Modest limits) (ws : List ℕ) (ok : Words 
     -- the search in the engine
     found_law :
         engine < n →
-        found_w ws notes (find_w 64 ws notes (onward (start_of c engine) position) 1 (start_of c engine))
+        searched_w ws notes (with_site g (hit_w (find_w 64 ws notes (onward (start_of c engine) position) 1 (start_of c engine))))
         ≡ searched ((nobody_there ! enabled_at c engine position) >>= λ a. done a)
-    unfolding found_w ◌!◌ ◌>>=◌ searched
+    unfolding searched_w with_site hit_w ◌!◌ ◌>>=◌ searched
     found_law h = by _ _ (seeks ws ok s modest known engine h position low notes right)
       where
         by :
             (f : Found) (o : Option Place) → Seeks ws ok s modest known engine position (start_of c engine + position) f o →
-            found_w ws notes f ≡ searched ((nobody_there ! o) >>= λ a. done a)
+            searched_w ws notes (with_site g (hit_w f)) ≡ searched ((nobody_there ! o) >>= λ a. done a)
         by _ _ unseen = refl
         by _ _ (seen {l = l} {sp = sp} y) = counted_law _ l sp y
 
     read_law :
         (s.engines ≡ 0 → ⊥) → s ≡ surveyed (figures limits) 11 ws →
         asked_w limits ws blank engine position ≡ searched ((nobody_there ! enabled_at c engine position) >>= λ a. done a)
-    unfolding ◌!◌ ◌>>=◌ searched
+    unfolding searched_w with_site ◌!◌ ◌>>=◌ searched
     read_law more q =
         looked_up limits ws blank engine position s n q known.engines (λ z. more (known.engines ∙ z))
         ∙ by (leb n engine) refl
       where
         by :
             (b : Bool) → leb n engine ≡ b →
-            cond b (refusing 2) (found_w ws notes (find_w 64 ws notes (onward (get_or s.starts engine 0) position) 1 (get_or s.starts engine 0)))
+            searched_w ws notes
+            (with_site g (cond b None (hit_w (find_w 64 ws notes (onward (get_or s.starts engine 0) position) 1 (get_or s.starts engine 0)))))
             ≡ searched ((nobody_there ! enabled_at c engine position) >>= λ a. done a)
         by true y = rw (seeks_none ws ok s modest known engine position (leb-true n engine y))
         by false y =

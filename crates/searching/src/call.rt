@@ -8,13 +8,11 @@ ghost use Rattle.noting.specs.Noting.{survey_notes};
 ghost use Rattle.searching.specs.Answers.{pending_as};
 ghost use Rattle.searching.specs.Asking.{counted_w, asked_w};
 
-use finding::find::{Found, locate};
-use layout::limit::{FUEL, Limits, STANDARD};
-use layout::number::{further, wide};
+use layout::limit::{Limits, STANDARD};
 use layout::refusal::Refusal;
-use noting::survey::survey;
 use pending::look::pending;
 use skipping::pass::Noted;
+use stepping::enabled::enabled_at;
 use stepping::steps::{FEW, MANY, SHORT};
 
 // Whether there is a pending process, and the count up to it, all if there is none.
@@ -40,7 +38,7 @@ fn counted(noted: &Noted, at: usize) -> Pending
 }
 
 // The notes are all 0 before.
-#[tactic(auto, unfolding(crate::specs::Asking::asked_w, crate::specs::Asking::found_w, reading::specs::Survey::no_starts))]
+#[tactic(auto, unfolding(crate::specs::Asking::asked_w, crate::specs::Asking::searched_w))]
 fn asked(
     ws: &[u16],
     notes: &mut [u16],
@@ -51,18 +49,8 @@ fn asked(
     ensures answered { pending_as result ≡ asked_w limits ws.now notes.old engine position }
     ensures noted { notes.new ≡ survey_notes (figures limits) ws.now notes.old }
 {
-    let s = survey(ws, limits, notes).ok_or(Refusal::Unreadable)?;
-    let e = wide(engine);
-    if s.engines <= e {
-        return Err(Refusal::NoProcess);
-    }
-    let starts = s.starts;
-    let start = starts[e];
-    let noted = Noted { ws, notes };
-    match locate(&noted, start, further(start, wide(position)), FUEL, 1) {
-        Found::Past(p) => Err(Refusal::NoProcess),
-        Found::Hit(a) => Ok(counted(&noted, a.at)),
-    }
+    let (_, site) = enabled_at(ws, notes, engine, position, limits)?;
+    Ok(counted(&Noted { ws, notes }, site.at))
 }
 
 // With so many notes.

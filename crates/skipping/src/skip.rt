@@ -5,12 +5,12 @@ ghost use Rattle.layout.specs.Keys.{no_key};
 ghost use Rattle.layout.specs.Kinds.{number_of, tag_number};
 ghost use Rattle.skipping.specs.Skip.{form_of, expr_form, expr_skip, behind_by, skip_end, skip_list};
 
+use layout::field::{count_of, key_of};
 use layout::key::NO_KEY;
 use layout::kind::Kind;
 use layout::number::wide;
 use layout::own::lists_end;
 use layout::tag::Tag;
-use layout::unit;
 use reading::reader::met_by;
 
 // A form's fields, by the worth of their lowest bits. From the lowest: 3 bits for how many words of its own a process has before its lists of
@@ -86,11 +86,10 @@ pub fn skip(ws: &[u16], at: usize, depth: usize) -> usize
             return 0;
         }
         let head = ws[a];
-        let h = wide(head);
         let f = form(Kind::of(head));
         a = a + f % FOLLOWS;
         follows = f / FOLLOWS % FOLLOWING;
-        left = left - 1 + f / PARTS % COUNTS + h % unit::KIND * (f / BRANCHES);
+        left = left - 1 + f / PARTS % COUNTS + count_of(head) * (f / BRANCHES);
         turns -= 1;
     }
     0
@@ -139,7 +138,7 @@ pub fn skip_list(ws: &[u16], at: usize, depth: usize, wanted: Option<usize>) -> 
         if ws.len() <= a {
             return 0;
         }
-        met = met_by(met, wide(ws[a]) / unit::KEY, wanted);
+        met = met_by(met, key_of(ws[a]), wanted);
         a = skip(ws, a + 1, depth);
     }
     if met { a } else { 0 }

@@ -9,7 +9,7 @@ ghost use Rattle.sock.specs.Configuration.{standard};
 ghost use Rattle.sock.specs.Calls.{step_answer, step_output};
 ghost use Rattle.step_cases.specs.Lent.{numbers_of, lent_output, answer_line};
 
-use bytewise::words::hold;
+use bytewise::words::held;
 use cases::{read_case, sum, word};
 use std::io;
 use std::io::{Read, Write};
@@ -39,7 +39,13 @@ fn answer<W: Write>(output: &mut W, ws: &[u16], head: [u8; HEAD], out: &mut [u16
         branch: word(head[10], head[11]),
     };
     let (number, kind, serial, fault, length) = match stepping::steps::step(ws, k, out) {
-        Ok(a) => (0, u8::from(a.kind), a.serial, u8::from(a.fault), a.length),
+        Ok(a) => (
+            0,
+            u8::from(a.kind),
+            a.serial.unwrap_or(0),
+            u8::from(a.fault),
+            a.length,
+        ),
         Err(refusal) => (u8::from(refusal), 0, 0, 0, 0),
     };
     writeln!(
@@ -72,10 +78,10 @@ fn turn<W: Write>(output: &mut W, case: &[u8]) -> io::Result<()> {
         return Ok(());
     };
     let mut ws = [0u16; MOST];
-    let n = hold(bytes, &mut ws);
+    let ws = held(bytes, &mut ws);
     let mut out = [UNWRITTEN; MOST];
     let room = usize::from(word(head[12], head[13]));
-    lend(output, &ws[..n], *head, &mut out, room)
+    lend(output, ws, *head, &mut out, room)
 }
 
 fn main(rt: HostRuntime) -> io::Result<()> {

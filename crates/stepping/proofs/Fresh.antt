@@ -11,7 +11,7 @@ use Rattle.sock.specs.Words.{dead_of}
 use Rattle.layout.specs.Positions.{onward}
 use Rattle.writers.proofs.Laid.{Near, near_of}
 use Rattle.rules.specs.Storing.{unchanged}
-use Rattle.rules.specs.declared.store.Store.{Store}
+use Rattle.rules.specs.Storing.{Store}
 use Rattle.rules.specs.Rewriting.{Rewriting}
 use Rattle.finding.specs.declared.find.Site.{Site}
 use Rattle.rules.specs.Rewriting.{Rewritten, rewritten, vanishing, keeping, part_w, part_end}

@@ -7,6 +7,7 @@ use mathlib.Core.Path.{◌≡◌, refl, sym, ap, ◌∙◌}
 use mathlib.Core.Bool.{Bool, true, false, cond}
 use mathlib.Core.Option.{Option, none}
 use mathlib.Core.List.{List}
+use Rattle.std.specs.Prelude.{None}
 use borrow.Author.Tests.{eq-eqb, ne_eqb, leb-true, leb-false}
 use lib.Dec.{leb, eqb}
 use lib.ListN.{length, get_or}
@@ -39,7 +40,8 @@ use Rattle.stepping.specs.Bundles.{Engines, numbers_as, bound_of, side_of}
 use Rattle.stepping.specs.Alone.{alone_w}
 use Rattle.layout.specs.Kinds.{counted_as}
 use Rattle.layout.proofs.Named.{counted_is}
-use Rattle.stepping.specs.Stepping.{moves_w, partner_w, receiving_w, none_else, moving_w, found_w, step_w}
+use Rattle.stepping.specs.Stepping.{moves_w, partner_w, receiving_w, none_else, moving_w, moved_w, step_w}
+use Rattle.stepping.specs.Enabled.{hit_w, site_w, with_site, enabled_w}
 use Rattle.stepping.proofs.Goal.{given, given_refused}
 use Rattle.stepping.proofs.Whole.{after, step_read, lone_of, pair_of, after_stuck, after_alone, after_unvalued, after_sends}
 use Rattle.stepping.proofs.Seeking.{Seen, placed, Seeks, unseen, seen, seeks, seeks_none}
@@ -52,7 +54,7 @@ use Rattle.stepping.proofs.Partners as partners
 refused_at :
     (limits : Limits) (ws blank : List ℕ) (k : Numbers) (out : List ℕ) (s : Starts) → s ≡ surveyed (figures limits) 11 ws → s.engines ≡ 0 →
     step_w limits ws blank k out ≡ answered (refusing 1) out
-unfolding step_w
+unfolding step_w enabled_w moved_w
 refused_at limits ws blank k out s q z = rw (← q, eq-eqb s.engines 0 z)
 
 -- the first engine looked up
@@ -60,10 +62,11 @@ looked_up :
     (limits : Limits) (ws blank : List ℕ) (k : Numbers) (out : List ℕ) (s : Starts) (n issued : ℕ) → s ≡ surveyed (figures limits) 11 ws →
     s.engines ≡ n → (n ≡ 0 → ⊥) → at ws 1 ≡ issued →
     step_w limits ws blank k out
-    ≡ cond (leb n k.engine) (answered (refusing 2) out)
-    (found_w limits ws (survey_notes (figures limits) ws blank) (record { count = n; issued = issued; starts = s.starts }) k out
-    (find_w 64 ws (survey_notes (figures limits) ws blank) (onward (get_or s.starts k.engine 0) k.position) 1 (get_or s.starts k.engine 0)))
-unfolding step_w
+    ≡ moved_w limits ws (survey_notes (figures limits) ws blank) k out
+    (with_site (record { count = n; issued = issued; starts = s.starts })
+    (cond (leb n k.engine) None
+    (hit_w (find_w 64 ws (survey_notes (figures limits) ws blank) (onward (get_or s.starts k.engine 0) k.position) 1 (get_or s.starts k.engine 0)))))
+unfolding step_w enabled_w site_w
 looked_up limits ws blank k out s n issued q z more w = rw (← q, z, ne_eqb n 0 more, w)
 
 module _ {limits : Limits} (modest : Modest limits) (ws : List ℕ) (ok : Words ws) (k : Numbers) (position-low : k.position < 65536) (place-low : k.second_position < 65536) (out : List ℕ) (blank : List ℕ) (blank_right : Right ws blank) where
@@ -110,21 +113,20 @@ module _ {limits : Limits} (modest : Modest limits) (ws : List ℕ) (ok : Words 
           (m : Message) → move_of (engine_at c k.engine).values l.frames l.process ≡ sends m →
           receiving_w limits ws notes g k sp (kind (as_node l.process)) out
           ≡ given ((no_partner ! enabled_at c k.second k.second_position) >>= λ b. pair_of limits c asked a b m (length out)) out
-      unfolding receiving_w partner_w ◌!◌ ◌>>=◌
+      unfolding receiving_w partner_w site_w hit_w ◌!◌ ◌>>=◌
       receiving_law m moves = by (leb n k.second) refl
         where
           seek :
               (f : Found) (o : Option Place) → Seeks ws ok s modest known k.second k.second_position (start_of c k.second + k.second_position) f o →
-              partner_w limits ws g k sp (kind (as_node l.process)) out f
+              partner_w limits ws g k sp (kind (as_node l.process)) out (hit_w f)
               ≡ given ((no_partner ! o) >>= λ b. pair_of limits c asked a b m (length out)) out
           seek _ _ unseen = sym (given_refused no_partner out)
           seek _ _ (seen {l = lb} {sp = sb} y) = pair_law ws ok s modest known k.engine target l sp found k.second _ lb sb y asked m moves out
 
           by :
               (b : Bool) → leb n k.second ≡ b →
-              cond b (answered (refusing 4) out)
-              (partner_w limits ws g k sp (kind (as_node l.process)) out
-              (find_w 64 ws notes (onward (get_or s.starts k.second 0) k.second_position) 1 (get_or s.starts k.second 0)))
+              partner_w limits ws g k sp (kind (as_node l.process)) out
+              (cond b None (hit_w (find_w 64 ws notes (onward (get_or s.starts k.second 0) k.second_position) 1 (get_or s.starts k.second 0))))
               ≡ given ((no_partner ! enabled_at c k.second k.second_position) >>= λ b. pair_of limits c asked a b m (length out)) out
           by true q = rw (seeks_none ws ok s modest known k.second k.second_position (leb-true n k.second q)) (sym (given_refused no_partner out))
           by false q =
@@ -168,15 +170,15 @@ module _ {limits : Limits} (modest : Modest limits) (ws : List ℕ) (ok : Words 
           by _ _ q (asks {m = m}) = rw (after_sends limits c asked a (length out) m q) (receiving_law m q)
 
     -- the search in the first engine
-    known_law : (k.engine < n) → found_w limits ws notes g k out
-        (find_w 64 ws notes (onward (start_of c k.engine) k.position) 1 (start_of c k.engine))
+    known_law : (k.engine < n) → moved_w limits ws notes k out
+        (with_site g (hit_w (find_w 64 ws notes (onward (start_of c k.engine) k.position) 1 (start_of c k.engine))))
         ≡ given ((nobody_there ! enabled_at c k.engine k.position) >>= λ a. after limits c asked a (length out)) out
-    unfolding found_w ◌!◌ ◌>>=◌
+    unfolding moved_w with_site hit_w ◌!◌ ◌>>=◌
     known_law h = by _ _ (seeks ws ok s modest known k.engine h k.position position-low notes right)
       where
         by :
             (f : Found) (o : Option Place) → Seeks ws ok s modest known k.engine k.position (start_of c k.engine + k.position) f o →
-            found_w limits ws notes g k out f
+            moved_w limits ws notes k out (with_site g (hit_w f))
             ≡ given ((nobody_there ! o) >>= λ a. after limits c asked a (length out)) out
         by _ _ unseen = sym (given_refused nobody_there out)
         by _ _ (seen {l = l} {sp = sp} y) = moving_law _ l sp y
@@ -185,7 +187,7 @@ module _ {limits : Limits} (modest : Modest limits) (ws : List ℕ) (ok : Words 
         (s.engines ≡ 0 → ⊥) → s ≡ surveyed (figures limits) 11 ws →
         step_w limits ws blank k out
         ≡ given ((nobody_there ! enabled_at c k.engine k.position) >>= λ a. after limits c asked a (length out)) out
-    unfolding ◌!◌ ◌>>=◌
+    unfolding moved_w with_site ◌!◌ ◌>>=◌
     read_law more q =
         looked_up limits ws blank k out s n c.issued q known.engines (λ z. more (known.engines ∙ z))
         (known_issued known)
@@ -193,9 +195,8 @@ module _ {limits : Limits} (modest : Modest limits) (ws : List ℕ) (ok : Words 
       where
         by :
             (b : Bool) → leb n k.engine ≡ b →
-            cond b (answered (refusing 2) out)
-            (found_w limits ws notes g k out
-            (find_w 64 ws notes (onward (get_or s.starts k.engine 0) k.position) 1 (get_or s.starts k.engine 0)))
+            moved_w limits ws notes k out
+            (with_site g (cond b None (hit_w (find_w 64 ws notes (onward (get_or s.starts k.engine 0) k.position) 1 (get_or s.starts k.engine 0)))))
             ≡ given ((nobody_there ! enabled_at c k.engine k.position) >>= λ a. after limits c asked a (length out)) out
         by true y = rw (seeks_none ws ok s modest known k.engine k.position (leb-true n k.engine y)) none_there
           where

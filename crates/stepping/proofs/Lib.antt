@@ -15,6 +15,7 @@ pub mod Partners
 pub mod Refused
 pub mod Results
 pub mod Seeking
+mod Turns
 pub mod TwoResults
 pub mod Whole
 pub mod Writes

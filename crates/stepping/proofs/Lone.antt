@@ -63,10 +63,10 @@ use Rattle.scopes.proofs.Scratch.{Roomy, Spacious}
 use Rattle.layout.specs.declared.limit.Limits.{Limits}
 use Rattle.layout.specs.Limits.{figures}
 use Rattle.rules.proofs.Depths.{Shallow}
-use Rattle.stepping.specs.declared.bundles.Side.{Side}
+use Rattle.rules.specs.declared.edit.Side.{Side}
 use Rattle.stepping.proofs.Modest.{Modest}
 use Rattle.stepping.specs.Exchanging.{lent}
-use Rattle.stepping.specs.Alone.{reads, when_valued, settled_w, rewritten_w, valued_w, scoped_w, rule_w}
+use Rattle.stepping.specs.Alone.{when_valued, settled_w, rewritten_w, valued_w, scoped_w, rule_w}
 use Rattle.stepping.proofs.Results.{one_stands, one_behind, one_values}
 
 -- no engine is deeper than all
@@ -220,14 +220,14 @@ module _ (ws : List ℕ) (ok : Words ws) (n issued : ℕ) (few : n ≤ 8) (small
     made_executor false u m = tt
 
     -- assign, if and while
-    plain_rule : (k : ℕ) → reads k ≡ true →
+    plain_rule : (k : ℕ) → k ≤ 6 →
         (let t = rewritten_w limits (drop s.at ws) (values_words vs) s.level k bound fresh in
         rule_w limits ws notes side k bound fresh ≡ plain_w s start t.rewriting t.fresh)
     unfolding rule_w valued_w
     plain_rule k h =
         let fits = whole_inside (fault_at ws target) target r start l s ws words_at spotted near standing.frames deep in
         rw (
-          h,
+          le-ltb 6 k h,
           le-ltb start 64 low,
           le-ltb (length ws) start (omega (arith, fits)),
           le-ltb (length ws) s.at (omega (arith, inside)),
@@ -251,7 +251,7 @@ module _ (ws : List ℕ) (ok : Words ws) (n issued : ℕ) (few : n ≤ 8) (small
     node_deep m is = omega (arith, process_deep, its_level, ap run_depth is ∙ depth_act m)
 
     -- by the value of its expression; 13 where it has none
-    by_value : (k : ℕ) → reads k ≡ true → (h : ℕ) (e : Expr) (ps : Nodes) → FitsExpr e → l.process ≡ act (node h [] (e ∷ []) absent ps) → (move : ℕ → Move) →
+    by_value : (k : ℕ) → k ≤ 6 → (h : ℕ) (e : Expr) (ps : Nodes) → FitsExpr e → l.process ≡ act (node h [] (e ∷ []) absent ps) → (move : ℕ → Move) →
         ((v : ℕ) →
         (let t = settled_w limits (drop s.at ws) (valued_at h e v) s.level k bound fresh in
         Makes (plain_w s start t.rewriting t.fresh) (move v))) →
@@ -273,7 +273,7 @@ module _ (ws : List ℕ) (ok : Words ws) (n issued : ℕ) (few : n ≤ 8) (small
         Makes (rule_w limits ws notes side 1 bound fresh) (valuing (evaluate vs e) λ v. alone (set vs (variable_of h) v) (some (plug l.frames nil)))
     unfolding settled_w
     made_assign h e g is =
-        by_value 1 refl h e no_parts g is _ λ v.
+        by_value 1 (omega arith) h e no_parts g is _ λ v.
         let m : Node = node h [] (e ∷ []) absent no_parts in
         let x : ℕ = variable_of h in
         let turn : assign_w (drop s.at ws) (valued_at h e v) ≡ vanishing (takes x v) =
@@ -289,7 +289,7 @@ module _ (ws : List ℕ) (ok : Words ws) (n issued : ℕ) (few : n ≤ 8) (small
         (valuing (evaluate vs e) λ v. alone vs (some (plug l.frames (enable (cond (is_true v) p q)))))
     unfolding settled_w depth
     made_branch h e p q g fp fq is =
-        by_value 4 refl h e (p & q & no_parts) g is _ λ v.
+        by_value 4 (omega arith) h e (p & q & no_parts) g is _ λ v.
         let m : Node = node h [] (e ∷ []) absent (p & q & no_parts) in
         let b = branch_rewrites n issued (drop s.at ws) (words_part ws s.at ok) few small vs below rest h e p q g fp fq
         (omega (arith, node_deep m is, deep.low)) (node_at m is) fresh v in
@@ -308,7 +308,7 @@ module _ (ws : List ℕ) (ok : Words ws) (n issued : ℕ) (few : n ≤ 8) (small
         alone vs (some (plug l.frames (cond (is_true v) (seq_of (enable p) (node h [] (e ∷ []) absent (p & no_parts))) nil))))
     unfolding settled_w
     made_repeat h e p k g fp f is =
-        by_value 5 refl h e (p & no_parts) g is _ λ v.
+        by_value 5 (omega arith) h e (p & no_parts) g is _ λ v.
         let m : Node = node h [] (e ∷ []) absent (p & no_parts) in
         let o = repeat_rewrites n issued (drop s.at ws) (words_part ws s.at ok) few small vs below rest h k e p g fp
         (omega (arith, node_deep m is, deep.low)) (node_at m is) f fresh (omega (arith, length-drop s.at ws)) big

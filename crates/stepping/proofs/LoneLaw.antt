@@ -29,7 +29,7 @@ use Rattle.rules.proofs.Stores.{stored}
 use Rattle.scopes.proofs.Scratch.{Roomy, Spacious}
 use Rattle.layout.specs.declared.limit.Limits.{Limits}
 use Rattle.layout.specs.Limits.{figures}
-use Rattle.stepping.specs.declared.bundles.Side.{Side}
+use Rattle.rules.specs.declared.edit.Side.{Side}
 use Rattle.stepping.proofs.Modest.{Modest}
 use Rattle.stepping.specs.Answering.{Answered, answered, refusing, one_w}
 use Rattle.stepping.specs.Alone.{rule_w, lone_w, large, small, short_w, alone_w, surely}

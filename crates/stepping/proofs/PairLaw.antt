@@ -39,7 +39,7 @@ use Rattle.layout.specs.declared.limit.Limits.{Limits}
 use Rattle.layout.specs.Limits.{figures}
 use Rattle.stepping.proofs.Modest.{Modest}
 use Rattle.stepping.specs.Bundles.{Encounter}
-use Rattle.stepping.specs.declared.bundles.Side.{Side}
+use Rattle.rules.specs.declared.edit.Side.{Side}
 use Rattle.stepping.specs.Answering.{Told, changed, answered, refusing, two_w}
 use Rattle.stepping.specs.Meeting.{fit_w, serial_w, send_w, receive_w}
 use Rattle.stepping.specs.Exchanging.{blank, lent, sender_w, receiver_w, ordered_w, next_of, issued_of, fault_of, carry_w, spent_w, meet_w, between_w}

@@ -28,7 +28,7 @@ use Rattle.evaluating.specs.Evaluating.{value_in}
 use Rattle.evaluating.proofs.Evaluates.{value_in_lem}
 use Rattle.writers.proofs.Laid.{Near}
 use Rattle.rules.specs.Storing.{unchanged}
-use Rattle.rules.specs.declared.store.Store.{Store}
+use Rattle.rules.specs.Storing.{Store}
 use Rattle.rules.specs.Rewriting.{Rewritten, vanishing, at}
 use Rattle.rules.specs.Messages.{hears_w, heard_w, serves_w, served_w, answers_w, answered_w}
 use Rattle.rules.specs.Offering.{Offer, offer_w, fits_w, hear_w, serve_w, awaits_w, answer_w, fail_w}

@@ -15,7 +15,7 @@ use Rattle.sock.proofs.Located.{values_length, engines_split, engine_fits, start
 use Rattle.writers.proofs.Laid.{Near, near_of}
 use Rattle.finding.proofs.Edits.{part}
 use Rattle.rules.specs.Editing.{Edit}
-use Rattle.rules.specs.declared.store.Store.{Store}
+use Rattle.rules.specs.Storing.{Store}
 use Rattle.rules.proofs.Edits.{Edits, part_first, fresh_room}
 use Rattle.rules.proofs.Stores.{stored, stored_length}
 use Rattle.layout.specs.declared.limit.Limits.{Limits}

@@ -17,7 +17,7 @@ use Rattle.layout.specs.Positions.{onward}
 use Rattle.writers.proofs.Laid.{Near, onward_near}
 use Rattle.finding.proofs.Edits.{part}
 use Rattle.rules.specs.Editing.{Edit}
-use Rattle.rules.specs.declared.store.Store.{Store}
+use Rattle.rules.specs.Storing.{Store}
 use Rattle.rules.proofs.Edits.{Ordered, Edits, part_first}
 use Rattle.rules.proofs.Stores.{valued, stored, valued_length, stored_length}
 use Rattle.stepping.specs.Writing.{written, copy_w, front_w, back_w, process_w, value_w, store_w, lent_w, engine_w}

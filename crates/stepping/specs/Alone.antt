@@ -1,5 +1,5 @@
 -- A step of one engine alone, as the code goes.
-use Rattle.std.specs.Prelude.{ℕ, ◌-◌, Bool, ◌||◌, Option, Some, None, cond, List, ltb, eqb, length, replicate}
+use Rattle.std.specs.Prelude.{ℕ, ◌-◌, Option, Some, None, cond, List, ltb, eqb, length, replicate}
 use Rattle.sock.specs.Kind
 use Rattle.evaluating.specs.declared.evaluate.Valued.{Valued}
 use Rattle.evaluating.specs.Evaluating.{evaluated}
@@ -11,13 +11,9 @@ use Rattle.scopes.specs.Ending.{ended_w}
 use Rattle.scopes.specs.Installing.{installed_w}
 use Rattle.scopes.specs.Throwing.{thrown_w}
 use Rattle.layout.specs.declared.limit.Limits.{Limits}
-use Rattle.stepping.specs.declared.bundles.Side.{Side}
+use Rattle.rules.specs.declared.edit.Side.{Side}
 use Rattle.stepping.specs.Answering.{Answered, one_w}
 use Rattle.stepping.specs.Exchanging.{lent}
-
--- the kinds whose rule goes by an expression
-abbrev pub reads : ℕ → Bool
-reads kind = eqb kind Kind.assign || eqb kind Kind.if || eqb kind Kind.while
 
 -- assign, if or while, with the value that its expression has
 unfoldable pub settled_w : Limits → List ℕ → Valued → ℕ → ℕ → ℕ → List ℕ → Rewritten
@@ -51,8 +47,7 @@ scoped_w limits ws notes start s kind bound fresh =
 unfoldable pub rule_w : Limits → List ℕ → List ℕ → Side → ℕ → ℕ → List ℕ → Edited
 rule_w limits ws notes m kind bound fresh =
     let t = valued_w limits ws m.start m.site kind bound fresh in
-    cond (reads kind) (plain_w m.site m.start t.rewriting t.fresh)
-    (scoped_w limits ws notes m.start m.site kind bound fresh)
+    cond (ltb Kind.choice kind) (scoped_w limits ws notes m.start m.site kind bound fresh) (plain_w m.site m.start t.rewriting t.fresh)
 
 unfoldable pub lone_w : Limits → List ℕ → List ℕ → Side → ℕ → ℕ → List ℕ → List ℕ → Answered
 lone_w limits ws notes m kind bound fresh out =

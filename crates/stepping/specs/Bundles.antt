@@ -6,7 +6,7 @@ use Rattle.layout.specs.Kinds.{number_of}
 use Rattle.stepping.specs.declared.bundles.Encounter as code
 use Rattle.stepping.specs.declared.bundles.Engines.{Engines as Surveyed}
 use Rattle.stepping.specs.declared.bundles.Numbers.{Numbers}
-use Rattle.stepping.specs.declared.bundles.Side.{Side}
+use Rattle.rules.specs.declared.edit.Side.{Side}
 
 -- the code's numbers as those of the definitions
 abbrev pub numbers_as : Numbers → sock.Numbers

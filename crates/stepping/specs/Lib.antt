@@ -2,6 +2,7 @@ pub mod Alone
 pub mod Answering
 pub mod Answers
 pub mod Bundles
+pub mod Enabled
 pub mod Exchanging
 pub mod Meeting
 pub mod Stepping

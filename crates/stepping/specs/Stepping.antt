@@ -1,24 +1,21 @@
 -- The whole step on words, as the code goes.
-use Rattle.std.specs.Prelude.{ℕ, Option, Some, None, Bool, false, cond, List, leb, ltb, eqb}
+use Rattle.std.specs.Prelude.{ℕ, Option, Some, None, Ok, Err, Bool, false, cond, List, ltb, eqb}
 use Rattle.sock.specs.Kind
 use Rattle.sock.specs.Words.{kind_of}
 use Rattle.skipping.specs.Pass.{pass_list}
-use Rattle.reading.specs.Survey.{surveyed}
 use Rattle.noting.specs.Noting.{survey_notes}
 use Rattle.layout.specs.Own.{own_end}
 use Rattle.layout.specs.Positions.{onward}
 use Rattle.layout.specs.Limits.{figures}
 use Rattle.finding.specs.declared.find.Site.{Site}
-use Rattle.finding.specs.declared.find.Found.{Found}
-use Rattle.finding.specs.declared.find.Found.TheVariants.{Hit, Past}
-use Rattle.finding.specs.Find.{find_w}
 use Rattle.rules.specs.Rewriting.{at}
 use Rattle.layout.specs.declared.limit.Limits.{Limits}
 use Rattle.stepping.specs.declared.bundles.Numbers.{Numbers}
 use Rattle.layout.specs.Kinds.{counted_as}
 use Rattle.stepping.specs.declared.steps.Way.{Way}
 use Rattle.stepping.specs.declared.steps.Way.TheVariants as ways
-use Rattle.stepping.specs.Bundles.{Engines, start_at, side_of, bound_of, encounter_of}
+use Rattle.stepping.specs.Bundles.{Engines, side_of, bound_of, encounter_of}
+use Rattle.stepping.specs.Enabled.{Enabled, site_w, enabled_w}
 use Rattle.stepping.specs.Answering.{Answered, answered, refusing}
 use Rattle.stepping.specs.Exchanging.{between_w}
 use Rattle.stepping.specs.Alone.{alone_w}
@@ -45,15 +42,12 @@ moves_w ws notes i kind =
     cond (eqb kind Kind.scope) (cond (body_nil ws notes i) 1 0)
     (cond (eqb kind Kind.executor) (cond (eqb (at ws (own_end ws i)) 0) 2 0) (by_kind kind))
 
-unfoldable pub partner_w : Limits → List ℕ → Engines → Numbers → Site → ℕ → List ℕ → Found → Answered
-partner_w limits ws g k a kind out (Past p) = answered (refusing 4) out
-partner_w limits ws g k a kind out (Hit b) = between_w limits ws (encounter_of g k kind a b) out
+unfoldable pub partner_w : Limits → List ℕ → Engines → Numbers → Site → ℕ → List ℕ → Option Site → Answered
+partner_w limits ws g k a kind out None = answered (refusing 4) out
+partner_w limits ws g k a kind out (Some b) = between_w limits ws (encounter_of g k kind a b) out
 
 unfoldable pub receiving_w : Limits → List ℕ → List ℕ → Engines → Numbers → Site → ℕ → List ℕ → Answered
-receiving_w limits ws notes g k a kind out =
-    let start = start_at g k.second in
-    cond (leb g.count k.second) (answered (refusing 4) out)
-    (partner_w limits ws g k a kind out (find_w 64 ws notes (onward start k.second_position) 1 start))
+receiving_w limits ws notes g k a kind out = partner_w limits ws g k a kind out (site_w ws notes g k.second k.second_position)
 
 unfoldable pub none_else : ℕ → ℕ → ℕ → Bool
 none_else i place branch = cond (eqb i 0) (cond (eqb place 0) (eqb branch 0) false) false
@@ -68,16 +62,9 @@ moving_w limits ws notes g k a out =
     (answered (refusing 3) out))
     (receiving_w limits ws notes g k a kind out))
 
-unfoldable pub found_w : Limits → List ℕ → List ℕ → Engines → Numbers → List ℕ → Found → Answered
-found_w limits ws notes g k out (Past p) = answered (refusing 2) out
-found_w limits ws notes g k out (Hit a) = moving_w limits ws notes g k a out
+unfoldable pub moved_w : Limits → List ℕ → List ℕ → Numbers → List ℕ → Enabled → Answered
+moved_w limits ws notes k out (Err n) = answered (refusing n) out
+moved_w limits ws notes k out (Ok (g, a)) = moving_w limits ws notes g k a out
 
 unfoldable pub step_w : Limits → List ℕ → List ℕ → Numbers → List ℕ → Answered
-step_w limits ws blank k out =
-    let s = surveyed (figures limits) 11 ws in
-    let notes = survey_notes (figures limits) ws blank in
-    let n = s.engines in
-    let g : Engines = record { count = n; issued = at ws 1; starts = s.starts } in
-    let start = start_at g k.engine in
-    cond (eqb n 0) (answered (refusing 1) out)
-    (cond (leb n k.engine) (answered (refusing 2) out) (found_w limits ws notes g k out (find_w 64 ws notes (onward start k.position) 1 start)))
+step_w limits ws blank k out = moved_w limits ws (survey_notes (figures limits) ws blank) k out (enabled_w limits ws blank k.engine k.position)

@@ -4,7 +4,7 @@ use Rattle.sock.specs.Words.{high_word, low_word}
 use Rattle.layout.specs.Positions.{onward}
 use Rattle.writers.specs.Writing.{pasted, pasted_end}
 use Rattle.rules.specs.Editing.{Edit}
-use Rattle.rules.specs.declared.store.Store.{Store}
+use Rattle.rules.specs.Storing.{Store}
 use Rattle.stepping.specs.declared.writing.Output.{Output}
 
 -- a place in the output, and the output

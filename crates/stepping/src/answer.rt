@@ -7,6 +7,7 @@ ghost use Rattle.rules.specs.Editing.{made};
 ghost use Rattle.stepping.specs.Answers.{told};
 ghost use Rattle.stepping.specs.Answering.{changing, telling, sized_w, write_one_w, length_of, one_w, write_two_w, two_w};
 
+use crate::bundles::Change;
 use crate::writing::Output;
 use layout::kind::Kind;
 use layout::limit::Limits;
@@ -15,11 +16,12 @@ use layout::refusal::Refusal;
 use rules::edit::Edit;
 use writers::write::put;
 
-// A step carried out: the kind of the process that moved, the serial and whether a fault was delivered; how many words the result has.
+// A step carried out: the kind of the process that moved; the serial, which neither a process that moves alone nor a notify has; whether a
+// fault was delivered; how many words the result has.
 #[derive(Clone, Copy, Debug, PartialEq, Eq)]
 pub struct Accepted {
     pub kind: Kind,
-    pub serial: u16,
+    pub serial: Option<u16>,
     pub fault: bool,
     pub length: u16,
 }
@@ -46,12 +48,12 @@ fn sized(limits: Limits, words: usize, p: Edit) -> usize
 }
 
 #[tactic(auto, unfolding(crate::specs::Answering::write_one_w))]
-fn write_one(ws: &[u16], start: usize, end: usize, p: Edit, fresh: &[u16], out: &mut [u16])
-    ensures { out.new ≡ (write_one_w ws.now start end (made p) fresh.now out.old).out }
+fn write_one(ws: &[u16], p: &Change, out: &mut [u16])
+    ensures { out.new ≡ (write_one_w ws.now p.now.start p.now.end (made p.now.edit) p.now.fresh.now out.old).out }
 {
     let mut output = Output { words: out, to: 0 };
-    output.engine(ws, 0, start, end, p, fresh);
-    output.copy(ws, end, ws.len());
+    output.engine(ws, 0, p);
+    output.copy(ws, p.end, ws.len());
 }
 
 // Whether so many words are not too many, and find room.
@@ -68,65 +70,46 @@ fn fitting(limits: Limits, length: usize, room: usize) -> Result<(), Refusal>
     Ok(())
 }
 
-// One engine's process start..end under an edit.
+// One engine's process under an edit.
 #[tactic(auto, using(layout::proofs::Refusing::never_zero), unfolding(crate::specs::Answering::one_w))]
 pub fn one(
     ws: &[u16],
-    start: usize,
-    end: usize,
-    p: Edit,
+    p: &Change,
     kind: Kind,
     limits: Limits,
-    fresh: &[u16],
     out: &mut [u16],
 ) -> Result<Accepted, Refusal>
-    ensures answered { told result ≡ (one_w limits ws.now start end (made p) (number_of kind) fresh.now out.old).answer }
-    ensures written { out.new ≡ (one_w limits ws.now start end (made p) (number_of kind) fresh.now out.old).out }
+    ensures answered { told result ≡ (one_w limits ws.now p.now.start p.now.end (made p.now.edit) (number_of kind) p.now.fresh.now out.old).answer }
+    ensures written { out.new ≡ (one_w limits ws.now p.now.start p.now.end (made p.now.edit) (number_of kind) p.now.fresh.now out.old).out }
 {
-    let size = sized(limits, ws.len(), p);
+    let size = sized(limits, ws.len(), p.edit);
     fitting(limits, size, out.len())?;
-    write_one(ws, start, end, p, fresh, out);
+    write_one(ws, p, out);
     let length = word_of(size);
     Ok(Accepted {
         kind,
-        serial: 0,
+        serial: None,
         fault: false,
         length,
     })
-}
-
-// A process start..end, and the edit of it.
-#[derive(Clone, Copy)]
-pub struct Change {
-    pub start: usize,
-    pub end: usize,
-    pub edit: Edit,
 }
 
 // What an exchange answers, and the serials issued after it.
 #[derive(Clone, Copy)]
 pub struct Told {
     pub kind: Kind,
-    pub serial: u16,
+    pub serial: Option<u16>,
     pub fault: bool,
     pub issued: u16,
 }
 
 #[tactic(auto, unfolding(crate::specs::Answering::write_two_w))]
-fn write_two(
-    ws: &[u16],
-    p: Change,
-    fresh: &[u16],
-    q: Change,
-    fresh2: &[u16],
-    issued: u16,
-    out: &mut [u16],
-)
-    ensures { out.new ≡ write_two_w ws.now (changing p) fresh.now (changing q) fresh2.now issued out.old }
+fn write_two(ws: &[u16], p: &Change, q: &Change, issued: u16, out: &mut [u16])
+    ensures { out.new ≡ write_two_w ws.now (changing p.now) p.now.fresh.now (changing q.now) q.now.fresh.now issued out.old }
 {
     let mut output = Output { words: out, to: 0 };
-    output.engine(ws, 0, p.start, p.end, p.edit, fresh);
-    output.engine(ws, p.end, q.start, q.end, q.edit, fresh2);
+    output.engine(ws, 0, p);
+    output.engine(ws, p.end, q);
     output.copy(ws, q.end, ws.len());
     put(output.words, 1, issued);
 }
@@ -135,22 +118,18 @@ fn write_two(
 #[tactic(auto, using(layout::proofs::Refusing::never_zero), unfolding(crate::specs::Answering::two_w))]
 pub fn two(
     ws: &[u16],
-    p: Change,
-    fresh: &[u16],
-    q: Change,
-    fresh2: &[u16],
+    p: &Change,
+    q: &Change,
     t: Told,
     limits: Limits,
     out: &mut [u16],
 ) -> Result<Accepted, Refusal>
-    ensures answered { told result ≡ (two_w limits ws.now (changing p) fresh.now (changing q) fresh2.now (telling t) out.old).answer }
-    ensures written { out.new ≡ (two_w limits ws.now (changing p) fresh.now (changing q) fresh2.now (telling t) out.old).out }
+    ensures answered { told result ≡ (two_w limits ws.now (changing p.now) p.now.fresh.now (changing q.now) q.now.fresh.now (telling t) out.old).answer }
+    ensures written { out.new ≡ (two_w limits ws.now (changing p.now) p.now.fresh.now (changing q.now) q.now.fresh.now (telling t) out.old).out }
 {
-    let first = p.edit;
-    let second = q.edit;
-    let size = sized(limits, sized(limits, ws.len(), first), second);
+    let size = sized(limits, sized(limits, ws.len(), p.edit), q.edit);
     fitting(limits, size, out.len())?;
-    write_two(ws, p, fresh, q, fresh2, t.issued, out);
+    write_two(ws, p, q, t.issued, out);
     let length = word_of(size);
     Ok(Accepted {
         kind: t.kind,

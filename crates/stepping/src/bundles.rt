@@ -1,7 +1,9 @@
-// What the step hands on in one: the numbers of a call, the engines of a configuration, and a process found in one of them.
-ghost use Rattle.std.specs.Prelude.{◌≡◌, ◌-◌, ◌≤◌, ◌<◌};
+// What the step hands on in one: the numbers of a call, the engines of a configuration, a process found in one of them, and what becomes of it.
+ghost use Rattle.std.specs.Prelude.{◌≡◌};
 ghost use Rattle.layout.specs.Kinds.{number_of};
-ghost use Rattle.stepping.specs.Bundles.{engines_of, bound_of, side_of, met, encounter_of};
+ghost use Rattle.rules.specs.Editing.{made};
+ghost use Rattle.stepping.specs.Answering.{changing, changed};
+ghost use Rattle.stepping.specs.Bundles.{engines_of, bound_of, start_at, side_of, met, encounter_of};
 
 use finding::find::Site;
 use layout::kind::Kind;
@@ -9,6 +11,8 @@ use layout::limit::VALUES;
 use layout::number::wide;
 use layout::unit::WORD;
 use reading::starts::Starts;
+use rules::edit::Edit;
+pub use rules::edit::Side;
 
 // Engine and position of the process that moves; a second engine, a position there, and a branch.
 #[derive(Clone, Copy)]
@@ -27,6 +31,15 @@ pub struct Engines {
     pub issued: u16,
 }
 
+impl Engines {
+    // Where an engine's process begins; 0 for one beyond those that a survey has places for.
+    pub(crate) fn start(self, e: usize) -> usize
+        ensures { result ≡ start_at (engines_of self) e }
+    {
+        self.found.starts.get(e).copied().unwrap_or(0)
+    }
+}
+
 // The bound of engines and serials, as the reader takes it.
 pub fn bound(g: Engines) -> usize
     ensures { result ≡ bound_of (engines_of g) }
@@ -34,30 +47,37 @@ pub fn bound(g: Engines) -> usize
     g.found.engines * WORD + wide(g.issued)
 }
 
-// An engine's process start..end, and the process found in it.
-#[derive(Clone, Copy)]
-pub struct Side {
-    pub start: usize,
-    pub end: usize,
-    pub site: Site,
-}
-
-// Where a process ends, if the next one begins at `start` behind its engine's values.
-pub fn end_before(start: usize) -> usize
-    ensures { result ≡ start - 64 }
-{
-    if start < VALUES { 0 } else { start - VALUES }
-}
-
 pub fn side_in(g: Engines, engine: u16, site: Site) -> Side
-    requires { engine < 8 }
     ensures { result ≡ side_of (engines_of g) engine site }
 {
     let e = wide(engine);
-    let starts = g.found.starts;
-    let start = starts[e];
-    let end = end_before(starts[e + 1]);
-    Side { start, end, site }
+    Side {
+        start: g.start(e),
+        end: g.start(e + 1).saturating_sub(VALUES),
+        site,
+    }
+}
+
+// An engine's process start..end, and the edit of it with its fresh words.
+#[derive(Clone, Copy)]
+pub struct Change<'a> {
+    pub start: usize,
+    pub end: usize,
+    pub edit: Edit,
+    pub fresh: &'a [u16],
+}
+
+// What becomes of the process of a side.
+pub(crate) fn changed<'a>(side: Side, edit: Edit, fresh: &'a [u16]) -> Change<'a>
+    ensures change { changing result ≡ changed side.start side.end (made edit) }
+    ensures fresh { result.fresh.now ≡ fresh.now }
+{
+    Change {
+        start: side.start,
+        end: side.end,
+        edit,
+        fresh,
+    }
 }
 
 // Two processes that may exchange something: the kind of the one that sends, both engines, the branch, and where the two were found.
@@ -72,7 +92,6 @@ pub struct Encounter {
 }
 
 pub fn meeting_of(g: Engines, k: Numbers, kind: Kind, a: Site, b: Site) -> Encounter
-    requires { (k.engine < 8) × (k.second < 8) }
     ensures { met result ≡ encounter_of (engines_of g) k (number_of kind) a b }
 {
     let sender = side_in(g, k.engine, a);

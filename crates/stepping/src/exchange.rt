@@ -5,18 +5,19 @@ ghost use Rattle.layout.specs.Kinds.{number_of};
 ghost use Rattle.rules.specs.Editing.{made};
 ghost use Rattle.rules.specs.Offering.{standing};
 ghost use Rattle.stepping.specs.Answers.{told};
-ghost use Rattle.stepping.specs.Answering.{changed, changing};
+ghost use Rattle.stepping.specs.Answering.{changing};
 ghost use Rattle.stepping.specs.Bundles.{met};
-ghost use Rattle.stepping.specs.Exchanging.{sender_w, receiver_w, next_of, issued_of, fault_of, carry_w, spent_w, meet_w, between_w};
+ghost use Rattle.stepping.specs.Exchanging.{sender_w, receiver_w, issued_of, fault_of, carry_w, spent_w, meet_w, between_w};
 
-use crate::answer::{Accepted, Change, Told, two};
-use crate::bundles::{Encounter, Side};
+use crate::answer::{Accepted, Told, two};
+use crate::bundles::{Encounter, changed};
 use crate::meeting::{fit, receive, send, serial_of};
 use layout::kind::Kind;
 use layout::limit::{Limits, VALUES};
 use layout::number::{LARGEST, word};
 use layout::refusal::Refusal;
 use rules::edit::{Edit, plain};
+use rules::message::Message;
 use rules::pair::{Offer, offered};
 
 // Scratch: no process that sends or receives turns into more than a few words that are new.
@@ -28,51 +29,16 @@ fn sender(part: &[u16], x: Encounter, serial: u16, fresh: &mut [u16]) -> Edit
     ensures fresh { fresh.new ≡ (sender_w part.now (met x) serial fresh.old).fresh }
 {
     let t = send(part, x.kind, x.second, serial, fresh);
-    let m = x.sender;
-    let s = m.site;
-    plain(s, m.start, t, fresh)
+    plain(x.sender, t, fresh)
 }
 
 #[tactic(auto, unfolding(crate::specs::Exchanging::receiver_w))]
-fn receiver(
-    part: &[u16],
-    values: &[u16],
-    other: &[u16],
-    o: Offer,
-    x: Encounter,
-    serial: u16,
-    fresh: &mut [u16],
-) -> Edit
-    ensures edited { made result ≡ (receiver_w part.now values.now other.now (standing o) (met x) serial fresh.old).edit }
-    ensures fresh { fresh.new ≡ (receiver_w part.now values.now other.now (standing o) (met x) serial fresh.old).fresh }
+fn receiver(m: &Message, o: Offer, x: Encounter, serial: u16, fresh: &mut [u16]) -> Edit
+    ensures edited { made result ≡ (receiver_w m.now.part.now m.now.values.now m.now.other.now (standing o) (met x) serial fresh.old).edit }
+    ensures fresh { fresh.new ≡ (receiver_w m.now.part.now m.now.values.now m.now.other.now (standing o) (met x) serial fresh.old).fresh }
 {
-    let t = receive(part, values, other, o, x.kind, x.engine, serial, fresh);
-    let m = x.receiver;
-    let s = m.site;
-    plain(s, m.start, t, fresh)
-}
-
-// An edit of the process of one side.
-fn change(m: Side, edit: Edit) -> Change
-    ensures { changing result ≡ changed m.start m.end (made edit) }
-{
-    Change {
-        start: m.start,
-        end: m.end,
-        edit,
-    }
-}
-
-// The serial that a solicit takes.
-#[tactic(auto, unfolding(crate::specs::Exchanging::next_of))]
-fn next_of(issued: u16) -> u16
-    ensures { result ≡ next_of issued }
-{
-    if issued == LARGEST {
-        issued
-    } else {
-        issued + 1
-    }
+    let t = receive(m, o, x.kind, x.engine, serial, fresh);
+    plain(x.receiver, t, fresh)
 }
 
 #[tactic(auto, unfolding(crate::specs::Exchanging::issued_of))]
@@ -92,41 +58,38 @@ fn delivers(kind: Kind) -> bool
     matches!(kind, Kind::Notice)
 }
 
-// The two fit. Their edits are carried out in the order of the engines.
+// The two fit. Of all that send, a solicit alone has a serial to put into words, and that is the next one. The edits are carried out in the order
+// of the engines.
 fn carry(
     ws: &[u16],
-    part: &[u16],
-    values: &[u16],
-    other: &[u16],
+    m: &Message,
     o: Offer,
     x: Encounter,
     limits: Limits,
     out: &mut [u16],
 ) -> Result<Accepted, Refusal>
-    ensures answered { told result ≡ (carry_w limits ws.now part.now values.now other.now (standing o) (met x) out.old).answer }
-    ensures written { out.new ≡ (carry_w limits ws.now part.now values.now other.now (standing o) (met x) out.old).out }
+    ensures answered { told result ≡ (carry_w limits ws.now m.now.part.now m.now.values.now m.now.other.now (standing o) (met x) out.old).answer }
+    ensures written { out.new ≡ (carry_w limits ws.now m.now.part.now m.now.values.now m.now.other.now (standing o) (met x) out.old).out }
 {
     let issued = word(ws, 1);
-    let next = next_of(issued);
-    let serial = serial_of(part, x.kind, next);
+    let next = issued.saturating_add(1);
+    let serial = serial_of(m.part, x.kind, next);
     let mut fresh = [0u16; SCRATCH];
-    let first = sender(part, x, serial, &mut fresh);
+    let first = sender(m.part, x, next, &mut fresh);
     let mut fresh2 = [0u16; SCRATCH];
-    let second = receiver(part, values, other, o, x, serial, &mut fresh2);
+    let second = receiver(m, o, x, next, &mut fresh2);
     let t = Told {
         kind: x.kind,
         serial,
         fault: delivers(x.kind),
         issued: issued_of(x.kind, issued, next),
     };
-    let a = x.sender;
-    let b = x.receiver;
-    let p = change(a, first);
-    let q = change(b, second);
+    let p = changed(x.sender, first, &fresh);
+    let q = changed(x.receiver, second, &fresh2);
     if x.engine < x.second {
-        return two(ws, p, &fresh, q, &fresh2, t, limits, out);
+        return two(ws, &p, &q, t, limits, out);
     }
-    two(ws, q, &fresh2, p, &fresh, t, limits, out)
+    two(ws, &q, &p, t, limits, out)
 }
 
 // Whether a solicit finds no serial left.
@@ -144,24 +107,22 @@ fn spent(ws: &[u16], kind: Kind) -> bool
 #[tactic(auto, using(crate::proofs::Offered::fit_offered), unfolding(crate::specs::Exchanging::meet_w))]
 fn meet(
     ws: &[u16],
-    part: &[u16],
-    values: &[u16],
-    other: &[u16],
+    m: &Message,
     x: Encounter,
     limits: Limits,
     out: &mut [u16],
 ) -> Result<Accepted, Refusal>
-    ensures answered { told result ≡ (meet_w limits ws.now part.now values.now other.now (met x) out.old).answer }
-    ensures written { out.new ≡ (meet_w limits ws.now part.now values.now other.now (met x) out.old).out }
+    ensures answered { told result ≡ (meet_w limits ws.now m.now.part.now m.now.values.now m.now.other.now (met x) out.old).answer }
+    ensures written { out.new ≡ (meet_w limits ws.now m.now.part.now m.now.values.now m.now.other.now (met x) out.old).out }
 {
-    let o = offered(other, x.branch).ok_or(Refusal::NoFit)?;
-    if !fit(part, values, other, o, x.kind, x.branch, x.engine, x.second) {
+    let o = offered(m.other, x.branch).ok_or(Refusal::NoFit)?;
+    if !fit(m, o, &x) {
         return Err(Refusal::NoFit);
     }
     if spent(ws, x.kind) {
         return Err(Refusal::SerialsSpent);
     }
-    carry(ws, part, values, other, o, x, limits, out)
+    carry(ws, m, o, x, limits, out)
 }
 
 // That the places are inside is known of all that was found.
@@ -187,5 +148,10 @@ pub(crate) fn between(
         return Err(Refusal::NoFit);
     }
     let from = start - VALUES;
-    meet(ws, &ws[at..], &ws[from..start], &ws[to..], x, limits, out)
+    let m = Message {
+        part: &ws[at..],
+        values: &ws[from..start],
+        other: &ws[to..],
+    };
+    meet(ws, &m, x, limits, out)
 }

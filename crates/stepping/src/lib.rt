@@ -4,6 +4,7 @@
 pub mod alone;
 pub mod answer;
 pub mod bundles;
+pub mod enabled;
 pub mod exchange;
 pub mod limits;
 pub mod meeting;

@@ -1,58 +1,54 @@
 // Between two engines: whether sender and receiver fit, and what each turns into.
-ghost use Rattle.std.specs.Prelude.{◌≡◌};
+ghost use Rattle.std.specs.Prelude.{◌≡◌, eqb, unwrap_or};
+ghost use Rattle.std.specs.Option.{is_none};
+ghost use Rattle.sock.specs.Kind.{notify};
 ghost use Rattle.layout.specs.Kinds.{number_of};
 ghost use Rattle.rules.specs.Offering.{standing};
 ghost use Rattle.rules.specs.Rewriting.{turned};
 ghost use Rattle.stepping.specs.Meeting.{addressed_w, replies_w, replied_w, taker_of, counts_w, takes_w, fit_w, send_w, receive_w, serial_w};
 
+use crate::bundles::Encounter;
 use evaluating::evaluate::variable;
 use layout::field::{executors_client, first_variable, notices_client};
 use layout::kind::Kind;
 use layout::number::{wide, word};
-use rules::message;
+use rules::message::Message;
 use rules::pair::{Offer, answer, ask, awaits, fail, fits, hear, serve};
 use rules::rewriting::{Rewriting, to_nil};
 use rules::store::nothing;
 
 // Whether a notify or solicit is sent to the engine that receives.
 #[tactic(auto, unfolding(crate::specs::Meeting::addressed_w))]
-fn addressed(part: &[u16], values: &[u16], receiver: u16) -> bool
-    ensures { result ≡ addressed_w part.now values.now receiver }
+fn addressed(m: &Message, receiver: u16) -> bool
+    ensures { result ≡ addressed_w m.now.part.now m.now.values.now receiver }
 {
-    let z = variable(values, first_variable(word(part, 1)));
+    let z = variable(m.values, first_variable(word(m.part, 1)));
     z == u32::from(receiver)
 }
 
-// Whether an executor's reply or a notice's fault, which names `client`, has its waiter in `other`.
+// Whether an executor's reply or a notice's fault, which names `client`, has its waiter in the receiver's words.
 #[tactic(auto, unfolding(crate::specs::Meeting::replies_w))]
-fn replies(
-    part: &[u16],
-    other: &[u16],
-    client: usize,
-    branch: usize,
-    sender: u16,
-    receiver: u16,
-) -> bool
-    ensures { result ≡ replies_w part.now other.now client branch sender receiver }
+fn replies(m: &Message, client: usize, x: &Encounter) -> bool
+    ensures { result ≡ replies_w m.now.part.now m.now.other.now client x.now.branch x.now.engine x.now.second }
 {
-    branch == 0
+    x.branch == 0
         && awaits(
-            other,
-            word(part, 0),
-            word(part, 2),
+            m.other,
+            word(m.part, 0),
+            word(m.part, 2),
             client,
-            wide(sender),
-            wide(receiver),
+            wide(x.engine),
+            wide(x.second),
         )
 }
 
-// Whether an executor's reply has its waiter in `other`, and that has as many variables.
+// Whether an executor's reply has its waiter in the receiver's words, and that has as many variables.
 #[tactic(auto, unfolding(crate::specs::Meeting::replied_w))]
-fn answers(part: &[u16], other: &[u16], branch: usize, sender: u16, receiver: u16) -> bool
-    ensures { result ≡ replied_w part.now other.now branch sender receiver }
+fn answers(m: &Message, x: &Encounter) -> bool
+    ensures { result ≡ replied_w m.now.part.now m.now.other.now x.now.branch x.now.engine x.now.second }
 {
-    let client = executors_client(word(part, 1));
-    replies(part, other, client, branch, sender, receiver) && message::answers(part, other)
+    let client = executors_client(word(m.part, 1));
+    replies(m, client, x) && m.answers()
 }
 
 // The kind that hears a notify, and a solicit.
@@ -68,59 +64,51 @@ fn taker(kind: Kind) -> Kind
 
 // Whether a notify, or a solicit, has as many variables as what it is for, which stands at `guard`.
 #[tactic(auto, unfolding(crate::specs::Meeting::counts_w))]
-fn counts(part: &[u16], other: &[u16], guard: usize, kind: Kind) -> bool
-    ensures { result ≡ counts_w part.now other.now guard (number_of kind) }
+fn counts(m: &Message, guard: usize, kind: Kind) -> bool
+    ensures { result ≡ counts_w m.now.part.now m.now.other.now guard (number_of kind) }
 {
     match kind {
-        Kind::Notify => message::hears(part, other, guard),
-        _ => message::serves(part, other, guard),
+        Kind::Notify => m.hears(guard),
+        _ => m.serves(guard),
     }
 }
 
 // Whether a notify, or a solicit, is for what `other` offers.
 #[tactic(auto, unfolding(crate::specs::Meeting::takes_w))]
-fn takes(part: &[u16], other: &[u16], o: Offer, kind: Kind) -> bool
-    ensures { result ≡ takes_w part.now other.now (standing o) (number_of kind) }
+fn takes(m: &Message, o: Offer, kind: Kind) -> bool
+    ensures { result ≡ takes_w m.now.part.now m.now.other.now (standing o) (number_of kind) }
 {
-    if fits(other, o, taker(kind), word(part, 0)) {
-        return counts(part, other, o.guard, kind);
+    if fits(m.other, o, taker(kind), word(m.part, 0)) {
+        return counts(m, o.guard, kind);
     }
     false
 }
 
-// Whether the process in `part` of the kind given may send to the one in `other`.
+// Whether the sender may send to the receiver.
 #[tactic(auto, unfolding(crate::specs::Meeting::fit_w))]
-pub(crate) fn fit(
-    part: &[u16],
-    values: &[u16],
-    other: &[u16],
-    o: Offer,
-    kind: Kind,
-    branch: usize,
-    sender: u16,
-    receiver: u16,
-) -> bool
-    ensures { result ≡ fit_w part.now values.now other.now (standing o) (number_of kind) branch sender receiver }
+pub(crate) fn fit(m: &Message, o: Offer, x: &Encounter) -> bool
+    ensures { result ≡ fit_w m.now.part.now m.now.values.now m.now.other.now (standing o) (number_of x.now.kind) x.now.branch x.now.engine x.now.second }
 {
-    match kind {
-        Kind::Executor => answers(part, other, branch, sender, receiver),
+    match x.kind {
+        Kind::Executor => answers(m, x),
         Kind::Notice => {
-            let client = notices_client(word(part, 1));
-            replies(part, other, client, branch, sender, receiver)
+            let client = notices_client(word(m.part, 1));
+            replies(m, client, x)
         }
-        _ => addressed(part, values, receiver) && takes(part, other, o, kind),
+        _ => addressed(m, x.second) && takes(m, o, x.kind),
     }
 }
 
-// The serial that the step answers; `next` is the one that a solicit would take.
+// The serial that the step answers: a notify alone has none. `next` is the one that a solicit would take.
 #[tactic(auto, unfolding(crate::specs::Meeting::serial_w))]
-pub fn serial_of(part: &[u16], kind: Kind, next: u16) -> u16
-    ensures { result ≡ serial_w part.now (number_of kind) next }
+pub fn serial_of(part: &[u16], kind: Kind, next: u16) -> Option<u16>
+    ensures serial { unwrap_or result 0 ≡ serial_w part.now (number_of kind) next }
+    ensures none { is_none result ≡ eqb (number_of kind) notify }
 {
     match kind {
-        Kind::Notify => 0,
-        Kind::Solicit => next,
-        _ => word(part, 2),
+        Kind::Notify => None,
+        Kind::Solicit => Some(next),
+        _ => Some(word(part, 2)),
     }
 }
 
@@ -142,29 +130,27 @@ pub(crate) fn send(
     }
 }
 
-// What the receiver turns into, given the sender's words and values.
+// What the receiver turns into.
 #[tactic(auto, unfolding(crate::specs::Meeting::receive_w))]
 pub(crate) fn receive(
-    part: &[u16],
-    values: &[u16],
-    other: &[u16],
+    m: &Message,
     o: Offer,
     kind: Kind,
     client: u16,
     serial: u16,
     fresh: &mut [u16],
 ) -> Rewriting
-    ensures rewritten { turned result ≡ (receive_w part.now values.now other.now (standing o) (number_of kind) client serial fresh.old).rewriting }
-    ensures fresh { fresh.new ≡ (receive_w part.now values.now other.now (standing o) (number_of kind) client serial fresh.old).fresh }
+    ensures rewritten { turned result ≡ (receive_w m.now.part.now m.now.values.now m.now.other.now (standing o) (number_of kind) client serial fresh.old).rewriting }
+    ensures fresh { fresh.new ≡ (receive_w m.now.part.now m.now.values.now m.now.other.now (standing o) (number_of kind) client serial fresh.old).fresh }
 {
     let guard = o.guard;
     match kind {
-        Kind::Notify => hear(other, o, message::heard(part, values, other, guard)),
+        Kind::Notify => hear(m.other, o, m.heard(guard)),
         Kind::Solicit => {
-            let store = message::served(part, values, other, guard);
-            serve(other, o, client, serial, store, fresh)
+            let store = m.served(guard);
+            serve(m.other, o, client, serial, store, fresh)
         }
-        Kind::Executor => answer(other, message::answered(part, values, other), fresh),
-        _ => fail(other, word(part, 1), fresh),
+        Kind::Executor => answer(m.other, m.answered(), fresh),
+        _ => fail(m.other, word(m.part, 1), fresh),
     }
 }

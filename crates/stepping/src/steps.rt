@@ -12,23 +12,23 @@ ghost use Rattle.stepping.specs.Bundles.{engines_of, numbers_as};
 use crate::alone::alone;
 use crate::answer::Accepted;
 use crate::bundles::{Engines, Numbers, bound, meeting_of, side_in};
+use crate::enabled::{enabled_at, site_at};
 use crate::exchange::between;
 use crate::limits::{Modest, STANDARD};
-use finding::find::{Found, Site, locate};
+use finding::find::Site;
 use layout::kind::Kind;
 use layout::limit::{Bounds, FUEL, Limits};
-use layout::number::{further, wide, word};
+use layout::number::{further, word};
 use layout::own::own_end;
 use layout::refusal::Refusal;
-use noting::survey::survey;
 use skipping::pass::Noted;
 
-// Notes for every configuration, two words for each of its words; notes for a short one, and how short that is.
+// Notes for every configuration, two words for each of its words; notes for a short one.
 pub const MANY: usize = 16384;
 
 pub const FEW: usize = 1024;
 
-pub const SHORT: usize = 512;
+pub use crate::limits::SHORT;
 
 // Whether the body of the scope at a position is nil.
 #[tactic(auto, unfolding(crate::specs::Stepping::body_nil))]
@@ -85,26 +85,11 @@ fn receiving(
     limits: Limits,
     out: &mut [u16],
 ) -> Result<Accepted, Refusal>
-    requires { k.engine < 8 }
     ensures answered { told result ≡ (receiving_w limits noted.now.ws.now noted.now.notes.now (engines_of g) k a (number_of kind) out.old).answer }
     ensures written { out.new ≡ (receiving_w limits noted.now.ws.now noted.now.notes.now (engines_of g) k a (number_of kind) out.old).out }
 {
-    let i = wide(k.second);
-    if g.found.engines <= i {
-        return Err(Refusal::NoPartner);
-    }
-    let starts = g.found.starts;
-    let start = starts[i];
-    match locate(
-        noted,
-        start,
-        further(start, wide(k.second_position)),
-        FUEL,
-        1,
-    ) {
-        Found::Past(e) => Err(Refusal::NoPartner),
-        Found::Hit(b) => between(noted.ws, meeting_of(g, k, kind, a, b), limits, out),
-    }
+    let b = site_at(noted, g, k.second, k.second_position).ok_or(Refusal::NoPartner)?;
+    between(noted.ws, meeting_of(g, k, kind, a, b), limits, out)
 }
 
 // Whether a second engine, place and branch are all 0.
@@ -125,7 +110,6 @@ fn moving(
     limits: Limits,
     out: &mut [u16],
 ) -> Result<Accepted, Refusal>
-    requires { k.engine < 8 }
     ensures answered { told result ≡ (moving_w limits noted.now.ws.now noted.now.notes.now (engines_of g) k a out.old).answer }
     ensures written { out.new ≡ (moving_w limits noted.now.ws.now noted.now.notes.now (engines_of g) k a out.old).out }
 {
@@ -148,7 +132,7 @@ fn moving(
 }
 
 // The notes are all 0 before.
-#[tactic(auto, unfolding(crate::specs::Stepping::step_w, crate::specs::Stepping::found_w, reading::specs::Survey::no_starts))]
+#[tactic(auto, unfolding(crate::specs::Stepping::step_w, crate::specs::Stepping::moved_w))]
 fn stepped(
     ws: &[u16],
     notes: &mut [u16],
@@ -158,22 +142,8 @@ fn stepped(
 ) -> Result<Accepted, Refusal>
     ensures { (told result ≡ (step_w limits ws.now notes.old k out.old).answer) × (out.new ≡ (step_w limits ws.now notes.old k out.old).out) × (notes.new ≡ survey_notes (figures limits) ws.now notes.old) }
 {
-    let s = survey(ws, limits, notes).ok_or(Refusal::Unreadable)?;
-    let e = wide(k.engine);
-    if s.engines <= e {
-        return Err(Refusal::NoProcess);
-    }
-    let starts = s.starts;
-    let start = starts[e];
-    let g = Engines {
-        found: s,
-        issued: word(ws, 1),
-    };
-    let noted = Noted { ws, notes };
-    match locate(&noted, start, further(start, wide(k.position)), FUEL, 1) {
-        Found::Past(p) => Err(Refusal::NoProcess),
-        Found::Hit(a) => moving(&noted, g, k, a, limits, out),
-    }
+    let (g, a) = enabled_at(ws, notes, k.engine, k.position, limits)?;
+    moving(&Noted { ws, notes }, g, k, a, limits, out)
 }
 
 // The step at any limits up to the standard ones, with so many notes: as many as there are serve, so that a cabinet has as many as its

@@ -1,12 +1,13 @@
 // Writing the result, once it is known to fit: the words of the configuration, with an edit's in the place of an engine's process.
 ghost use Rattle.std.specs.Prelude.{◌≡◌};
+ghost use Rattle.rules.specs.Storing.{storing};
 ghost use Rattle.rules.specs.Editing.{made};
 ghost use Rattle.stepping.specs.Writing.{written, reached, copy_w, process_w, value_w, store_w, lent_w, engine_w};
 
+use crate::bundles::Change;
 use layout::field::{high_word, low_word};
 use layout::limit::{VALUES, VARIABLES};
 use layout::number::further;
-use rules::edit::Edit;
 use rules::store::Store;
 use writers::write::{copy, put};
 
@@ -41,74 +42,59 @@ impl<'a> Output<'a> {
         put(self.words, at + 1, low_word(v));
     }
 
-    // The variables of a store take their values, if it has any.
-    #[tactic(auto, unfolding(crate::specs::Writing::store_w))]
+    // The variables of a store take their values, if the first is one.
+    #[tactic(auto, using(crate::proofs::Turns::values_turn, crate::proofs::Turns::values_done, crate::proofs::Turns::values_all), unfolding(crate::specs::Writing::store_w))]
     fn store(&mut self, s: Store)
         ensures same_output { self.new.words.ghost_name ≡ self.old.words.ghost_name }
-        ensures written { reached self.new ≡ written self.old.to (store_w self.old.words.now self.old.to s) }
+        ensures written { reached self.new ≡ written self.old.to (store_w self.old.words.now self.old.to (storing s)) }
     {
-        if VARIABLES <= s.variable {
+        if VARIABLES <= s[0].variable {
             return;
         }
-        self.value(s.variable, s.value);
-        self.value(s.second.variable, s.second.value);
-        self.value(s.third.variable, s.third.value);
-        self.value(s.fourth.variable, s.fourth.value);
+        for taking in s {
+            self.value(taking.variable, taking.value);
+        }
     }
 
     // The output's part from here on is lent to the process writer.
     #[tactic(auto, unfolding(crate::specs::Writing::lent_w))]
-    fn lend(&mut self, ws: &[u16], start: usize, end: usize, p: Edit, fresh: &[u16])
+    fn lend(&mut self, ws: &[u16], p: &Change)
         ensures same_output { self.new.words.ghost_name ≡ self.old.words.ghost_name }
-        ensures written { reached self.new ≡ lent_w ws.now start end (made p) fresh.now self.old.words.now self.old.to }
+        ensures written { reached self.new ≡ lent_w ws.now p.now.start p.now.end (made p.now.edit) p.now.fresh.now self.old.words.now self.old.to }
     {
         if self.words.len() < self.to {
             return;
         }
-        let n = process_words(ws, start, end, p, fresh, &mut self.words[self.to..]);
+        let n = process_words(ws, p, &mut self.words[self.to..]);
         self.to = further(self.to, n);
     }
 
-    // The words from..start, which end in the engine's values, and its process.
+    // The words from the place given to where the process begins, which end in the engine's values, and its process.
     #[tactic(auto, unfolding(crate::specs::Writing::engine_w))]
-    pub fn engine(
-        &mut self,
-        ws: &[u16],
-        from: usize,
-        start: usize,
-        end: usize,
-        p: Edit,
-        fresh: &[u16],
-    )
+    pub fn engine(&mut self, ws: &[u16], from: usize, p: &Change)
         ensures same_output { self.new.words.ghost_name ≡ self.old.words.ghost_name }
-        ensures written { reached self.new ≡ engine_w ws.now from start end (made p) fresh.now self.old.words.now self.old.to }
+        ensures written { reached self.new ≡ engine_w ws.now from p.now.start p.now.end (made p.now.edit) p.now.fresh.now self.old.words.now self.old.to }
     {
-        self.copy(ws, from, start);
-        self.store(p.store);
-        self.lend(ws, start, end, p, fresh);
+        self.copy(ws, from, p.start);
+        self.store(p.edit.store);
+        self.lend(ws, p);
     }
 }
 
-// The process start..end under an edit, into the output's part from where it begins: what the edit puts in front, up to its second fresh
+// The process under an edit, into the output's part from where it begins: what the edit puts in front, up to its second fresh
 // words, and what it puts behind.
 #[tactic(auto, unfolding(crate::specs::Writing::process_w, crate::specs::Writing::front_w, crate::specs::Writing::back_w, crate::specs::Writing::copy_w))]
-pub fn process_words(
-    ws: &[u16],
-    start: usize,
-    end: usize,
-    p: Edit,
-    fresh: &[u16],
-    out: &mut [u16],
-) -> usize
-    ensures place { result ≡ (process_w ws.now start end (made p) fresh.now out.old).to }
-    ensures written { out.new ≡ (process_w ws.now start end (made p) fresh.now out.old).out }
+pub fn process_words(ws: &[u16], p: &Change, out: &mut [u16]) -> usize
+    ensures place { result ≡ (process_w ws.now p.now.start p.now.end (made p.now.edit) p.now.fresh.now out.old).to }
+    ensures written { out.new ≡ (process_w ws.now p.now.start p.now.end (made p.now.edit) p.now.fresh.now out.old).out }
 {
+    let edit = p.edit;
     let mut output = Output { words: out, to: 0 };
-    output.copy(ws, start, p.list);
-    output.copy(fresh, 0, p.listed);
-    output.copy(ws, p.past, p.from);
-    output.copy(fresh, p.listed, p.fresh);
-    output.copy(ws, p.upto, p.gap);
-    output.copy(ws, p.end, end);
+    output.copy(ws, p.start, edit.list);
+    output.copy(p.fresh, 0, edit.listed);
+    output.copy(ws, edit.past, edit.from);
+    output.copy(p.fresh, edit.listed, edit.fresh);
+    output.copy(ws, edit.upto, edit.gap);
+    output.copy(ws, edit.end, p.end);
     output.to
 }

@@ -49,9 +49,13 @@ module _ (w : ℕ) (a : Answer) (words : List ℕ) where
     unfolding fits
     it_fits = grind (arith, common_steps)
 
-    pub not_accepted : (a.number ≡ 0 → ⊥) → (fits w a words ≡ true) × (enters w a words ≡ false)
+    pub left_out : (a.number ≡ 0 → ⊥) → (fits w a words ≡ true) × (enters w a words ≡ false)
     unfolding enters
-    not_accepted d = (it_fits, and_right (fits w a words) _ (ne_eqb a.number 0 d))
+    left_out d = (it_fits, and_right (fits w a words) _ (ne_eqb a.number 0 d))
+
+    pub not_accepted : (a.number ≡ 0 → ⊥) → (0 ≡ next_number w a words) × (words ≡ next_window w a words)
+    unfolding next_number next_window
+    not_accepted d = let (fit, out) = left_out d in (rw fit refl, rw out refl)
 
     pub has_entered :
         a.number ≡ 0 → (es : List ℕ) → es ≡ entries_of words → (e : ℕ) → e ≡ entry (answer 0 a.fault a.operation) → (after next : List ℕ) →

@@ -4,7 +4,7 @@ ghost use Rattle.window.specs.Window.{counts_from, none_above};
 ghost use Rattle.window.specs.Entering.{raised, lowered};
 
 use crate::bounded::Entry;
-use crate::layout::{OPERATIONS, WIDEST};
+use crate::layout::{OPERATIONS, WIDEST, WORDS};
 use crate::refusal::Refusal;
 
 // How often each entry from 0 on occurs.
@@ -23,12 +23,12 @@ pub(crate) fn tally(words: &[u16]) -> Result<Tally, Refusal>
     Ok(counts)
 }
 
-// `raise` and `lower` differ in a sign. One function that takes the change as a closure is no plainer: its contract would speak of the closure's.
+// `raise` and `lower` differ in a sign, and ask different things (`fits`, `counted`). One function that takes the change as a closure is no
+// plainer: its contract would speak of the closure's.
 
 // One fault more, if the entry is one.
 #[tactic(auto, unfolding(crate::specs::Entering::raised))]
-pub(crate) fn raise(window: &mut [u16], entry: Entry)
-    requires room { entry.number ≤ length window.old }
+pub(crate) fn raise(window: &mut [u16; WORDS], entry: Entry)
     requires fits { get_or window.old (entry.number - 1) 0 ≤ WIDEST }
     ensures { window.new ≡ raised entry.number window.old }
 {
@@ -39,8 +39,7 @@ pub(crate) fn raise(window: &mut [u16], entry: Entry)
 
 // One fault less, if the entry is one.
 #[tactic(auto, unfolding(crate::specs::Entering::lowered))]
-pub(crate) fn lower(window: &mut [u16], entry: Entry)
-    requires room { entry.number ≤ length window.old }
+pub(crate) fn lower(window: &mut [u16; WORDS], entry: Entry)
     requires counted { 0 < entry.number → 0 < get_or window.old (entry.number - 1) 0 }
     ensures { window.new ≡ lowered entry.number window.old }
 {

@@ -7,12 +7,6 @@ use crate::bounded::Width;
 use crate::counts::tally;
 use crate::layout::{FIRST, HELD, OPERATIONS, WORDS};
 
-fn all_zero(words: &[u16]) -> bool
-    ensures { result ≡ list_all (λ word. word == 0) words.now }
-{
-    words.iter().all(|word| *word == 0)
-}
-
 fn agree(counts: &[u16], recount: &[u16]) -> bool
     requires { length counts.now ≡ length recount.now }
     ensures { result ≡ list_all (λ pair. pair.0 == pair.1) (zip counts.now recount.now) }
@@ -33,7 +27,8 @@ pub(crate) fn is_given(width: Width, words: &[u16; WORDS]) -> bool
     }
     let (entries, behind) = words[FIRST..].split_at(held);
     match tally(entries) {
-        Ok(tally) => all_zero(behind) && agree(&words[..OPERATIONS], &tally[1..]),
+        Ok(tally) => behind.iter().all(|word| *word == 0)
+            && agree(&words[..OPERATIONS], &tally[1..]),
         Err(_) => false,
     }
 }

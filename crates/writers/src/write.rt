@@ -33,11 +33,10 @@ pub fn copy(ws: &[u16], from: usize, upto: usize, out: &mut [u16], to: usize) ->
 
 // The words from..upto of out itself, moved down by one word.
 #[tactic(auto, unfolding(crate::specs::Writing::lowered))]
-pub fn down(out: &mut [u16], from: usize, upto: usize) -> usize
-    ensures { (result ≡ 0) × (out.new ≡ lowered out.old from upto) }
+pub fn down(out: &mut [u16], from: usize, upto: usize)
+    ensures { out.new ≡ lowered out.old from upto }
 {
     if 0 < from && from <= upto && upto <= out.len() {
         out.copy_within(from..upto, from - 1);
     }
-    0
 }

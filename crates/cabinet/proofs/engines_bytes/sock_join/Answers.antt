@@ -1,7 +1,5 @@
 -- `sock_join` of `cabinet::engines_bytes` meets its contract.
-use native.Mathlib.Omega.{arith}
-use mathlib.Core.Path.{◌∙◌}
-use lib.Seq.{length-take-le}
+use mathlib.Core.Path.{refl, ◌∙◌}
 use Rattle.cabinet.proofs.Engines.{join_bytes, too_long_bytes, join_answer_lem, join_output_lem, long_output}
 use Rattle.cabinet.proofs.engines_bytes.sock_join.Goals as goal
 
@@ -11,4 +9,8 @@ returns-then-newcomer-gt-NEWCOMER_BYTES c =
 
 pub returns : goal.returns
 returns c =
-    record { answered = join_answer_lem (c.args.config.now) (c.args.newcomer.now) (c.args.out.now) _ (c.let_in.ensures.answered) (join_bytes (c.args.config.now) _ c.held-ws.ensures (c.args.newcomer.now) (c.args.out.now) (c.if-newcomer-gt-NEWCOMER_BYTES.false) _ c.held-news.ensures _ (length-take-le _ _ (omega (arith, c.room_of-room.ensures.1)) ∙ c.room_of-room.ensures.0)); wrote = join_output_lem (c.args.config.now) (c.args.newcomer.now) (c.args.out.now) _ (c.let_in.ensures.wrote) (join_bytes (c.args.config.now) _ c.held-ws.ensures (c.args.newcomer.now) (c.args.out.now) (c.if-newcomer-gt-NEWCOMER_BYTES.false) _ c.held-news.ensures _ (length-take-le _ _ (omega (arith, c.room_of-room.ensures.1)) ∙ c.room_of-room.ensures.0)) }
+    let same = join_bytes c.args.config.now _ c.held-ws.ensures c.args.newcomer.now c.args.out.now c.if-newcomer-gt-NEWCOMER_BYTES.false _ c.held-news.ensures _ refl in
+    record {
+      answered = join_answer_lem c.args.config.now c.args.newcomer.now c.args.out.now _ (c.numbered.ensures ∙ c.let_in.ensures.answered) same;
+      wrote = join_output_lem c.args.config.now c.args.newcomer.now c.args.out.now _ c.let_in.ensures.wrote same;
+    }

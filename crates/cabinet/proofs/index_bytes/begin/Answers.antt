@@ -17,17 +17,15 @@ as_answered_begun p = record { answered = p.0; begun = p.1 }
 pub returns-then-index-lt-WORDS : goal.returns-then-index-lt-WORDS
 returns-then-index-lt-WORDS c = as_answered_begun (begin_short c.args.config.now c.args.index.now c.if-index-lt-WORDS.true)
 
-pub returns-in_err-check_start-clause-answered : goal.returns-in_err-check_start-clause-answered
-returns-in_err-check_start-clause-answered c =
+pub returns-in_err-check_start : goal.returns-in_err-check_start
+returns-in_err-check_start c =
     let n = c.in_err-check_start.ensures ∙ start_as standard 8192 (omega arith) _ _ c.held.ensures in
     let long : 2049 ≤ length c.args.index.now / 2 = omega (arith, c.if-index-lt-WORDS.false) in
-    let a = begin_answer_lem c.args.config.now c.args.index.now long _ n in
-    search (rules, a)
-
-pub returns-in_err-check_start-clause-begun : goal.returns-in_err-check_start-clause-begun
-returns-in_err-check_start-clause-begun c =
-    let n = c.in_err-check_start.ensures ∙ start_as standard 8192 (omega arith) _ _ c.held.ensures in
-    begin_keeps c.args.config.now c.args.index.now (omega (arith, c.if-index-lt-WORDS.false)) _ n (eqb-false _ 0 (never_zero c.in_err-check_start.field-0.0))
+    let answer = begin_answer_lem c.args.config.now c.args.index.now long _ n in
+    record {
+      answered = search (rules, answer);
+      begun = begin_keeps c.args.config.now c.args.index.now long _ n (eqb-false _ 0 (never_zero c.in_err-check_start.field-0.0));
+    }
 
 pub returns : goal.returns
 returns c =

@@ -7,6 +7,6 @@ pub returns : goal.returns
 returns c =
     let h = c.hold_part-n.ensures in
     record {
-      ordered = c.in_order.ensures ∙ order_held c.args.index.now _ (part_first 2049 _ _ _ _ c.requires h.0 h.1);
-      held = words_held _ c.args.index.now _ _ c.requires h.1;
+      ordered = c.in_order.ensures ∙ order_held c.args.index.now _ (part_first 2049 _ _ _ _ c.told-serials h.0 h.1);
+      held = words_held _ c.args.index.now _ _ c.told-serials h.1;
     }

@@ -16,26 +16,17 @@ as_answered_wrote_noted_followed p = record { answered = p.0; wrote = p.1.0; not
 pub returns-then-not-held_index : goal.returns-then-not-held_index
 returns-then-not-held_index c = as_answered_wrote_noted_followed (step_unlisted c.args.config.now _ c.args.out.now c.args.journal.now c.args.index.now (sym c.held_index.ensures.ordered ∙ c.if-not-held_index.true))
 
-pub returns-in_err-given-clause-answered : goal.returns-in_err-given-clause-answered
-returns-in_err-given-clause-answered c =
+pub returns-in_err-given : goal.returns-in_err-given
+returns-in_err-given c =
     let e = listed_is (words_in c.args.index.now) (sym c.held_index.ensures.ordered ∙ c.if-not-held_index.false) in
-    let a = step_answer c.args.config.now _ c.args.out.now c.args.journal.now c.args.index.now _ e _ c.in_err-given.ensures.answered in
-    search (rules, a)
-
-pub returns-in_err-given-clause-wrote : goal.returns-in_err-given-clause-wrote
-returns-in_err-given-clause-wrote c =
-    let e = listed_is (words_in c.args.index.now) (sym c.held_index.ensures.ordered ∙ c.if-not-held_index.false) in
-    c.in_err-given.ensures.wrote ∙ step_output c.args.config.now _ c.args.out.now c.args.journal.now c.args.index.now _ e
-
-pub returns-in_err-given-clause-noted : goal.returns-in_err-given-clause-noted
-returns-in_err-given-clause-noted c =
-    let e = listed_is (words_in c.args.index.now) (sym c.held_index.ensures.ordered ∙ c.if-not-held_index.false) in
-    c.in_err-given.ensures.noted ∙ step_journal c.args.config.now _ c.args.out.now c.args.journal.now c.args.index.now _ e
-
-pub returns-in_err-given-clause-followed : goal.returns-in_err-given-clause-followed
-returns-in_err-given-clause-followed c =
-    let e = listed_is (words_in c.args.index.now) (sym c.held_index.ensures.ordered ∙ c.if-not-held_index.false) in
-    index_same c.args.config.now _ c.args.out.now c.args.journal.now c.args.index.now _ e _ c.in_err-given.ensures.answered (is_refused _)
+    let r = c.in_err-given.ensures in
+    let answer = step_answer c.args.config.now _ c.args.out.now c.args.journal.now c.args.index.now _ e _ r.answered in
+    record {
+      answered = search (rules, answer);
+      wrote = r.wrote ∙ step_output c.args.config.now _ c.args.out.now c.args.journal.now c.args.index.now _ e;
+      noted = r.noted ∙ step_journal c.args.config.now _ c.args.out.now c.args.journal.now c.args.index.now _ e;
+      followed = index_same c.args.config.now _ c.args.out.now c.args.journal.now c.args.index.now _ e _ r.answered (is_refused _);
+    }
 
 pub follow-requires : goal.follow-requires
 follow-requires c =

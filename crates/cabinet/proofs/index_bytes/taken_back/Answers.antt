@@ -24,21 +24,16 @@ as_answered_wrote_relisted p = record { answered = p.0; wrote = p.1.0; relisted 
 pub returns-then-not-held_index : goal.returns-then-not-held_index
 returns-then-not-held_index c = as_answered_wrote_relisted (back_unlisted c.args.config.now c.args.journal.now c.args.out.now c.args.index.now (sym c.held_index.ensures.ordered ∙ c.if-not-held_index.true))
 
-pub returns-in_err-length-clause-answered : goal.returns-in_err-length-clause-answered
-returns-in_err-length-clause-answered c =
+pub returns-in_err-length : goal.returns-in_err-length
+returns-in_err-length c =
     let e = listed_is (words_in c.args.index.now) (sym c.held_index.ensures.ordered ∙ c.if-not-held_index.false) in
-    let a = back_taken c.args.config.now c.args.journal.now c.args.out.now c.args.index.now _ e _ c.in_err-length.ensures.answered in
-    search (rules, a, taken_packed)
-
-pub returns-in_err-length-clause-wrote : goal.returns-in_err-length-clause-wrote
-returns-in_err-length-clause-wrote c =
-    let e = listed_is (words_in c.args.index.now) (sym c.held_index.ensures.ordered ∙ c.if-not-held_index.false) in
-    c.in_err-length.ensures.wrote ∙ back_restored c.args.config.now c.args.journal.now c.args.out.now c.args.index.now _ e
-
-pub returns-in_err-length-clause-relisted : goal.returns-in_err-length-clause-relisted
-returns-in_err-length-clause-relisted c =
-    let e = listed_is (words_in c.args.index.now) (sym c.held_index.ensures.ordered ∙ c.if-not-held_index.false) in
-    index_stays c.args.config.now c.args.journal.now c.args.out.now c.args.index.now _ e _ c.in_err-length.ensures.answered (eqb-false _ 0 (never_zero c.in_err-length.field-0.0))
+    let t = c.in_err-length.ensures in
+    let answer = back_taken c.args.config.now c.args.journal.now c.args.out.now c.args.index.now _ e _ t.answered in
+    record {
+      answered = search (rules, answer, taken_packed);
+      wrote = t.wrote ∙ back_restored c.args.config.now c.args.journal.now c.args.out.now c.args.index.now _ e;
+      relisted = index_stays c.args.config.now c.args.journal.now c.args.out.now c.args.index.now _ e _ t.answered (eqb-false _ 0 (never_zero c.in_err-length.field-0.0));
+    }
 
 pub slice_bounds-result-end : goal.slice_bounds-result-end
 slice_bounds-result-end c =

@@ -1,5 +1,6 @@
 -- `take_back_indexed` of `index::back` meets its contract: the taking back, and the index of what it restored.
 use mathlib.Core.Path.{refl, sym, ◌∙◌}
+use borrow.Author.Rules.{rules}
 use borrow.Author.Tests.{eqb-false}
 use lib.Seq.{length-take-le}
 use Rattle.layout.proofs.Refusing.{never_zero}
@@ -13,17 +14,12 @@ pub returns-then-not-in_order : goal.returns-then-not-in_order
 returns-then-not-in_order c =
     let a = c.args in as_answered_wrote_relisted (back_unlisted a.ws.now a.journal.now a.out.now a.index.now (sym c.in_order.ensures ∙ c.if-not-in_order.true))
 
-pub returns-in_err-length-clause-wrote : goal.returns-in_err-length-clause-wrote
-returns-in_err-length-clause-wrote c =
+pub returns-in_err-length : goal.returns-in_err-length
+returns-in_err-length c =
     let a = c.args in
     let r = c.in_err-length.ensures in
-    (back_refuses a.ws.now a.journal.now a.out.now a.index.now (sym c.in_order.ensures ∙ c.if-not-in_order.false) _ r.answered _ r.wrote (eqb-false _ 0 (never_zero c.in_err-length.field-0.0))).1.0
-
-pub returns-in_err-length-clause-relisted : goal.returns-in_err-length-clause-relisted
-returns-in_err-length-clause-relisted c =
-    let a = c.args in
-    let r = c.in_err-length.ensures in
-    (back_refuses a.ws.now a.journal.now a.out.now a.index.now (sym c.in_order.ensures ∙ c.if-not-in_order.false) _ r.answered _ r.wrote (eqb-false _ 0 (never_zero c.in_err-length.field-0.0))).1.1
+    let (answer, kept) = back_refuses a.ws.now a.journal.now a.out.now a.index.now (sym c.in_order.ensures ∙ c.if-not-in_order.false) _ r.answered _ r.wrote (eqb-false _ 0 (never_zero c.in_err-length.field-0.0)) in
+    record { answered = search (rules, answer); wrote = kept.0; relisted = kept.1 }
 
 pub slice_bounds-list_anew-end : goal.slice_bounds-list_anew-end
 slice_bounds-list_anew-end c =

@@ -4,7 +4,7 @@ use mathlib.Core.Path.{ap}
 use lib.ListN.{length}
 use Rattle.std.proofs.lemmas.Result.{err_from_is_err_and}
 use Rattle.window.proofs.Whole.{few_given}
-use Rattle.window.proofs.Answering.{no_width, no_operation, not_given, not_accepted, has_entered}
+use Rattle.window.proofs.Answering.{no_width, no_operation, not_given, left_out, has_entered}
 use Rattle.window.proofs.calls.words_after.Goals as goal
 
 pub returns-in_err-width : goal.returns-in_err-width
@@ -24,7 +24,7 @@ returns-in_err-window c =
 
 pub returns-then-answer-ne-ACCEPTED : goal.returns-then-answer-ne-ACCEPTED
 returns-then-answer-ne-ACCEPTED c =
-    not_accepted c.args.width c.args.answer c.args.words (omega (arith, c.in_ok-width.width.least, c.in_ok-width.ensures)) (omega (arith, c.in_ok-width.width.most, c.in_ok-width.ensures)) (omega (arith, c.in_ok-operation.operation.most, c.in_ok-operation.ensures)) (rw c.in_ok-width.ensures at c.in_ok-window.ensures.0) c.if-answer-ne-ACCEPTED.true
+    left_out c.args.width c.args.answer c.args.words (omega (arith, c.in_ok-width.width.least, c.in_ok-width.ensures)) (omega (arith, c.in_ok-width.width.most, c.in_ok-width.ensures)) (omega (arith, c.in_ok-operation.operation.most, c.in_ok-operation.ensures)) (rw c.in_ok-width.ensures at c.in_ok-window.ensures.0) c.if-answer-ne-ACCEPTED.true
 
 pub enter-requires : goal.enter-requires
 enter-requires c =
