@@ -199,7 +199,7 @@ above_zero : (e : ℕ) → (e ≡ 0 → ⊥) → 0 < e
 above_zero zero h = absurd (h refl)
 above_zero (suc e) h = omega arith
 
-three_tests : (r : Bool) (d n : ℕ) (f : Bool) → r ≡ (leb d 4095 && leb n 13 && f) → r ≡ true → (d ≤ 4095) × (n ≤ 13) × (f ≡ true)
+pub three_tests : (r : Bool) (d n : ℕ) (f : Bool) → r ≡ (leb d 4095 && leb n 13 && f) → r ≡ true → (d ≤ 4095) × (n ≤ 13) × (f ≡ true)
 three_tests r d n f e t =
     let s = all_three (leb d 4095) (leb n 13) f (sym e ∙ t) in
     (leb-true d 4095 s.0, leb-true n 13 s.1, s.2)
@@ -213,13 +213,6 @@ pub record Ready (ws : List ℕ) (n a d c t : ℕ) : Type 0 where
   pub shallow : d ≤ 4095
   pub room : n ≤ 13
   pub fit : fits_at ws a c t ≡ true
-
-pub is_ready :
-    (ws : List ℕ) (n a d c t : ℕ) (r : Bool) → Words ws → a < length ws → (d ≡ 0 → ⊥) → t ≡ shape_of (slot_of c (at ws a)) →
-    r ≡ (leb d 4095 && leb n 13 && fits_at ws a c t) → r ≡ true → Ready ws n a d c t
-is_ready ws n a d c t r ok h s q e y =
-    let u = three_tests r d n (fits_at ws a c t) e y in
-    record { words = ok; inside = h; deep = s; shape = q; shallow = u.0; room = u.1; fit = u.2 }
 
 module _
     (ws : List ℕ) (bound whole depth : ℕ) (later : List ℕ) (n a d c : ℕ) (going : Going ws bound whole depth later n a d c) where
@@ -271,9 +264,11 @@ module _
     no_parts_lem : t / 4 % 4 ≡ 0 → a + t % 4 ≡ item_end ws bound d c a
     no_parts_lem z = sym (parts ∙ ap (λ p. parts_end (item_end ws bound (d - 1)) p (part_of c (t / 16)) (part_of c (t / 4096)) (a + t % 4)) z)
 
-    -- one without parts ends behind its own words
-    pub leaf_end : t / 4 % 4 ≡ 0 → (a + t % 4 ≡ item_end ws bound d c a) × (a + t % 4 ≡ 0 → ⊥)
-    leaf_end z = let s = small.2 in (no_parts_lem z, λ q. absurd (omega arith))
+    pub leaf_last : t / 4 % 4 ≡ 0 → n ≡ 0 → a + t % 4 ≡ whole
+    leaf_last z y = let s = small.2 in read_last (a + t % 4) (no_parts_lem z) (λ q. absurd (omega arith)) y
+
+    pub leaf_next : t / 4 % 4 ≡ 0 → (n ≡ 0 → ⊥) → Going ws bound whole depth later (n - 1) (a + t % 4) (at later n / 16) (at later n % 16)
+    leaf_next z y = let s = small.2 in read_next (a + t % 4) (no_parts_lem z) (λ q. absurd (omega arith)) y
 
     pub part_next :
         (f l x : ℕ) → (t / 4 % 4 ≡ 0 → ⊥) → f ≡ part_of c (t / 16) → l ≡ part_of c (t / 4096) → x ≡ (d - 1) * 16 + l →

@@ -168,7 +168,8 @@ fn part(context: usize, how: usize) -> usize
 }
 
 // A process in a context, node by node: the parts of a node that its shape tells are kept for later, the first is read next. Any other
-// node is read whole. The loop goes by the words that are left to read, and no counter or iterator has these.
+// node is read whole. The loop goes by the words that are left to read, and no counter or iterator has these. The next part is taken in two
+// places, since in one the readable check takes 4 per cent longer.
 #[cycle(branch_choice_executor_list_marked_node_process_repeat_request_resting_scope_solicit_two_waiter_whole)]
 pub(crate) fn process(
     ws: &[u16],
@@ -192,24 +193,30 @@ pub(crate) fn process(
         if ready(ws, a, d, c, n, t) {
             let p = t / tables::PARTS % tables::COUNTS;
             a = a + t % tables::WIDTHS;
-            if p != 0 {
+            if p == 0 {
+                if n == 0 {
+                    return Some(a);
+                }
+                d = later[n] / KEPT;
+                c = later[n] % KEPT;
+                n = n - 1;
+            } else {
                 d = d - 1;
                 let last = d * KEPT + part(c, t / tables::OTHERS);
                 later[n + 1] = last;
                 later[n + 2] = last;
                 c = part(c, t / tables::FIRST);
                 n = n + p - 1;
-                continue;
             }
         } else {
             a = whole(ws, a, d, c, bound)?;
+            if n == 0 {
+                return Some(a);
+            }
+            d = later[n] / KEPT;
+            c = later[n] % KEPT;
+            n = n - 1;
         }
-        if n == 0 {
-            return Some(a);
-        }
-        d = later[n] / KEPT;
-        c = later[n] % KEPT;
-        n = n - 1;
     }
     None
 }

@@ -7,16 +7,16 @@ use native.Mathlib.Omega.{arith}
 use mathlib.Core.Path.{◌≡◌, refl, sym, ap, ◌∙◌}
 use Rattle.reading.proofs.Fitting.{slot_small}
 use Rattle.reading.proofs.Given.{as_none, as_some, none_end, some_end}
-use Rattle.reading.proofs.Later.{begins, Ready, is_ready, small, too_deep_lem, no_words, whole_fails, read_last, read_next, leaf_end, part_next, past_node, past_whole}
+use Rattle.reading.proofs.Later.{begins, Ready, small, three_tests, too_deep_lem, no_words, whole_fails, read_last, read_next, leaf_last, leaf_next, part_next, past_node, past_whole}
 use Rattle.layout.specs.declared.mark.Mark.TheVariants as marks
 use Rattle.sock.proofs.Tests.{tests}
 use Rattle.reading.specs.Tables.{shape_of}
 use Rattle.layout.specs.declared.kind.Kind.TheVariants as kinds
 use Rattle.layout.proofs.Named.{at_mark, head_kind}
 use Rattle.reading.proofs.Walks.{process_node, entries_next}
-use Rattle.reading.specs.Walk.{when, expr_end, process_end, marked_end, node_end, slot_of, item_end}
+use Rattle.reading.specs.Walk.{when, expr_end, process_end, marked_end, node_end, slot_of}
 use Rattle.reading.proofs.reader.+branch_choice_executor_list_marked_node_process_repeat_request_resting_scope_solicit_two_waiter_whole.Goals as goal
-use Rattle.reading.proofs.reader.+branch_choice_executor_list_marked_node_process_repeat_request_resting_scope_solicit_two_waiter_whole.Goals.{node-After-rest_context-c, process-Then-ready, process-Then-n-eq0, process-Else-n-eq0, process-then-ready+else-p-ne0, process-else-ready+in_ok-a}
+use Rattle.reading.proofs.reader.+branch_choice_executor_list_marked_node_process_repeat_request_resting_scope_solicit_two_waiter_whole.Goals.{node-After-rest_context-c, process-Then-ready}
 
 -- what is known where a node is read by its kind
 node_by_kind :
@@ -34,9 +34,17 @@ process_ready :
     let l = k.loop-a in
     Ready k.args.ws.now l.n l.a l.d l.c k.shape-t.result
 process_ready t k =
-    is_ready _ _ _ _ _ _ _ (λ i. (k.type_inv.ws i).fits) k.loop-a-test.true k.if-d-eq0.false
-    (k.shape-t.ensures ∙ ap shape_of k.slot.ensures ∙ ap (λ h. shape_of (slot_of k.loop-a.c h)) k.wide.ensures.0)
-    k.ready.ensures k.if-ready.true
+    let l = k.loop-a in
+    let tests = three_tests _ l.d l.n _ k.ready.ensures k.if-ready.true in
+    record {
+      words = λ i. (k.type_inv.ws i).fits;
+      inside = k.loop-a-test.true;
+      deep = k.if-d-eq0.false;
+      shape = k.shape-t.ensures ∙ ap shape_of k.slot.ensures ∙ ap (λ h. shape_of (slot_of l.c h)) k.wide.ensures.0;
+      shallow = tests.0;
+      room = tests.1;
+      fit = tests.2;
+    }
 
 pub node-returns-in-Waiter : goal.node-returns-in-Waiter
 unfolding node_end
@@ -60,14 +68,20 @@ process-loop-a-init t c = begins _ _ _ _ _ c.args.context.below
 pub process-ready-requires : goal.process-ready-requires
 process-ready-requires t c = (c.loop-a-test.true, (slot_small _ _ _ c.loop-a.invariant.3 c.wide.ensures.1 (c.shape-t.ensures ∙ ap shape_of c.slot.ensures)).2)
 
+pub process-loop-a-smaller-then-p-eq0 : goal.process-loop-a-smaller-then-p-eq0
+process-loop-a-smaller-then-p-eq0 t c = past_node _ _ _ _ _ _ _ _ _ c.loop-a.invariant _ (process_ready t (goal.at.process-loop-a-smaller-then-p-eq0 t c).Then-ready)
+
+pub process-loop-a-preserved-then-p-eq0 : goal.process-loop-a-preserved-then-p-eq0
+process-loop-a-preserved-then-p-eq0 t c = leaf_next _ _ _ _ _ _ _ _ _ c.loop-a.invariant _ (process_ready t (goal.at.process-loop-a-preserved-then-p-eq0 t c).Then-ready) c.if-p-eq0.true c.if-n-eq0.false
+
 pub process-overflow_add-last : goal.process-overflow_add-last
 process-overflow_add-last t c = let f0 = (process_ready t (goal.at.process-overflow_add-last t c).Then-ready).shallow in let f1 = (small _ _ _ _ _ _ _ _ _ c.loop-a.invariant _ (process_ready t (goal.at.process-overflow_add-last t c).Then-ready)).1 in let f2 = c.part.ensures in omega arith
 
-pub process-loop-a-smaller-then-p-ne0 : goal.process-loop-a-smaller-then-p-ne0
-process-loop-a-smaller-then-p-ne0 t c = past_node _ _ _ _ _ _ _ _ _ c.loop-a.invariant _ (process_ready t (goal.at.process-loop-a-smaller-then-p-ne0 t c).Then-ready)
+pub process-loop-a-smaller-else-p-eq0 : goal.process-loop-a-smaller-else-p-eq0
+process-loop-a-smaller-else-p-eq0 t c = past_node _ _ _ _ _ _ _ _ _ c.loop-a.invariant _ (process_ready t (goal.at.process-loop-a-smaller-else-p-eq0 t c).Then-ready)
 
-pub process-loop-a-preserved-then-p-ne0 : goal.process-loop-a-preserved-then-p-ne0
-process-loop-a-preserved-then-p-ne0 t c = part_next _ _ _ _ _ _ _ _ _ c.loop-a.invariant _ (process_ready t (goal.at.process-loop-a-preserved-then-p-ne0 t c).Then-ready) c.part-c.result c.part.result ((c.loop-a.d - 1) * 16 + c.part.result) c.if-p-ne0.true c.part-c.ensures c.part.ensures refl
+pub process-loop-a-preserved-else-p-eq0 : goal.process-loop-a-preserved-else-p-eq0
+process-loop-a-preserved-else-p-eq0 t c = part_next _ _ _ _ _ _ _ _ _ c.loop-a.invariant _ (process_ready t (goal.at.process-loop-a-preserved-else-p-eq0 t c).Then-ready) c.part-c.result c.part.result ((c.loop-a.d - 1) * 16 + c.part.result) c.if-p-eq0.false c.part-c.ensures c.part.ensures refl
 
 pub marked-returns-in_default-3 : goal.marked-returns-in_default-3
 unfolding marked_end when
@@ -88,53 +102,30 @@ marked-returns-in_default-4 t c =
 pub process-returns-then-d-eq0 : goal.process-returns-then-d-eq0
 process-returns-then-d-eq0 t c = as_none _ (too_deep_lem _ _ _ _ _ _ _ _ _ c.loop-a.invariant c.if-d-eq0.true)
 
+pub process-returns-then-n-eq0 : goal.process-returns-then-n-eq0
+process-returns-then-n-eq0 t c =
+    let wide = (slot_small _ _ _ c.loop-a.invariant.3 c.wide.ensures.1 (c.shape-t.ensures ∙ ap shape_of c.slot.ensures)).2 in
+    as_some _ _ (leaf_last _ _ _ _ _ _ _ _ _ c.loop-a.invariant _ (process_ready t (goal.at.process-returns-then-n-eq0 t c).Then-ready) c.if-p-eq0.true c.if-n-eq0.true)
+    (λ z. absurd (omega (arith, z, wide)))
+
 pub process-returns-in_err-a : goal.process-returns-in_err-a
 process-returns-in_err-a t c =
     c.from_residual.ensures ∙ as_none _ (whole_fails _ _ _ _ _ _ _ _ _ c.loop-a.invariant 0 (sym (none_end _ (c.in_err-a.ensures {u = tt}))) refl)
 
-pub process-returns : goal.process-returns
-process-returns t c = as_none _ (no_words _ _ _ _ _ _ _ _ _ c.loop-a.invariant c.loop-a-test.false)
-
--- what was read, a node without parts or an item as a whole, ends where the code has come to; it was the last one, or another was kept
-last_end :
-    (t : ℕ) (k : process-Then-n-eq0 t) →
-    let l = k.loop-a in
-    (k.if-ready.a ≡ item_end k.args.ws.now k.args.bound l.d l.c l.a) × (k.if-ready.a ≡ 0 → ⊥)
-last_end t k =
-    elim k.if-ready.branch [
-      | process-then-ready+else-p-ne0 w ↦
-          rw w.a-is
-          (leaf_end _ _ _ _ _ _ _ _ _ k.loop-a.invariant _
-          (is_ready _ _ _ _ _ _ _ (λ i. (k.type_inv.ws i).fits) k.loop-a-test.true k.if-d-eq0.false
-          (k.shape-t.ensures ∙ ap shape_of k.slot.ensures ∙ ap (λ h. shape_of (slot_of k.loop-a.c h)) k.wide.ensures.0)
-          k.ready.ensures w.if-ready.true)
-          w.if-p-ne0.false)
-      | process-else-ready+in_ok-a w ↦ rw w.a-is (some_end _ _ w.in_ok-a.ensures)
-    ]
-
-next_end :
-    (t : ℕ) (k : process-Else-n-eq0 t) →
-    let l = k.loop-a in
-    (k.if-ready.a ≡ item_end k.args.ws.now k.args.bound l.d l.c l.a) × (k.if-ready.a ≡ 0 → ⊥)
-next_end t k =
-    elim k.if-ready.branch [
-      | process-then-ready+else-p-ne0 w ↦
-          rw w.a-is
-          (leaf_end _ _ _ _ _ _ _ _ _ k.loop-a.invariant _
-          (is_ready _ _ _ _ _ _ _ (λ i. (k.type_inv.ws i).fits) k.loop-a-test.true k.if-d-eq0.false
-          (k.shape-t.ensures ∙ ap shape_of k.slot.ensures ∙ ap (λ h. shape_of (slot_of k.loop-a.c h)) k.wide.ensures.0)
-          k.ready.ensures w.if-ready.true)
-          w.if-p-ne0.false)
-      | process-else-ready+in_ok-a w ↦ rw w.a-is (some_end _ _ w.in_ok-a.ensures)
-    ]
-
-pub process-returns-then-n-eq0 : goal.process-returns-then-n-eq0
-process-returns-then-n-eq0 t c = let e = last_end t c in as_some _ _ (read_last _ _ _ _ _ _ _ _ _ c.loop-a.invariant _ e.0 e.1 c.if-n-eq0.true) e.1
+pub process-returns-then-n-eq0-2 : goal.process-returns-then-n-eq0-2
+process-returns-then-n-eq0-2 t c =
+    let e = some_end _ _ c.in_ok-a.ensures in
+    as_some _ _ (read_last _ _ _ _ _ _ _ _ _ c.loop-a.invariant _ e.0 e.1 c.if-n-eq0-2.true) e.1
 
 pub process-loop-a-smaller : goal.process-loop-a-smaller
 process-loop-a-smaller t c =
-    let e = next_end t c in
+    let e = some_end _ _ c.in_ok-a.ensures in
     past_whole _ _ _ _ _ _ _ _ _ c.loop-a.invariant (λ i. (c.type_inv.ws i).fits) c.loop-a-test.true _ e.0 e.1
 
 pub process-loop-a-preserved : goal.process-loop-a-preserved
-process-loop-a-preserved t c = let e = next_end t c in read_next _ _ _ _ _ _ _ _ _ c.loop-a.invariant _ e.0 e.1 c.if-n-eq0.false
+process-loop-a-preserved t c =
+    let e = some_end _ _ c.in_ok-a.ensures in
+    read_next _ _ _ _ _ _ _ _ _ c.loop-a.invariant _ e.0 e.1 c.if-n-eq0-2.false
+
+pub process-returns : goal.process-returns
+process-returns t c = as_none _ (no_words _ _ _ _ _ _ _ _ _ c.loop-a.invariant c.loop-a-test.false)
