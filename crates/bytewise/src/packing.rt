@@ -6,6 +6,7 @@ ghost use Rattle.bytewise.specs.Held.{numbered_as, packed_as};
 
 use layout::refusal::Refusal;
 use stepping::answer::Accepted;
+use stepping::serial;
 
 // The places of an answer's parts.
 pub const NUMBER: u64 = 1 << 56;
@@ -41,7 +42,7 @@ pub fn pack(given: Result<Accepted, Refusal>) -> u64
         Ok(a) => {
             u64::from(u8::from(a.kind)) * KIND
                 + u64::from(a.fault) * FAULT
-                + u64::from(a.serial.unwrap_or(0)) * SERIAL
+                + u64::from(serial::number(a.serial)) * SERIAL
                 + u64::from(a.length)
         }
         Err(refusal) => refused(refusal),

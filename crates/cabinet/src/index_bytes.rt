@@ -21,8 +21,10 @@ use index::waiters::list_anew;
 use layout::limit::LONGEST;
 use layout::refusal::{Refusal, number};
 use reading::calls::check_start;
+use std::num::NonZeroU16;
 use stepping::answer::Accepted;
 use stepping::bundles::Numbers;
+use stepping::serial;
 
 // Whether the index lent is in order; its words, as many as an index has, over the first of `serials`.
 fn held_index(index: &[u8], serials: &mut [u16; WORDS]) -> bool
@@ -151,11 +153,11 @@ pub fn sock_open_count(index: &[u8]) -> u64
     numbered(open_count(held_part(index, &mut serials)))
 }
 
-// C has no `None`: 0 for it, which is no serial.
-fn or_0(given: Result<Option<u16>, Refusal>) -> Result<u16, Refusal>
+// C has no `None`: 0 for it.
+fn or_0(given: Result<Option<NonZeroU16>, Refusal>) -> Result<u16, Refusal>
     ensures { numbered_as result ≡ (oldest_as given).number * NUMBER + (oldest_as given).value }
 {
-    Ok(given?.unwrap_or(0))
+    given.map(serial::number)
 }
 
 // The oldest open serial, packed as the count; 0 if none is open.

@@ -10,6 +10,7 @@ use std::fmt::{Display, InlineText, Write as _};
 use std::io;
 use std::io::Write;
 use stepping::answer::Accepted;
+use stepping::serial;
 
 // No line has more bytes.
 const LINE: usize = 128;
@@ -52,7 +53,7 @@ fn parts(given: Result<Accepted, Refusal>) -> (u8, u8, u16, u8)
         Ok(a) => (
             0,
             u8::from(a.kind),
-            a.serial.unwrap_or(0),
+            serial::number(a.serial),
             u8::from(a.fault),
         ),
         Err(refusal) => (u8::from(refusal), 0, 0, 0),

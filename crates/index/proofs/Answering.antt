@@ -1,28 +1,24 @@
 -- What the calls answer and leave behind, by the definitions: the questions, a beginning, a step and a taking back that are lent an index.
 -- Assumes nothing.
-use Prim.Native.Nat.{ℕ, zero, suc, ◌≤◌, ◌<◌}
+use Prim.Native.Nat.{ℕ, suc, ◌≤◌, ◌<◌}
 use native.Mathlib.Omega.{arith}
 use mathlib.Core.Path.{◌≡◌, refl, sym, ap, ◌∙◌}
-use mathlib.Core.Bool.{true, false, not}
-use mathlib.Core.Logic.{◌⊎◌, inl, inr}
+use mathlib.Core.Bool.{true, false}
 use mathlib.Core.List.{List, [], ◌∷◌, ◌++◌}
-use Rattle.std.specs.Prelude as code
-use Rattle.std.specs.Prelude.{Ok, Err, IfSome}
-use Rattle.std.specs.Bool.{then_some}
+use Rattle.std.specs.Prelude.{Err}
 use lib.Dec.{eqb}
 use lib.ListN.{length, get_or, take, drop, replicate, length-append}
 use lib.Seq.{take-append_seam}
-use borrow.Author.Tests.{le-leb, lt-leb, ne_eqb, eqb-false}
+use borrow.Author.Tests.{le-leb, lt-leb, eqb-false}
 use Rattle.sock.specs.Configuration.{Config, standard, read_config}
 use Rattle.sock.specs.Calls.{index_short, number, Result, refused, done, ◌>>=◌, ◌>>◌, ◌!◌, ◌unless◌, Numbers, Stepped, Answer, answer_of, output_of, over, start, passed, check_start}
 use Rattle.sock.specs.Journal.{Taken, journal_step, journal_after, journal_answer, journal_output, journal_written, take_back, taken_of, restored_over, take_back_answer, take_back_output}
-use Rattle.sock.specs.Index.{rising, index_of, open_of, open_after, beginning, index_after, begin_answer, begin_index, IndexedStep, indexed_step, mapped, step_of, indexed_answer, indexed_output, indexed_journal, indexed_index, IndexedBack, indexed_back, restored_in, indexed_taken, indexed_restored, indexed_relisted, told_of, asked, open_count, oldest}
+use Rattle.sock.specs.Index.{index_of, open_of, open_after, beginning, index_after, begin_answer, begin_index, IndexedStep, indexed_step, mapped, step_of, indexed_answer, indexed_output, indexed_journal, indexed_index, IndexedBack, indexed_back, restored_in, indexed_taken, indexed_restored, indexed_relisted, told_of, asked, open_count, oldest}
 use Rattle.sock.proofs.Accepted.{number_positive}
-use Rattle.sock.proofs.Index.{Lists}
 use Rattle.layout.specs.declared.refusal.Refusal.TheVariants.{NoIndex}
 use Rattle.stepping.specs.Answers.{told}
-use Rattle.index.specs.Form.{in_order, serials_in, cleared, open_by, oldest_as}
-use Rattle.index.proofs.Forming.{lists, listed_is, unlisted_is, laid_as}
+use Rattle.index.specs.Form.{in_order, serials_in, cleared, open_by}
+use Rattle.index.proofs.Forming.{listed_is, unlisted_is, laid_as}
 
 -- ---- the questions
 
@@ -42,30 +38,6 @@ module _ (index : List ℕ) where
   pub oldest_refused : in_order index ≡ false → record { number = 17; value = 0 } ≡ oldest index
   unfolding oldest asked told_of
   oldest_refused e = rw (unlisted_is index e)
-
--- behind the count stands the lowest serial listed, which is not 0, or a 0
-module _ (index : List ℕ) where
-  first_words : (ss : List ℕ) → Lists index ss → ((get_or index 0 0 ≡ 0) × (get_or index 1 0 ≡ 0)) ⊎ ((0 < get_or index 0 0) × (0 < get_or index 1 0))
-  unfolding rising index_of
-  first_words [] l = inl (ap (λ ws. get_or ws 0 0) l.laid, ap (λ ws. get_or ws 1 0) l.laid)
-  first_words (zero ∷ ss) l = absurd l.up
-  first_words (suc n ∷ ss) l =
-      let count : get_or index 0 0 ≡ suc (length ss) = ap (λ ws. get_or ws 0 0) l.laid in
-      let first : get_or index 1 0 ≡ suc n = ap (λ ws. get_or ws 1 0) l.laid in
-      inr (omega (arith, count), omega (arith, first))
-
-  module _ (e : in_order index ≡ true) (o : code.Option ℕ) (q : o ≡ then_some (not (eqb (get_or index 0 0) 0)) (get_or index 1 0)) where
-    pub oldest_in : oldest_as (Ok o) ≡ oldest index
-    oldest_in = elim (first_words (serials_in index) (lists index e)) [
-      | inl n ↦ rw (q, n.0) (ap (λ v. record { number = 0; value = v }) (sym n.1) ∙ oldest_told index e)
-      | inr n ↦ rw (q, ne_eqb (get_or index 0 0) 0 (λ z. omega arith)) (oldest_told index e)
-    ]
-
-    pub oldest_open : IfSome o (λ s. 0 < s)
-    oldest_open = elim (first_words (serials_in index) (lists index e)) [
-      | inl n ↦ rw (q, n.0) tt
-      | inr n ↦ rw (q, ne_eqb (get_or index 0 0) 0 (λ z. omega arith)) n.1
-    ]
 
 -- ---- beginning
 

@@ -1,12 +1,14 @@
 -- An index as the code has it: whether it is in order, the serials that it then lists, and its words set to 0.
 use Rattle.std.specs.Prelude as code
-use Rattle.std.specs.Prelude.{Result, Ok, Err, None, Some}
+use Rattle.std.specs.Prelude.{Result, Ok, Err}
 use Rattle.std.specs.Prelude.{ℕ, ◌-◌, Bool, true, false, ◌||◌, cond, List, ◌++◌, eqb, get_or, replicate, take, drop}
 use Rattle.std.proofs.Math.Option.{Option, none, some}
+use Rattle.std.specs.declared.num.NonZeroU16.{NonZeroU16}
 use Rattle.sock.specs.Kind
 use Rattle.sock.specs.Index.{listed, put_in, take_out, Told}
 use Rattle.layout.specs.declared.refusal.Refusal.{Refusal}
 use Rattle.layout.specs.Refusals.{refusal_number}
+use Rattle.stepping.specs.Serials.{serial_in}
 
 unfoldable pub present : Option (List ℕ) → Bool
 present none = false
@@ -34,7 +36,6 @@ abbrev pub counted_as : Result ℕ Refusal → Told
 counted_as (Ok n) = record { number = 0; value = n }
 counted_as (Err r) = record { number = refusal_number r; value = 0 }
 
-abbrev pub oldest_as : Result (code.Option ℕ) Refusal → Told
-oldest_as (Ok None) = record { number = 0; value = 0 }
-oldest_as (Ok (Some s)) = record { number = 0; value = s }
+abbrev pub oldest_as : Result (code.Option NonZeroU16) Refusal → Told
+oldest_as (Ok serial) = record { number = 0; value = serial_in serial }
 oldest_as (Err r) = record { number = refusal_number r; value = 0 }

@@ -1,27 +1,30 @@
 // The step that is lent an index: 17 before all others; an accepted solicit puts its serial in, and a delivery takes it out.
-ghost use Rattle.std.specs.Prelude.{◌≡◌, true, unwrap_or};
+ghost use Rattle.std.specs.Prelude.{◌≡◌, true};
 ghost use Rattle.sock.specs.Configuration.{standard};
 ghost use Rattle.sock.specs.Calls.{over};
 ghost use Rattle.sock.specs.Index.{index_of, indexed_answer, indexed_output, indexed_journal, indexed_index};
 ghost use Rattle.layout.specs.Kinds.{number_of};
 ghost use Rattle.stepping.specs.Answers.{told};
 ghost use Rattle.stepping.specs.Bundles.{numbers_as};
+ghost use Rattle.stepping.specs.Serials.{serial_in};
 ghost use Rattle.index.specs.Form.{in_order, serials_in, open_by};
 
 use crate::change::{put, take};
 use crate::form::in_order;
 use layout::kind::Kind;
 use layout::refusal::Refusal;
+use std::num::NonZeroU16;
 use stepping::answer::Accepted;
 use stepping::bundles::Numbers;
+use stepping::serial;
 
 // The index after an accepted step, by the kind and the serial answered; none is as 0, since a kind that opens or closes one has it.
 #[tactic(auto, using(crate::proofs::Forming::laid_back), unfolding(crate::specs::Form::open_by))]
-pub fn follow(index: &mut [u16], kind: Kind, serial: Option<u16>)
+pub fn follow(index: &mut [u16], kind: Kind, serial: Option<NonZeroU16>)
     requires { in_order index.old ≡ true }
-    ensures { index.new ≡ over (index_of (open_by (number_of kind) (unwrap_or serial 0) (serials_in index.old))) index.old }
+    ensures { index.new ≡ over (index_of (open_by (number_of kind) (serial_in serial) (serials_in index.old))) index.old }
 {
-    let serial = serial.unwrap_or(0);
+    let serial = serial::number(serial);
     match kind {
         Kind::Solicit => put(index, serial),
         Kind::Executor | Kind::Notice => take(index, serial),

@@ -32,23 +32,23 @@ abbrev pub number_in : {A : Type 0} → Result A Refusal → ℕ
 number_in (Ok a) = 0
 number_in (Err r) = refusal_number r
 
--- what a refusal prints
+-- what a refusal prints: the words of documents 01 and 02
 abbrev pub text_of : Refusal → List ℕ
 text_of Unreadable = codes "unreadable"
-text_of NoProcess = codes "no process there"
+text_of NoProcess = codes "nobody there"
 text_of NoMove = codes "no move"
 text_of NoPartner = codes "no partner"
 text_of NoFit = codes "no fit"
-text_of Pending = codes "a pending process beside the throw"
+text_of Pending = codes "installing"
 text_of SerialsSpent = codes "serials spent"
-text_of TooDeep = codes "too deep"
-text_of TooLong = codes "too long"
-text_of OutputShort = codes "output too short"
+text_of TooDeep = codes "deep"
+text_of TooLong = codes "long"
+text_of OutputShort = codes "short paper"
 text_of NotFresh = codes "not fresh"
-text_of NoSerial = codes "no such serial"
+text_of NoSerial = codes "unknown serial"
 text_of NotDecimal = codes "not decimal"
-text_of Unmatched = codes "journal does not match"
-text_of JournalShort = codes "journal too short"
-text_of NoIndex = codes "index not in order"
-text_of Full = codes "no room for an engine"
-text_of AtWork = codes "the engine is at work"
+text_of Unmatched = codes "journal doesn't match"
+text_of JournalShort = codes "journal short"
+text_of NoIndex = codes "index short"
+text_of Full = codes "house full"
+text_of AtWork = codes "still at work"

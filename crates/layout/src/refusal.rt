@@ -64,29 +64,30 @@ pub fn number(answer: Result<(), Refusal>) -> u8
     }
 }
 
+// The words of documents 01 and 02.
 impl fmt::Display for Refusal {
     ghost output = { λ refusal. Some (text_of refusal) };
 
     fn fmt<W: fmt::Write>(&self, f: &mut fmt::Formatter<W>) -> fmt::Result {
         f.write_str(match self {
             Refusal::Unreadable => "unreadable",
-            Refusal::NoProcess => "no process there",
+            Refusal::NoProcess => "nobody there",
             Refusal::NoMove => "no move",
             Refusal::NoPartner => "no partner",
             Refusal::NoFit => "no fit",
-            Refusal::Pending => "a pending process beside the throw",
+            Refusal::Pending => "installing",
             Refusal::SerialsSpent => "serials spent",
-            Refusal::TooDeep => "too deep",
-            Refusal::TooLong => "too long",
-            Refusal::OutputShort => "output too short",
+            Refusal::TooDeep => "deep",
+            Refusal::TooLong => "long",
+            Refusal::OutputShort => "short paper",
             Refusal::NotFresh => "not fresh",
-            Refusal::NoSerial => "no such serial",
+            Refusal::NoSerial => "unknown serial",
             Refusal::NotDecimal => "not decimal",
-            Refusal::Unmatched => "journal does not match",
-            Refusal::JournalShort => "journal too short",
-            Refusal::NoIndex => "index not in order",
-            Refusal::Full => "no room for an engine",
-            Refusal::AtWork => "the engine is at work",
+            Refusal::Unmatched => "journal doesn't match",
+            Refusal::JournalShort => "journal short",
+            Refusal::NoIndex => "index short",
+            Refusal::Full => "house full",
+            Refusal::AtWork => "still at work",
         })
     }
 }

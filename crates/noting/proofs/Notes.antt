@@ -141,27 +141,21 @@ par_ends d ws bound c i h m some inside same low high is e y q n =
 -- ---- a throw, a comp or a body's nil, without a look at the table
 
 -- nor has its head: the bits below the name are all that have to be 0
-throw_clear : (c h : ℕ) → 8 ≤ c → c < 10 → h % 32 ≡ 0 → bit_and (h + 65536) (head_mask c 13) ≡ 0
+leaf_clear : (c k h : ℕ) → 8 ≤ c → c < 10 → 13 ≤ k → k < 15 → h % 32 ≡ 0 → bit_and (h + 65536) (head_mask c k) ≡ 0
 unfolding head_mask spare_of allowed placed row_of rows
-throw_clear c h low high none = by (eqb c 8) refl
+leaf_clear c k h low high above below none = rw (mask (eqb c 8) (eqb k 13) refl refl) (and_mask (h + 65536) 5 ∙ spare)
   where
     spare : (h + 65536) % 32 ≡ 0
     spare = omega arith
 
-    by : (b : Bool) → eqb c 8 ≡ b → bit_and (h + 65536) (head_mask c 13) ≡ 0
-    by true e = rw (eqb-true c 8 e) (and_mask (h + 65536) 5 ∙ spare)
-    by false e = let nine : c ≡ 9 = omega (arith, eqb-false c 8 e) in rw nine (and_mask (h + 65536) 5 ∙ spare)
-
-comp_clear : (c h : ℕ) → 8 ≤ c → c < 10 → h % 32 ≡ 0 → bit_and (h + 65536) (head_mask c 14) ≡ 0
-unfolding head_mask spare_of allowed placed row_of rows
-comp_clear c h low high none = by (eqb c 8) refl
-  where
-    spare : (h + 65536) % 32 ≡ 0
-    spare = omega arith
-
-    by : (b : Bool) → eqb c 8 ≡ b → bit_and (h + 65536) (head_mask c 14) ≡ 0
-    by true e = rw (eqb-true c 8 e) (and_mask (h + 65536) 5 ∙ spare)
-    by false e = let nine : c ≡ 9 = omega (arith, eqb-false c 8 e) in rw nine (and_mask (h + 65536) 5 ∙ spare)
+    mask : (a b : Bool) → eqb c 8 ≡ a → eqb k 13 ≡ b → head_mask c k ≡ 31
+    mask true true p q = rw (eqb-true c 8 p, eqb-true k 13 q)
+    mask true false p q = let next : k ≡ 14 = omega (arith, eqb-false k 13 q) in rw (eqb-true c 8 p, next)
+    mask false true p q = let nine : c ≡ 9 = omega (arith, eqb-false c 8 p) in rw (nine, eqb-true k 13 q)
+    mask false false p q =
+        let nine : c ≡ 9 = omega (arith, eqb-false c 8 p) in
+        let next : k ≡ 14 = omega (arith, eqb-false k 13 q) in
+        rw (nine, next)
 
 nil_clear : bit_and (0 + 65536) (head_mask 8 0) ≡ 0
 unfolding head_mask spare_of allowed placed row_of rows
@@ -192,12 +186,20 @@ pub leaf_ends :
 unfolding node_end
 leaf_ends d ws bound c i h m some inside same low high is =
     leaf_is h c is
-    (λ below clear k. one_word d ws bound c i h (head_mask c (h / 2048)) m (head (rw k (throw_clear c h low below clear))) 13 k (λ h e. rw e refl) (λ z. omega arith) (λ z. omega arith) (λ z. omega arith) (λ z. omega arith))
-    (λ below clear k. one_word d ws bound c i h (head_mask c (h / 2048)) m (head (rw k (comp_clear c h low below clear))) 14 k (λ h e. rw e refl) (λ z. omega arith) (λ z. omega arith) (λ z. omega arith) (λ z. omega arith))
+    (leaf 13 (omega arith) (omega arith) (λ h e. rw e refl))
+    (leaf 14 (omega arith) (omega arith) (λ h e. rw e refl))
     (λ body zero. one_word d ws bound c i h (head_mask c (h / 2048)) m (head (rw (body, zero) nil_clear)) 0 (omega (arith, zero)) (λ h e. rw e refl) (λ z. omega arith) (λ z. omega arith) (λ z. omega arith) (λ z. omega arith))
   where
     head : bit_and (h + 65536) (head_mask c (h / 2048)) ≡ 0 → Headed d ws c i h (head_mask c (h / 2048))
     head clear = record { deep = some; inside = inside; word = same; mask = refl; clear = clear; low = low; high = high }
+
+    leaf :
+        (k : ℕ) → 13 ≤ k → k < 15 →
+        ((h : ℕ) → h / 2048 ≡ k → node_end (expr_end (d - 1) ws) (process_end (d - 1) ws bound) ws c bound h i ≡ i + 1) →
+        c < 10 → h % 32 ≡ 0 → h / 2048 ≡ k →
+        (Some (i + 1) ≡ end_as (process_end d ws bound c i)) × (m ≡ enabled_notes d ws bound c i m)
+    leaf k above under ends below clear e =
+        one_word d ws bound c i h (head_mask c (h / 2048)) m (head (rw e (leaf_clear c k h low below above under clear))) k e ends (λ z. omega arith) (λ z. omega arith) (λ z. omega arith) (λ z. omega arith)
 
 -- ---- engines
 

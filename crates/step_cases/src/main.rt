@@ -14,6 +14,7 @@ use cases::{read_case, sum, word};
 use std::io;
 use std::io::{Read, Write};
 use stepping::bundles::Numbers;
+use stepping::serial;
 
 // How many words a case has at most, how many bytes stand before them, and how many bytes there are in all.
 const MOST: usize = 8200;
@@ -42,7 +43,7 @@ fn answer<W: Write>(output: &mut W, ws: &[u16], head: [u8; HEAD], out: &mut [u16
         Ok(a) => (
             0,
             u8::from(a.kind),
-            a.serial.unwrap_or(0),
+            serial::number(a.serial),
             u8::from(a.fault),
             a.length,
         ),

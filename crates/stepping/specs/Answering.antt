@@ -1,5 +1,5 @@
 -- The answer of a step and the result written, as the code goes.
-use Rattle.std.specs.Prelude.{ℕ, ◌-◌, ◌%◌, cond, List, ltb, eqb, length, set, unwrap_or}
+use Rattle.std.specs.Prelude.{ℕ, ◌-◌, ◌%◌, cond, List, ltb, eqb, length, set}
 use Rattle.sock.specs.Words.{bit}
 use Rattle.sock.specs.Calls.{Answer}
 use Rattle.layout.specs.Positions.{onward}
@@ -10,6 +10,7 @@ use Rattle.rules.specs.Editing.{made}
 use Rattle.stepping.specs.declared.bundles.Change as code
 use Rattle.stepping.specs.declared.answer.Told as given
 use Rattle.stepping.specs.Writing.{Written, copy_w, engine_w}
+use Rattle.stepping.specs.Serials.{serial_in}
 
 -- an answer, and the output afterwards
 pub record Answered : Type 0 where
@@ -64,7 +65,7 @@ pub record Told : Type 0 where
   pub issued : ℕ
 
 abbrev pub telling : given.Told → Told
-telling t = record { kind = number_of t.kind; serial = unwrap_or t.serial 0; fault = bit t.fault; issued = t.issued }
+telling t = record { kind = number_of t.kind; serial = serial_in t.serial; fault = bit t.fault; issued = t.issued }
 
 unfoldable pub write_two_w : List ℕ → Change → List ℕ → Change → List ℕ → ℕ → List ℕ → List ℕ
 write_two_w ws p fresh q fresh2 issued out =

@@ -5,5 +5,6 @@ pub mod Bundles
 pub mod Enabled
 pub mod Exchanging
 pub mod Meeting
+pub mod Serials
 pub mod Stepping
 pub mod Writing

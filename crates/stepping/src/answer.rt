@@ -14,6 +14,7 @@ use layout::limit::Limits;
 use layout::number::{further, word_of};
 use layout::refusal::Refusal;
 use rules::edit::Edit;
+use std::num::NonZeroU16;
 use writers::write::put;
 
 // A step carried out: the kind of the process that moved; the serial, which neither a process that moves alone nor a notify has; whether a
@@ -21,7 +22,7 @@ use writers::write::put;
 #[derive(Clone, Copy, Debug, PartialEq, Eq)]
 pub struct Accepted {
     pub kind: Kind,
-    pub serial: Option<u16>,
+    pub serial: Option<NonZeroU16>,
     pub fault: bool,
     pub length: u16,
 }
@@ -98,7 +99,7 @@ pub fn one(
 #[derive(Clone, Copy)]
 pub struct Told {
     pub kind: Kind,
-    pub serial: Option<u16>,
+    pub serial: Option<NonZeroU16>,
     pub fault: bool,
     pub issued: u16,
 }

@@ -8,5 +8,6 @@ pub mod enabled;
 pub mod exchange;
 pub mod limits;
 pub mod meeting;
+pub mod serial;
 pub mod steps;
 pub mod writing;

@@ -1,11 +1,10 @@
 // Between two engines: whether sender and receiver fit, and what each turns into.
-ghost use Rattle.std.specs.Prelude.{◌≡◌, eqb, unwrap_or};
-ghost use Rattle.std.specs.Option.{is_none};
-ghost use Rattle.sock.specs.Kind.{notify};
+ghost use Rattle.std.specs.Prelude.{◌≡◌};
 ghost use Rattle.layout.specs.Kinds.{number_of};
 ghost use Rattle.rules.specs.Offering.{standing};
 ghost use Rattle.rules.specs.Rewriting.{turned};
 ghost use Rattle.stepping.specs.Meeting.{addressed_w, replies_w, replied_w, taker_of, counts_w, takes_w, fit_w, send_w, receive_w, serial_w};
+ghost use Rattle.stepping.specs.Serials.{serial_in};
 
 use crate::bundles::Encounter;
 use evaluating::evaluate::variable;
@@ -16,6 +15,7 @@ use rules::message::Message;
 use rules::pair::{Offer, answer, ask, awaits, fail, fits, hear, serve};
 use rules::rewriting::{Rewriting, to_nil};
 use rules::store::nothing;
+use std::num::NonZeroU16;
 
 // Whether a notify or solicit is sent to the engine that receives.
 #[tactic(auto, unfolding(crate::specs::Meeting::addressed_w))]
@@ -99,16 +99,15 @@ pub(crate) fn fit(m: &Message, o: Offer, x: &Encounter) -> bool
     }
 }
 
-// The serial that the step answers: a notify alone has none. `next` is the one that a solicit would take.
+// The serial that the step answers: a notify has none. `next` is the one that a solicit would take.
 #[tactic(auto, unfolding(crate::specs::Meeting::serial_w))]
-pub fn serial_of(part: &[u16], kind: Kind, next: u16) -> Option<u16>
-    ensures serial { unwrap_or result 0 ≡ serial_w part.now (number_of kind) next }
-    ensures none { is_none result ≡ eqb (number_of kind) notify }
+pub fn serial_of(part: &[u16], kind: Kind, next: u16) -> Option<NonZeroU16>
+    ensures { serial_in result ≡ serial_w part.now (number_of kind) next }
 {
     match kind {
         Kind::Notify => None,
-        Kind::Solicit => Some(next),
-        _ => Some(word(part, 2)),
+        Kind::Solicit => NonZeroU16::new(next),
+        _ => NonZeroU16::new(word(part, 2)),
     }
 }
 
