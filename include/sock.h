@@ -123,7 +123,7 @@ enum sock_kind {
     SOCK_NOTICE = 18
 };
 
-/* The keeper's word for a number, as document 01 has it; "accepted" for 0. Takes what any call or accessor gives as number. */
+/* The keeper's word for a number, as documents 01 and 02 have it; "accepted" for 0. Takes what any call or accessor gives as number. */
 static inline const char *sock_word(unsigned number)
 {
     switch (number) {

@@ -3,7 +3,7 @@ ghost use Rattle.std.specs.Prelude.{◌≡◌, ◌≤◌, ◌<◌, ◌*◌, ◌^
 ghost use Rattle.sock.specs.Configuration.{standard};
 ghost use Rattle.sock.specs.Calls.{answer_of, over};
 ghost use Rattle.sock.specs.Calls as calls;
-ghost use Rattle.sock.specs.Bytes.{bytes_of, bytes_after, byte_step, byte_answer, byte_output};
+ghost use Rattle.sock.specs.Bytes.{bytes_of, bytes_after, byte_answer, byte_output};
 ghost use Rattle.layout.specs.Limits.{figures};
 ghost use Rattle.stepping.specs.Answers.{told};
 ghost use Rattle.stepping.specs.Bundles.{numbers_as};

@@ -1,9 +1,9 @@
 // The step with a journal, and taking back, on bytes. A journal's space, or its words, are half its bytes, rounded down.
-ghost use Rattle.std.specs.Prelude.{◌≡◌, ◌≤◌, ◌<◌, ◌*◌, ◌/◌, ◌^◌, length};
+ghost use Rattle.std.specs.Prelude.{◌≡◌, ◌<◌, ◌*◌, ◌/◌, ◌^◌, length};
 ghost use Rattle.sock.specs.Configuration.{standard};
 ghost use Rattle.sock.specs.Calls.{answer_of};
-ghost use Rattle.sock.specs.Journal.{journal_step, taken_of, take_back, take_back_output, restored_over};
-ghost use Rattle.sock.specs.Bytes.{bytes_after, journal_bytes_after, byte_journal_step, byte_journal_answer, byte_journal_output, byte_journal_written, restored_bytes, byte_take_back, byte_taken, byte_restored};
+ghost use Rattle.sock.specs.Journal.{journal_step, taken_of, take_back, restored_over};
+ghost use Rattle.sock.specs.Bytes.{bytes_after, journal_bytes_after, byte_journal_step, byte_journal_answer, byte_journal_output, byte_journal_written, byte_take_back, byte_taken, byte_restored};
 ghost use Rattle.layout.specs.Limits.{figures};
 ghost use Rattle.stepping.specs.Answers.{told, numbers};
 ghost use Rattle.stepping.specs.Bundles.{numbers_as};
@@ -54,7 +54,7 @@ pub(crate) fn journaled<const NOTES: usize>(
     let c = compare::<NOTES>(ws, k, m, noted.len(), part)?;
     let n = usize::from(c.accepted.length);
     spread(&part[..n], out);
-    let end = lay(ws, &part[..n], c.alike.first, c.alike.last, noted);
+    let end = lay(ws, &part[..n], c.alike, noted);
     spread(&noted[..end], journal);
     Ok(c.accepted)
 }

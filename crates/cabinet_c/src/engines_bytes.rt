@@ -1,5 +1,5 @@
 // Joining and leaving on bytes.
-ghost use Rattle.std.specs.Prelude.{◌≡◌, length};
+ghost use Rattle.std.specs.Prelude.{◌≡◌};
 ghost use Rattle.sock.specs.EnginesBytes.{byte_join_answer, byte_join_output, byte_leave_answer, byte_leave_output};
 
 // Joining: from the top, the number in 8 bits, 40 zero, the length in 16. A refusal changes no byte.

@@ -1,5 +1,5 @@
 // The step with a journal, and taking back, on bytes. A journal's space, or its words, are half its bytes, rounded down.
-ghost use Rattle.std.specs.Prelude.{◌≡◌, ◌/◌, length};
+ghost use Rattle.std.specs.Prelude.{◌≡◌};
 ghost use Rattle.sock.specs.Configuration.{standard};
 ghost use Rattle.sock.specs.Bytes.{byte_journal_answer, byte_journal_output, byte_journal_written, byte_taken, byte_restored};
 ghost use Rattle.stepping.specs.Answers.{numbers};

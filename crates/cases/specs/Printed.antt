@@ -1,9 +1,6 @@
--- What is printed of a number: its decimal digits, and the end of the line or a space behind it; and a line of numbers.
-use Rattle.std.specs.Prelude.{ℕ, Bool, cond, List, [], ◌∷◌, ◌++◌}
+-- What is printed of numbers: a line of their decimal digits, with a space between two.
+use Rattle.std.specs.Prelude.{ℕ, List, [], ◌∷◌, ◌++◌}
 use Rattle.std.specs.Fmt.{decimal}
-
-abbrev pub printed : ℕ → Bool → List ℕ
-printed n last = decimal n ++ (cond last 10 32 ∷ [])
 
 abbrev pub line : List ℕ → List ℕ
 line [] = 10 ∷ []

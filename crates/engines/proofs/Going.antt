@@ -10,6 +10,7 @@ use mathlib.Core.List.{List, [], ◌∷◌, ◌++◌}
 use lib.Dec.{T, leb, ltb, eqb}
 use lib.ListN.{length, get_or, set, take, drop, length-append, get_or-append}
 use lib.Seq.{drop-cons, drop-length, take_at}
+use Rattle.std.specs.List.{list_all}
 use borrow.Author.Tests.{lt-leb, le-leb, eq-eqb, ne_eqb, eqb-true, eqb-false}
 use Rattle.sock.specs.Reading.{Got, fail, got, running, root, process}
 use Rattle.sock.specs.Layout.{words, depth, exprs_words}
@@ -45,22 +46,21 @@ use Rattle.engines.proofs.Joining.{first_word}
 not_both : {A : Type 0} {a : A} {rest : List ℕ} → fail ≡ got a rest → ⊥
 not_both e = let z : ◌≡◌ {A = ℕ} 0 1 = cc in omega arith
 
--- ---- one turn of the loop over the others
+-- ---- the others are read exactly if each of them is
 
-module _ (sub : ℕ → ℕ) (starts : List ℕ) (n e f : ℕ) (same : f ≡ sub (get_or starts e 0)) where
-  pub not_met : e < n → f ≡ 0 → false ≡ all_read sub starts (n - e) e
+module _ (sub : ℕ → ℕ) (starts : List ℕ) where
+  read_from : (n e : ℕ) → e + n ≤ length starts → all_read sub starts n e ≡ list_all (λ i. not (eqb (sub i) 0)) (take n (drop e starts))
   unfolding all_read
-  not_met h z = let more : n - e ≡ suc (n - (e + 1)) = omega arith in rw (more, ← same, eq-eqb f 0 z)
+  read_from zero e h = refl
+  read_from (suc n) e h =
+      rw (drop-cons starts e 0 (omega arith), read_from n (e + 1) (omega arith), add-one e) (by (eqb (sub (get_or starts e 0)) 0) _)
+    where
+      by : (a b : Bool) → cond a false b ≡ (not a && b)
+      by true b = refl
+      by false b = refl
 
-  pub met : e < n → (f ≡ 0 → ⊥) → all_read sub starts (n - (e + 1)) (e + 1) ≡ all_read sub starts (n - e) e
-  unfolding all_read
-  met h z = let more : n - e ≡ suc (n - (e + 1)) = omega arith in rw (more, ← same, ne_eqb f 0 z)
-
-pub met_all : (sub : ℕ → ℕ) (starts : List ℕ) (n e : ℕ) → n ≤ e → true ≡ all_read sub starts (n - e) e
-unfolding all_read
-met_all sub starts n e h = let no : n - e ≡ 0 = omega arith in rw no
-
--- ---- a process among fewer engines
+  pub read_all : (n : ℕ) → n ≤ length starts → all_read sub starts n 0 ≡ list_all (λ i. not (eqb (sub i) 0)) (take n starts)
+  read_all n h = read_from n 0 (omega arith)
 
 module _ (ws : List ℕ) (ok : Words ws) (m issued : ℕ) (few : suc m ≤ 8) (word : issued < 65536) (i : ℕ) {p : Run} (g : Sound (suc m) issued p) (r : T (rootable p)) (shallow : run_depth p ≤ 64) (rest : List ℕ) (stands : drop i ws ≡ run_words p ++ rest) where
   abbrev end : ℕ

@@ -17,17 +17,13 @@ use reading::survey::survey;
 use writers::write::{copy, put};
 
 // Whether all processes but the last are readable among n engines: then none of their ends names a later engine.
-#[tactic(auto, using(crate::proofs::Going::not_met, crate::proofs::Going::met, crate::proofs::Going::met_all, reading::proofs::Given::unread, reading::proofs::Given::was_read))]
 fn among(ws: &[u16], s: Starts, bound: usize) -> bool
     ensures { result ≡ all_read (process_end 64 ws.now bound 11) s.starts (s.engines - 1) 0 }
 {
     let starts = s.starts;
-    for e in 0..s.engines - 1 {
-        if read(ws, starts[e], DEEPEST, ROOT, bound).is_none() {
-            return false;
-        }
-    }
-    true
+    starts[..s.engines - 1]
+        .iter()
+        .all(|at| read(ws, *at, DEEPEST, ROOT, bound).is_some())
 }
 
 // Whether the last engine may leave: it is not the only one, its process is nil, and no end of the others names it.

@@ -14,10 +14,6 @@ at ws i = slice_index ws i
 unfoldable pub value_in : List ℕ → ℕ → ℕ
 value_in vs x = value_of (at vs (x * 2)) (at vs (x * 2 + 1))
 
--- the top bit turned
-abbrev pub biased : ℕ → ℕ
-biased v = (v + 2147483648) % 4294967296
-
 unfoldable pub operated : ℕ → ℕ → ℕ → Option ℕ
 operated tag a b =
     cond (tag == Tags.sum) (Some ((a + b) % 4294967296))

@@ -3,7 +3,7 @@ ghost use Rattle.std.specs.Prelude.{◌≡◌, ◌<◌, length, ◌==◌, int_lt
 ghost use Rattle.sock.specs.Words.{bit};
 ghost use Rattle.sock.specs.Evaluation.{signed};
 ghost use Rattle.layout.specs.Kinds.{tag_number};
-ghost use Rattle.evaluating.specs.Evaluating.{value_in, biased, operated, no_expression, combined, constant_at, evaluated};
+ghost use Rattle.evaluating.specs.Evaluating.{value_in, operated, no_expression, combined, constant_at, evaluated};
 
 use crate::digits::{decimal_difference, decimal_sum};
 use layout::field::{read_variable, value_of};
@@ -45,17 +45,10 @@ pub fn variable(values: &[u16], x: usize) -> u32
     value_of(word(values, x * 2), word(values, x * 2 + 1))
 }
 
-// A value with its top bit turned: the order of these is that of the values read with sign.
-fn bias(v: u32) -> u32
-    ensures { result ≡ biased v }
-{
-    v.wrapping_add(2147483648)
-}
-
 fn less(a: u32, b: u32) -> u32
     ensures { result ≡ bit (int_lt (signed a) (signed b)) }
 {
-    u32::from(bias(a) < bias(b))
+    u32::from(a.cast_signed() < b.cast_signed())
 }
 
 fn equal(a: u32, b: u32) -> u32

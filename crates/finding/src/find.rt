@@ -204,17 +204,13 @@ fn cut_at(s: Site, a: usize, b: usize, c: usize, d: usize, hollow: bool) -> Site
     ensures { result ≡ cut s a b c d hollow }
 {
     Site {
-        at: s.at,
-        level: s.level,
         from: a,
         upto: b,
         gap: c,
         end: d,
         hollow,
         closed: !hollow,
-        scope: s.scope,
-        scope_level: s.scope_level,
-        catcher: s.catcher,
+        ..s
     }
 }
 
@@ -223,17 +219,11 @@ fn shut(s: Site, scope: usize, level: usize, catcher: usize) -> Site
     ensures { result ≡ shut_in s scope level catcher }
 {
     Site {
-        at: s.at,
-        level: s.level,
-        from: s.from,
-        upto: s.upto,
-        gap: s.gap,
-        end: s.end,
-        hollow: s.hollow,
         closed: true,
         scope,
         scope_level: level,
         catcher,
+        ..s
     }
 }
 

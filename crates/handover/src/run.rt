@@ -1,5 +1,5 @@
 // The run: the steps, each read as it comes and its line written at once, and the last line.
-ghost use Rattle.std.specs.Prelude.{◌≡◌, IfSome, OnOk};
+ghost use Rattle.std.specs.Prelude.{IfSome, OnOk};
 ghost use Rattle.std.specs.Io.KnownBytes.{Appends};
 ghost use Rattle.handover.specs.Printed.{last_line, steps_text, most_steps};
 

@@ -3,11 +3,11 @@
 use Prim.Native.Nat.{ℕ, ◌*◌, zero, suc, ◌+◌, ◌-◌, ◌≤◌, ◌<◌, min}
 use native.Mathlib.Omega.{arith}
 use mathlib.Core.Path.{◌≡◌, refl, sym, ap, subst, ◌∙◌}
-use mathlib.Core.Bool.{Bool, true, false, ◌&&◌}
+use mathlib.Core.Bool.{Bool, true, false}
 use mathlib.Core.List.{List, [], ◌∷◌, ◌++◌, append_assoc, reverse, reverse-append, reverse-cons}
-use lib.Dec.{eqb, ltb}
+use lib.Dec.{ltb}
 use lib.ListN.{length, get_or, take, drop, length-drop, length-reverse, take-append-drop, drop_of_length-le, get_or-append}
-use lib.Seq.{length-take-le, take_all, take_at, drop_at, drop-drop, drop-cons, get_or-drop, get_or-append_seam}
+use lib.Seq.{length-take-le, take_all, take_at, drop_at, drop-drop, drop-cons, get_or-append_seam}
 use borrow.Author.Tests.{eq-eqb, ne_eqb, ltb-true, ltb-false}
 use Rattle.sock.specs.Journal.{alike, alike_behind, same_words}
 use Rattle.sock.proofs.Journal.{same_words_lem}
@@ -82,57 +82,6 @@ module _ (a b : List ℕ) (k : ℕ) where
       alike_on n (drop k a) (drop k b) (omega (arith, length-drop k a)) (omega (arith, length-drop k b)) e
       ∙ ap (λ (c : List ℕ). n + alike c (drop n (drop k b))) (drop-drop n k a)
       ∙ ap (λ (c : List ℕ). n + alike (drop (k + n) a) c) (drop-drop n k b)
-
--- ---- a block
-
-same_last : (k : ℕ) (x y : List ℕ) → k < length x → k < length y → same_words (take (suc k) x) (take (suc k) y) ≡ same_words (take k x) (take k y) && eqb (get_or x k 0) (get_or y k 0)
-unfolding same_words
-same_last k [] y a b = absurd (omega arith)
-same_last k (u ∷ x) [] a b = absurd (omega arith)
-same_last zero (u ∷ x) (v ∷ y) a b = by (eqb u v)
-  where
-    by : (t : Bool) → t && true ≡ true && t
-    by true = refl
-    by false = refl
-same_last (suc k) (u ∷ x) (v ∷ y) a b = by (eqb u v) (same_last k x y (omega arith) (omega arith))
-  where
-    by :
-        (t : Bool) → same_words (take (suc k) x) (take (suc k) y) ≡ same_words (take k x) (take k y) && eqb (get_or x k 0) (get_or y k 0) →
-        t && same_words (take (suc k) x) (take (suc k) y) ≡ (t && same_words (take k x) (take k y)) && eqb (get_or x k 0) (get_or y k 0)
-    by true e = e
-    by false e = refl
-
-and_true : (t : Bool) → t && true ≡ t
-and_true true = refl
-and_true false = refl
-
-and_false : (t : Bool) → t && false ≡ false
-and_false true = refl
-and_false false = refl
-
-module _ (a b : List ℕ) (i j k : ℕ) (h : i + k < length a) (g : j + k < length b) where
-  last_of : same_words (take (k + 1) (drop i a)) (take (k + 1) (drop j b)) ≡ same_words (take k (drop i a)) (take k (drop j b)) && eqb (get_or a (i + k) 0) (get_or b (j + k) 0)
-  last_of =
-      let s : k + 1 ≡ suc k = omega arith in
-      ap (λ (n : ℕ). same_words (take n (drop i a)) (take n (drop j b))) s
-      ∙ same_last k (drop i a) (drop j b) (omega (arith, length-drop i a)) (omega (arith, length-drop j b))
-      ∙ ap (λ (w : ℕ). same_words (take k (drop i a)) (take k (drop j b)) && eqb w (get_or (drop j b) k 0)) (get_or-drop i a k 0)
-      ∙ ap (λ (w : ℕ). same_words (take k (drop i a)) (take k (drop j b)) && eqb (get_or a (i + k) 0) w) (get_or-drop j b k 0)
-
-  pub turn_same : {same : Bool} → same ≡ same_words (take k (drop i a)) (take k (drop j b)) → get_or a (i + k) 0 ≡ get_or b (j + k) 0 → same ≡ same_words (take (k + 1) (drop i a)) (take (k + 1) (drop j b))
-  turn_same e w =
-      e
-      ∙ sym
-      (last_of
-      ∙ ap (λ t. same_words (take k (drop i a)) (take k (drop j b)) && t) (eq-eqb _ _ w)
-      ∙ and_true (same_words (take k (drop i a)) (take k (drop j b))))
-
-  pub turn_differs : (get_or a (i + k) 0 ≡ get_or b (j + k) 0 → ⊥) → false ≡ same_words (take (k + 1) (drop i a)) (take (k + 1) (drop j b))
-  turn_differs w =
-      sym
-      (last_of
-      ∙ ap (λ t. same_words (take k (drop i a)) (take k (drop j b)) && t) (ne_eqb _ _ w)
-      ∙ and_false (same_words (take k (drop i a)) (take k (drop j b))))
 
 -- ---- from the back
 

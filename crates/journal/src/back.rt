@@ -51,7 +51,7 @@ fn sound(c: Counts, behind: usize) -> bool
     (old - alike) + (new - alike) <= behind
 }
 
-// Whether the words have the new length, and the new words at their place.
+// Whether the words have the new length, and the new words at their place. The three stay apart here: that they match is found out first.
 fn left(ws: &[u16], journal: &[u16], c: Counts) -> bool
     requires { (sound_by c (length journal.now - 4) ≡ true) × (4 ≤ length journal.now) }
     ensures { result ≡ left (said c journal.now) ws.now }
@@ -67,64 +67,70 @@ fn left(ws: &[u16], journal: &[u16], c: Counts) -> bool
     first_alike(&ws[first..first + n], &journal[from..from + n]) == n
 }
 
-// The words before the step, over the first of `scratch`.
-#[tactic(auto, unfolding(crate::specs::Back::put_w))]
-fn put_back(ws: &[u16], journal: &[u16], c: Counts, scratch: &mut [u16])
-    ensures { scratch.new ≡ put_w c ws.now journal.now scratch.old }
-{
-    let first = wide(c.first);
-    let was = wide(c.old).saturating_sub(first + wide(c.last));
-    copy(ws, 0, first, scratch, 0);
-    copy(journal, 4, 4 + was, scratch, first);
-    copy(
-        ws,
-        ws.len().saturating_sub(wide(c.last)),
-        ws.len(),
-        scratch,
-        first + was,
-    );
+// A journal with the words that it matches.
+#[derive(Clone, Copy)]
+struct Matching<'a> {
+    ws: &'a [u16],
+    journal: &'a [u16],
+    counts: Counts,
+    ghost fits: { Fits counts ws.now journal.now },
 }
 
-// What was before is read, and written if it fits.
-fn checked(
-    ws: &[u16],
-    journal: &[u16],
-    c: Counts,
-    scratch: &mut [u16],
-    out: &mut [u16],
-) -> Result<u16, Refusal>
-    requires { Fits c ws.now journal.now × (c.old ≤ length scratch.old) }
-    ensures answered { taken_as result ≡ taken_of (checked_back standard (put_back (said c journal.now) ws.now) (length out.old)) }
-    ensures wrote { out.new ≡ restored_over (checked_back standard (put_back (said c journal.now) ws.now) (length out.old)) out.old }
-{
-    let n = wide(c.old);
-    put_back(ws, journal, c, scratch);
-    if check_readable(&scratch[..n]).is_err() {
-        return Err(Refusal::Unmatched);
+impl<'a> Matching<'a> {
+    // The words before the step, over the first of `scratch`.
+    #[tactic(auto, unfolding(crate::specs::Back::put_w))]
+    fn put_back(&self, scratch: &mut [u16])
+        ensures { scratch.new ≡ put_w self.now.counts self.now.ws.now self.now.journal.now scratch.old }
+    {
+        let c = self.counts;
+        let first = wide(c.first);
+        let was = wide(c.old).saturating_sub(first + wide(c.last));
+        let n = self.ws.len();
+        copy(self.ws, 0, first, scratch, 0);
+        copy(self.journal, 4, 4 + was, scratch, first);
+        copy(
+            self.ws,
+            n.saturating_sub(wide(c.last)),
+            n,
+            scratch,
+            first + was,
+        );
     }
-    if out.len() < n {
-        return Err(Refusal::OutputShort);
-    }
-    copy(scratch, 0, n, out, 0);
-    Ok(c.old)
-}
 
-// With scratch for what was before.
-fn restore(ws: &[u16], journal: &[u16], c: Counts, out: &mut [u16]) -> Result<u16, Refusal>
-    requires { Fits c ws.now journal.now }
-    ensures answered { taken_as result ≡ taken_of (checked_back standard (put_back (said c journal.now) ws.now) (length out.old)) }
-    ensures wrote { out.new ≡ restored_over (checked_back standard (put_back (said c journal.now) ws.now) (length out.old)) out.old }
-{
-    let n = wide(c.old);
-    if LONGEST < n {
-        return Err(Refusal::Unmatched);
+    // What was before is read, and written if it fits.
+    fn checked(&self, scratch: &mut [u16], out: &mut [u16]) -> Result<u16, Refusal>
+        requires { self.now.counts.old ≤ length scratch.old }
+        ensures answered { taken_as result ≡ taken_of (checked_back standard (put_back (said self.now.counts self.now.journal.now) self.now.ws.now) (length out.old)) }
+        ensures wrote { out.new ≡ restored_over (checked_back standard (put_back (said self.now.counts self.now.journal.now) self.now.ws.now) (length out.old)) out.old }
+    {
+        let n = wide(self.counts.old);
+        self.put_back(scratch);
+        if check_readable(&scratch[..n]).is_err() {
+            return Err(Refusal::Unmatched);
+        }
+        if out.len() < n {
+            return Err(Refusal::OutputShort);
+        }
+        copy(scratch, 0, n, out, 0);
+        Ok(self.counts.old)
     }
-    if SHORT < n {
-        let mut scratch = [0u16; LONGEST];
-        return checked(ws, journal, c, &mut scratch, out);
+
+    // With scratch for what was before.
+    fn restore(&self, out: &mut [u16]) -> Result<u16, Refusal>
+        ensures answered { taken_as result ≡ taken_of (checked_back standard (put_back (said self.now.counts self.now.journal.now) self.now.ws.now) (length out.old)) }
+        ensures wrote { out.new ≡ restored_over (checked_back standard (put_back (said self.now.counts self.now.journal.now) self.now.ws.now) (length out.old)) out.old }
+    {
+        let n = wide(self.counts.old);
+        if LONGEST < n {
+            return Err(Refusal::Unmatched);
+        }
+        if SHORT < n {
+            let mut scratch = [0u16; LONGEST];
+            return self.checked(&mut scratch, out);
+        }
+        let mut scratch = [0u16; SHORT];
+        self.checked(&mut scratch, out)
     }
-    let mut scratch = [0u16; SHORT];
-    checked(ws, journal, c, &mut scratch, out)
 }
 
 // Taking back: the earlier configuration's words in the output, and how many. `Unreadable` if the words are not readable, `Unmatched` if the
@@ -138,12 +144,17 @@ pub fn take_back(ws: &[u16], journal: &[u16], out: &mut [u16]) -> Result<u16, Re
     if journal.len() < 4 {
         return Err(Refusal::Unmatched);
     }
-    let c = counts_in(journal);
-    if !sound(c, journal.len() - 4) {
+    let counts = counts_in(journal);
+    if !sound(counts, journal.len() - 4) {
         return Err(Refusal::Unmatched);
     }
-    if !left(ws, journal, c) {
+    if !left(ws, journal, counts) {
         return Err(Refusal::Unmatched);
     }
-    restore(ws, journal, c, out)
+    let matching = Matching {
+        ws,
+        journal,
+        counts,
+    };
+    matching.restore(out)
 }

@@ -1,5 +1,5 @@
-// How many first and how many last words two rows of words have alike. Both go by blocks of sixteen words, which the compiler compares many
-// words at a time since nothing is decided inside a block, and then word by word. The two directions stay two functions each: one for both
+// How many first and how many last words two rows of words have alike. Both go by blocks of sixteen words, of which std compares many at a
+// time, and then word by word. The two directions stay two functions each: one for both
 // would take as closures how a block and a word compare, and in its contract that the two agree, which is longer than the loops; and an iterator
 // from either end (`iter()`, `iter().rev()`) has words but no blocks.
 ghost use Rattle.std.specs.Prelude.{◌≡◌, reverse, ◌+◌, ◌≤◌, min, length, take, drop};
@@ -9,18 +9,11 @@ ghost use Rattle.journal.specs.Comparing.{both_of};
 const BLOCK: usize = 16;
 
 // Whether the sixteen words from `i` on in `a` and from `j` on in `b` are the same.
-#[tactic(auto, using(crate::proofs::Comparing::turn_same, crate::proofs::Comparing::turn_differs), unfolding(sock::specs::Journal::same_words))]
 fn same_block(a: &[u16], i: usize, b: &[u16], j: usize) -> bool
     requires { (i + BLOCK ≤ length a.now) × (j + BLOCK ≤ length b.now) }
     ensures { result ≡ same_words (take BLOCK (drop i a.now)) (take BLOCK (drop j b.now)) }
 {
-    let mut same = true;
-    for k in 0..BLOCK {
-        if a[i + k] != b[j + k] {
-            same = false;
-        }
-    }
-    same
+    a[i..i + BLOCK] == b[j..j + BLOCK]
 }
 
 // From `i` on, word by word.

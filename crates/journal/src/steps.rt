@@ -35,11 +35,12 @@ pub struct Compared {
 
 // Words of a journal, for lengths with so many words alike.
 #[tactic(auto, unfolding(crate::specs::Stepping::needed_of))]
-fn needed(old: usize, new: usize, first: usize, last: usize) -> usize
-    requires { (first + last ≤ old) × (first + last ≤ new) × (old ≤ 65535) × (new ≤ 65535) }
-    ensures { result ≡ needed_of old new first last }
+fn needed(old: usize, new: usize, alike: Alike) -> usize
+    requires { (alike.first + alike.last ≤ old) × (alike.first + alike.last ≤ new) × (old ≤ 65535) × (new ≤ 65535) }
+    ensures { result ≡ needed_of old new alike.first alike.last }
 {
-    4 + (old - (first + last)) + (new - (first + last))
+    let same = alike.first + alike.last;
+    4 + (old - same) + (new - same)
 }
 
 // The step with its result in scratch; `JournalShort` if the journal that it would write has more than `room` words.
@@ -57,7 +58,7 @@ pub fn compare<const NOTES: usize>(
     let accepted = step_at::<NOTES>(ws, k, m, res)?;
     let n = usize::from(accepted.length);
     let alike = both(ws, &res[..n]);
-    if room < needed(ws.len(), n, alike.first, alike.last) {
+    if room < needed(ws.len(), n, alike) {
         return Err(Refusal::JournalShort);
     }
     Ok(Compared { accepted, alike })
@@ -81,7 +82,7 @@ pub fn written<const NOTES: usize>(
     let c = compare::<NOTES>(ws, k, m, journal.len(), res)?;
     let n = usize::from(c.accepted.length);
     copy(res, 0, n, out, 0);
-    lay(ws, &res[..n], c.alike.first, c.alike.last, journal);
+    lay(ws, &res[..n], c.alike, journal);
     Ok(c.accepted)
 }
 

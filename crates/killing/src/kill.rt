@@ -98,8 +98,7 @@ impl<'a> Killing<'a> {
         }
         Moved {
             end: self.noted.pass(p.end, depth),
-            to: p.to,
-            nil: p.nil,
+            ..p
         }
     }
 

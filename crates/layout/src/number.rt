@@ -7,7 +7,7 @@ pub const LARGEST: u16 = 65535;
 
 pub const ABOVE: usize = 65536;
 
-// A word as a number.
+// A word as a number: `usize::from` with a clause that says how large a word is, of which the proofs where it is called make use.
 pub fn wide(w: u16) -> usize
     ensures { (result ≡ w) × (result < 65536) }
 {

@@ -1,6 +1,6 @@
 // The reader of what is enabled, which notes where it ends: an enabled process, what follows an enabled one in a seq, and the list of an
 // enabled scope. The notes of a word are told in `skipping::pass`. What is not enabled is read by the reader alone.
-ghost use Rattle.std.specs.Prelude.{unwrap_or, ◌≡◌, ◌+◌, ◌*◌, ◌≤◌, ◌<◌, length, get_or};
+ghost use Rattle.std.specs.Prelude.{◌≡◌, ◌+◌, ◌*◌, ◌<◌, length, get_or};
 ghost use Rattle.layout.specs.Contexts.{code, running};
 ghost use Rattle.noting.specs.Places.{as_context};
 ghost use Rattle.reading.specs.Walk.{end_as, process_end, two_end, marked_end, scope_end, executor_end};

@@ -92,7 +92,7 @@ fn seq(noted: &Noted, at: usize, depth: usize, count: usize) -> Seen
     }
     Seen {
         end: noted.pass(first.end, FUEL),
-        count: first.count,
+        ..first
     }
 }
 

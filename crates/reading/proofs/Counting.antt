@@ -7,7 +7,8 @@ use mathlib.Core.Path.{◌≡◌, refl, ◌∙◌}
 use mathlib.Core.Bool.{Bool, true, false, cond}
 use mathlib.Core.List.{List}
 use lib.Dec.{T, ltb, eqb, lit<}
-use lib.ListN.{length, get_or}
+use lib.ListN.{length, get_or, take}
+use Rattle.std.proofs.lemmas.List.{get_or-take, length-take}
 use borrow.Author.Tests.{lt-ltb, ne_eqb}
 use Rattle.std.specs.Prelude.{Option, Some, None}
 use Rattle.sock.specs.Reading.{Got}
@@ -223,3 +224,11 @@ pub tally_below :
     (ws : List ℕ) (serial bound d i : ℕ) → Words ws →
     (waiters_in (tally_at d ws serial bound i) ≤ length ws) × (workers_in (tally_at d ws serial bound i) ≤ length ws)
 tally_below ws serial bound d i ok = counts_below (tally_bounded ws ok serial bound d i)
+
+-- ---- the places lent to the loop are the first ones
+
+pub front_length : (n : ℕ) (starts : List ℕ) → length (take n starts) ≤ n
+front_length n starts = omega (arith, length-take n starts)
+
+pub front_at : (n : ℕ) (starts : List ℕ) (i : ℕ) → i < length (take n starts) → get_or (take n starts) i 0 ≡ get_or starts i 0
+front_at n starts i h = get_or-take n starts i 0 (omega (arith, length-take n starts))

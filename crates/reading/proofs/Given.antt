@@ -2,7 +2,7 @@
 -- Assumes nothing.
 use Prim.Native.Nat.{ℕ}
 use mathlib.Core.Path.{◌≡◌, refl, sym, ◌∙◌}
-use mathlib.Core.Bool.{Bool, true, false, true≢false, cond}
+use mathlib.Core.Bool.{Bool, true, false, not, cond}
 use borrow.Author.Tests.{ne_eqb, eqb-true, eqb-false}
 use lib.Dec.{eqb}
 use Rattle.std.specs.Prelude.{Option, Some, None, unwrap_or}
@@ -47,13 +47,9 @@ as_when true n h = as_some n n refl h
 as_when false n h = refl
 
 -- whether there is one
-pub unread : (o : Option ℕ) (n : ℕ) → o ≡ end_as n → is_some o ≡ false → n ≡ 0
-unread None n q h = none_end n q
-unread (Some e) n q h = absurd (true≢false h)
-
-pub was_read : (o : Option ℕ) (n : ℕ) → o ≡ end_as n → is_some o ≡ true → n ≡ 0 → ⊥
-was_read None n q h z = true≢false (sym h)
-was_read (Some e) n q h z = let s = some_end e n q in s.1 (s.0 ∙ z)
+pub read_test : (b : Bool) (o : Option ℕ) (n : ℕ) → o ≡ end_as n → b ≡ is_some o → b ≡ not (eqb n 0)
+read_test b None n q e = e ∙ rw (none_end n q) refl
+read_test b (Some k) n q e = let s = some_end k n q in e ∙ sym (rw (ne_eqb n 0 (λ z. s.1 (s.0 ∙ z))) refl)
 
 -- a key
 pub some_key : (k n : ℕ) → Some k ≡ key_as n → (k ≡ n) × (k ≡ 128 → ⊥)

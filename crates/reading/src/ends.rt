@@ -98,8 +98,7 @@ impl<'a> Tally<'a> {
         let p = self.tally(at, depth)?;
         Some(Counted {
             end: process(self.ws, p.end, depth, CODE, self.bound)?,
-            waiters: p.waiters,
-            workers: p.workers,
+            ..p
         })
     }
 
@@ -136,22 +135,20 @@ impl<'a> Tally<'a> {
         let body = executor_own(self.ws, at, self.bound)?;
         let p = self.tally(body, depth)?;
         Some(Counted {
-            end: p.end,
-            waiters: p.waiters,
             workers: p.workers + serial_at(self.ws, at, self.serial),
+            ..p
         })
     }
 
     // The waiters and the workers of the serial in all engines.
-    #[tactic(auto, unfolding(crate::specs::Tally::waiters_in, crate::specs::Tally::workers_in), using(crate::proofs::Counting::tally_below, crate::proofs::Counting::total_turn, crate::proofs::Counting::total_end))]
+    #[tactic(auto, unfolding(crate::specs::Tally::waiters_in, crate::specs::Tally::workers_in), using(crate::proofs::Counting::tally_below, crate::proofs::Counting::total_turn, crate::proofs::Counting::total_end, crate::proofs::Counting::front_length, crate::proofs::Counting::front_at))]
     fn total(&self, s: Starts, depth: usize) -> (usize, usize)
         ensures { result ≡ total_from (tally_at depth self.now.ws.now self.now.serial self.now.bound) s.starts s.engines 0 0 0 }
     {
-        let starts = s.starts;
         let mut waiters = 0;
         let mut workers = 0;
-        for e in 0..s.engines {
-            if let Some(t) = self.tally(starts[e], depth) {
+        for at in &s.starts[..s.engines] {
+            if let Some(t) = self.tally(*at, depth) {
                 waiters += t.waiters;
                 workers += t.workers;
             }

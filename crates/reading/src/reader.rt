@@ -1,6 +1,6 @@
 // The reader: where the process, list or expression that begins at a position ends, none if it does not fit. One pass over the words;
 // depth falls with every level. A context (`layout::context`) is where a process stands. `bound` is n times 65,536 plus issued.
-ghost use Rattle.std.specs.Prelude.{◌≡◌, ◌+◌, ◌%◌, ◌<◌, ◌≤◌, ◌&&◌, ◌||◌, ◌∷◌, ◌==◌, leb, eqb, length, unwrap_or, IfSome};
+ghost use Rattle.std.specs.Prelude.{◌≡◌, ◌+◌, ◌%◌, ◌<◌, ◌&&◌, ◌||◌, ◌∷◌, ◌==◌, leb, eqb, length, unwrap_or, IfSome};
 ghost use Rattle.std.specs.List.{list_all, list_any};
 ghost use Rattle.sock.specs.Words.{first_variable};
 ghost use Rattle.sock.specs.Variables.{further_of, distinct};

@@ -1,4 +1,5 @@
-// What the reader looks up: which heads may stand where. Matches and not constant arrays, which every call would lay out anew.
+// What the reader looks up: which heads may stand where. Matches and not constant arrays, which every call would lay out anew; of a `static` all
+// rows would be one more answer and what is behind them a test, where each arm of a match is proved by itself (tried with `places`).
 ghost use Rattle.std.specs.Prelude.{◌≡◌, ◌<◌};
 ghost use Rattle.reading.specs.Tables.{places_of, bit_of, head_mask, shape_of};
 

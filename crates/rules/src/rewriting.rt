@@ -1,5 +1,5 @@
 // What a process turns into, in words: fresh ones, then a part of its own.
-ghost use Rattle.std.specs.Prelude.{◌≡◌, get_or};
+ghost use Rattle.std.specs.Prelude.{◌≡◌};
 ghost use Rattle.rules.specs.Storing.{storing};
 ghost use Rattle.rules.specs.Rewriting.{turned, vanishing, keeping, part_w};
 

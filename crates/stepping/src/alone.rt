@@ -10,7 +10,6 @@ use crate::answer::{Accepted, one};
 use crate::bundles::{Side, changed};
 use crate::limits::SHORT;
 use evaluating::evaluate::{Valued, evaluate};
-use finding::find::Site;
 use layout::kind::Kind;
 use layout::limit::{Bounds, FUEL, VALUES};
 use layout::refusal::Refusal;

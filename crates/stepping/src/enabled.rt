@@ -29,7 +29,8 @@ pub(crate) fn site_at(noted: &Noted, g: Engines, engine: u16, position: u16) -> 
     }
 }
 
-// The engines surveyed, and where it stands. The notes are all 0 before.
+// The engines surveyed, and where it stands. The notes are all 0 before. An engine's number and a position stay two parameters, here and in
+// the calls that ask for them alone: C hands them in apart, and here they are taken apart again.
 #[tactic(auto, unfolding(crate::specs::Enabled::enabled_w, crate::specs::Enabled::with_site, reading::specs::Survey::no_starts))]
 pub fn enabled_at(
     ws: &[u16],

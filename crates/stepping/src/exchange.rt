@@ -5,7 +5,6 @@ ghost use Rattle.layout.specs.Kinds.{number_of};
 ghost use Rattle.rules.specs.Editing.{made};
 ghost use Rattle.rules.specs.Offering.{standing};
 ghost use Rattle.stepping.specs.Answers.{told};
-ghost use Rattle.stepping.specs.Answering.{changing};
 ghost use Rattle.stepping.specs.Bundles.{met};
 ghost use Rattle.stepping.specs.Exchanging.{sender_w, receiver_w, issued_of, fault_of, carry_w, spent_w, meet_w, between_w};
 

@@ -5,8 +5,8 @@ use mathlib.Core.Path.{◌≡◌}
 use Rattle.reading.specs.Tally.{tally_at, total_from}
 use Rattle.reading.proofs.ends.Tally.total.Given as goal
 
-abbrev pub invariant-loop-e : goal.invariant-loop-e
-invariant-loop-e l =
-    (total_from (tally_at l.depth l.self.ws.now l.self.serial l.self.bound) l.starts (l.initial.e-end - l.e) l.e l.waiters l.workers ≡ total_from (tally_at l.depth l.self.ws.now l.self.serial l.self.bound) l.starts l.initial.e-end 0 0 0)
-    × (l.waiters ≤ l.e * 65536)
-    × (l.workers ≤ l.e * 65536)
+abbrev pub invariant-loop-at : goal.invariant-loop-at
+invariant-loop-at l =
+    (total_from (tally_at l.depth l.self.ws.now l.self.serial l.self.bound) l.fn.s.starts (l.fn.s.engines - l.at-index) l.at-index l.waiters l.workers ≡ total_from (tally_at l.depth l.self.ws.now l.self.serial l.self.bound) l.fn.s.starts l.fn.s.engines 0 0 0)
+    × (l.waiters ≤ l.at-index * 65536)
+    × (l.workers ≤ l.at-index * 65536)
