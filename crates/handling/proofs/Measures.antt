@@ -13,7 +13,8 @@ use Rattle.sock.specs.Kind.{word, rows, row_of}
 use Rattle.sock.specs.Words.{kind_of, count_of, mark_of, zombie_of, first_name, high_word, low_word, key_word, tag_of}
 use Rattle.sock.specs.Term.{Expr, constant, variable, apply, Node, node, Block, absent, list, Entries, no_entries, entry, Nodes, no_parts, ◌&◌, entries_of, processes_of}
 use Rattle.sock.specs.Layout.{operator_tag, expr_words, expr_depth, exprs_words, exprs_depth, count, words, block_words, entries_words, nodes_words, depth, block_depth, entries_depth, nodes_depth}
-use Rattle.sock.specs.Reading.{code, Place, anywhere, allowed, node_fits, fields_fit, resting_fits, is_empty, fixed_at, part_stratum, part_place}
+use Rattle.sock.specs.Reading.{code, Place, anywhere, allowed, node_fits, fields_fit, resting_fits, is_empty, fixed_at}
+use Rattle.sock.proofs.Parts.{part_stratum, part_place}
 use Rattle.sock.proofs.Fits.{FitsExpr, constant_fits, variable_fits, apply_fits, FitsExprs, no_exprs, one_expr, FitsFixed, no_fixed, one_fixed, Fits, fits, FitsBlock, no_list, a_list, FitsEntries, empty_fits, entry_fits_on, FitsParts, no_part, one_part}
 use Rattle.sock.proofs.Fields.{From, end, ◌then◌, fact_at, four, operator_tag_lem}
 use Rattle.sock.proofs.Nodes.{fields_test}

@@ -12,8 +12,9 @@ use Rattle.sock.specs.Kind.{rows, row_of}
 use Rattle.sock.specs.Words.{kind_of, count_of}
 use Rattle.sock.specs.Term.{Expr, Node, node, Block, Nodes, is_nil, processes_of}
 use Rattle.sock.specs.Layout.{exprs_words, words, nodes_words, depth, nodes_depth}
-use Rattle.sock.specs.Reading.{Stratum, code, Place, anywhere, part_stratum, part_place}
+use Rattle.sock.specs.Reading.{Stratum, code, Place, anywhere}
 use Rattle.sock.specs.Handlers.{replaced, all_replaced}
+use Rattle.sock.proofs.Parts.{part_stratum, part_place}
 use Rattle.sock.proofs.Fits.{FitsExprs, no_exprs, FitsFixed, no_fixed, Fits, fits, FitsBlock, no_list, FitsParts, no_part, one_part}
 use Rattle.sock.proofs.Nodes.{code_more}
 use Rattle.sock.proofs.Handlers.{replaced_fits}

@@ -13,8 +13,9 @@ use Rattle.sock.specs.Kind.{word, rows, row_of}
 use Rattle.sock.specs.Words.{kind_of, count_of, clear, mark_of, zombie_of, first_name}
 use Rattle.sock.specs.Term.{Expr, Node, node, Block, absent, list, no_entries, Nodes, no_parts, entries_of, processes_of}
 use Rattle.sock.specs.Layout.{expr_words, exprs_words, count, words, block_words, nodes_words, expr_depth, exprs_depth, depth, nodes_depth}
-use Rattle.sock.specs.Reading.{code, Place, anywhere, node_fits, fields_fit, resting_fits, is_empty, fixed_at, part_stratum}
+use Rattle.sock.specs.Reading.{code, Place, anywhere, node_fits, fields_fit, resting_fits, is_empty, fixed_at}
 use Rattle.sock.specs.Handlers.{rebuilt, replaced, all_replaced}
+use Rattle.sock.proofs.Parts.{part_stratum}
 use Rattle.sock.proofs.Fits.{FitsExprs, no_exprs, one_expr, FitsFixed, no_fixed, one_fixed, Fits, fits, FitsBlock, no_list, a_list, empty_fits, entry_fits_on, FitsParts, no_part, one_part}
 use Rattle.sock.proofs.Fields.{From, end, ◌then◌, fact_at, four}
 use Rattle.sock.proofs.Nodes.{fields_test}

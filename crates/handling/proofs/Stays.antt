@@ -12,8 +12,9 @@ use Rattle.sock.specs.Kind.{row_of, rows}
 use Rattle.sock.specs.Words.{kind_of}
 use Rattle.sock.specs.Term.{Expr, Node, node, Block, Entries, no_entries, entry, Nodes, is_nil, nil_node, part_at, processes_of}
 use Rattle.sock.specs.Layout.{words, entries_words, depth, entries_depth}
-use Rattle.sock.specs.Reading.{Stratum, code, Place, anywhere, not_nil, allowed, placed, head_fits, part_stratum, part_place}
+use Rattle.sock.specs.Reading.{Stratum, code, Place, anywhere, not_nil, allowed, placed, head_fits}
 use Rattle.sock.specs.Handlers.{handler, without, put, rebuilt, replaced, all_replaced, installed, update}
+use Rattle.sock.proofs.Parts.{part_stratum, part_place}
 use Rattle.sock.proofs.Logic.{cond-case}
 use Rattle.sock.proofs.Fits.{Fits, fits, FitsParts, no_part, one_part}
 use Rattle.sock.proofs.Nodes.{head_tests, nil_fits}

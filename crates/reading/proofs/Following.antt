@@ -13,7 +13,8 @@ use Rattle.sock.specs.Kind.{rows, row_of}
 use Rattle.sock.specs.Words.{kind_of, count_of, second_of, next_variable}
 use Rattle.sock.specs.Variables.{further_of, variables_of, behind_variables, distinct}
 use Rattle.sock.specs.Term.{Expr, node, Block, absent, Nodes, no_parts, processes_of}
-use Rattle.sock.specs.Reading.{Got, got, and_then, check, Stratum, running, code, Place, anywhere, part_place, fields_fit, receives_in, node_fits, fixed_at, fixed_words, expr, exprs, block, parts, node_by, process}
+use Rattle.sock.specs.Reading.{Got, got, and_then, check, Stratum, running, code, Place, anywhere, fields_fit, receives_in, node_fits, fixed_at, fixed_words, expr, exprs, block, process}
+use Rattle.sock.proofs.Parts.{part_place, parts, node_left}
 use Rattle.sock.proofs.Logic.{test_true}
 use Rattle.sock.proofs.Nodes.{receives, receives_none, node_fits_lem}
 use Rattle.sock.proofs.Reading.{split}
@@ -83,7 +84,7 @@ solicit_order false l m x e = refl
 -- what follows a head ends where the walk says
 abbrev pub Follows : List ℕ → ℕ → ℕ → Stratum → Place → ℕ → ℕ → Type 0
 Follows ws bound d s p h i =
-    Ends ws i (node_by (expr d) (process d) s h (drop (i + 1) ws)) (node_end (expr_end d ws) (process_end d ws bound) ws (number_of s p) bound h i)
+    Ends ws i (node_left (expr d) (process d) s h (drop (i + 1) ws)) (node_end (expr_end d ws) (process_end d ws bound) ws (number_of s p) bound h i)
 
 module _
     (ws : List ℕ) (ok : Words ws) (bound d : ℕ) (below : Below ws bound d) (s : Stratum) (b : Bounded bound s) (p : Place) (h i : ℕ) (inside : i < length ws)
@@ -116,11 +117,11 @@ module _
     solicit_x e f = rw e
 
     pub nil_follows : kind_of h ≡ Kind.nil → Follows ws bound d s p h i
-    unfolding node_by row_of rows processes_of fixed_words exprs block parts and_then node_end
+    unfolding node_left row_of rows processes_of fixed_words exprs block parts and_then node_end
     nil_follows e = rw e (leaf [] [] absent (rw e tt) (omega arith) (omega arith))
 
     pub one_way_follows : kind_of h ≡ Kind.one_way → Follows ws bound d s p h i
-    unfolding node_by row_of rows processes_of exprs block parts and_then node_end one_way_end
+    unfolding node_left row_of rows processes_of exprs block parts and_then node_end one_way_end
     one_way_follows e =
         let t : Bool = list_test ws (i + 1) in
         let x : Bool = distinct (second_of h ∷ further_of (further_at ws (i + 1))) in
@@ -130,42 +131,42 @@ module _
         (ends_check (t && x) λ u. reads (let n = list_some ws (i + 1) (split t x u).0 in omega arith) (list_inside ws (i + 1) (split t x u).0))
 
     pub throw_follows : kind_of h ≡ Kind.throw → Follows ws bound d s p h i
-    unfolding node_by row_of rows processes_of fixed_words exprs block parts and_then node_end
+    unfolding node_left row_of rows processes_of fixed_words exprs block parts and_then node_end
     throw_follows e = rw e (leaf [] [] absent (rw e tt) (omega arith) (omega arith))
 
     pub comp_follows : kind_of h ≡ Kind.comp → Follows ws bound d s p h i
-    unfolding node_by row_of rows processes_of fixed_words exprs block parts and_then node_end
+    unfolding node_left row_of rows processes_of fixed_words exprs block parts and_then node_end
     comp_follows e = rw e (leaf [] [] absent (rw e tt) (omega arith) (omega arith))
 
     pub cH_follows : kind_of h ≡ Kind.cH → Follows ws bound d s p h i
-    unfolding node_by row_of rows processes_of fixed_words exprs block parts and_then node_end
+    unfolding node_left row_of rows processes_of fixed_words exprs block parts and_then node_end
     cH_follows e = rw e (leaf [] [] absent (rw e tt) (omega arith) (omega arith))
 
     pub assign_follows : kind_of h ≡ Kind.assign → Follows ws bound d s p h i
-    unfolding node_by row_of rows processes_of fixed_words block parts and_then node_end
+    unfolding node_left row_of rows processes_of fixed_words block parts and_then node_end
     assign_follows e = rw e (ends_last _ (one_expr ws ok d i (i + 1) (omega arith)) λ es p q. leaf [] es absent (rw e tt) p q)
 
     pub seq_follows : kind_of h ≡ Kind.seq → Follows ws bound d s p h i
-    unfolding node_by row_of rows processes_of fixed_words exprs block and_then node_end part_place
+    unfolding node_left row_of rows processes_of fixed_words exprs block and_then node_end part_place
     seq_follows e =
         rw (e, next_context s p, rest_context s p)
         (whole [] [] absent (rw e tt) (rw (kept s Kind.seq 1 tt, rested s Kind.seq 0 tt) at (two_parts ws bound d below s b Kind.seq i (i + 1) (omega arith))))
 
     pub par_follows : kind_of h ≡ Kind.par → Follows ws bound d s p h i
-    unfolding node_by row_of rows processes_of fixed_words exprs block and_then node_end part_place
+    unfolding node_left row_of rows processes_of fixed_words exprs block and_then node_end part_place
     par_follows e =
         rw (e, next_context s p)
         (whole [] [] absent (rw e tt) (rw (kept s Kind.par 1 tt, kept s Kind.par 0 tt) at (two_parts ws bound d below s b Kind.par i (i + 1) (omega arith))))
 
     pub if_follows : kind_of h ≡ Kind.if → Follows ws bound d s p h i
-    unfolding node_by row_of rows processes_of fixed_words block and_then node_end branch_end part_place
+    unfolding node_left row_of rows processes_of fixed_words block and_then node_end branch_end part_place
     if_follows e =
         rw (e, rest_context s p)
         (ends_then _ _ (one_expr ws ok d i (i + 1) (omega arith)) λ es p q.
         whole [] es absent (rw e tt) (rw (rested s Kind.if 1 tt, rested s Kind.if 0 tt) at (two_parts ws bound d below s b Kind.if i (expr_end d ws (i + 1)) (omega arith))))
 
     pub while_follows : kind_of h ≡ Kind.while → Follows ws bound d s p h i
-    unfolding node_by row_of rows processes_of fixed_words block and_then node_end repeat_end part_place
+    unfolding node_left row_of rows processes_of fixed_words block and_then node_end repeat_end part_place
     while_follows e =
         rw (e, rest_context s p)
         (ends_then _ _ (one_expr ws ok d i (i + 1) (omega arith)) λ es p q.
@@ -173,12 +174,12 @@ module _
 
     pub choice_follows :
         kind_of h ≡ Kind.choice →
-        Ends ws i (node_by (expr d) (process d) s h (drop (i + 1) ws)) (branches_end (process_end d ws bound) (number_of (code_of s) anywhere) (count_of h) (i + 1))
-    unfolding node_by row_of rows processes_of fixed_words exprs block and_then
+        Ends ws i (node_left (expr d) (process d) s h (drop (i + 1) ws)) (branches_end (process_end d ws bound) (number_of (code_of s) anywhere) (count_of h) (i + 1))
+    unfolding node_left row_of rows processes_of fixed_words exprs block and_then
     choice_follows e = rw e (whole [] [] absent (rw e tt) (branches_parts ws bound d below s b (count_of h) i (i + 1) (omega arith) (omega arith)))
 
     pub request_follows : kind_of h ≡ Kind.request → Follows ws bound d s p h i
-    unfolding node_by row_of rows processes_of exprs block and_then node_end request_end part_place
+    unfolding node_left row_of rows processes_of exprs block and_then node_end request_end part_place
     request_follows e =
         let t : Bool = fixed_after ws i 2048 in
         let l : Bool = list_test ws (i + 2) in
@@ -194,7 +195,7 @@ module _
         (rw (rested s Kind.request 0 tt) at (one_part_lem ws bound d below s b Kind.request i (j + at ws j) (omega arith)))))
 
     pub notify_follows : kind_of h ≡ Kind.notify → Follows ws bound d s p h i
-    unfolding node_by row_of rows processes_of exprs block parts and_then node_end notify_end
+    unfolding node_left row_of rows processes_of exprs block parts and_then node_end notify_end
     notify_follows e =
         let t : Bool = fixed_after ws i 2048 in
         let l : Bool = list_test ws (i + 2) in
@@ -203,7 +204,7 @@ module _
         leaf (at ws (i + 1) ∷ at ws (i + 2) ∷ further_at ws (i + 2) ++ []) [] absent (rw e tt) (omega arith) (list_inside ws (i + 2) (split t l u).1))
 
     pub solicit_follows : kind_of h ≡ Kind.solicit → Follows ws bound d s p h i
-    unfolding node_by row_of rows processes_of exprs parts and_then node_end solicit_end number_of
+    unfolding node_left row_of rows processes_of exprs parts and_then node_end solicit_end number_of
     solicit_follows e =
         let t : Bool = fixed_after ws i 64 in
         let l : Bool = list_test ws (i + 2) in
@@ -221,6 +222,6 @@ module _
         (list_any ws ok bound d (λ c. below (code c) is_code) false i (j + at ws j) (omega arith))))
 
     pub inst_follows : kind_of h ≡ Kind.inst → Follows ws bound d s p h i
-    unfolding node_by row_of rows processes_of fixed_words exprs parts and_then node_end number_of
+    unfolding node_left row_of rows processes_of fixed_words exprs parts and_then node_end number_of
     inst_follows e =
         rw e (ends_last _ (list_any ws ok bound d (λ c. below (code c) is_code) false i (i + 1) (omega arith)) λ l p q. leaf [] [] l (rw e tt) p q)

@@ -14,7 +14,7 @@ use Rattle.sock.specs.Kind
 use Rattle.sock.specs.Kind.{row_of}
 use Rattle.sock.specs.Words.{is_word, clear, kind_of, key_of}
 use Rattle.sock.specs.Term.{Expr, Node, list, Entries, entry, head_word, is_nil, entries_of}
-use Rattle.sock.specs.Reading.{Got, fail, got, and_then, check, Stratum, code, Place, anywhere, not_nil, allowed, placed, branched, head_fits, entry_fits, holds, entries, block, expr, node_by, process}
+use Rattle.sock.specs.Reading.{Got, fail, got, and_then, check, Stratum, code, Place, anywhere, not_nil, allowed, placed, branched, head_fits, entry_fits, holds, entries, block, expr, process, node_by}
 use Rattle.sock.proofs.Reading.{tests, Holds, nothing, something, holds_check}
 use Rattle.reading.specs.Walk.{on, when, at, key_at, entry_context, entries_end, list_end, process_end}
 use Rattle.reading.proofs.Contexts.{number_of}

@@ -11,7 +11,8 @@ use Rattle.sock.specs.Kind
 use Rattle.sock.specs.Kind.{Own, word}
 use Rattle.sock.specs.Words.{is_word, clear}
 use Rattle.sock.specs.Term.{no_parts, ◌&◌}
-use Rattle.sock.specs.Reading.{got, and_then, check, Stratum, running, code, Place, anywhere, guard, part_stratum, part_place, fixed_words, expr, exprs, parts, part_by, process}
+use Rattle.sock.specs.Reading.{got, and_then, check, Stratum, running, code, Place, anywhere, guard, fixed_words, expr, exprs, process}
+use Rattle.sock.proofs.Parts.{part_stratum, part_place, parts, part_by}
 use Rattle.sock.proofs.Logic.{cond-case, test_true, test_false}
 use Rattle.sock.proofs.Reading.{tests, split, both}
 use Rattle.reading.specs.Walk.{at, expr_end, two_end, branches_end, fixed_after, process_end}

@@ -11,7 +11,9 @@ use lib.ListN.{length, drop}
 use Rattle.sock.specs.Kind
 use Rattle.sock.specs.Kind.{rows, row_of}
 use Rattle.sock.specs.Words.{clear, kind_of, count_of}
-use Rattle.sock.specs.Reading.{fail, check, Stratum, running, code, Place, anywhere, allowed, placed, branched, head_fits, block, expr, process, node_by}
+use Rattle.sock.specs.Reading.{fail, check, Stratum, running, code, Place, anywhere, allowed, placed, branched, head_fits, block, expr, process}
+use Rattle.sock.proofs.PartsTable.{node_same}
+use Rattle.sock.proofs.Parts.{node_left}
 use Rattle.sock.proofs.Fields.{From, end, ◌then◌, fact_at}
 use Rattle.sock.proofs.Logic.{and_left, test_false}
 use Rattle.sock.proofs.Reading.{tests}
@@ -29,7 +31,7 @@ use Rattle.reading.proofs.Serials.{executor_follows, waiter_follows, notice_foll
 -- what follows, and the rest of the head's test
 abbrev Headed : List ℕ → ℕ → ℕ → Stratum → Place → ℕ → ℕ → Type 0
 Headed ws bound d s p h i =
-    Ends ws i (check (clear (row_of (kind_of h)).spare h && branched h) (node_by (expr d) (process d) s h (drop (i + 1) ws)))
+    Ends ws i (check (clear (row_of (kind_of h)).spare h && branched h) (node_left (expr d) (process d) s h (drop (i + 1) ws)))
     (when (clear (spare_for s (kind_of h)) h) (node_end (expr_end d ws) (process_end d ws bound) ws (number_of s p) bound h i))
 
 module _
@@ -115,6 +117,7 @@ read_ends ws ok bound (suc d) s b p i =
       when_and a (clear (spare_for s k) h),
       and_assoc a c (branched h),
       ← check_and a (c && branched h),
+      node_same (expr d) (process d) s h (drop (i + 1) ws),
     )
     (ends_check (ltb i (length ws)) λ t.
     ends_check a λ u. headed ws ok bound d (read_ends ws ok bound d) p h i (omega tests) s b (and_left (allowed s k) (placed p k) u))

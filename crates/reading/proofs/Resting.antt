@@ -11,9 +11,10 @@ use Rattle.sock.specs.Kind.{rows, row_of}
 use Rattle.sock.specs.Words.{clear, kind_of, bit, name_fields}
 use Rattle.sock.specs.Variables.{first_of, distinct}
 use Rattle.sock.specs.Term.{Expr, Node, node, Block, Nodes, Entries, no_entries, entry, list, part_at}
-use Rattle.sock.specs.Reading.{running, code, Place, anywhere, not_nil, root, allowed, placed, branched, fields_fit, receives_in, node_fits, resting_fits, is_empty, part_stratum, part_place}
+use Rattle.sock.specs.Reading.{running, code, Place, anywhere, not_nil, root, allowed, placed, branched, fields_fit, receives_in, node_fits, resting_fits, is_empty}
 use Rattle.sock.specs.Running.{Mark, unmarked, faulted, own_name, mark_number, marked_fault, scope_head, Run, as_node, awake, enable}
 use Rattle.sock.specs.Configuration.{is_unmarked, fresh_run}
+use Rattle.sock.proofs.Parts.{part_stratum, part_place}
 use Rattle.sock.proofs.Logic.{and_left, and_right, and_both, test_false}
 use Rattle.sock.proofs.Fits.{FitsExprs, no_exprs, FitsFixed, no_fixed, one_fixed, Fits, fits, FitsBlock, no_list, a_list, FitsParts, no_part, one_part, Sound, nil_sound, seq_sound, par_sound, scope_sound, executor_sound, waiter_sound, notice_sound, act_sound, rootable}
 use Rattle.sock.proofs.Fields.{fixed_fits, fault_below, head_kind, fields_below, scope_kind, scope_clear, scope_mark, scope_zombie, fault_of}

@@ -13,7 +13,8 @@ use Rattle.sock.specs.Kind.{rows, row_of}
 use Rattle.sock.specs.Words.{clear, kind_of, mark_of, zombie_of, first_name}
 use Rattle.sock.specs.Variables.{distinct}
 use Rattle.sock.specs.Term.{Node, node, Block, list, entries_of, processes_of}
-use Rattle.sock.specs.Reading.{Got, fail, got, and_then, check, Stratum, running, code, Place, anywhere, part_place, is_empty, scope_fits, resting_fits, fields_fit, receives_in, node_fits, exprs, entries, block, parts, part_by, expr, process, node_by}
+use Rattle.sock.specs.Reading.{Got, fail, got, and_then, check, Stratum, running, code, Place, anywhere, is_empty, scope_fits, resting_fits, fields_fit, receives_in, node_fits, exprs, entries, block, expr, process}
+use Rattle.sock.proofs.Parts.{part_place, parts, part_by, node_left}
 use Rattle.sock.proofs.Fields.{four, four_pass}
 use Rattle.sock.proofs.Reading.{tests, eq→eqb, split, both, Holds, nothing, something, holds_check, holds_then}
 use Rattle.reading.specs.Walk.{on, when, at, expr_end, marked_end, resting_end, scope_end, fixed_after, node_end, process_end}
@@ -202,7 +203,7 @@ module _
         λ t. rw (no_list t) (check_fail (fixed_after ws i 1024))
 
     pub running_follows : (p : Place) → kind_of h ≡ Kind.scope → Follows ws bound d (running (bound / 65536) (bound % 65536)) p h i
-    unfolding node_by row_of rows processes_of exprs and_then node_end scope_end part_place number_of
+    unfolding node_left row_of rows processes_of exprs and_then node_end scope_end part_place number_of
     running_follows p e =
         let s : Stratum = running (bound / 65536) (bound % 65536) in
         let w : ℕ = at ws (i + 1) in
@@ -216,9 +217,9 @@ module _
     -- of a scope that is code, with its head's test
     pub resting_follows :
         (c : Bool) (p : Place) → kind_of h ≡ Kind.scope →
-        Ends ws i (check (clear 4 h) (node_by (expr d) (process d) (code c) h (drop (i + 1) ws)))
+        Ends ws i (check (clear 4 h) (node_left (expr d) (process d) (code c) h (drop (i + 1) ws)))
         (when (clear 32 h) (node_end (expr_end d ws) (process_end d ws bound) ws (number_of (code c) p) bound h i))
-    unfolding node_by row_of rows processes_of exprs and_then node_end scope_end resting_end part_place
+    unfolding node_left row_of rows processes_of exprs and_then node_end scope_end resting_end part_place
     resting_follows c p e =
         let s : Stratum = code c in
         let w : ℕ = at ws (i + 1) in

@@ -13,7 +13,8 @@ use Rattle.sock.specs.Kind.{rows, row_of}
 use Rattle.sock.specs.Words.{clear, kind_of, second_of}
 use Rattle.sock.specs.Variables.{further_of, variables_of, distinct}
 use Rattle.sock.specs.Term.{node, Block, absent, no_parts, processes_of}
-use Rattle.sock.specs.Reading.{and_then, running, code, Place, part_place, end_fits, fields_fit, receives_in, node_fits, exprs, block, parts, node_by}
+use Rattle.sock.specs.Reading.{and_then, running, code, Place, end_fits, fields_fit, receives_in, node_fits, exprs, block}
+use Rattle.sock.proofs.Parts.{part_place, parts, node_left}
 use Rattle.sock.proofs.Logic.{and_left}
 use Rattle.sock.proofs.Reading.{tests}
 use Rattle.reading.specs.Walk.{on, when, at, variables_end, list_end, end_after, executor_own, executor_end, waiter_end, notice_end, node_end, process_end}
@@ -95,7 +96,7 @@ module _
     (ws : List ℕ) (ok : Words ws) (bound d : ℕ) (below : Below ws bound d) (p : Place) (h i : ℕ) (inside : i < length ws)
   where
     pub executor_follows : kind_of h ≡ Kind.executor → Follows ws bound d (running (bound / 65536) (bound % 65536)) p h i
-    unfolding node_by row_of rows processes_of exprs block and_then node_end executor_end executor_own part_place number_of
+    unfolding node_left row_of rows processes_of exprs block and_then node_end executor_end executor_own part_place number_of
     executor_follows e =
         let n : ℕ = bound / 65536 in
         let issued : ℕ = bound % 65536 in
@@ -113,7 +114,7 @@ module _
         (rw (kept (running n issued) Kind.executor 0 tt) at (one_part_lem ws bound d below (running n issued) is_running Kind.executor i j (omega arith)))))
 
     pub waiter_follows : kind_of h ≡ Kind.waiter → Follows ws bound d (running (bound / 65536) (bound % 65536)) p h i
-    unfolding node_by row_of rows processes_of exprs parts and_then node_end waiter_end number_of
+    unfolding node_left row_of rows processes_of exprs parts and_then node_end waiter_end number_of
     waiter_follows e =
         let n : ℕ = bound / 65536 in
         let issued : ℕ = bound % 65536 in
@@ -133,7 +134,7 @@ module _
         (list_any ws ok bound d (λ c. below (code c) is_code) false i j (omega arith))))
 
     pub notice_follows : kind_of h ≡ Kind.notice → Follows ws bound d (running (bound / 65536) (bound % 65536)) p h i
-    unfolding node_by row_of rows processes_of exprs block parts and_then node_end notice_end
+    unfolding node_left row_of rows processes_of exprs block parts and_then node_end notice_end
     notice_follows e =
         let n : ℕ = bound / 65536 in
         let issued : ℕ = bound % 65536 in

@@ -15,7 +15,7 @@ use Rattle.sock.specs.Term.{Node, node, absent, Entries, no_parts, ◌&◌}
 use Rattle.sock.specs.Layout.{words, exprs_words}
 use Rattle.sock.specs.Running.{Run, nil, executor, waiter, act, run_words, run_depth, enable}
 use Rattle.sock.specs.Configuration.{guarded}
-use Rattle.sock.specs.Rules.{Receiver, offer, followed, Exchange, notified, solicited, replied, faulting, awaited, inst_of}
+use Rattle.sock.specs.Rules.{Receiver, offer, followed, if_hears, if_serves, awaited, inst_of, throw_of, Exchange}
 use Rattle.sock.proofs.Fits.{Sound}
 use Rattle.sock.proofs.Fields.{turned_round}
 use Rattle.sock.proofs.Positions.{at_past, stands_within}
@@ -38,6 +38,36 @@ use Rattle.rules.proofs.Messages.{Listed, words_counted, ends_at, alike_counts, 
 use Rattle.rules.proofs.Offers.{Stands, bare_stands, branch_stands, Offers, silent, hearing, serving, not_kind, offers}
 use Rattle.rules.proofs.Exchanges.{Takes, hear_rewrites, serve_rewrites}
 use Rattle.rules.proofs.Waiters.{Awaits, awaiting, elsewhere, awaits, waits_first, waits_list, answer_rewrites, fail_rewrites}
+
+-- what a notify, a solicit, a reply and a fault make where the receiver is such a one
+abbrev pub notified : ℕ → List ℕ → ℕ → List ℕ → Receiver → Option Node → Option Exchange
+notified issued vs o v r next =
+    if_hears r λ op x.
+    guarded (eqb o op && eqb (length v) (length x))
+    (some (record { sender = nil; receiver = followed nil next; values = set_all vs x v; issued = issued; serial = 0; fault = 0 }))
+
+abbrev pub solicited : ℕ → ℕ → ℕ → List ℕ → ℕ → List ℕ → List ℕ → Entries → Receiver → Option Node → Option Exchange
+solicited issued client server vs o v x l r next =
+    if_serves r λ op x' y p.
+    guarded (eqb o op && eqb (length v) (length x') && eqb (length y) (length x))
+    (some
+    (record {
+      sender = waiter o x false server (suc issued) l;
+      receiver = followed (executor o y client (suc issued) (enable p)) next;
+      values = set_all vs x' v;
+      issued = suc issued;
+      serial = suc issued;
+      fault = 0;
+    }))
+
+abbrev pub replied : ℕ → ℕ → List ℕ → List ℕ → List ℕ → Bool → Entries → Option Exchange
+replied issued serial vs v x dead l =
+    guarded (eqb (length v) (length x))
+    (some (record { sender = nil; receiver = act (inst_of l); values = set_all vs x v; issued = issued; serial = serial; fault = 0 }))
+
+abbrev pub faulting : ℕ → ℕ → List ℕ → ℕ → List ℕ → Bool → Entries → Option Exchange
+faulting issued serial vs f x dead l =
+    some (record { sender = nil; receiver = cond dead nil (act (throw_of f)); values = vs; issued = issued; serial = serial; fault = 1 })
 
 -- they meet: the receiver r turns as t says into q, and its variables take what the store says; or they don't
 pub data Meets (b : Bool) (r : Run) (t : Rewriting) (fresh : List ℕ) (store : Store) (made : Run → Exchange) : Option Exchange → Type 0 where
@@ -150,7 +180,7 @@ module _ (part : List ℕ) (near-part : Near (length part)) (values va : List �
           {c : Receiver} {next : Option Node} → Offers ws r o c next →
           Meets (cond (fits_w ws o 7 h) (hears_w part ws o.guard) false) r (hear_w ws o heard) fresh heard (notifies (stored vs heard))
           (notified issued vs (name_of h) v c next)
-      unfolding notified guarded hears_w heard_w
+      unfolding if_hears guarded hears_w heard_w
       hears_when (silent a b) = misses (rw (a h))
       hears_when (serving {g} k s a x y p st) = misses (rw (fits_other ws r o 7 8 g h (omega arith) a k λ z. omega arith))
       hears_when (hearing {g} {x} {next} k s a hx st) = by (eqb (name_of h) (name_of g)) refl (eqb (length v) (length x)) refl
@@ -203,7 +233,7 @@ module _ (part : List ℕ) (near-part : Near (length part)) (values va : List �
           Meets (cond (fits_w ws o 8 h) (serves_w part ws o.guard) false) r (serve_w ws o client (suc issued) served fresh).rewriting
           (serve_w ws o client (suc issued) served fresh).fresh served (solicits (stored vs served))
           (solicited issued client server vs (name_of h) v x l c next)
-      unfolding solicited guarded serves_w served_w
+      unfolding if_serves guarded serves_w served_w
       serves_when (silent a b) = misses (rw (b h))
       serves_when (hearing {g} k s a x st) = misses (rw (fits_other ws r o 8 7 g h (omega arith) a k λ z. omega arith))
       serves_when (serving {g} {w} {x = x'} {y = y'} {p} {next} k s a front back f st) =
@@ -250,7 +280,7 @@ module _ (part : List ℕ) (near-part : Near (length part)) (values va : List �
 -- ---- a waiter
 
 module _ (n issued : ℕ) (few : n ≤ 8) (small : issued < 65536) (ws rest : List ℕ) (vs : List ℕ) (fresh : List ℕ) (room : 1 ≤ length fresh)
-    (b : Bool) (what : (List ℕ → Bool) → (List ℕ → Bool → Entries → Exchange) → Option Exchange) (serial : ℕ) where
+    (b : Bool) (what : (List ℕ → Bool → Entries → Option Exchange) → Option Exchange) (serial : ℕ) where
   -- an executor's reply
   module _ (part : List ℕ) (near-part : Near (length part)) (values va : List ℕ) (same : (x : ℕ) → value_in values x ≡ get_or va x 0)
       (close : Near (length ws)) (y : List ℕ) (first : second_of (at part 0) ≡ first_of y) (sent : Listed part 3 y) where
@@ -263,10 +293,10 @@ module _ (n issued : ℕ) (few : n ≤ 8) (small : issued < 65536) (ws rest : Li
     replies_when :
         (r : Run) → ws ≡ run_words r ++ rest → Sound n issued r → run_depth r ≤ 64 → Awaits b what r →
         Meets (cond b (answers_w part ws) false) r (answer_w ws answered fresh).rewriting (answer_w ws answered fresh).fresh answered (replies (stored vs answered))
-        (what (λ x. eqb (length (values_at va y)) (length x)) (λ x dead l. replied issued serial vs (values_at va y) x l))
-    unfolding replied guarded answers_w answered_w
-    replies_when r stands s deep (elsewhere e k) = rw (k _ _, e) (misses refl)
-    replies_when r stands s deep (awaiting {x = x} {l = l} e k) = rw (k _ _, e) (by (eqb (length (values_at va y)) (length x)) refl)
+        (what (replied issued serial vs (values_at va y)))
+    unfolding guarded answers_w answered_w
+    replies_when r stands s deep (elsewhere e k) = rw (k _, e) (misses refl)
+    replies_when r stands s deep (awaiting {x = x} {l = l} e k) = rw (k _, e) (by (eqb (length (values_at va y)) (length x)) refl)
       where
         list : Listed ws 3 x
         list = waits_list n issued ws few small rest s stands
@@ -277,7 +307,7 @@ module _ (n issued : ℕ) (few : n ≤ 8) (small : issued < 65536) (ws rest : Li
         by :
             (c : Bool) → eqb (length (values_at va y)) (length x) ≡ c →
             Meets (answers_w part ws) r (answer_w ws answered fresh).rewriting (answer_w ws answered fresh).fresh answered (replies (stored vs answered))
-            (guarded (eqb (length (values_at va y)) (length x)) (some (replied issued serial vs (values_at va y) x l)))
+            (guarded (eqb (length (values_at va y)) (length x)) (some (replies (set_all vs x (values_at va y)) (act (inst_of l)))))
         by true q =
             let alike : length y ≡ length x = sym (values_count va y) ∙ eqb-true (length (values_at va y)) (length x) q in
             let took : stored vs answered ≡ set_all vs x (values_at va y) =
@@ -294,10 +324,9 @@ module _ (n issued : ℕ) (few : n ≤ 8) (small : issued < 65536) (ws rest : Li
       (w : ℕ) (r : Run) → ws ≡ run_words r ++ rest → Sound n issued r → run_depth r ≤ 64 → Awaits b what r →
       Meets b r (fail_w ws w fresh).rewriting (fail_w ws w fresh).fresh unchanged
       (λ q. record { sender = nil; receiver = q; values = vs; issued = issued; serial = serial; fault = 1 })
-      (what (λ x. true) (λ x dead l. faulting issued serial vs (first_name w) dead))
-  unfolding faulting guarded
-  faults_when w r stands s deep (awaiting e k) = rw (k _ _) (meets e (fail_rewrites n issued ws few small rest s stands deep w fresh room))
-  faults_when w r stands s deep (elsewhere e k) = rw (k _ _) (misses e)
+      (what (faulting issued serial vs (first_name w)))
+  faults_when w r stands s deep (awaiting e k) = rw (k _) (meets e (fail_rewrites n issued ws few small rest s stands deep w fresh room))
+  faults_when w r stands s deep (elsewhere e k) = rw (k _) (misses e)
 
 -- ---- by rule
 
@@ -345,18 +374,19 @@ module _ (n issued : ℕ) (ws : List ℕ) (few : n ≤ 8) (small : issued < 6553
         (let s = answered_w part values ws in
         Meets (cond (awaits_w ws h serial client sender receiver) (answers_w part ws) false) r (answer_w ws s fresh).rewriting (answer_w ws s fresh).fresh s
         (λ q. record { sender = nil; receiver = q; values = stored vs s; issued = issued; serial = serial; fault = 0 })
-        (awaited sender receiver 0 (name_of h) client serial (λ x. eqb (length (values_at va y)) (length x)) r
-        (λ x dead l. replied issued serial vs (values_at va y) x l)))
+        (awaited (record { issued = issued; sender = sender; receiver = receiver; values = vs; process = r; branch = 0 }) (name_of h) client serial
+        (replied issued serial vs (values_at va y))))
     reply_meets sent h serial client sender receiver fresh room =
         replies_when n issued few small ws rest vs fresh room _ _ serial part near-part values va same close y first sent r stands sound deep
-        (awaits ws rest h serial client sender receiver n issued few r sound stands)
+        (awaits ws rest h serial client sender receiver n issued few vs r sound stands)
 
   -- h and w are the notice's first words
   pub fault_meets :
       (h serial client sender receiver : ℕ) (fresh : List ℕ) → 1 ≤ length fresh → (w : ℕ) →
       Meets (awaits_w ws h serial client sender receiver) r (fail_w ws w fresh).rewriting (fail_w ws w fresh).fresh unchanged
       (λ q. record { sender = nil; receiver = q; values = vs; issued = issued; serial = serial; fault = 1 })
-      (awaited sender receiver 0 (name_of h) client serial (λ x. true) r (λ x dead l. faulting issued serial vs (first_name w) dead))
+      (awaited (record { issued = issued; sender = sender; receiver = receiver; values = vs; process = r; branch = 0 }) (name_of h) client serial
+      (faulting issued serial vs (first_name w)))
   fault_meets h serial client sender receiver fresh room w =
       faults_when n issued few small ws rest vs fresh room _ _ serial w r stands sound deep
-      (awaits ws rest h serial client sender receiver n issued few r sound stands)
+      (awaits ws rest h serial client sender receiver n issued few vs r sound stands)

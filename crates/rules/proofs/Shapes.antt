@@ -13,7 +13,8 @@ use Rattle.sock.specs.Kind.{word, variables, rows, row_of}
 use Rattle.sock.specs.Words.{kind_of, count_of, second_of, first_variable, next_variable, is_word, clear}
 use Rattle.sock.specs.Variables.{first_of, variable_words, variables_of}
 use Rattle.sock.specs.Term.{Expr, Node, node, Block, absent, list, Entries, Nodes, no_parts, ◌&◌, kind, processes_of}
-use Rattle.sock.specs.Reading.{code, anywhere, branched, part_stratum, part_place}
+use Rattle.sock.specs.Reading.{code, anywhere, branched}
+use Rattle.sock.proofs.Parts.{part_stratum, part_place}
 use Rattle.sock.proofs.Fits.{FitsExpr, FitsExprs, no_exprs, one_expr, FitsFixed, no_fixed, one_fixed, some_variables, FitsVariables, Fits, fits, FitsBlock, no_list, a_list, FitsEntries, FitsParts, no_part, one_part, is_plain}
 use Rattle.sock.proofs.Fields.{From, end, ◌then◌, fact_at}
 use Rattle.sock.proofs.ByKind.{head_tests, code_kind}

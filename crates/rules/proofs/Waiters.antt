@@ -1,10 +1,10 @@
 -- A waiter on words: what a solicit turns into, whether a message is for it, and what a reply and a fault make of it.
 -- Assumes nothing.
-use Prim.Native.Nat.{ℕ, suc, ◌+◌, ◌*◌, ◌%◌, ◌≤◌, ◌<◌}
+use Prim.Native.Nat.{ℕ, ◌+◌, ◌*◌, ◌%◌, ◌≤◌, ◌<◌}
 use native.Mathlib.Omega.{arith}
 use mathlib.Core.Path.{◌≡◌, refl, sym, ap, ◌∙◌}
 use mathlib.Core.Bool.{Bool, true, false, ◌&&◌, cond}
-use mathlib.Core.Option.{Option, none, some}
+use mathlib.Core.Option.{Option, none}
 use mathlib.Core.List.{List, [], ◌∷◌, ◌++◌, append-nil, append_assoc}
 use borrow.Author.Tests.{eq-eqb, ne_eqb}
 use lib.Dec.{T, eqb}
@@ -17,7 +17,7 @@ use Rattle.sock.specs.Reading.{code, anywhere, end_fits}
 use Rattle.sock.specs.Running.{Run, nil, seq, par, scope, executor, waiter, notice, act, as_node, run_words, size, run_depth}
 use Rattle.sock.specs.Frames.{is_done}
 use Rattle.sock.specs.Configuration.{guarded}
-use Rattle.sock.specs.Rules.{Exchange, awaited, inst_of, throw_of}
+use Rattle.sock.specs.Rules.{Meeting, if_waits, awaited, inst_of, throw_of, Exchange}
 use Rattle.sock.proofs.Fits.{FitsVariables, Fits, Sound, nil_sound, seq_sound, par_sound, scope_sound, executor_sound, waiter_sound, notice_sound, act_sound}
 use Rattle.sock.proofs.Fields.{turned_round, head_kind, fields_below, name_of_lem, second_of_lem, server_of, end_tests}
 use Rattle.sock.proofs.ByKind.{run_kind, kind_as_node, code_kind}
@@ -218,14 +218,13 @@ module _ (n issued : ℕ) (ws : List ℕ) (few : n ≤ 8) (small : issued < 6553
 
 -- ---- whether a message is for what stands there
 
--- the test says true: a waiter that the message is for, if `alike` says so of its variables; false: none
-pub data Awaits (b : Bool) (what : (List ℕ → Bool) → (List ℕ → Bool → Entries → Exchange) → Option Exchange) : Run → Type 0 where
+-- the test says true: a waiter that the message is for; false: none
+pub data Awaits (b : Bool) (what : (List ℕ → Bool → Entries → Option Exchange) → Option Exchange) : Run → Type 0 where
   awaiting :
       {o server serial : ℕ} {x : List ℕ} {dead : Bool} {l : Entries} →
-      b ≡ true → ((alike : List ℕ → Bool) (k : List ℕ → Bool → Entries → Exchange) → what alike k ≡ guarded (alike x) (some (k x dead l))) →
+      b ≡ true → ((k : List ℕ → Bool → Entries → Option Exchange) → what k ≡ k x dead l) →
       Awaits b what (waiter o x dead server serial l)
-  elsewhere :
-      {r : Run} → b ≡ false → ((alike : List ℕ → Bool) (k : List ℕ → Bool → Entries → Exchange) → what alike k ≡ none) → Awaits b what r
+  elsewhere : {r : Run} → b ≡ false → ((k : List ℕ → Bool → Entries → Option Exchange) → what k ≡ none) → Awaits b what r
 
 nested : (a b c d : Bool) → cond a (cond b (cond (cond c true false) d false) false) false ≡ (true && d && c && a && b)
 nested true true true true = refl
@@ -256,7 +255,11 @@ module _ (ws rest : List ℕ) (h serial client sender receiver : ℕ) where
       by true false = refl
       by false b = refl
 
-  module _ (n issued : ℕ) (few : n ≤ 8) where
+  module _ (n issued : ℕ) (few : n ≤ 8) (vs : List ℕ) where
+    -- who meets, where the branch is 0
+    abbrev met : Run → Meeting
+    met r = record { issued = issued; sender = sender; receiver = receiver; values = vs; process = r; branch = 0 }
+
     other : (r : Run) → Sound n issued r → ws ≡ run_words r ++ rest → (run_kind r ≡ 17 → ⊥) →
         awaits_w ws h serial client sender receiver ≡ false
     unfolding run_words
@@ -290,42 +293,45 @@ module _ (ws rest : List ℕ) (h serial client sender receiver : ℕ) where
           )
           (nested (eqb client receiver) (eqb server sender) (eqb (name_of h) o) (eqb serial number))
 
-      for_waiter : Awaits (awaits_w ws h serial client sender receiver)
-          (λ alike k. awaited sender receiver 0 (name_of h) client serial alike (waiter o x dead server number l) k) (waiter o x dead server number l)
-      unfolding awaited guarded
+      for_waiter : Awaits (awaits_w ws h serial client sender receiver) (awaited (met (waiter o x dead server number l)) (name_of h) client serial) (waiter o x dead server number l)
+      unfolding awaited if_waits guarded
       for_waiter = by test refl
         where
           by :
               (b : Bool) → test ≡ b →
-              Awaits (awaits_w ws h serial client sender receiver)
-              (λ alike k. awaited sender receiver 0 (name_of h) client serial alike (waiter o x dead server number l) k)
+              Awaits (awaits_w ws h serial client sender receiver) (awaited (met (waiter o x dead server number l)) (name_of h) client serial)
               (waiter o x dead server number l)
-          by true e = awaiting (tested ∙ e) (λ alike k. ap (λ b. guarded b (some (k x dead l))) (ap (λ b. b && alike x) e))
-          by false e = elsewhere (tested ∙ e) (λ alike k. ap (λ b. guarded b (some (k x dead l))) (ap (λ b. b && alike x) e))
+          by true e = awaiting (tested ∙ e) (λ k. ap (λ b. guarded b (k x dead l)) e)
+          by false e = elsewhere (tested ∙ e) (λ k. ap (λ b. guarded b (k x dead l)) e)
 
     -- whether an end with the head h in the engine `sender`, naming `client` and that serial, is for r in the engine `receiver`
     pub awaits : (r : Run) → Sound n issued r → ws ≡ run_words r ++ rest →
-        Awaits (awaits_w ws h serial client sender receiver) (λ alike k. awaited sender receiver 0 (name_of h) client serial alike r k) r
-    unfolding awaited
-    awaits r nil_sound stands = elsewhere (other r nil_sound stands λ e. omega arith) (λ alike k. refl)
-    awaits r (seq_sound a d q) stands = elsewhere (other r (seq_sound a d q) stands λ e. omega arith) (λ alike k. refl)
-    awaits r (par_sound a d b t) stands = elsewhere (other r (par_sound a d b t) stands λ e. omega arith) (λ alike k. refl)
-    awaits r (scope_sound b m l a) stands = elsewhere (other r (scope_sound b m l a) stands λ e. omega arith) (λ alike k. refl)
-    awaits r (executor_sound b y t a) stands = elsewhere (other r (executor_sound b y t a) stands λ e. omega arith) (λ alike k. refl)
-    awaits r (notice_sound b f t) stands = elsewhere (other r (notice_sound b f t) stands λ e. omega arith) (λ alike k. refl)
-    awaits r (act_sound t f) stands = elsewhere (other r (act_sound t f) stands λ e. omega (arith, code_kind f)) (λ alike k. refl)
+        Awaits (awaits_w ws h serial client sender receiver) (awaited (met r) (name_of h) client serial) r
+    unfolding awaited if_waits
+    awaits r nil_sound stands = elsewhere (other r nil_sound stands λ e. omega arith) (λ k. refl)
+    awaits r (seq_sound a d q) stands = elsewhere (other r (seq_sound a d q) stands λ e. omega arith) (λ k. refl)
+    awaits r (par_sound a d b t) stands = elsewhere (other r (par_sound a d b t) stands λ e. omega arith) (λ k. refl)
+    awaits r (scope_sound b m l a) stands = elsewhere (other r (scope_sound b m l a) stands λ e. omega arith) (λ k. refl)
+    awaits r (executor_sound b y t a) stands = elsewhere (other r (executor_sound b y t a) stands λ e. omega arith) (λ k. refl)
+    awaits r (notice_sound b f t) stands = elsewhere (other r (notice_sound b f t) stands λ e. omega arith) (λ k. refl)
+    awaits r (act_sound t f) stands = elsewhere (other r (act_sound t f) stands λ e. omega (arith, code_kind f)) (λ k. refl)
     awaits r (waiter_sound b x t l) stands = for_waiter (waiter_sound b x t l) stands
 
 -- with another branch there is none
 pub awaited_branch :
-    (sender receiver i o client serial : ℕ) (alike : List ℕ → Bool) (r : Run) (k : List ℕ → Bool → Entries → Exchange) →
-    awaited sender receiver (suc i) o client serial alike r k ≡ none
-unfolding awaited guarded
-awaited_branch sender receiver i o client serial alike nil k = refl
-awaited_branch sender receiver i o client serial alike (seq p q) k = refl
-awaited_branch sender receiver i o client serial alike (par p q) k = refl
-awaited_branch sender receiver i o client serial alike (scope name mark zombie h p) k = refl
-awaited_branch sender receiver i o client serial alike (executor op y c s p) k = refl
-awaited_branch sender receiver i o client serial alike (waiter op x dead server s l) k = rw (ne_eqb (suc i) 0 (λ e. omega arith))
-awaited_branch sender receiver i o client serial alike (notice op f c s) k = refl
-awaited_branch sender receiver i o client serial alike (act p) k = refl
+    (m : Meeting) (o client serial : ℕ) (k : List ℕ → Bool → Entries → Option Exchange) → (m.branch ≡ 0 → ⊥) → awaited m o client serial k ≡ none
+unfolding awaited if_waits guarded
+awaited_branch m o client serial k other = by m.process
+  where
+    none_of : (op s server : ℕ) → eqb m.branch 0 && eqb serial s && eqb o op && eqb client m.receiver && eqb server m.sender ≡ false
+    none_of op s server = rw (ne_eqb m.branch 0 other)
+
+    by : (r : Run) → if_waits r (λ op x dead server s l. guarded (eqb m.branch 0 && eqb serial s && eqb o op && eqb client m.receiver && eqb server m.sender) (k x dead l)) ≡ none
+    by nil = refl
+    by (seq p q) = refl
+    by (par p q) = refl
+    by (scope name mark zombie h p) = refl
+    by (executor op y c s p) = refl
+    by (waiter op x dead server s l) = ap (λ b. guarded b (k x dead l)) (none_of op s server)
+    by (notice op f c s) = refl
+    by (act p) = refl

@@ -14,12 +14,12 @@ use lib.Seq.{get_or-set_same, get_or-set_other, ext_get_or}
 use borrow.Author.Tests.{eq-eqb}
 use Rattle.sock.specs.Words.{bit}
 use Rattle.sock.specs.Variables.{member}
-use Rattle.sock.specs.Term.{Node, Entries}
+use Rattle.sock.specs.Term.{Entries}
 use Rattle.sock.specs.Running.{Run, nil, seq, par, scope, executor, waiter, notice, act, run_depth}
 use Rattle.sock.specs.Configuration.{Engine, Config, engines_depth, guarded}
 use Rattle.sock.specs.Frames.{Frame, locate, plug}
-use Rattle.sock.specs.Rules.{also, Message, notification, solicitation, reply, failure, Move, stuck, alone, unvalued, sends, Receiver, deaf, hears, serves, offer, Exchange, notified, awaited, replied, faulting, exchange}
-use Rattle.sock.specs.Calls.{Numbers, Spot, engine_at, enabled_at, Effect, lone, between, Stepped, with_engine, carried_out}
+use Rattle.sock.specs.Rules.{also, Message, notification, solicitation, reply, failure, Move, stuck, alone, unvalued, sends, Receiver, deaf, hears, serves, offer, Meeting, if_hears, if_waits, awaited, Exchange, exchange}
+use Rattle.sock.specs.Calls.{Numbers, Spot, engine_at, enabled_at, Effect, lone, between, meeting, Stepped, with_engine, carried_out}
 use Rattle.sock.specs.Runs.{of_spot, is_solicit}
 use Rattle.sock.specs.Beside.{engines_of, engines_at, apart}
 use Rattle.sock.proofs.Logic.{and_left, and_right, and_both, or_left, or_right, or_case, true_test, false_test, All, all_none, all_some, all_also, all_guarded, all_some_lem}
@@ -45,48 +45,53 @@ unfolding guarded also
 guarded_also true o f = refl
 guarded_also false o f = refl
 
-module _ (i i' : ℕ) where
+-- what is then done with what a receiver makes may be done in it
+hears_also :
+    {A B : Type 0} (r : Receiver) (k : ℕ → List ℕ → Option A) (k' : ℕ → List ℕ → Option B) (f : A → Option B) →
+    ((o : ℕ) (x : List ℕ) → k' o x ≡ also (k o x) f) → if_hears r k' ≡ also (if_hears r k) f
+unfolding if_hears also
+hears_also deaf k k' f e = refl
+hears_also (hears o x) k k' f e = e o x
+hears_also (serves o x y p) k k' f e = refl
+
+waits_also :
+    {A B : Type 0} (p : Run) (k : ℕ → List ℕ → Bool → ℕ → ℕ → Entries → Option A) (k' : ℕ → List ℕ → Bool → ℕ → ℕ → Entries → Option B) (f : A → Option B) →
+    ((o : ℕ) (x : List ℕ) (dead : Bool) (server serial : ℕ) (l : Entries) → k' o x dead server serial l ≡ also (k o x dead server serial l) f) →
+    if_waits p k' ≡ also (if_waits p k) f
+unfolding if_waits also
+waits_also nil k k' f e = refl
+waits_also (seq p q) k k' f e = refl
+waits_also (par p q) k k' f e = refl
+waits_also (scope name mark zombie h p) k k' f e = refl
+waits_also (executor o y client serial p) k k' f e = refl
+waits_also (waiter o x dead server serial l) k k' f e = e o x dead server serial l
+waits_also (notice o g client serial) k k' f e = refl
+waits_also (act p) k k' f e = refl
+
+abbrev pub with_issued : ℕ → Meeting → Meeting
+with_issued i k =
+    record { issued = i; sender = k.sender; receiver = k.receiver; values = k.values; process = k.process; branch = k.branch }
+
+module _ (i' : ℕ) (k : Meeting) where
   abbrev again : Exchange → Option Exchange
   again x = some (reissued i' x)
 
-  notified_unread :
-      (vs : List ℕ) (o : ℕ) (v : List ℕ) (r : Receiver) (next : Option Node) → notified i' vs o v r next ≡ also (notified i vs o v r next) again
-  unfolding notified also
-  notified_unread vs o v deaf next = refl
-  notified_unread vs o v (hears op x) next = guarded_also (eqb o op && eqb (length v) (length x)) _ again
-  notified_unread vs o v (serves op x y p) next = refl
-
-  awaited_unread :
-      (sender receiver b o client serial : ℕ) (alike : List ℕ → Bool) (p : Run) (k k' : List ℕ → Bool → Entries → Exchange) →
-      ((x : List ℕ) (dead : Bool) (l : Entries) → k' x dead l ≡ reissued i' (k x dead l)) →
-      awaited sender receiver b o client serial alike p k' ≡ also (awaited sender receiver b o client serial alike p k) again
-  unfolding awaited also
-  awaited_unread sender receiver b o client serial alike nil k k' e = refl
-  awaited_unread sender receiver b o client serial alike (seq p q) k k' e = refl
-  awaited_unread sender receiver b o client serial alike (par p q) k k' e = refl
-  awaited_unread sender receiver b o client serial alike (scope name mark zombie h p) k k' e = refl
-  awaited_unread sender receiver b o client serial alike (executor op y c s p) k k' e = refl
-  awaited_unread sender receiver b o client serial alike (waiter op x dead server s l) k k' e =
-      ap (λ z. guarded (eqb b 0 && eqb serial s && eqb o op && eqb client receiver && eqb server sender && alike x) (some z)) (e x dead l)
-      ∙ guarded_also (eqb b 0 && eqb serial s && eqb o op && eqb client receiver && eqb server sender && alike x) _ again
-  awaited_unread sender receiver b o client serial alike (notice op f c s) k k' e = refl
-  awaited_unread sender receiver b o client serial alike (act p) k k' e = refl
-
-  pub exchange_unread :
-      (sender receiver b : ℕ) (vs : List ℕ) (p : Run) (m : Message) →
-      is_request m ≡ false →
-      exchange i' sender receiver b vs p m ≡ also (exchange i sender receiver b vs p m) again
-  unfolding exchange replied faulting
-  exchange_unread sender receiver b vs p (notification o v z) e =
-      ap (guarded (eqb z receiver)) (notified_unread vs o v (offer p b).receives (offer p b).next) ∙ guarded_also (eqb z receiver) _ again
-  exchange_unread sender receiver b vs p (solicitation o v z x l) e = absurd (true_false e)
+  pub exchange_unread : (m : Message) → is_request m ≡ false → exchange (with_issued i' k) m ≡ also (exchange k m) again
+  unfolding exchange awaited also guarded
+  exchange_unread (notification o v z) e =
+      ap (guarded (eqb z k.receiver))
+      (hears_also (offer k.process k.branch).receives _ _ again λ op x. guarded_also _ _ again)
+      ∙ guarded_also (eqb z k.receiver) _ again
+  exchange_unread (solicitation o v z x l) e = absurd (true_false e)
     where
       true_false : true ≡ false → ⊥
       true_false q = subst T q tt
-  exchange_unread sender receiver b vs p (reply o v client serial) e =
-      awaited_unread sender receiver b o client serial _ p _ _ (λ x dead l. refl)
-  exchange_unread sender receiver b vs p (failure o f client serial) e =
-      awaited_unread sender receiver b o client serial _ p _ _ (λ x dead l. refl)
+  exchange_unread (reply o v client serial) e =
+      waits_also k.process _ _ again λ op x dead server s l.
+      ap (guarded (eqb k.branch 0 && eqb serial s && eqb o op && eqb client k.receiver && eqb server k.sender)) (guarded_also (eqb (length v) (length x)) _ again)
+      ∙ guarded_also _ _ again
+  exchange_unread (failure o f client serial) e =
+      waits_also k.process _ _ again λ op x dead server s l. guarded_also _ _ again
 
 -- a message asks where its process is a solicit
 request_solicits : {fs : List Frame} {p : Run} {m : Message} → Moves fs p (sends m) → is_request m ≡ is_solicit p
@@ -282,7 +287,7 @@ taken_keeps {c} {k} (taken_between a b m x at e meets t q) =
           (λ h. out_second i k.engine k.second two u (h ∙ w'.engine)))
           refl;
       issued =
-          trade_issued (all_some_lem (exchange_trade c.issued a.engine b.engine a.process b.process b.values k.branch (sends_moves a e)) q)
+          trade_issued (all_some_lem (exchange_trade (meeting c k a b) a.process (sends_moves a e)) q)
           ∙ ap (λ z. c.issued + bit z) (sym (solicit_at_is c k a at));
     }
 
@@ -355,7 +360,7 @@ taken_moved {c} {c'} {k} (taken_between a b m x at e meets t q) g = by (is_reque
         rw (h ∙ sym v.engine)
         (get_or_second c'.engines a.engine b.engine _ _ v'.below ∙ sym (get_or_second c.engines a.engine b.engine _ _ v.below))
 
-    given : (n : ℕ) → exchange c'.issued a.engine b.engine k.branch b.values b.process m ≡ some (reissued n x) → Moved c c' k (by_two c a b x)
+    given : (n : ℕ) → exchange (meeting c' k a b) m ≡ some (reissued n x) → Moved c c' k (by_two c a b x)
     given n h =
         record {
           next = by_two c' a b (reissued n x);
@@ -369,12 +374,12 @@ taken_moved {c} {c'} {k} (taken_between a b m x at e meets t q) g = by (is_reque
     by : (r : Bool) → is_request m ≡ r → Moved c c' k (by_two c a b x)
     by true h =
         given x.issued
-        (ap (λ n. exchange n a.engine b.engine k.branch b.values b.process m)
+        (ap (λ n. exchange (with_issued n (meeting c k a b)) m)
         (g.issued (solicit_at_is c k a at ∙ sym (request_solicits (sends_moves a e)) ∙ h))
         ∙ q)
     by false h =
         given c'.issued
-        (exchange_unread c.issued c'.issued a.engine b.engine k.branch b.values b.process m h ∙ ap (λ o. also o (again c.issued c'.issued)) q)
+        (exchange_unread c'.issued (meeting c k a b) m h ∙ ap (λ o. also o (again c'.issued (meeting c k a b))) q)
 
 -- ---- two steps with no engine in common, not both solicits
 

@@ -11,10 +11,11 @@ use Rattle.sock.specs.Kind.{row_of}
 use Rattle.sock.specs.Words.{clear, kind_of, count_of, name_fields}
 use Rattle.sock.specs.Variables.{first_of}
 use Rattle.sock.specs.Term.{Expr, Node, node, Block, Nodes, kind, processes_of}
-use Rattle.sock.specs.Reading.{Stratum, running, code, Place, anywhere, not_nil, guard, root, allowed, placed, branched, head_fits, node_fits, part_stratum}
+use Rattle.sock.specs.Reading.{Stratum, running, code, Place, anywhere, not_nil, guard, root, allowed, placed, branched, head_fits, node_fits}
 use Rattle.sock.specs.Running.{Run, nil, seq, par, scope, executor, waiter, notice, act, as_node}
 use Rattle.sock.specs.Configuration.{is_scope}
 use Rattle.sock.specs.Frames.{is_done}
+use Rattle.sock.proofs.Parts.{part_stratum}
 use Rattle.sock.proofs.Fits.{FitsExprs, FitsFixed, Fits, fits, FitsBlock, FitsParts, no_part, one_part, Sound, nil_sound, seq_sound, par_sound, scope_sound, executor_sound, waiter_sound, notice_sound, act_sound, PlacedRun}
 use Rattle.sock.proofs.Variables.{laid}
 use Rattle.sock.proofs.Fields.{four, four_pass, plain_kind, head_kind, fields_below, scope_kind}

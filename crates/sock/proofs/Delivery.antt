@@ -3,7 +3,7 @@
 use Prim.Native.Nat.{ℕ, suc, ◌≤◌}
 use native.Mathlib.Omega.{arith}
 use mathlib.Core.Path.{◌≡◌, refl, ap, ◌∙◌}
-use mathlib.Core.Bool.{Bool, true, false, not, ◌&&◌}
+use mathlib.Core.Bool.{Bool, true, false, not, ◌&&◌, cond}
 use mathlib.Core.Option.{Option, some}
 use mathlib.Core.List.{List, [], ◌∷◌, append-nil}
 use lib.Dec.{T, leb, eqb, eqb_refl, eqb→eq, not_T, le→leb}
@@ -15,7 +15,7 @@ use Rattle.sock.specs.Layout.{exprs_words, words, entries_words, exprs_depth, de
 use Rattle.sock.specs.Running.{Run, nil, executor, waiter, notice, act, as_node}
 use Rattle.sock.specs.Configuration.{Limits, Engine, Config, encode, engines_depth, read_config}
 use Rattle.sock.specs.Frames.{Frame, is_done, plug}
-use Rattle.sock.specs.Rules.{also, Message, reply, failure, Move, sends, once_done, move_of, Exchange, inst_of, throw_of, replied, faulting, awaited, exchange}
+use Rattle.sock.specs.Rules.{also, Message, reply, failure, Move, sends, once_done, move_of, if_waits, awaited, inst_of, throw_of, Exchange, exchange}
 use Rattle.sock.specs.Calls.{Refusal, Result, done, ◌>>=◌, ◌>>◌, ◌!◌, ◌unless◌, Numbers, Spot, engine_at, enabled_at, movable, partner, Effect, between, effect, Stepped, with_engine, carried_out, step}
 use Rattle.sock.specs.Runs.{delivery}
 use Rattle.sock.proofs.Logic.{and_both, true_test, cond-case, all_some_lem}
@@ -67,7 +67,7 @@ record Delivers (s e e' issued : ℕ) (vs vs' : List ℕ) (fs : List Frame) (r r
   message : Message
   sent : move_of vs fs r ≡ sends message
   exchanged : Exchange
-  taken : exchange issued e e' 0 vs' r' message ≡ some exchanged
+  taken : exchange (record { issued = issued; sender = e; receiver = e'; values = vs'; process = r'; branch = 0 }) message ≡ some exchanged
   sender : NoLarger exchanged.sender r
   receiver : NoLarger exchanged.receiver r'
   counted : length exchanged.values ≡ length vs'
@@ -75,13 +75,10 @@ record Delivers (s e e' issued : ℕ) (vs vs' : List ℕ) (fs : List Frame) (r r
   serial : exchanged.serial ≡ s
 
 -- the tests that the two ends pass
-named : (e e' s o : ℕ) (alike : Bool) → T alike → T (eqb 0 0 && eqb s s && eqb o o && eqb e' e' && eqb e e && alike)
-named e e' s o alike t =
-    and_both (eqb s s && eqb o o && eqb e' e' && eqb e e) alike
-    (and_both (eqb s s && eqb o o && eqb e' e') (eqb e e)
-    (and_both (eqb s s && eqb o o) (eqb e' e') (and_both (eqb s s) (eqb o o) (eqb_refl s) (eqb_refl o)) (eqb_refl e'))
-    (eqb_refl e))
-    t
+named : (e e' s o : ℕ) → T (eqb 0 0 && eqb s s && eqb o o && eqb e' e' && eqb e e)
+named e e' s o =
+    and_both (eqb s s && eqb o o && eqb e' e') (eqb e e)
+    (and_both (eqb s s && eqb o o) (eqb e' e') (and_both (eqb s s) (eqb o o) (eqb_refl s) (eqb_refl o)) (eqb_refl e')) (eqb_refl e)
 
 values_counted : (vs xs : List ℕ) → length (values_at vs xs) ≡ length xs
 unfolding values_at
@@ -95,13 +92,23 @@ set_counted vs (x ∷ xs) [] = refl
 set_counted vs (x ∷ xs) (u ∷ us) = set_counted (set vs x u) xs us ∙ length-set vs x u
 
 delivers : {s e e' : ℕ} {r r' : Run} (issued : ℕ) (vs vs' : List ℕ) (fs : List Frame) → Meets s e e' r r' → Delivers s e e' issued vs vs' fs r r'
-unfolding move_of once_done is_done exchange awaited replied faulting
+unfolding move_of once_done is_done exchange awaited if_waits
 delivers {s} {e} {e'} issued vs vs' fs (reply_meets {o} {y} {x} {dead} {l} same) =
     record {
       message = reply o (values_at vs y) e' s;
       sent = refl;
-      exchanged = replied issued s vs' (values_at vs y) x l;
-      taken = passed _ (named e e' s o _ (true_test (eq-eqb (length (values_at vs y)) (length x) (values_counted vs y ∙ same))));
+      exchanged =
+          record {
+            sender = nil;
+            receiver = act (inst_of l);
+            values = set_all vs' x (values_at vs y);
+            issued = issued;
+            serial = s;
+            fault = 0;
+          };
+      taken =
+          passed _ (named e e' s o)
+          ∙ passed _ (true_test (eq-eqb (length (values_at vs y)) (length x) (values_counted vs y ∙ same)));
       sender = nil_for_executor o y e' s;
       receiver = inst_for_waiter o x dead e s l;
       counted = set_counted vs' x (values_at vs y);
@@ -112,8 +119,9 @@ delivers {s} {e} {e'} issued vs vs' fs (fault_meets {o} {f} {x} {dead} {l}) =
     record {
       message = failure o f e' s;
       sent = refl;
-      exchanged = faulting issued s vs' f dead;
-      taken = passed _ (named e e' s o true tt);
+      exchanged =
+          record { sender = nil; receiver = cond dead nil (act (throw_of f)); values = vs'; issued = issued; serial = s; fault = 1 };
+      taken = passed _ (named e e' s o);
       sender = nil_for_notice o f e' s;
       receiver = cond-case (λ r. NoLarger r (waiter o x dead e s l)) dead (λ t. nil_for_waiter o x dead e s l) (λ t. throw_for_waiter o x dead e s l f);
       counted = refl;

@@ -14,10 +14,12 @@ use Rattle.sock.specs.Words.{is_word, clear, kind_of, key_of, key_word}
 use Rattle.sock.specs.Variables.{first_of}
 use Rattle.sock.specs.Term.{Node, node, Block, Entries, Nodes, processes_of}
 use Rattle.sock.specs.Layout.{exprs_words, count, depth, block_depth, entries_depth, nodes_depth}
-use Rattle.sock.specs.Reading.{Got, got, and_then, Stratum, running, Place, anywhere, root, head_fits, node_fits, entry_fits, entry_stratum, part_stratum, part_place, expr, entries, block, parts, part_by}
+use Rattle.sock.specs.Reading.{Got, got, and_then, Stratum, running, Place, anywhere, root, head_fits, node_fits, entry_fits, entry_stratum, expr, entries, block}
 use Rattle.sock.specs.Running.{as_node, run_depth, awake}
 use Rattle.sock.specs.Configuration.{Limits, Engine, Config, values_words, engines_depth, read_values, whole}
 use Rattle.sock.specs.Earlier.{earlier_own, earlier_process, earlier_engine, earlier_engines, earlier_config, uncounted, earlier_words, earlier_block, earlier_entries, earlier_nodes, earlier_engines_words, earlier_encode}
+use Rattle.sock.proofs.PartsTable.{parts_same}
+use Rattle.sock.proofs.Parts.{part_stratum, part_place, parts, part_by}
 use Rattle.sock.proofs.Logic.{All, all_none, all_guarded, all_some_lem}
 use Rattle.sock.proofs.Fits.{no_further, FitsFixed, no_fixed, one_fixed, some_variables, Fits, fits, FitsBlock, no_list, a_list, FitsEntries, empty_fits, entry_fits_on, FitsParts, no_part, one_part, FitsEngine, FitsEngines, no_engines, one_engine, FitsConfig}
 use Rattle.sock.proofs.Reading.{split, both, tests, Holds, nothing, something, holds_then, holds_check, passes, Takes, expr_found, exprs_found, expr_finds, exprs_finds, in_order}
@@ -106,7 +108,8 @@ found (suc d) s p (h ∷ ws) =
     holds_then (own_found (row_of k).fixed ws) λ f w1 q1.
     holds_then (exprs_found d (expr d) (expr_found d) (row_of k).expressions w1) λ es w2 q2.
     holds_then (block_found d o _ (λ l. found d (entry_stratum o) anywhere l) (row_of k).lists w2) λ b w3 q3.
-    holds_then (parts_found d s k _ (λ left l. found d (part_stratum s k left) (part_place k left) l) (processes_of h) w3) λ ps rest q4.
+    rw (parts_same (earlier_process d) s h w3)
+    (holds_then (parts_found d s k _ (λ left l. found d (part_stratum s k left) (part_place k left) l) (processes_of h) w3) λ ps rest q4.
     holds_check _ λ good.
     something
     (record {
@@ -114,7 +117,7 @@ found (suc d) s p (h ∷ ws) =
       fitting = fits t q1.1.0 q2.1.0 q3.1.0 q4.1.0 good;
       shallow = omega (arith, q2.1.1, q3.1.1, q4.1.1);
       alone = single q1.1.1 q3.1.2 q4.1.2;
-    })
+    }))
 
 -- ---- what is laid out is read back
 
@@ -181,7 +184,7 @@ finds (suc d) s p (node h f es b ps) (fits t fs ess bs pss good) (single a1 a2 a
     let inList = block_finds d o (earlier_process d (entry_stratum o) anywhere) (finds d (entry_stratum o) anywhere) bs a2 (omega arith) w3 in
     let in_parts = parts_finds d s k (part_by (earlier_process d) s k) (λ left. finds d (part_stratum s k left) (part_place k left)) pss a3 (omega arith) rest in
     passes (head_fits s p h) t
-    (rw (in_order own (exprs_words es) (earlier_block b) (earlier_nodes ps) rest, own_finds a1 fs w1, inExprs, inList, in_parts) (passes (node_fits s h f b) good refl))
+    (rw (in_order own (exprs_words es) (earlier_block b) (earlier_nodes ps) rest, own_finds a1 fs w1, inExprs, inList, parts_same (earlier_process d) s h w3, in_parts) (passes (node_fits s h f b) good refl))
 
 -- ---- configurations
 

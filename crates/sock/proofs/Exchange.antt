@@ -15,10 +15,11 @@ use Rattle.sock.specs.Variables.{head_variables, later_variables, distinct}
 use Rattle.sock.specs.Term.{Node, node, absent, Entries, no_entries, Nodes, no_parts, part_at, processes_of}
 use Rattle.sock.specs.Reading.{code, anywhere, allowed, placed, branched, head_fits, fields_fit, receives_in, node_fits, end_fits, resting_fits, fixed_at, ◌⇒◌}
 use Rattle.sock.specs.Running.{Run, act}
+use Rattle.sock.specs.Configuration.{guarded}
 use Rattle.sock.specs.Frames.{Frame}
-use Rattle.sock.specs.Rules.{Message, Receiver, deaf, hears, serves, receiver, Offer, chosen, bare, offered, offer, followed, Exchange, notified, solicited, inst_of, throw_of, replied, faulting, awaited, exchange}
+use Rattle.sock.specs.Rules.{Message, Receiver, deaf, hears, serves, receiver, Offer, chosen, bare, offered, offer, followed, Meeting, if_hears, if_serves, if_waits, awaited, inst_of, throw_of, Exchange, exchange}
 use Rattle.sock.proofs.Logic.{cond-case, All, all_none, all_some, all_guarded}
-use Rattle.sock.proofs.Fits.{FitsFixed, FitsExprs, FitsBlock, FitsParts, AllBelow, FitsVariables, FitsDistinct, is_plain, Fits, fits, no_fixed, no_exprs, no_list, a_list, no_part, FitsEntries, Sound, nil_sound, seq_sound, par_sound, scope_sound, executor_sound, waiter_sound, notice_sound, act_sound, SoundFrame, seq_frame_sound, left_frame_sound, right_frame_sound, scope_frame_sound, executor_frame_sound, SoundFrames, no_frames, one_frame}
+use Rattle.sock.proofs.Fits.{FitsFixed, FitsExprs, FitsBlock, FitsParts, FitsVariables, FitsDistinct, is_plain, Fits, fits, no_fixed, no_exprs, no_list, a_list, no_part, FitsEntries, Sound, nil_sound, seq_sound, par_sound, scope_sound, executor_sound, waiter_sound, notice_sound, act_sound, SoundFrame, seq_frame_sound, left_frame_sound, right_frame_sound, scope_frame_sound, executor_frame_sound, SoundFrames, no_frames, one_frame}
 use Rattle.sock.proofs.Fields.{end_tests, end_fits_lem}
 use Rattle.sock.proofs.Nodes.{head_fits_lem, distinct_test, receives_none, node_fits_lem, part_fits, fixed_word}
 use Rattle.sock.proofs.Variables.{later_list, one_way_list, request_list}
@@ -161,80 +162,83 @@ throw_sound {f = f} b = act_sound (subst (λ k. T (is_plain k)) (sym k13) tt) (t
     k13 : kind_of (head_of Kind.throw (f * 32)) ≡ 13
     k13 = omega arith
 
-module _ {n issued : ℕ} {vs : List ℕ} (v : FitValues vs) where
-  notified_fits :
-      (o : ℕ) {w : List ℕ} {r : Receiver} {next : Option Node} →
-      AllBelow 4294967296 w →
-      FitsReceiver r →
-      All (Fits (code false) anywhere) next →
-      All (FitsExchange n issued) (notified issued vs o w r next)
-  unfolding notified
-  notified_fits o b deaf_fits k = all_none
-  notified_fits o {w} b (hears_fits {o = op} {x = x} c d) k =
-      all_guarded _ λ t.
-      all_some (record { later = le_refl issued; sender = nil_sound; receiver = followed_sound nil_sound k; values = values_set_all v b x })
-  notified_fits o b (serves_fits c d e f) k = all_none
+-- what a receiver is taken to be fits, and a waiter's list
+hears_all :
+    {A : Type 0} {P : A → Type 0} {r : Receiver} {k : ℕ → List ℕ → Option A} → FitsReceiver r →
+    ((o : ℕ) (x : List ℕ) → FitsDistinct x → All P (k o x)) → All P (if_hears r k)
+unfolding if_hears
+hears_all deaf_fits f = all_none
+hears_all (hears_fits c d) f = f _ _ d
+hears_all (serves_fits c d e g) f = all_none
 
-  solicited_fits :
-      {client server o : ℕ} {w x : List ℕ} {l : Entries} {r : Receiver} {next : Option Node} →
-      client < n →
-      server < n →
-      o < 64 →
-      AllBelow 4294967296 w →
-      FitsDistinct x →
-      FitsEntries false zero l →
-      FitsReceiver r →
-      All (Fits (code false) anywhere) next →
-      All (FitsExchange n issued) (solicited issued client server vs o w x l r next)
-  unfolding solicited
-  solicited_fits c s a b d l deaf_fits k = all_none
-  solicited_fits c s a b d l (hears_fits e f) k = all_none
-  solicited_fits {o = o} {w} {x} c s a b d l (serves_fits {o = op} {x = x'} {y = ys} e f y p) k =
-      all_guarded _ λ t.
-      all_some
-      (record {
-        later = omega arith;
-        sender = waiter_sound a d (end_fits_lem (record { below = s; positive = omega arith; given = le_refl (suc issued) })) l;
-        receiver = followed_sound (executor_sound a y (end_fits_lem (record { below = c; positive = omega arith; given = le_refl (suc issued) })) (enable_sound n (suc issued) p)) k;
-        values = values_set_all v b x';
-      })
+serves_all :
+    {A : Type 0} {P : A → Type 0} {r : Receiver} {k : ℕ → List ℕ → List ℕ → Node → Option A} → FitsReceiver r →
+    ((o : ℕ) (x y : List ℕ) (p : Node) → FitsDistinct x → FitsVariables y → Fits (code false) anywhere p → All P (k o x y p)) → All P (if_serves r k)
+unfolding if_serves
+serves_all deaf_fits f = all_none
+serves_all (hears_fits c d) f = all_none
+serves_all (serves_fits c d e g) f = f _ _ _ _ d e g
 
-  awaited_fits :
-      {p : Run} (sender receiver i o client serial : ℕ) (alike : List ℕ → Bool) {k : List ℕ → Bool → Entries → Exchange} →
-      Sound n issued p →
-      ((x : List ℕ) (dead : Bool) (l : Entries) → FitsEntries false zero l → FitsExchange n issued (k x dead l)) →
-      All (FitsExchange n issued) (awaited sender receiver i o client serial alike p k)
-  unfolding awaited
-  awaited_fits s r i o c e q nil_sound f = all_none
-  awaited_fits s r i o c e q (seq_sound g t m) f = all_none
-  awaited_fits s r i o c e q (par_sound g t k u) f = all_none
-  awaited_fits s r i o c e q (scope_sound a m d g) f = all_none
-  awaited_fits s r i o c e q (executor_sound a y d g) f = all_none
-  awaited_fits s r i o c e q (waiter_sound {o = op} {x = x} {server = server} {serial = serial} {dead = dead} {l = l} a b d g) f =
-      all_guarded _ λ t. all_some (f x dead l g)
-  awaited_fits s r i o c e q (notice_sound a b d) f = all_none
-  awaited_fits s r i o c e q (act_sound t g) f = all_none
+awaited_all :
+    {A : Type 0} {P : A → Type 0} {n issued : ℕ} (m : Meeting) (o client serial : ℕ) {k : List ℕ → Bool → Entries → Option A} → Sound n issued m.process →
+    ((x : List ℕ) (dead : Bool) (l : Entries) → FitsEntries false zero l → All P (k x dead l)) → All P (awaited m o client serial k)
+unfolding awaited if_waits
+awaited_all {A} {P} {n} {issued} m o client serial {k} g f = by g
+  where
+    by : {r : Run} → Sound n issued r → All P (if_waits r λ op x dead server s l. guarded (eqb m.branch 0 && eqb serial s && eqb o op && eqb client m.receiver && eqb server m.sender) (k x dead l))
+    by nil_sound = all_none
+    by (seq_sound g t q) = all_none
+    by (par_sound g t h u) = all_none
+    by (scope_sound a c d g) = all_none
+    by (executor_sound a y d g) = all_none
+    by (waiter_sound {x = x} {dead = dead} {l = l} a b d g) = all_guarded _ λ t. f x dead l g
+    by (notice_sound a b d) = all_none
+    by (act_sound t g) = all_none
 
-  pub exchange_fits :
-      {sender receiver : ℕ} (i : ℕ) {p : Run} {m : Message} →
-      sender < n →
-      receiver < n →
-      Sound n issued p →
-      FitsMessage m →
-      All (FitsExchange n issued) (exchange issued sender receiver i vs p m)
-  unfolding exchange replied faulting
-  exchange_fits {receiver = receiver} i {p = p} s r g (notification_fits {o = op} {z = z} o b) =
-      all_guarded (eqb z receiver) λ t. notified_fits op b (offer_fits g i).receives (offer_fits g i).next
-  exchange_fits {receiver = receiver} i {p = p} s r g (solicitation_fits {z = z} o b x l) =
-      all_guarded (eqb z receiver) λ t. solicited_fits s r o b x l (offer_fits g i).receives (offer_fits g i).next
-  exchange_fits {sender} {receiver} i s r g (reply_fits {o = o} {client = client} {serial = serial} b) =
-      awaited_fits sender receiver i o client serial _ g λ x dead l f.
-      record { later = le_refl issued; sender = nil_sound; receiver = inst_sound f; values = values_set_all v b x }
-  exchange_fits {sender} {receiver} i s r g (failure_fits {o = o} {f = f} {client = client} {serial = serial} b) =
-      awaited_fits sender receiver i o client serial _ g λ x dead l h.
-      record {
-        later = le_refl issued;
-        sender = nil_sound;
-        receiver = cond-case (λ r. Sound n issued r) dead (λ t. nil_sound) (λ t. throw_sound b);
-        values = v;
-      }
+pub exchange_fits :
+    {n : ℕ} (k : Meeting) {m : Message} →
+    FitValues k.values →
+    k.sender < n →
+    k.receiver < n →
+    Sound n k.issued k.process →
+    FitsMessage m →
+    All (FitsExchange n k.issued) (exchange k m)
+unfolding exchange
+exchange_fits k v s r g (notification_fits {z = z} o b) =
+    all_guarded (eqb z k.receiver) λ u.
+    hears_all (offer_fits g k.branch).receives λ op x c.
+    all_guarded _ λ t.
+    all_some
+    (record {
+      later = le_refl k.issued;
+      sender = nil_sound;
+      receiver = followed_sound nil_sound (offer_fits g k.branch).next;
+      values = values_set_all v b x;
+    })
+exchange_fits {n} k v s r g (solicitation_fits {z = z} o b d l) =
+    all_guarded (eqb z k.receiver) λ u.
+    serves_all (offer_fits g k.branch).receives λ op x y p e c f.
+    all_guarded _ λ t.
+    all_some
+    (record {
+      later = omega arith;
+      sender = waiter_sound o d (end_fits_lem (record { below = r; positive = omega arith; given = le_refl (suc k.issued) })) l;
+      receiver =
+          followed_sound
+          (executor_sound o c (end_fits_lem (record { below = s; positive = omega arith; given = le_refl (suc k.issued) })) (enable_sound n (suc k.issued) f))
+          (offer_fits g k.branch).next;
+      values = values_set_all v b x;
+    })
+exchange_fits k v s r g (reply_fits {o = o} {client = client} {serial = serial} b) =
+    awaited_all k o client serial g λ x dead l f.
+    all_guarded _ λ t.
+    all_some (record { later = le_refl k.issued; sender = nil_sound; receiver = inst_sound f; values = values_set_all v b x })
+exchange_fits {n} k v s r g (failure_fits {o = o} {f = f} {client = client} {serial = serial} b) =
+    awaited_all k o client serial g λ x dead l h.
+    all_some
+    (record {
+      later = le_refl k.issued;
+      sender = nil_sound;
+      receiver = cond-case (λ r. Sound n k.issued r) dead (λ t. nil_sound) (λ t. throw_sound b);
+      values = v;
+    })

@@ -12,10 +12,11 @@ use Rattle.sock.specs.Kind.{Own, word, variables, row_of}
 use Rattle.sock.specs.Words.{is_word, clear, kind_of}
 use Rattle.sock.specs.Variables.{distinct}
 use Rattle.sock.specs.Term.{Expr, constant, variable, apply, Operator, Node, node, Block, absent, list, Entries, no_entries, entry, Nodes, no_parts, ◌&◌, kind, processes_of}
-use Rattle.sock.specs.Reading.{Stratum, code, Place, anywhere, not_nil, guard, root, head_fits, node_fits, entry_fits, end_fits, holds, entry_stratum, part_stratum, part_place}
+use Rattle.sock.specs.Reading.{Stratum, code, Place, anywhere, not_nil, guard, root, head_fits, node_fits, entry_fits, end_fits, holds, entry_stratum}
 use Rattle.sock.specs.Running.{Mark, unmarked, faulted, own_name, Run, nil, seq, par, scope, executor, waiter, notice, act}
 use Rattle.sock.specs.Configuration.{Limits, Engine, Config, encode, engines_depth, is_scope}
 use Rattle.sock.specs.Frames.{Frame, seq_frame, left_frame, right_frame, scope_frame, executor_frame, is_done}
+use Rattle.sock.proofs.Parts.{part_stratum, part_place}
 
 -- ---- nodes
 

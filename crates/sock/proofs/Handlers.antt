@@ -13,8 +13,9 @@ use Rattle.sock.specs.Kind
 use Rattle.sock.specs.Kind.{row_of, rows}
 use Rattle.sock.specs.Words.{kind_of}
 use Rattle.sock.specs.Term.{Expr, Node, Block, Entries, no_entries, entry, Nodes, no_parts, ◌&◌, is_nil, part_at, processes_of}
-use Rattle.sock.specs.Reading.{Stratum, code, Place, anywhere, not_nil, guard, root, allowed, placed, head_fits, node_fits, entry_fits, entry_stratum, part_stratum, part_place, holds}
+use Rattle.sock.specs.Reading.{Stratum, code, Place, anywhere, not_nil, guard, root, allowed, placed, head_fits, node_fits, entry_fits, entry_stratum, holds}
 use Rattle.sock.specs.Handlers.{handler, without, put, rebuilt, replaced, all_replaced, installed, update}
+use Rattle.sock.proofs.Parts.{part_stratum, part_place}
 use Rattle.sock.proofs.Logic.{and_left, or_case, or_right, cond-case, true_test, false_test, test_false}
 use Rattle.sock.proofs.Fits.{FitsExprs, FitsFixed, Fits, fits, FitsBlock, FitsEntries, empty_fits, entry_fits_on, FitsParts, no_part, one_part}
 use Rattle.sock.proofs.Nodes.{code_fields, Head, head_tests, head_moves, loosen, nil_fits, entries_lower}

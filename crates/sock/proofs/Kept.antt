@@ -19,8 +19,8 @@ use Rattle.sock.specs.Configuration.{Config}
 use Rattle.sock.specs.Evaluation.{evaluate, is_true}
 use Rattle.sock.specs.Handlers.{handler, without, update}
 use Rattle.sock.specs.Frames.{Frame, seq_frame, left_frame, right_frame, scope_frame, executor_frame, Located, locate, is_done, seq_of, par_of, plug, nearest, on_nearest}
-use Rattle.sock.specs.Rules.{kill, climb, Action, still, assign, branch, repeat, notify, solicit, install, throw, compensate, action, Message, notification, solicitation, reply, failure, Move, stuck, alone, unvalued, sends, valued, ending, acting, once_done, move_of, Receiver, deaf, hears, serves, receiver, Offer, chosen, bare, offered, offer, followed, Exchange, notified, solicited, inst_of, throw_of, replied, faulting, awaited, exchange}
-use Rattle.sock.specs.Calls.{Numbers, Spot, movable, Effect, lone, between, effect}
+use Rattle.sock.specs.Rules.{kill, climb, Action, still, assign, branch, repeat, notify, solicit, install, throw, compensate, action, Message, notification, solicitation, reply, failure, Move, stuck, alone, unvalued, sends, valued, ending, acting, once_done, move_of, Receiver, deaf, hears, serves, receiver, Offer, chosen, bare, offered, offer, followed, Meeting, offered_to, if_hears, if_serves, if_waits, awaited, inst_of, throw_of, Exchange, exchange}
+use Rattle.sock.specs.Calls.{Numbers, Spot, movable, Effect, lone, between, meeting, effect}
 use Rattle.sock.proofs.Logic.{and_right, cond-case, All, all_none, all_some, all_also, all_guarded}
 use Rattle.sock.proofs.Frames.{all_here, all_past}
 use Rattle.sock.proofs.Tallies.{endless, code_endless}
@@ -383,59 +383,51 @@ module _ {N : Node → Type 0} {L : Entries → Type 0} {X : List ℕ → Type 0
         All N next →
         KeptExchange issued (waiter o x false b (suc issued) l) (followed (executor o y a (suc issued) (enable p)) next)
 
-  module _ (issued : ℕ) where
-    abbrev Exchanges : Exchange → Type 0
-    Exchanges z = KeptExchange issued z.sender z.receiver
+  hears_kept_all :
+      {A : Type 0} {P : A → Type 0} {r : Receiver} {k : ℕ → List ℕ → Option A} → KeptReceiver r → ((o : ℕ) (x : List ℕ) → All P (k o x)) → All P (if_hears r k)
+  unfolding if_hears
+  hears_kept_all deaf_kept f = all_none
+  hears_kept_all hears_kept f = f _ _
+  hears_kept_all (serves_kept y p) f = all_none
 
-    notified_kept :
-        (vs : List ℕ) (o : ℕ) (v : List ℕ) {r : Receiver} {next : Option Node} →
-        KeptReceiver r →
-        All N next →
-        All Exchanges (notified issued vs o v r next)
-    unfolding notified
-    notified_kept vs o v deaf_kept n = all_none
-    notified_kept vs o v hears_kept n = all_guarded _ λ t. all_some (no_ends nil_kept (followed_kept nil_kept n))
-    notified_kept vs o v (serves_kept y p) n = all_none
+  serves_kept_all :
+      {A : Type 0} {P : A → Type 0} {r : Receiver} {k : ℕ → List ℕ → List ℕ → Node → Option A} → KeptReceiver r →
+      ((o : ℕ) (x y : List ℕ) (p : Node) → X y → N p → All P (k o x y p)) → All P (if_serves r k)
+  unfolding if_serves
+  serves_kept_all deaf_kept f = all_none
+  serves_kept_all hears_kept f = all_none
+  serves_kept_all (serves_kept y p) f = f _ _ _ _ y p
 
-    solicited_kept :
-        (a b : ℕ) (vs : List ℕ) (o : ℕ) (v : List ℕ) {x : List ℕ} {l : Entries} {r : Receiver} {next : Option Node} →
-        X x →
-        L l →
-        KeptReceiver r →
-        All N next →
-        All Exchanges (solicited issued a b vs o v x l r next)
-    unfolding solicited
-    solicited_kept a b vs o v x l deaf_kept n = all_none
-    solicited_kept a b vs o v x l hears_kept n = all_none
-    solicited_kept a b vs o v {x = xs} {l = ls} {next = next} x l (serves_kept {o = op} {x = x'} {y = ys} {p = q} y p) n =
-        all_guarded (eqb o op && eqb (length v) (length x') && eqb (length ys) (length xs)) λ t.
-        let same : length ys ≡ length xs = eqb→eq (length ys) (length xs) (and_right (eqb o op && eqb (length v) (length x')) (eqb (length ys) (length xs)) t) in
-        all_some (two_ends o a b xs ys ls q next x y same l p n)
+  waits_kept_all :
+      {A : Type 0} {P : A → Type 0} {r : Run} {k : ℕ → List ℕ → Bool → ℕ → ℕ → Entries → Option A} → Keeps r →
+      ((o : ℕ) (x : List ℕ) (dead : Bool) (server serial : ℕ) (l : Entries) → L l → All P (k o x dead server serial l)) → All P (if_waits r k)
+  unfolding if_waits
+  waits_kept_all nil_kept f = all_none
+  waits_kept_all (seq_kept g n) f = all_none
+  waits_kept_all (par_kept g h) f = all_none
+  waits_kept_all (scope_kept l g) f = all_none
+  waits_kept_all (executor_kept e g) f = all_none
+  waits_kept_all (waiter_kept e g) f = f _ _ _ _ _ _ g
+  waits_kept_all (notice_kept d) f = all_none
+  waits_kept_all (act_kept n) f = all_none
 
-    awaited_kept :
-        (a b i o client serial : ℕ) (alike : List ℕ → Bool) {p : Run} (k : List ℕ → Bool → Entries → Exchange) →
-        Keeps p →
-        ((x : List ℕ) (dead : Bool) (l : Entries) → L l → Exchanges (k x dead l)) →
-        All Exchanges (awaited a b i o client serial alike p k)
-    unfolding awaited
-    awaited_kept a b i o client serial alike k nil_kept f = all_none
-    awaited_kept a b i o client serial alike k (seq_kept g n) f = all_none
-    awaited_kept a b i o client serial alike k (par_kept g h) f = all_none
-    awaited_kept a b i o client serial alike k (scope_kept l g) f = all_none
-    awaited_kept a b i o client serial alike k (executor_kept e g) f = all_none
-    awaited_kept a b i o client serial alike k (waiter_kept {x = x} {dead = dead} {l = l} e g) f = all_guarded _ λ t. all_some (f x dead l g)
-    awaited_kept a b i o client serial alike k (notice_kept d) f = all_none
-    awaited_kept a b i o client serial alike k (act_kept n) f = all_none
-
-    pub exchange_kept : (a b i : ℕ) (vs : List ℕ) {p : Run} {m : Message} → Keeps p → KeptMessage m → All Exchanges (exchange issued a b i vs p m)
-    unfolding exchange replied faulting
-    exchange_kept a b i vs g (notification_kept {o = o} {v = v}) = all_guarded _ λ t. notified_kept vs o v (offer_kept g i).receives (offer_kept g i).next
-    exchange_kept a b i vs g (solicitation_kept {o = o} {v = v} x l) =
-        all_guarded _ λ t. solicited_kept a b vs o v x l (offer_kept g i).receives (offer_kept g i).next
-    exchange_kept a b i vs g (reply_kept {o = o} {client = client} {serial = serial}) =
-        awaited_kept a b i o client serial _ _ g λ x dead l h. no_ends nil_kept (act_kept (closed.installs h))
-    exchange_kept a b i vs g (failure_kept {o = o} {f = f} {client = client} {serial = serial} low) =
-        awaited_kept a b i o client serial _ _ g λ x dead l h. no_ends nil_kept (cond-case Keeps dead (λ t. nil_kept) (λ t. act_kept (closed.throws f low)))
+  pub exchange_kept :
+      (k : Meeting) {m : Message} → Keeps k.process → KeptMessage m → All (λ (z : Exchange). KeptExchange k.issued z.sender z.receiver) (exchange k m)
+  unfolding exchange awaited
+  exchange_kept k g notification_kept =
+      all_guarded _ λ u.
+      hears_kept_all (offer_kept g k.branch).receives λ op x. all_guarded _ λ t. all_some (no_ends nil_kept (followed_kept nil_kept (offer_kept g k.branch).next))
+  exchange_kept k g (solicitation_kept {o = o} {v = v} {x = xs} {l = ls} x l) =
+      all_guarded _ λ u.
+      serves_kept_all (offer_kept g k.branch).receives λ op x' ys q y p.
+      all_guarded (eqb o op && eqb (length v) (length x') && eqb (length ys) (length xs)) λ t.
+      let same : length ys ≡ length xs = eqb→eq (length ys) (length xs) (and_right (eqb o op && eqb (length v) (length x')) (eqb (length ys) (length xs)) t) in
+      all_some (two_ends o k.sender k.receiver xs ys ls q (offered_to k).next x y same l p (offer_kept g k.branch).next)
+  exchange_kept k g reply_kept =
+      waits_kept_all g λ op x dead server s l h. all_guarded _ λ u. all_guarded _ λ t. all_some (no_ends nil_kept (act_kept (closed.installs h)))
+  exchange_kept k g (failure_kept {f = f} low) =
+      waits_kept_all g λ op x dead server s l h.
+      all_guarded _ λ u. all_some (no_ends nil_kept (cond-case Keeps dead (λ t. nil_kept) (λ t. act_kept (closed.throws f low))))
 
   -- ---- configurations
 
@@ -450,4 +442,4 @@ module _ {N : Node → Type 0} {L : Entries → Type 0} {X : List ℕ → Type 0
   effect_kept c k a b g unvalued_kept = all_some all_none
   effect_kept c k a b g (sends_kept h) =
       all_guarded (not (eqb a.engine b.engine)) λ t.
-      all_also (exchange_kept c.issued a.engine b.engine k.branch b.values g h) λ x y. all_some (all_some (between_kept y))
+      all_also (exchange_kept (meeting c k a b) g h) λ x y. all_some (all_some (between_kept y))

@@ -14,6 +14,7 @@ pub mod Decimals
 pub mod Delivery
 pub mod EarlierReading
 pub mod Edges
+pub mod Enabled
 pub mod Engines
 pub mod Events
 pub mod Examples
@@ -43,6 +44,8 @@ pub mod Nodes
 pub mod Opening
 pub mod OpenSerials
 pub mod Orders
+pub mod Parts
+pub mod PartsTable
 pub mod Pending
 pub mod Placed
 pub mod Positions

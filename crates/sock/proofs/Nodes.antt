@@ -14,7 +14,8 @@ use Rattle.sock.specs.Words.{is_word, clear, kind_of}
 use Rattle.sock.specs.Variables.{distinct}
 use Rattle.sock.specs.Term.{Expr, Node, node, Block, Entries, Nodes, nil_node, part_at, first_expr, entries_of, processes_of}
 use Rattle.sock.specs.Layout.{depth}
-use Rattle.sock.specs.Reading.{Stratum, code, Place, anywhere, allowed, placed, branched, head_fits, fields_fit, receives_in, node_fits, part_stratum, fixed_at}
+use Rattle.sock.specs.Reading.{Stratum, code, Place, anywhere, allowed, placed, branched, head_fits, fields_fit, receives_in, node_fits, fixed_at}
+use Rattle.sock.proofs.Parts.{part_stratum}
 use Rattle.sock.proofs.Logic.{and_left, and_right, and_both}
 use Rattle.sock.proofs.Fields.{four, four_pass}
 use Rattle.sock.proofs.Fits.{FitsExpr, constant_fits, FitsExprs, no_exprs, one_expr, FitsFurther, no_further, one_further, FitsFixed, no_fixed, one_fixed, some_variables, Fits, fits, FitsBlock, no_list, a_list, FitsEntries, empty_fits, entry_fits_on, FitsParts, no_part, one_part}

@@ -15,9 +15,10 @@ use Rattle.sock.specs.Kind.{rows, row_of}
 use Rattle.sock.specs.Words.{is_word, clear, kind_of, count_of, name_of, second_of, mark_of, zombie_of, first_name, executors_client, dead_of, waiters_server, notices_client, bit, is_one, head_of, name_fields}
 use Rattle.sock.specs.Variables.{variable_words, variables_of, distinct}
 use Rattle.sock.specs.Term.{Expr, Node, node, Block, absent, list, Entries, Nodes, no_parts, ◌&◌, kind, is_nil, processes_of}
-use Rattle.sock.specs.Reading.{Stratum, running, code, Place, anywhere, not_nil, allowed, placed, fields_fit, receives_in, node_fits, scope_fits, end_fits, part_stratum, part_place}
+use Rattle.sock.specs.Reading.{Stratum, running, code, Place, anywhere, not_nil, allowed, placed, fields_fit, receives_in, node_fits, scope_fits, end_fits}
 use Rattle.sock.specs.Running.{marked_fault, mark_by, scope_head, Run, seq, par, scope, executor, waiter, notice, act, as_node, Form, nil_form, seq_form, par_form, scope_form, executor_form, waiter_form, notice_form, plain, forms, in_form, opened, all_opened}
 use Rattle.sock.specs.Frames.{is_done}
+use Rattle.sock.proofs.Parts.{part_stratum, part_place}
 use Rattle.sock.proofs.Fits.{FitsExprs, no_exprs, FitsFurther, FitsFixed, no_fixed, one_fixed, some_variables, Fits, fits, FitsBlock, no_list, a_list, FitsEntries, FitsParts, no_part, one_part, FitsDistinct, is_plain, Sound, nil_sound, seq_sound, par_sound, scope_sound, executor_sound, waiter_sound, notice_sound, act_sound}
 use Rattle.sock.proofs.Fields.{From, end, ◌then◌, fact_at, four, plain_kind, mark_of_lem, resting_fits_lem, bit_is_one, name_below, second_below, scope_head_lem}
 use Rattle.sock.proofs.Nodes.{distinct_test, fields_test, node_fits_lem}

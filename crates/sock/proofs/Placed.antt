@@ -11,13 +11,14 @@ use lib.Dec.{T, ltb, leb→le, ltb→lt, lt→ltb}
 use lib.ListN.{length, get_or}
 use Rattle.sock.specs.Words.{bit, kind_of}
 use Rattle.sock.specs.Term.{Expr, Node, Block, Entries, Nodes}
-use Rattle.sock.specs.Reading.{Stratum, code, Place, allowed, part_stratum}
+use Rattle.sock.specs.Reading.{Stratum, code, Place, allowed}
 use Rattle.sock.specs.Running.{Run, nil, seq, par, scope, executor, waiter, notice, act, as_node, Form, nil_form, seq_form, par_form, scope_form, executor_form, waiter_form, notice_form, plain, forms, in_form, opened, all_opened, awake}
 use Rattle.sock.specs.Configuration.{Engine, Config}
 use Rattle.sock.specs.Rules.{also}
 use Rattle.sock.specs.Calls.{engine_at, enabled_at, End, end_of, is_end, tally, tally_all}
 use Rattle.sock.specs.Everywhere.{occurs, occurs_in, occurs_each, occurs_all, occurs_engines, everywhere}
 use Rattle.sock.specs.Runs.{of_spot, names}
+use Rattle.sock.proofs.Parts.{part_stratum}
 use Rattle.sock.proofs.Fits.{Fits, fits, FitsBlock, no_list, a_list, FitsEntries, empty_fits, entry_fits_on, FitsParts, no_part, one_part, Sound, nil_sound, seq_sound, par_sound, scope_sound, executor_sound, waiter_sound, notice_sound, act_sound, FitsEngines, no_engines, one_engine, FitsConfig}
 use Rattle.sock.proofs.Fields.{end, ◌then◌, fact_at}
 use Rattle.sock.proofs.ByKind.{head_tests}

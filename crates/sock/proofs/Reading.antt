@@ -12,7 +12,9 @@ use Rattle.sock.specs.Kind.{Own, word, variables, row_of}
 use Rattle.sock.specs.Words.{is_word, clear, kind_of, key_of, key_word, tag_of, read_variable, value_of, high_word, low_word}
 use Rattle.sock.specs.Term.{Operator, sum, difference, less, equal, decimal_sum, decimal_difference, Expr, constant, variable, apply, Node, node, Block, list, Entries, Nodes, processes_of}
 use Rattle.sock.specs.Layout.{operator_tag, expr_words, exprs_words, count, words, block_words, entries_words, nodes_words, expr_depth, exprs_depth, depth, block_depth, entries_depth, nodes_depth}
-use Rattle.sock.specs.Reading.{Got, fail, got, and_then, check, Stratum, Place, anywhere, head_fits, node_fits, entry_fits, entry_stratum, part_stratum, part_place, further, fixed_words, wide, operands, expr_by, expr, exprs, entries, block, parts, part_by, node_by, process}
+use Rattle.sock.specs.Reading.{Got, fail, got, and_then, check, Stratum, Place, anywhere, head_fits, node_fits, entry_fits, entry_stratum, further, fixed_words, wide, operands, expr_by, expr, exprs, entries, block, process, node_by}
+use Rattle.sock.proofs.PartsTable.{parts_same}
+use Rattle.sock.proofs.Parts.{part_stratum, part_place, parts, part_by}
 use Rattle.sock.proofs.Fits.{FitsExpr, constant_fits, variable_fits, apply_fits, FitsExprs, no_exprs, one_expr, FitsFurther, no_further, one_further, FitsFixed, no_fixed, one_fixed, some_variables, Fits, fits, FitsBlock, no_list, a_list, FitsEntries, empty_fits, entry_fits_on, FitsParts, no_part, one_part}
 
 -- ---- tests
@@ -202,9 +204,10 @@ found (suc d) s p (h ∷ ws) =
     holds_then (fixed_found (row_of k).fixed ws) λ f w1 q1.
     holds_then (exprs_found d (expr d) (expr_found d) (row_of k).expressions w1) λ es w2 q2.
     holds_then (block_found d o _ (λ l. found d (entry_stratum o) anywhere l) (row_of k).lists w2) λ b w3 q3.
-    holds_then (parts_found d s k _ (λ left l. found d (part_stratum s k left) (part_place k left) l) (processes_of h) w3) λ ps rest q4.
+    rw (parts_same (process d) s h w3)
+    (holds_then (parts_found d s k _ (λ left l. found d (part_stratum s k left) (part_place k left) l) (processes_of h) w3) λ ps rest q4.
     holds_check _ λ good.
-    something (record { begins = simp append_assoc (cc); fitting = fits t q1.1 q2.1.0 q3.1.0 q4.1.0 good; shallow = omega arith })
+    something (record { begins = simp append_assoc (cc); fitting = fits t q1.1 q2.1.0 q3.1.0 q4.1.0 good; shallow = omega arith }))
 
 pub read_found : {d : ℕ} {s : Stratum} {p : Place} {ws : List ℕ} {n : Node} {rest : List ℕ} → process d s p ws ≡ got n rest → Found d s p ws n rest
 read_found {d} {s} {p} {ws} e = holding (rw e at (found d s p ws))
@@ -317,7 +320,7 @@ node_finds (suc d) s p (node h f es b ps) (fits t fs ess bs pss good) shallow re
     let inList = block_finds d o (process d (entry_stratum o) anywhere) (node_finds d (entry_stratum o) anywhere) bs (omega arith) w3 in
     let in_parts = parts_finds d s k (part_by (process d) s k) (λ left. node_finds d (part_stratum s k left) (part_place k left)) pss (omega arith) rest in
     passes (head_fits s p h) t
-    (rw (in_order f (exprs_words es) (block_words b) (nodes_words ps) rest, fixed_finds fs w1, inExprs, inList, in_parts) (passes (node_fits s h f b) good refl))
+    (rw (in_order f (exprs_words es) (block_words b) (nodes_words ps) rest, fixed_finds fs w1, inExprs, inList, parts_same (process d) s h w3, in_parts) (passes (node_fits s h f b) good refl))
 
 pub finds : (d : ℕ) {s : Stratum} {p : Place} {n : Node} → Fits s p n → depth n ≤ d → (rest : List ℕ) → process d s p (words n ++ rest) ≡ got n rest
 finds d {s} {p} {n} f shallow rest = node_finds d s p n f shallow rest

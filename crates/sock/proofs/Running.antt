@@ -13,9 +13,10 @@ use Rattle.sock.specs.Kind.{rows, row_of}
 use Rattle.sock.specs.Words.{is_word, clear, kind_of, bit, head_of, name_fields}
 use Rattle.sock.specs.Variables.{first_of, variable_words, distinct}
 use Rattle.sock.specs.Term.{Node, Entries, absent, list, is_nil}
-use Rattle.sock.specs.Reading.{running, code, Place, not_nil, root, allowed, placed, fields_fit, receives_in, node_fits, scope_fits, end_fits, part_stratum, part_place}
+use Rattle.sock.specs.Reading.{running, code, Place, not_nil, root, allowed, placed, fields_fit, receives_in, node_fits, scope_fits, end_fits}
 use Rattle.sock.specs.Running.{Mark, mark_number, marked_fault, scope_head, Run, seq, par, scope, executor, as_node, forms, in_form, opened, all_opened, awake, enable}
 use Rattle.sock.specs.Frames.{is_done}
+use Rattle.sock.proofs.Parts.{part_stratum, part_place}
 use Rattle.sock.proofs.Fits.{no_exprs, no_fixed, one_fixed, Fits, no_list, a_list, no_part, one_part, Sound, nil_sound, seq_sound, par_sound, scope_sound, executor_sound, waiter_sound, notice_sound, act_sound, FitsDistinct, MarkFits, rootable, PlacedRun}
 use Rattle.sock.proofs.Nodes.{node_fits_lem, receives_none}
 use Rattle.sock.proofs.Variables.{laid, list_fits, variables_back}

@@ -21,8 +21,8 @@ use Rattle.sock.specs.Running.{Run, executor, waiter, act, as_node, enable}
 use Rattle.sock.specs.Configuration.{Limits, Engine, Config, encode, engines_depth, read_config}
 use Rattle.sock.specs.Evaluation.{value_at}
 use Rattle.sock.specs.Frames.{Frame, is_done, seq_of, plug}
-use Rattle.sock.specs.Rules.{action, solicitation, Move, sends, acting, move_of, Receiver, deaf, hears, serves, receiver, Offer, chosen, bare, offered, offer, followed, Exchange, solicited, exchange}
-use Rattle.sock.specs.Calls.{Refusal, unreadable, nobody_there, no_move, no_partner, no_fit, not_decimal, installing, serials_spent, deep, long, short, number, Result, refused, done, ◌>>=◌, ◌>>◌, ◌!◌, ◌unless◌, Numbers, Spot, enabled_at, movable, partner, Effect, between, effect, Stepped, with_engine, carried_out, step, answer_of, step_answer}
+use Rattle.sock.specs.Rules.{action, solicitation, Move, sends, acting, move_of, Receiver, deaf, hears, serves, receiver, Offer, chosen, bare, offered, offer, followed, Meeting, if_serves, Exchange, exchange}
+use Rattle.sock.specs.Calls.{Refusal, unreadable, nobody_there, no_move, no_partner, no_fit, not_decimal, installing, serials_spent, deep, long, short, number, Result, refused, done, ◌>>=◌, ◌>>◌, ◌!◌, ◌unless◌, Numbers, Spot, enabled_at, movable, partner, Effect, between, meeting, effect, Stepped, with_engine, carried_out, step, answer_of, step_answer}
 use Rattle.sock.specs.Runs.{is_solicit}
 use Rattle.sock.proofs.Logic.{cond-case, All, all_none, all_some, all_also, all_guarded, all_some_lem}
 use Rattle.sock.proofs.Fits.{FitsFixed, no_fixed, one_fixed, some_variables, Fits, fits, FitsBlock, a_list, FitsParts, no_part, one_part, Sound, nil_sound, seq_sound, par_sound, scope_sound, executor_sound, waiter_sound, notice_sound, act_sound, FitsConfig, Readable}
@@ -215,18 +215,23 @@ record Small (p q : Run) (vs : List ℕ) (x : Exchange) : Type 0 where
   receiver : NoLarger x.receiver q
   counted : length x.values ≡ length vs
 
-module _ (issued a b : ℕ) (p q : Run) (vs : List ℕ) (o : ℕ) (v : List ℕ) (x : List ℕ) (l : Entries)
-    (small : (o server serial : ℕ) → NoLarger (waiter o x false server serial l) p) where
-  solicited_small : {r : Receiver} {next : Option Node} → Serves q next r → All (Small p q vs) (solicited issued a b vs o v x l r next)
-  unfolding solicited
-  solicited_small serves_none = all_none
-  solicited_small serves_hears = all_none
-  solicited_small (serves_with {x = x'} n) =
-      all_guarded _ λ t. all_some (record { sender = small o b (suc issued); receiver = n o a (suc issued); counted = set_counted vs x' v })
+module _ (k : Meeting) (p : Run) (o : ℕ) (v x : List ℕ) (l : Entries) (small : (o server serial : ℕ) → NoLarger (waiter o x false server serial l) p) where
+  serves_small :
+      {A : Type 0} {P : A → Type 0} {r : Receiver} {next : Option Node} {made : ℕ → List ℕ → List ℕ → Node → Option A} → Serves k.process next r →
+      ((op : ℕ) (x y : List ℕ) (p : Node) → ((o client serial : ℕ) → NoLarger (followed (executor o y client serial (enable p)) next) k.process) → All P (made op x y p)) →
+      All P (if_serves r made)
+  unfolding if_serves
+  serves_small serves_none f = all_none
+  serves_small serves_hears f = all_none
+  serves_small (serves_with n) f = f _ _ _ _ n
 
-  exchange_small : {n : ℕ} → Sound n issued q → (i z : ℕ) → All (Small p q vs) (exchange issued a b i vs q (solicitation o v z x l))
+  exchange_small : {n issued : ℕ} → Sound n issued k.process → (z : ℕ) → All (Small p k.process k.values) (exchange k (solicitation o v z x l))
   unfolding exchange
-  exchange_small g i z = all_guarded _ λ t. solicited_small (offer_serves g i)
+  exchange_small g z =
+      all_guarded _ λ u.
+      serves_small (offer_serves g k.branch) λ op x' y q n.
+      all_guarded _ λ t.
+      all_some (record { sender = small o k.receiver (suc k.issued); receiver = n o k.sender (suc k.issued); counted = set_counted k.values x' v })
 
 -- ---- the step
 
@@ -318,8 +323,7 @@ module _ (limits : Limits) (c : Config) (readable : Readable limits c) (k : Numb
       (all_guarded (not (eqb a.engine b.engine)) λ t.
       let apart : a.engine ≡ b.engine → ⊥ = λ q. T_not (eqb a.engine b.engine) t (subst T (sym (eq-eqb a.engine b.engine q)) tt) in
       all_also
-      (exchange_small c.issued a.engine b.engine a.process b.process b.values s.operation s.values s.variables s.handlers
-      s.small y.process k.branch s.named)
+      (exchange_small (meeting c k a b) a.process s.operation s.values s.variables s.handlers s.small y.process s.named)
       λ x z. all_some (all_some (record { exchanged = x; between_them = refl; apart = apart; small = z })))
 
   record Light (s : Stepped) : Type 0 where

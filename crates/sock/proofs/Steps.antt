@@ -9,11 +9,12 @@ use mathlib.Core.Option.{Option, none, some}
 use mathlib.Core.List.{List, []}
 use lib.Dec.{T, leb, ltb, eqb, ltb→lt, leb→le}
 use lib.ListN.{length, get_or, set, length-set}
+use Rattle.sock.specs.Term.{Node, Entries}
 use Rattle.sock.specs.Running.{Run, nil, seq, par, scope, executor, waiter, notice, act}
 use Rattle.sock.specs.Configuration.{Limits, Engine, Config, encode, engines_depth, is_scope, read_config}
 use Rattle.sock.specs.Frames.{Frame, is_done, plug}
-use Rattle.sock.specs.Rules.{Message, notification, solicitation, reply, failure, Move, stuck, alone, unvalued, sends, move_of, acting, action, once_done, Exchange, exchange, notified, solicited, awaited, offer}
-use Rattle.sock.specs.Calls.{Refusal, unreadable, nobody_there, no_move, no_partner, no_fit, installing, serials_spent, deep, long, short, Result, refused, done, ◌>>=◌, ◌>>◌, ◌!◌, ◌unless◌, Numbers, Spot, engine_at, enabled_at, movable, partner, Effect, lone, between, effect, Stepped, with_engine, carried_out, step}
+use Rattle.sock.specs.Rules.{Message, notification, solicitation, reply, failure, Move, stuck, alone, unvalued, sends, move_of, acting, action, once_done, offer, Meeting, if_hears, if_serves, if_waits, awaited, Exchange, exchange}
+use Rattle.sock.specs.Calls.{Refusal, unreadable, nobody_there, no_move, no_partner, no_fit, installing, serials_spent, deep, long, short, Result, refused, done, ◌>>=◌, ◌>>◌, ◌!◌, ◌unless◌, Numbers, Spot, engine_at, enabled_at, movable, partner, Effect, lone, between, meeting, effect, Stepped, with_engine, carried_out, step}
 use Rattle.sock.proofs.Logic.{cond-case, test_false, All, all_none, all_some, all_also, all_guarded}
 use Rattle.sock.proofs.Fits.{Sound, SoundFrames, no_frames, rootable, FitsEngine, FitsEngines, no_engines, one_engine, FitsConfig, Readable}
 use Rattle.sock.proofs.Frames.{locate_sound, based, based_any, locate_based, plug_sound, plug_rootable}
@@ -134,28 +135,47 @@ anyway : {A : Type 0} {Q : Type 0} (o : Option A) → Q → All (λ a. Q) o
 anyway none q = all_none
 anyway (some a) q = all_some q
 
-receiver_inner : (issued sender receiver i : ℕ) (vs : List ℕ) (p : Run) (m : Message) → All (λ x. T (not (rootable p))) (exchange issued sender receiver i vs p m)
-unfolding exchange offer notified solicited awaited is_done is_scope
-receiver_inner issued s r i vs nil m = deaf m
-  where
-    deaf : (m : Message) → All (λ x. T (not (rootable nil))) (exchange issued s r i vs nil m)
-    deaf (notification o v z) = all_guarded (eqb z r) λ t. all_none
-    deaf (solicitation o v z x l) = all_guarded (eqb z r) λ t. all_none
-    deaf (reply o v client serial) = all_none
-    deaf (failure o f client serial) = all_none
-receiver_inner issued s r i vs (scope name mark zombie h p) m = deaf m
-  where
-    deaf : (m : Message) → All (λ x. T (not (rootable (scope name mark zombie h p)))) (exchange issued s r i vs (scope name mark zombie h p) m)
-    deaf (notification o v z) = all_guarded (eqb z r) λ t. all_none
-    deaf (solicitation o v z x l) = all_guarded (eqb z r) λ t. all_none
-    deaf (reply o v client serial) = all_none
-    deaf (failure o f client serial) = all_none
-receiver_inner issued s r i vs (seq p q) m = anyway (exchange issued s r i vs (seq p q) m) tt
-receiver_inner issued s r i vs (par p q) m = anyway (exchange issued s r i vs (par p q) m) tt
-receiver_inner issued s r i vs (executor o y client serial p) m = anyway (exchange issued s r i vs (executor o y client serial p) m) tt
-receiver_inner issued s r i vs (waiter o x dead server serial l) m = anyway (exchange issued s r i vs (waiter o x dead server serial l) m) tt
-receiver_inner issued s r i vs (notice o f client serial) m = anyway (exchange issued s r i vs (notice o f client serial) m) tt
-receiver_inner issued s r i vs (act p) m = anyway (exchange issued s r i vs (act p) m) tt
+-- neither nil nor a scope hears, serves or waits
+module _ {A : Type 0} where
+  hears_inner : (p : Run) (i : ℕ) (f : ℕ → List ℕ → Option A) → All (λ x. T (not (rootable p))) (if_hears (offer p i).receives f)
+  unfolding offer if_hears is_done is_scope
+  hears_inner nil i f = all_none
+  hears_inner (seq p q) i f = all_none
+  hears_inner (par p q) i f = all_none
+  hears_inner (scope name mark zombie h p) i f = all_none
+  hears_inner (executor o y client serial p) i f = all_none
+  hears_inner (waiter o x dead server serial l) i f = all_none
+  hears_inner (notice o f client serial) i g = all_none
+  hears_inner (act p) i f = anyway (if_hears (offer (act p) i).receives f) tt
+
+  serves_inner : (p : Run) (i : ℕ) (f : ℕ → List ℕ → List ℕ → Node → Option A) → All (λ x. T (not (rootable p))) (if_serves (offer p i).receives f)
+  unfolding offer if_serves is_done is_scope
+  serves_inner nil i f = all_none
+  serves_inner (seq p q) i f = all_none
+  serves_inner (par p q) i f = all_none
+  serves_inner (scope name mark zombie h p) i f = all_none
+  serves_inner (executor o y client serial p) i f = all_none
+  serves_inner (waiter o x dead server serial l) i f = all_none
+  serves_inner (notice o f client serial) i g = all_none
+  serves_inner (act p) i f = anyway (if_serves (offer (act p) i).receives f) tt
+
+  waits_inner : (p : Run) (f : ℕ → List ℕ → Bool → ℕ → ℕ → Entries → Option A) → All (λ x. T (not (rootable p))) (if_waits p f)
+  unfolding if_waits is_done is_scope
+  waits_inner nil f = all_none
+  waits_inner (seq p q) f = all_none
+  waits_inner (par p q) f = all_none
+  waits_inner (scope name mark zombie h p) f = all_none
+  waits_inner (executor o y client serial p) f = all_none
+  waits_inner (waiter o x dead server serial l) f = anyway (f o x dead server serial l) tt
+  waits_inner (notice o f client serial) g = all_none
+  waits_inner (act p) f = all_none
+
+receiver_inner : (k : Meeting) (m : Message) → All (λ x. T (not (rootable k.process))) (exchange k m)
+unfolding exchange awaited
+receiver_inner k (notification o v z) = all_guarded (eqb z k.receiver) λ t. hears_inner k.process k.branch _
+receiver_inner k (solicitation o v z x l) = all_guarded (eqb z k.receiver) λ t. serves_inner k.process k.branch _
+receiver_inner k (reply o v client serial) = waits_inner k.process _
+receiver_inner k (failure o f client serial) = waits_inner k.process _
 
 -- ---- the effect of a rule, and the configuration afterwards
 
@@ -192,7 +212,7 @@ module _ {c : Config} (g : FitsConfig c) (k : Numbers) {a : Spot} (x : FitsSpot 
   effect_fits y unvalued_fits t = all_some all_none
   effect_fits {b} y (sends_fits {m = m} f) t =
       all_guarded (not (eqb a.engine b.engine)) λ u.
-      all_also (all_both (exchange_fits y.values k.branch x.below y.below y.process f) (receiver_inner c.issued a.engine b.engine k.branch b.values b.process m)) λ e z.
+      all_also (all_both (exchange_fits (meeting c k a b) y.values x.below y.below y.process f) (receiver_inner (meeting c k a b) m)) λ e z.
       all_some (all_some (between_fits z.0 t z.1))
 
 -- all that fits but the count of serials, which is looked at next

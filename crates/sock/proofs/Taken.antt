@@ -13,7 +13,7 @@ use Rattle.sock.specs.Running.{Run, as_node}
 use Rattle.sock.specs.Configuration.{Limits, Config, encode, engines_depth, read_config}
 use Rattle.sock.specs.Frames.{plug}
 use Rattle.sock.specs.Rules.{also, Message, Move, stuck, alone, unvalued, sends, move_of, Exchange, exchange}
-use Rattle.sock.specs.Calls.{unreadable, nobody_there, no_move, no_partner, no_fit, not_decimal, installing, serials_spent, deep, long, short, Result, done, ◌>>◌, ◌unless◌, Numbers, Spot, enabled_at, movable, partner, Effect, between, effect, Stepped, with_engine, carried_out, step}
+use Rattle.sock.specs.Calls.{unreadable, nobody_there, no_move, no_partner, no_fit, not_decimal, installing, serials_spent, deep, long, short, Result, done, ◌>>◌, ◌unless◌, Numbers, Spot, enabled_at, movable, partner, Effect, between, meeting, effect, Stepped, with_engine, carried_out, step}
 use Rattle.sock.proofs.Logic.{All, all_none, all_some, all_also, all_guarded}
 use Rattle.sock.proofs.Located.{all_equal}
 use Rattle.sock.proofs.Configuration.{passed}
@@ -64,7 +64,7 @@ pub data Taken (c : Config) (k : Numbers) : Stepped → Type 0 where
       move_at a ≡ sends m →
       enabled_at c k.second k.second_position ≡ some b →
       T (not (eqb a.engine b.engine)) →
-      exchange c.issued a.engine b.engine k.branch b.values b.process m ≡ some x →
+      exchange (meeting c k a b) m ≡ some x →
       Taken c k (by_two c a b x)
 
 -- ---- an accepted step is taken
@@ -94,7 +94,7 @@ module _ (c : Config) (k : Numbers) (a b : Spot) (at : enabled_at c k.engine k.p
   effect_taken unvalued e f meets = all_some all_none
   effect_taken (sends m) e f meets =
       all_guarded (not (eqb a.engine b.engine)) λ t.
-      all_also (all_equal (exchange c.issued a.engine b.engine k.branch b.values b.process m)) λ x q.
+      all_also (all_equal (exchange (meeting c k a b) m)) λ x q.
       all_some (all_some (all_some (taken_between a b m x at e meets t q)))
 
 -- within the limits, and in the output's room

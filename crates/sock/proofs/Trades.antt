@@ -11,11 +11,12 @@ use lib.Dec.{T, eqb, eqb→eq}
 use Rattle.sock.specs.Words.{bit}
 use Rattle.sock.specs.Term.{Node, Entries}
 use Rattle.sock.specs.Running.{Run, nil, seq, par, scope, executor, waiter, notice, act, enable}
+use Rattle.sock.specs.Configuration.{guarded}
 use Rattle.sock.specs.Frames.{Frame}
-use Rattle.sock.specs.Rules.{Message, sends, Receiver, deaf, hears, serves, offer, followed, Exchange, notified, solicited, replied, faulting, awaited, exchange}
+use Rattle.sock.specs.Rules.{Message, sends, Receiver, deaf, hears, serves, offer, followed, Meeting, offered_to, if_hears, if_serves, if_waits, awaited, Exchange, exchange}
 use Rattle.sock.specs.Calls.{End, waiting, working, tally}
 use Rattle.sock.specs.Runs.{is_solicit, carries}
-use Rattle.sock.proofs.Logic.{cond-case, All, all_none, all_some, all_guarded}
+use Rattle.sock.proofs.Logic.{cond-case, All, all_none, all_some, all_guarded, all_map}
 use Rattle.sock.proofs.Tallies.{enable_tally, seq_of_tally}
 use Rattle.sock.proofs.Moves.{Holds, Quiet, Delivers, Endless, Moves, notifies, asking, replies, faults}
 
@@ -62,79 +63,96 @@ unfolding followed
 followed_tally t p none = refl
 followed_tally t p (some q) = seq_of_tally t p q
 
--- the four middle ones of six tests
-six : (i j k l m n : Bool) → T (i && j && k && l && m && n) → T j × T k × T l × T m
-six true true true true true n t = (tt, tt, tt, tt)
-six true true true true false n t = absurd t
-six true true true false m n t = absurd t
-six true true false l m n t = absurd t
-six true false k l m n t = absurd t
-six false j k l m n t = absurd t
+-- the four last of five tests
+five : (i j k l m : Bool) → T (i && j && k && l && m) → T j × T k × T l × T m
+five true true true true true t = (tt, tt, tt, tt)
+five true true true true false t = absurd t
+five true true true false m t = absurd t
+five true true false l m t = absurd t
+five true false k l m t = absurd t
+five false j k l m t = absurd t
 
-module _ (issued a b : ℕ) (p q : Run) (vs : List ℕ) where
-  notified_trade :
-      (o : ℕ) (v : List ℕ) {r : Receiver} (next : Option Node) →
-      Quiet p → Endless p → Hearing q r →
-      All (Trade issued a b p q) (notified issued vs o v r next)
-  unfolding notified tally
-  notified_trade o v next u z hears_nothing = all_none
-  notified_trade o v next u z (hears_any deaf w) = all_none
-  notified_trade o v next u z (hears_any (hears op x) w) =
-      all_guarded _ λ g. all_some (quiet_trade u refl (λ t. sym (z t)) (λ t. followed_tally t nil next ∙ sym (w t)))
-  notified_trade o v next u z (hears_any (serves op x y r) w) = all_none
+hears_traded :
+    {A : Type 0} {P : A → Type 0} {q : Run} {r : Receiver} {k : ℕ → List ℕ → Option A} → Hearing q r →
+    ((o : ℕ) (x : List ℕ) → Endless q → All P (k o x)) → All P (if_hears r k)
+unfolding if_hears
+hears_traded hears_nothing f = all_none
+hears_traded (hears_any deaf w) f = all_none
+hears_traded (hears_any (hears o x) w) f = f o x w
+hears_traded (hears_any (serves o x y p) w) f = all_none
 
-  solicited_trade :
-      (o : ℕ) (v x : List ℕ) (l : Entries) {r : Receiver} (next : Option Node) →
-      is_solicit p ≡ true → ((s : ℕ) → carries s p ≡ false) → Endless p → Hearing q r →
-      All (Trade issued a b p q) (solicited issued a b vs o v x l r next)
-  unfolding solicited tally
-  solicited_trade o v x l next u k z hears_nothing = all_none
-  solicited_trade o v x l next u k z (hears_any deaf w) = all_none
-  solicited_trade o v x l next u k z (hears_any (hears op x') w) = all_none
-  solicited_trade o v x l next u k z (hears_any (serves op x' y r) w) =
-      all_guarded _ λ g.
-      all_some
-      (new_trade o u k refl refl (λ t. omega (arith, z t))
-      (λ t. omega (arith, w t, enable_tally t r, followed_tally t (executor o y a (suc issued) (enable r)) next)))
+serves_traded :
+    {A : Type 0} {P : A → Type 0} {q : Run} {r : Receiver} {k : ℕ → List ℕ → List ℕ → Node → Option A} → Hearing q r →
+    ((o : ℕ) (x y : List ℕ) (p : Node) → Endless q → All P (k o x y p)) → All P (if_serves r k)
+unfolding if_serves
+serves_traded hears_nothing f = all_none
+serves_traded (hears_any deaf w) f = all_none
+serves_traded (hears_any (hears o x) w) f = all_none
+serves_traded (hears_any (serves o x y p) w) f = f o x y p w
 
+module _ (k : Meeting) (p : Run) where
+  abbrev Trades : Exchange → Type 0
+  Trades = Trade k.issued k.sender k.receiver p k.process
+
+  -- a waiter that a working end is for, and both are gone
   awaited_trade :
-      (i o client serial : ℕ) (alike : List ℕ → Bool) (k : List ℕ → Bool → Entries → Exchange) →
+      (o client serial : ℕ) (made : List ℕ → Bool → Entries → Option Exchange) →
       Delivers p serial o client →
-      ((x : List ℕ) (dead : Bool) (l : Entries) → ((k x dead l).issued ≡ issued) × ((k x dead l).serial ≡ serial) × Endless (k x dead l).sender × Endless (k x dead l).receiver) →
-      (r : Run) → r ≡ q →
-      All (Trade issued a b p q) (awaited a b i o client serial alike r k)
-  unfolding awaited tally
-  awaited_trade i o client serial alike k u z nil e = all_none
-  awaited_trade i o client serial alike k u z (seq r r') e = all_none
-  awaited_trade i o client serial alike k u z (par r r') e = all_none
-  awaited_trade i o client serial alike k u z (scope name mark zombie h r) e = all_none
-  awaited_trade i o client serial alike k u z (executor o' y c s r) e = all_none
-  awaited_trade i o client serial alike k u z (notice o' f c s) e = all_none
-  awaited_trade i o client serial alike k u z (act r) e = all_none
-  awaited_trade i o client serial alike k u z (waiter op x dead server s l) e =
-      all_guarded (eqb i 0 && eqb serial s && eqb o op && eqb client b && eqb server a && alike x) λ g.
-      let h = six (eqb i 0) (eqb serial s) (eqb o op) (eqb client b) (eqb server a) (alike x) g in
-      let es : serial ≡ s = eqb→eq serial s h.0 in
-      let eo : o ≡ op = eqb→eq o op h.1 in
-      let ec : client ≡ b = eqb→eq client b h.2 in
-      let ea : server ≡ a = eqb→eq server a h.3 in
-      let ew : waiting s op server ≡ waiting serial o a = cc in
-      let ek : working serial o client ≡ working serial o b = cc in
-      all_some
-      (last_trade serial o u.asks u.delivers (z x dead l).0 (z x dead l).1
-      (λ t. let c : bit (t (working serial o client)) ≡ bit (t (working serial o b)) = ap (λ w. bit (t w)) ek in omega (arith, u.own t, (z x dead l).2 t))
-      (λ t.
-      let c : bit (t (waiting s op server)) ≡ bit (t (waiting serial o a)) = ap (λ w. bit (t w)) ew in
-      let d : bit (t (waiting s op server)) ≡ tally t q = ap (tally t) e in
-      omega (arith, (z x dead l).3 t)))
+      ((x : List ℕ) (dead : Bool) (l : Entries) →
+      All (λ (e : Exchange). (e.issued ≡ k.issued) × (e.serial ≡ serial) × Endless e.sender × Endless e.receiver) (made x dead l)) →
+      All Trades (awaited k o client serial made)
+  unfolding awaited if_waits tally
+  awaited_trade o client serial made u z = by k.process refl
+    where
+      by :
+          (r : Run) → r ≡ k.process →
+          All Trades
+          (if_waits r λ op x dead server s l.
+          guarded (eqb k.branch 0 && eqb serial s && eqb o op && eqb client k.receiver && eqb server k.sender) (made x dead l))
+      by nil e = all_none
+      by (seq r r') e = all_none
+      by (par r r') e = all_none
+      by (scope name mark zombie h r) e = all_none
+      by (executor o' y c s r) e = all_none
+      by (notice o' f c s) e = all_none
+      by (act r) e = all_none
+      by (waiter op x dead server s l) e =
+          all_guarded (eqb k.branch 0 && eqb serial s && eqb o op && eqb client k.receiver && eqb server k.sender) λ g.
+          let h = five (eqb k.branch 0) (eqb serial s) (eqb o op) (eqb client k.receiver) (eqb server k.sender) g in
+          let es : serial ≡ s = eqb→eq serial s h.0 in
+          let eo : o ≡ op = eqb→eq o op h.1 in
+          let ec : client ≡ k.receiver = eqb→eq client k.receiver h.2 in
+          let ea : server ≡ k.sender = eqb→eq server k.sender h.3 in
+          let ew : waiting s op server ≡ waiting serial o k.sender = cc in
+          let ek : working serial o client ≡ working serial o k.receiver = cc in
+          all_map
+          (λ m w.
+          last_trade serial o u.asks u.delivers w.0 w.1
+          (λ t.
+          let c : bit (t (working serial o client)) ≡ bit (t (working serial o k.receiver)) = ap (λ w. bit (t w)) ek in
+          omega (arith, u.own t, w.2 t))
+          (λ t.
+          let c : bit (t (waiting s op server)) ≡ bit (t (waiting serial o k.sender)) = ap (λ w. bit (t w)) ew in
+          let d : bit (t (waiting s op server)) ≡ tally t k.process = ap (tally t) e in
+          omega (arith, w.3 t)))
+          (z x dead l)
 
-  pub exchange_trade : {fs : List Frame} {m : Message} (i : ℕ) → Moves fs p (sends m) → All (Trade issued a b p q) (exchange issued a b i vs q m)
-  unfolding exchange replied faulting tally
-  exchange_trade i (notifies {o = o} {z = z} {v = v} u w) =
-      all_guarded (eqb z b) λ g. notified_trade o v (offer q i).next u w (offer_hearing q i)
-  exchange_trade i (asking {o = o} {z = z} {v = v} {x = x} {l = l} u k w) =
-      all_guarded (eqb z b) λ g. solicited_trade o v x l (offer q i).next u k w (offer_hearing q i)
-  exchange_trade i (replies {o = o} {client = client} {serial = serial} u) =
-      awaited_trade i o client serial _ _ u (λ x dead l. (refl, refl, (λ t. refl), (λ t. refl))) q refl
-  exchange_trade i (faults {o = o} {f = f} {client = client} {serial = serial} u) =
-      awaited_trade i o client serial _ _ u (λ x dead l. (refl, refl, (λ t. refl), (λ t. cond-case (λ r. tally t r ≡ 0) dead (λ d. refl) (λ d. refl)))) q refl
+  pub exchange_trade : {fs : List Frame} {m : Message} → Moves fs p (sends m) → All Trades (exchange k m)
+  unfolding exchange tally
+  exchange_trade (notifies {z = z} u w) =
+      all_guarded (eqb z k.receiver) λ g.
+      hears_traded (offer_hearing k.process k.branch) λ op x e.
+      all_guarded _ λ t. all_some (quiet_trade u refl (λ t. sym (w t)) (λ t. followed_tally t nil (offered_to k).next ∙ sym (e t)))
+  exchange_trade (asking {o = o} {z = z} u c w) =
+      all_guarded (eqb z k.receiver) λ g.
+      serves_traded (offer_hearing k.process k.branch) λ op x y r e.
+      all_guarded _ λ t.
+      all_some
+      (new_trade o u c refl refl (λ t. omega (arith, w t))
+      (λ t.
+      omega (arith, e t, enable_tally t r, followed_tally t (executor o y k.sender (suc k.issued) (enable r)) (offered_to k).next)))
+  exchange_trade (replies {o = o} {client = client} {serial = serial} u) =
+      awaited_trade o client serial _ u λ x dead l. all_guarded _ λ t. all_some (refl, refl, (λ t. refl), (λ t. refl))
+  exchange_trade (faults {o = o} {client = client} {serial = serial} u) =
+      awaited_trade o client serial _ u λ x dead l.
+      all_some (refl, refl, (λ t. refl), (λ t. cond-case (λ r. tally t r ≡ 0) dead (λ d. refl) (λ d. refl)))

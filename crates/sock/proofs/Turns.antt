@@ -17,7 +17,7 @@ use Rattle.sock.specs.Running.{Run, nil}
 use Rattle.sock.specs.Configuration.{Limits, Engine, Config, encode, engines_depth, read_config}
 use Rattle.sock.specs.Frames.{Frame, plug}
 use Rattle.sock.specs.Rules.{Message, Move, stuck, alone, unvalued, sends, Exchange}
-use Rattle.sock.specs.Calls.{unreadable, nobody_there, no_move, no_partner, no_fit, installing, serials_spent, deep, long, short, Numbers, Spot, engine_at, enabled_at, movable, partner, Effect, lone, between, effect, Stepped, with_engine, carried_out, step, End, waiting, working, tally}
+use Rattle.sock.specs.Calls.{unreadable, nobody_there, no_move, no_partner, no_fit, installing, serials_spent, deep, long, short, Numbers, Spot, engine_at, enabled_at, movable, partner, Effect, lone, between, meeting, effect, Stepped, with_engine, carried_out, step, End, waiting, working, tally}
 use Rattle.sock.specs.Runs.{is_solicit, carries}
 use Rattle.sock.proofs.Logic.{cond-case, All, all_none, all_some, all_also, all_guarded, all_map, all_some_lem}
 use Rattle.sock.proofs.Located.{all_equal}
@@ -159,7 +159,7 @@ module _ (c : Config) (k : Numbers) where
   unfolding effect
   sends_effects a b h =
       all_guarded (not (eqb a.engine b.engine)) λ g.
-      all_also (exchange_trade c.issued a.engine b.engine a.process b.process b.values k.branch h) λ x z.
+      all_also (exchange_trade (meeting c k a b) a.process h) λ x z.
       all_some (all_some (between_effects (λ e. T_not (eqb a.engine b.engine) g (subst T (sym (eq-eqb a.engine b.engine e)) tt)) z))
 
   effect_effects : {a : Spot} → Standing c a → (b : Spot) {m : Move} → Moves a.frames a.process m → All (All (Effects c a b)) (effect c k a b m)

@@ -6,7 +6,7 @@ use Rattle.sock.specs.Term.{kind}
 use Rattle.sock.specs.Running.{Run, nil, seq, par, scope, executor, waiter, notice, act, as_node, size}
 use Rattle.sock.specs.Configuration.{Limits, Engine, Config, encode, engines_words, engines_depth, guarded, read_config, fresh}
 use Rattle.sock.specs.Frames.{Frame, locate, plug}
-use Rattle.sock.specs.Rules.{also, Move, stuck, alone, unvalued, sends, move_of, Exchange, exchange}
+use Rattle.sock.specs.Rules.{also, Move, stuck, alone, unvalued, sends, move_of, Meeting, Exchange, exchange}
 
 -- The refusals, with the word that document 01 gives each
 pub data Refusal : Type 0 where
@@ -120,13 +120,17 @@ pub data Effect : Type 0 where
   lone : List ℕ → Option Run → Effect
   between : Exchange → Effect
 
+abbrev pub meeting : Config → Numbers → Spot → Spot → Meeting
+meeting c k a b =
+    record { issued = c.issued; sender = a.engine; receiver = b.engine; values = b.values; process = b.process; branch = k.branch }
+
 unfoldable pub effect : Config → Numbers → Spot → Spot → Move → Option (Option Effect)
 effect c k a b stuck = none
 effect c k a b (alone vs p) = some (some (lone vs p))
 effect c k a b unvalued = some none
 effect c k a b (sends m) =
     guarded (not (eqb a.engine b.engine))
-    (also (exchange c.issued a.engine b.engine k.branch b.values b.process m) λ x. some (some (between x)))
+    (also (exchange (meeting c k a b) m) λ x. some (some (between x)))
 
 -- the next configuration, with what the answer says of the step
 pub record Stepped : Type 0 where

@@ -7,9 +7,9 @@ use Rattle.sock.specs.Kind
 use Rattle.sock.specs.Kind.{Own, word, variables, row_of}
 use Rattle.sock.specs.Words.{is_word, clear, kind_of, key_word}
 use Rattle.sock.specs.Variables.{variable_words}
-use Rattle.sock.specs.Term.{Node, node, Block, absent, list, Entries, no_entries, entry, Nodes, no_parts, ◌&◌, processes_of}
+use Rattle.sock.specs.Term.{Node, node, Block, absent, list, Entries, no_entries, entry, Nodes, no_parts, ◌&◌}
 use Rattle.sock.specs.Layout.{exprs_words, count, entries_words}
-use Rattle.sock.specs.Reading.{Got, fail, got, and_then, check, Stratum, running, Place, anywhere, root, head_fits, node_fits, entry_stratum, expr, exprs, block, parts, part_by}
+use Rattle.sock.specs.Reading.{Got, fail, got, and_then, check, Stratum, running, Place, anywhere, root, head_fits, node_fits, entry_stratum, expr, exprs, block, parts_of, parts, part_by}
 use Rattle.sock.specs.Running.{Run, nil, seq, par, scope, executor, waiter, notice, act, as_node, size, awake}
 use Rattle.sock.specs.Configuration.{Limits, Engine, Config, values_words, encode, engines_depth, read_values, whole, guarded}
 use Rattle.sock.specs.Frames.{Frame, seq_frame, left_frame, right_frame, scope_frame, executor_frame, Located, here_or, past}
@@ -34,7 +34,7 @@ earlier_process (suc d) s p (h ∷ ws) =
     (and_then (earlier_own (row_of (kind_of h)).fixed ws) λ f w1.
     and_then (exprs (expr d) (row_of (kind_of h)).expressions w1) λ es w2.
     and_then (block (earlier_process d (entry_stratum (eqb (kind_of h) Kind.scope)) anywhere) (eqb (kind_of h) Kind.scope) (row_of (kind_of h)).lists w2) λ b w3.
-    and_then (parts (part_by (earlier_process d) s (kind_of h)) (processes_of h) w3) λ ps rest.
+    and_then (parts (part_by (earlier_process d) s) (parts_of h) w3) λ ps rest.
     check (node_fits s h f b) (got (node h f es b ps) rest))
 
 -- as `Configuration.read_config`

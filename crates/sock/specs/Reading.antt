@@ -1,10 +1,10 @@
 -- Reading a process, with every condition of document 01's "Readable" that concerns one. What a condition needs to know of the place is handed down.
-use Rattle.std.specs.Prelude.{ℕ, zero, suc, ◌-◌, ◌%◌, Bool, true, false, not, ◌&&◌, ◌||◌, cond, List, [], ◌∷◌, ◌++◌, leb, ltb, eqb, get_or}
+use Rattle.std.specs.Prelude.{ℕ, zero, suc, ◌-◌, Bool, true, false, not, ◌&&◌, ◌||◌, cond, List, [], ◌∷◌, ◌++◌, leb, ltb, eqb, get_or}
 use Rattle.sock.specs.Kind
 use Rattle.sock.specs.Kind.{Own, word, variables, Row, row_of}
 use Rattle.sock.specs.Words.{is_word, clear, kind_of, count_of, mark_of, zombie_of, next_variable, first_name, executors_client, waiters_server, notices_client, key_of, tag_of, read_variable, value_of}
 use Rattle.sock.specs.Variables.{head_variables, later_variables, distinct}
-use Rattle.sock.specs.Term.{Operator, sum, difference, less, equal, decimal_sum, decimal_difference, Expr, constant, variable, apply, Node, node, Block, absent, list, Entries, no_entries, entry, Nodes, no_parts, ◌&◌, is_nil, processes_of, entries_of}
+use Rattle.sock.specs.Term.{Operator, sum, difference, less, equal, decimal_sum, decimal_difference, Expr, constant, variable, apply, Node, node, Block, absent, list, Entries, no_entries, entry, Nodes, no_parts, ◌&◌, is_nil, entries_of}
 
 -- What is read, and the words behind it
 pub data Got (A : Type 0) : Type 0 where
@@ -47,17 +47,55 @@ branched h = not (eqb (kind_of h) Kind.choice) || ltb 0 (count_of h) && leb (cou
 unfoldable pub head_fits : Stratum → Place → ℕ → Bool
 head_fits s p h = allowed s (kind_of h) && placed p (kind_of h) && clear (row_of (kind_of h)).spare h && branched h
 
--- Enabled: the body of an enabled scope or executor; both sides of an enabled par; the first of an enabled seq. `left` parts follow this one.
-unfoldable pub part_stratum : Stratum → ℕ → ℕ → Stratum
-part_stratum (code c) k left = code c
-part_stratum (running n issued) k left =
-    cond (eqb k Kind.scope || eqb k Kind.executor || eqb k Kind.par || eqb k Kind.seq && eqb left 1) (running n issued) (code false)
+-- A part of a process: where it stands, and whether it is enabled where the process is
+pub record Part : Type 0 where
+  pub place : Place
+  pub enabled : Bool
 
--- No seq begins with nil and no par has a nil side; each branch of a choice begins with a process of kind 7 or 8
-unfoldable pub part_place : ℕ → ℕ → Place
-part_place k left =
-    cond (eqb k Kind.par || eqb k Kind.seq && eqb left 1) not_nil
-    (cond (eqb k Kind.choice && eqb (left % 2) 1) guard anywhere)
+abbrev pub code_part : Place → Part
+code_part p = record { place = p; enabled = false }
+
+abbrev pub run_part : Place → Part
+run_part p = record { place = p; enabled = true }
+
+-- The parts that the fixed table's rows have, first to last. No seq begins with nil and no par has a nil side; each branch of a choice begins with a
+-- process of kind 7 or 8. Enabled: the body of an enabled scope or executor; both sides of an enabled par; the first of an enabled seq. The same are
+-- opened by `awake` (Running.awake_sound), found by `locate` and listed by `enabled_in` (Enabled.enabled_found).
+unfoldable pub parts_rows : List (List Part)
+parts_rows =
+    []  -- 0 nil
+    ∷ []  -- 1 assign
+    ∷ (run_part not_nil ∷ code_part anywhere ∷ [])  -- 2 seq: P, Q
+    ∷ (run_part not_nil ∷ run_part not_nil ∷ [])  -- 3 par: P, Q
+    ∷ (code_part anywhere ∷ code_part anywhere ∷ [])  -- 4 if: P, Q
+    ∷ (code_part anywhere ∷ [])  -- 5 while: P
+    ∷ (code_part guard ∷ code_part anywhere ∷ [])  -- 6 choice: per branch a process of kind 7 or 8, then P
+    ∷ []  -- 7 one-way
+    ∷ (code_part anywhere ∷ [])  -- 8 request: P
+    ∷ []  -- 9 notify
+    ∷ []  -- 10 solicit
+    ∷ (run_part anywhere ∷ [])  -- 11 scope: P
+    ∷ []  -- 12 inst
+    ∷ []  -- 13 throw
+    ∷ []  -- 14 comp
+    ∷ []  -- 15 cH
+    ∷ (run_part anywhere ∷ [])  -- 16 executor: P
+    ∷ []  -- 17 waiter
+    ∷ []  -- 18 notice
+    ∷ []
+
+unfoldable pub repeated : ℕ → List Part → List Part
+repeated zero ps = []
+repeated (suc n) ps = ps ++ repeated n ps
+
+-- The parts of a process by its head, as many as `processes_of` says (Parts.parts_many)
+unfoldable pub parts_of : ℕ → List Part
+parts_of h = repeated (cond (eqb (kind_of h) Kind.choice) (count_of h) 1) (get_or parts_rows (kind_of h) [])
+
+-- what is not enabled where the process runs is code without cH; all of code is such code as it is
+unfoldable pub part_stratum : Stratum → Bool → Stratum
+part_stratum (code c) enabled = code c
+part_stratum (running n issued) enabled = cond enabled (running n issued) (code false)
 
 -- The entries of a scope's list hold no cH; those of kinds 10, 12, 17 may
 abbrev pub entry_stratum : Bool → Stratum
@@ -180,14 +218,13 @@ block sub ofScope zero ws = got absent ws
 block sub ofScope (suc n) [] = fail
 block sub ofScope (suc n) (c ∷ ws) = and_then (entries sub ofScope c 0 ws) λ l rest. got (list l) rest
 
--- The processes of a node; the reader is handed how many follow
-unfoldable pub parts : (ℕ → List ℕ → Got Node) → ℕ → List ℕ → Got Nodes
-parts sub zero ws = got no_parts ws
-parts sub (suc n) ws = and_then (sub n ws) λ p then. and_then (parts sub n then) λ ps rest. got (p & ps) rest
+-- The processes of a node, one for each part
+unfoldable pub parts : (Part → List ℕ → Got Node) → List Part → List ℕ → Got Nodes
+parts sub [] ws = got no_parts ws
+parts sub (q ∷ qs) ws = and_then (sub q ws) λ p then. and_then (parts sub qs then) λ ps rest. got (p & ps) rest
 
--- the reader of a node's part that `left` others follow
-unfoldable pub part_by : (Stratum → Place → List ℕ → Got Node) → Stratum → ℕ → ℕ → List ℕ → Got Node
-part_by read s k left ws = read (part_stratum s k left) (part_place k left) ws
+abbrev pub part_by : (Stratum → Place → List ℕ → Got Node) → Stratum → Part → List ℕ → Got Node
+part_by read s q ws = read (part_stratum s q.enabled) q.place ws
 
 -- What follows a head, by the table, with readers for expressions and processes one level down
 unfoldable pub node_by : (List ℕ → Got Expr) → (Stratum → Place → List ℕ → Got Node) → Stratum → ℕ → List ℕ → Got Node
@@ -195,7 +232,7 @@ node_by readExpr read s h ws =
     and_then (fixed_words (row_of (kind_of h)).fixed ws) λ f w1.
     and_then (exprs readExpr (row_of (kind_of h)).expressions w1) λ es w2.
     and_then (block (read (entry_stratum (eqb (kind_of h) Kind.scope)) anywhere) (eqb (kind_of h) Kind.scope) (row_of (kind_of h)).lists w2) λ b w3.
-    and_then (parts (part_by read s (kind_of h)) (processes_of h) w3) λ ps rest.
+    and_then (parts (part_by read s) (parts_of h) w3) λ ps rest.
     check (node_fits s h f b) (got (node h f es b ps) rest)
 
 -- A process of at most the depth given

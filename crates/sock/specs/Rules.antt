@@ -188,6 +188,52 @@ unfoldable pub followed : Run → Option Node → Run
 followed p none = p
 followed p (some q) = seq_of p q
 
+-- What meets in an exchange: the serials issued, the sender's engine, the receiver's, and of that the values, the process and the branch
+pub record Meeting : Type 0 where
+  pub issued : ℕ
+  pub sender : ℕ
+  pub receiver : ℕ
+  pub values : List ℕ
+  pub process : Run
+  pub branch : ℕ
+
+abbrev pub offered_to : Meeting → Offer
+offered_to m = offer m.process m.branch
+
+-- What a receiver is, where it is such a one: a one-way by operation and x; a request by operation, x, y and P; a waiter by operation, x, dead, server
+-- engine, serial and list
+unfoldable pub if_hears : {A : Type 0} → Receiver → (ℕ → List ℕ → Option A) → Option A
+if_hears deaf k = none
+if_hears (hears o x) k = k o x
+if_hears (serves o x y p) k = none
+
+unfoldable pub if_serves : {A : Type 0} → Receiver → (ℕ → List ℕ → List ℕ → Node → Option A) → Option A
+if_serves deaf k = none
+if_serves (hears o x) k = none
+if_serves (serves o x y p) k = k o x y p
+
+unfoldable pub if_waits : {A : Type 0} → Run → (ℕ → List ℕ → Bool → ℕ → ℕ → Entries → Option A) → Option A
+if_waits nil k = none
+if_waits (seq p q) k = none
+if_waits (par p q) k = none
+if_waits (scope name mark zombie h p) k = none
+if_waits (executor o y client serial p) k = none
+if_waits (waiter o x dead server serial l) k = k o x dead server serial l
+if_waits (notice o f client serial) k = none
+if_waits (act p) k = none
+
+-- a waiter with the end's serial and operation, the two naming each other's engine, and branch 0
+unfoldable pub awaited : {A : Type 0} → Meeting → ℕ → ℕ → ℕ → (List ℕ → Bool → Entries → Option A) → Option A
+awaited m o client serial k =
+    if_waits m.process λ op x dead server s l.
+    guarded (eqb m.branch 0 && eqb serial s && eqb o op && eqb client m.receiver && eqb server m.sender) (k x dead l)
+
+abbrev pub inst_of : Entries → Node
+inst_of l = node (head_of Kind.inst 0) [] [] (list l) no_parts
+
+abbrev pub throw_of : ℕ → Node
+throw_of f = node (head_of Kind.throw (f * 32)) [] [] absent no_parts
+
 -- What an exchange makes of the two processes and of the receiver's values
 pub record Exchange : Type 0 where
   pub sender : Run
@@ -197,64 +243,34 @@ pub record Exchange : Type 0 where
   pub serial : ℕ
   pub fault : ℕ
 
--- a notify in a one-way: x takes y
-unfoldable pub notified : ℕ → List ℕ → ℕ → List ℕ → Receiver → Option Node → Option Exchange
-notified issued vs o v deaf next = none
-notified issued vs o v (hears op x) next =
+-- The rule for two: what a message does where it meets such a receiver; none where it doesn't
+unfoldable pub exchange : Meeting → Message → Option Exchange
+-- a notify in a one-way, z being the receiver's engine: x takes y
+exchange m (notification o v z) =
+    guarded (eqb z m.receiver)
+    (if_hears (offered_to m).receives λ op x.
     guarded (eqb o op && eqb (length v) (length x))
-    (some (record { sender = nil; receiver = followed nil next; values = set_all vs x v; issued = issued; serial = 0; fault = 0 }))
-notified issued vs o v (serves op x y p) next = none
-
+    (some (record { sender = nil; receiver = followed nil (offered_to m).next; values = set_all m.values x v; issued = m.issued; serial = 0; fault = 0 })))
 -- a solicit in a request: it becomes a live waiter, the request an executor; issued is raised by 1, that is the serial
-unfoldable pub solicited : ℕ → ℕ → ℕ → List ℕ → ℕ → List ℕ → List ℕ → Entries → Receiver → Option Node → Option Exchange
-solicited issued client server vs o v x l deaf next = none
-solicited issued client server vs o v x l (hears op x') next = none
-solicited issued client server vs o v x l (serves op x' y p) next =
+exchange m (solicitation o v z x l) =
+    guarded (eqb z m.receiver)
+    (if_serves (offered_to m).receives λ op x' y p.
     guarded (eqb o op && eqb (length v) (length x') && eqb (length y) (length x))
     (some
     (record {
-      sender = waiter o x false server (suc issued) l;
-      receiver = followed (executor o y client (suc issued) (enable p)) next;
-      values = set_all vs x' v;
-      issued = suc issued;
-      serial = suc issued;
+      sender = waiter o x false m.receiver (suc m.issued) l;
+      receiver = followed (executor o y m.sender (suc m.issued) (enable p)) (offered_to m).next;
+      values = set_all m.values x' v;
+      issued = suc m.issued;
+      serial = suc m.issued;
       fault = 0;
-    }))
-
-abbrev pub inst_of : Entries → Node
-inst_of l = node (head_of Kind.inst 0) [] [] (list l) no_parts
-
-abbrev pub throw_of : ℕ → Node
-throw_of f = node (head_of Kind.throw (f * 32)) [] [] absent no_parts
-
+    })))
 -- Reply: x takes y, and the waiter, dead or live, becomes inst of its list
-unfoldable pub replied : ℕ → ℕ → List ℕ → List ℕ → List ℕ → Entries → Exchange
-replied issued serial vs v x l =
-    record { sender = nil; receiver = act (inst_of l); values = set_all vs x v; issued = issued; serial = serial; fault = 0 }
-
+exchange m (reply o v client serial) =
+    awaited m o client serial λ x dead l.
+    guarded (eqb (length v) (length x))
+    (some (record { sender = nil; receiver = act (inst_of l); values = set_all m.values x v; issued = m.issued; serial = serial; fault = 0 }))
 -- Fault: a live waiter becomes throw(f), a dead one nil
-unfoldable pub faulting : ℕ → ℕ → List ℕ → ℕ → Bool → Exchange
-faulting issued serial vs f dead =
-    record { sender = nil; receiver = cond dead nil (act (throw_of f)); values = vs; issued = issued; serial = serial; fault = 1 }
-
--- a waiter with the end's serial and operation, the two naming each other's engine, and branch 0
-unfoldable pub awaited : ℕ → ℕ → ℕ → ℕ → ℕ → ℕ → (List ℕ → Bool) → Run → (List ℕ → Bool → Entries → Exchange) → Option Exchange
-awaited sender receiver i o client serial alike nil k = none
-awaited sender receiver i o client serial alike (seq p q) k = none
-awaited sender receiver i o client serial alike (par p q) k = none
-awaited sender receiver i o client serial alike (scope name mark zombie h p) k = none
-awaited sender receiver i o client serial alike (executor op y c s p) k = none
-awaited sender receiver i o client serial alike (waiter op x dead server s l) k =
-    guarded (eqb i 0 && eqb serial s && eqb o op && eqb client receiver && eqb server sender && alike x) (some (k x dead l))
-awaited sender receiver i o client serial alike (notice op f c s) k = none
-awaited sender receiver i o client serial alike (act p) k = none
-
--- what the message does to the receiver `p` with values `vs`, among the serials issued
-unfoldable pub exchange : ℕ → ℕ → ℕ → ℕ → List ℕ → Run → Message → Option Exchange
-exchange issued sender receiver i vs p (notification o v z) = guarded (eqb z receiver) (notified issued vs o v (offer p i).receives (offer p i).next)
-exchange issued sender receiver i vs p (solicitation o v z x l) =
-    guarded (eqb z receiver) (solicited issued sender receiver vs o v x l (offer p i).receives (offer p i).next)
-exchange issued sender receiver i vs p (reply o v client serial) =
-    awaited sender receiver i o client serial (λ x. eqb (length v) (length x)) p (λ x dead l. replied issued serial vs v x l)
-exchange issued sender receiver i vs p (failure o f client serial) =
-    awaited sender receiver i o client serial (λ x. true) p (λ x dead l. faulting issued serial vs f dead)
+exchange m (failure o f client serial) =
+    awaited m o client serial λ x dead l.
+    some (record { sender = nil; receiver = cond dead nil (act (throw_of f)); values = m.values; issued = m.issued; serial = serial; fault = 1 })

@@ -99,6 +99,6 @@ unfoldable pub awake : Node → Run
 awake p = opened forms p
 
 -- Code that becomes enabled: no kinds 16 to 18 stand in code, so the table ends before them. Of code that fits it is `awake`
--- (Running.enable-awake).
+-- (Running.enable_awake).
 unfoldable pub enable : Node → Run
 enable p = opened (take 12 forms) p

@@ -17,7 +17,7 @@ use Rattle.sock.specs.Running.{Run, as_node, run_words, size, run_depth}
 use Rattle.sock.specs.Configuration.{Config, Engine}
 use Rattle.sock.specs.Frames.{Located, plug}
 use Rattle.sock.specs.Rules.{Message, sends, move_of, Exchange, exchange}
-use Rattle.sock.specs.Calls.{Spot as Place, no_fit, Numbers, engine_at, with_engine}
+use Rattle.sock.specs.Calls.{Spot as Place, no_fit, Numbers, engine_at, meeting, with_engine}
 use Rattle.sock.proofs.Located.{start_of}
 use Rattle.reading.specs.Survey.{Starts}
 use Rattle.reading.proofs.Combining.{Words}
@@ -280,11 +280,11 @@ module _ (ws : List ℕ) (ok : Words ws) (s : Starts) {limits : Limits} (modest 
         meet_w limits ws part values rest both out ≡ given (pair_of limits c k a b m (length out)) out
     unfolding meet_w
     meet_law other =
-        by (exchange c.issued e i k.branch (engine_at c i).values lb.process m) refl
+        by (exchange (meeting c k a b) m) refl
         (partners.partners_trade ws ok s modest known e seenA.inside ta la sa seenA.spotted i seenB.inside tb lb sb seenB.spotted k.branch m moves)
       where
         by :
-            (o : Option Exchange) → exchange c.issued e i k.branch (engine_at c i).values lb.process m ≡ o →
+            (o : Option Exchange) → exchange (meeting c k a b) m ≡ o →
             Pairs c.issued e i k.branch la.process lb.process (engine_at c i).values part values rest kd blank o →
             cond (fit_w part values rest (offer_w rest k.branch) kd k.branch e i)
             (cond (spent_w ws kd) (answered (refusing 7) out) (carry_w limits ws part values rest (offer_w rest k.branch) both out))

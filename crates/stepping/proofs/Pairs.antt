@@ -18,7 +18,7 @@ use Rattle.sock.specs.Running.{Run, nil, executor, waiter, notice, act, as_node,
 use Rattle.sock.specs.Configuration.{guarded, values_words}
 use Rattle.sock.specs.Evaluation.{value_at}
 use Rattle.sock.specs.Frames.{Frame, is_done}
-use Rattle.sock.specs.Rules.{Message, notification, solicitation, reply, failure, Move, stuck, alone, sends, action, acting, once_done, move_of, Exchange, exchange, awaited, notified, solicited, offer, replied, faulting, unvalued, valued as valuing}
+use Rattle.sock.specs.Rules.{Message, notification, solicitation, reply, failure, Move, stuck, alone, sends, action, acting, once_done, move_of, offer, Meeting, awaited, Exchange, exchange, unvalued, valued as valuing}
 use Rattle.sock.proofs.Fits.{Fits, Sound, nil_sound, seq_sound, par_sound, scope_sound, executor_sound, waiter_sound, notice_sound, act_sound, AllBelow}
 use Rattle.sock.proofs.Fields.{name_of_lem, second_of_lem, client_of, noticed_fault, noticed_client, end_tests}
 use Rattle.sock.proofs.ByKind.{kind_as_node}
@@ -40,7 +40,7 @@ use Rattle.rules.proofs.Offers.{first_list, only_list, behind_list}
 use Rattle.rules.proofs.Shapes.{Headed, Shape, assigns, branches, repeats, chooses, hears, serves, notifies, solicits, installs, throws, compensates, shape}
 use Rattle.rules.proofs.Exchanges.{Takes}
 use Rattle.rules.proofs.Waiters.{asks_front, asks_back, ask_rewrites, awaited_branch}
-use Rattle.rules.proofs.Meetings.{Meets, meets, misses, notify_meets, solicit_meets, reply_meets, fault_meets}
+use Rattle.rules.proofs.Meetings.{notified, solicited, replied, faulting, Meets, meets, misses, notify_meets, solicit_meets, reply_meets, fault_meets}
 use Rattle.stepping.specs.Meeting.{addressed_w, replies_w, replied_w, taker_of, counts_w, takes_w, fit_w, serial_w, send_w, receive_w}
 use Rattle.stepping.specs.Exchanging.{issued_of, fault_of}
 
@@ -85,6 +85,10 @@ module _ (n issued : ℕ) (few : n ≤ 8) (small : issued < 65536) (e i branch :
   abbrev PairsOf : Run → ℕ → Option Exchange → Type 0
   PairsOf a k x = Pairs issued e i branch a b vb part values other k fresh x
 
+  -- what meets, by the branch
+  abbrev met : ℕ → Meeting
+  met j = record { issued = issued; sender = e; receiver = i; values = vb; process = b; branch = j }
+
   -- ---- a notify
 
   module _ (a : Run) (h w : ℕ) (y : List ℕ) (first : at part 0 ≡ h) (second : at part 1 ≡ w) (headed : second_of h ≡ first_of y) (sent : Listed part 2 y) where
@@ -118,7 +122,7 @@ module _ (n issued : ℕ) (few : n ≤ 8) (small : issued < 65536) (e i branch :
           values = ap (stored vb) (sym k.takes);
         })
 
-    notify_pairs : PairsOf a 9 (exchange issued e i branch vb b (notification (name_of h) (values_at va y) (value_at va (first_variable w))))
+    notify_pairs : PairsOf a 9 (exchange (met branch) (notification (name_of h) (values_at va y) (value_at va (first_variable w))))
     unfolding exchange guarded
     notify_pairs = by (eqb (value_at va (w / 2048)) i) refl
       where
@@ -179,7 +183,7 @@ module _ (n issued : ℕ) (few : n ≤ 8) (small : issued < 65536) (e i branch :
         })
 
     solicit_pairs :
-        PairsOf asker 10 (exchange issued e i branch vb b (solicitation (name_of h) (values_at va y) (value_at va (first_variable w)) x l))
+        PairsOf asker 10 (exchange (met branch) (solicitation (name_of h) (values_at va y) (value_at va (first_variable w)) x l))
     unfolding exchange guarded
     solicit_pairs = by (eqb (value_at va (w / 2048)) i) refl
       where
@@ -232,11 +236,9 @@ module _ (n issued : ℕ) (few : n ≤ 8) (small : issued < 65536) (e i branch :
 
     -- the exchange, by branch
     abbrev Replied : ℕ → Option Exchange
-    Replied j =
-        awaited e i j (name_of h) client serial (λ x. eqb (length (values_at va y)) (length x)) b
-        (λ x dead l. replied issued serial vb (values_at va y) x l)
+    Replied j = awaited (met j) (name_of h) client serial (replied issued serial vb (values_at va y))
 
-    reply_pairs : PairsOf a 16 (exchange issued e i branch vb b (reply (name_of h) (values_at va y) client serial))
+    reply_pairs : PairsOf a 16 (exchange (met branch) (reply (name_of h) (values_at va y) client serial))
     unfolding exchange
     reply_pairs = by branch refl
       where
@@ -248,7 +250,7 @@ module _ (n issued : ℕ) (few : n ≤ 8) (small : issued < 65536) (e i branch :
             (reply_meets n issued other few small restB b soundB deepB standsB close vb part near-part values va value y (ap second_of first ∙ headed) sent
             h serial client e i fresh (omega arith)))
         by (suc j) z =
-            subst (λ x. PairsOf a 16 x) (sym (ap Replied z ∙ awaited_branch e i j (name_of h) client serial _ b _))
+            subst (λ x. PairsOf a 16 x) (sym (ap Replied z ∙ awaited_branch (met (suc j)) (name_of h) client serial _ (λ y. omega arith)))
             (misfit
             (reply_fits
             ∙ ap (λ t. cond (cond t (awaits_w other h serial client e i) false) (answers_w part other) false) (ne_eqb branch 0 (λ y. omega arith))))
@@ -290,9 +292,9 @@ module _ (n issued : ℕ) (few : n ≤ 8) (small : issued < 65536) (e i branch :
 
     -- the exchange, by branch
     abbrev Failed : ℕ → Option Exchange
-    Failed j = awaited e i j (name_of h) client serial (λ x. true) b (λ x dead l. faulting issued serial vb (first_name w) dead)
+    Failed j = awaited (met j) (name_of h) client serial (faulting issued serial vb (first_name w))
 
-    notice_pairs : PairsOf a 18 (exchange issued e i branch vb b (failure (name_of h) (first_name w) client serial))
+    notice_pairs : PairsOf a 18 (exchange (met branch) (failure (name_of h) (first_name w) client serial))
     unfolding exchange
     notice_pairs = by branch refl
       where
@@ -302,7 +304,7 @@ module _ (n issued : ℕ) (few : n ≤ 8) (small : issued < 65536) (e i branch :
             (notice_found (notice_fits ∙ ap (λ j. cond (eqb j 0) (awaits_w other h serial client e i) false) z)
             (fault_meets n issued other few small restB b soundB deepB standsB close vb h serial client e i fresh (omega arith) w))
         by (suc j) z =
-            subst (λ x. PairsOf a 18 x) (sym (ap Failed z ∙ awaited_branch e i j (name_of h) client serial (λ x. true) b _))
+            subst (λ x. PairsOf a 18 x) (sym (ap Failed z ∙ awaited_branch (met (suc j)) (name_of h) client serial _ (λ y. omega arith)))
             (misfit (notice_fits ∙ ap (λ t. cond t (awaits_w other h serial client e i) false) (ne_eqb branch 0 (λ y. omega arith))))
 
   -- ---- by what moves
@@ -312,7 +314,7 @@ module _ (n issued : ℕ) (few : n ≤ 8) (small : issued < 65536) (e i branch :
   PairsBy a stuck = Unit {0}
   PairsBy a (alone vs p) = Unit {0}
   PairsBy a unvalued = Unit {0}
-  PairsBy a (sends m) = PairsOf a (kind (as_node a)) (exchange issued e i branch vb b m)
+  PairsBy a (sends m) = PairsOf a (kind (as_node a)) (exchange (met branch) m)
 
   kinded : {a : Run} {x : Option Exchange} {k j : ℕ} → k ≡ j → PairsOf a j x → PairsOf a k x
   kinded {a} {x} q y = subst (λ k. PairsOf a k x) (sym q) y
@@ -374,7 +376,7 @@ module _ (n issued : ℕ) (few : n ≤ 8) (small : issued < 65536) (e i branch :
         ∙ ap (λ l. h ∷ (client * 8192) ∷ serial ∷ l) (append_assoc (variable_words y) (run_words p) rest)) in
         let second : at part 1 / 8192 ≡ client = ap (λ l. at l 1 / 8192) whole ∙ client_of client in
         let list : Listed part 3 y = record { fitting = by; behind = run_words p ++ rest; stands = ap (drop 3) whole } in
-        let made : PairsOf a 16 (exchange issued e i branch vb b (reply (name_of h) (values_at va y) client serial)) =
+        let made : PairsOf a 16 (exchange (met branch) (reply (name_of h) (values_at va y) client serial)) =
         reply_pairs a h client serial y (ap (λ l. at l 0) whole) second (ap (λ l. at l 2) whole) (second_of_lem 16 o (first_of y) low) list in
         one_sends a (is_done p) (reply o (values_at va y) client serial)
         (kinded (kind_as_node (executor_sound bo by t s)) (rw (name_of_lem 16 o (first_of y) bo low) at made))
@@ -385,7 +387,7 @@ module _ (n issued : ℕ) (few : n ≤ 8) (small : issued < 65536) (e i branch :
         let w : ℕ = f * 1024 + client * 128 in
         let whole : part ≡ h ∷ w ∷ serial ∷ rest = stands ∙ ap (λ l. l ++ rest) (words_notice o f client serial) in
         let low : client < 8 = omega (arith, end_tests n issued client serial t) in
-        let made : PairsOf a 18 (exchange issued e i branch vb b (failure (name_of h) (first_name w) client serial)) =
+        let made : PairsOf a 18 (exchange (met branch) (failure (name_of h) (first_name w) client serial)) =
         notice_pairs a h w client serial (ap (λ l. at l 0) whole) (ap (λ l. at l 1) whole)
         (noticed_client f client low) (ap (λ l. at l 2) whole) in
         kinded (kind_as_node (notice_sound bo bf t)) (rw (name_of_lem 18 o 0 bo (omega arith), noticed_fault f client low) at made)
@@ -394,5 +396,5 @@ module _ (n issued : ℕ) (few : n ≤ 8) (small : issued < 65536) (e i branch :
 
     pub sender_pairs :
         {a : Run} → Sound n issued a → run_depth a ≤ 64 → part ≡ run_words a ++ rest → (m : Message) → move_of va fs a ≡ sends m →
-        PairsOf a (kind (as_node a)) (exchange issued e i branch vb b m)
+        PairsOf a (kind (as_node a)) (exchange (met branch) m)
     sender_pairs {a} sound deep stands m moves = subst (PairsBy a) moves (run_pairs sound deep stands)

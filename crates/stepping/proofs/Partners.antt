@@ -141,7 +141,7 @@ module _ (ws : List ℕ) (ok : Words ws) (s : Starts) {limits : Limits} (modest 
         Pairs c.issued e i branch la.process lb.process (engine_at c i).values
         (lent sa.at (length ws) ws) (lent (start_of c e - 64) (start_of c e) ws) (lent sb.at (length ws) ws)
         (kind (as_node la.process)) blank
-        (exchange c.issued e i branch (engine_at c i).values lb.process m)
+        (exchange (record { issued = c.issued; sender = e; receiver = i; values = (engine_at c i).values; process = lb.process; branch = branch }) m)
     partners_trade m moves =
         sender_pairs (length c.engines) c.issued known.readable.fitting.few known.readable.fitting.word e i branch
         (omega (arith, known.readable.fitting.few)) (omega (arith, known.readable.fitting.few)) blank

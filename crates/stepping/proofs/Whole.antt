@@ -12,7 +12,7 @@ use Rattle.sock.specs.Running.{Run, as_node}
 use Rattle.sock.specs.Configuration.{Config, guarded, read_config}
 use Rattle.sock.specs.Frames.{plug}
 use Rattle.sock.specs.Rules.{also, Message, stuck, alone, unvalued, sends, move_of, Exchange, exchange}
-use Rattle.sock.specs.Calls.{unreadable, nobody_there, no_move, no_partner, no_fit, not_decimal, installing, Result, refused, ◌>>=◌, ◌!◌, Numbers, Spot, enabled_at, movable, partner, effect, Stepped, with_engine, carried_out, step}
+use Rattle.sock.specs.Calls.{unreadable, nobody_there, no_move, no_partner, no_fit, not_decimal, installing, Result, refused, ◌>>=◌, ◌!◌, Numbers, Spot, enabled_at, movable, partner, meeting, effect, Stepped, with_engine, carried_out, step}
 use Rattle.layout.specs.declared.limit.Limits.{Limits}
 use Rattle.layout.specs.Limits.{figures}
 use Rattle.stepping.specs.Stepping.{none_else}
@@ -125,12 +125,12 @@ module _ (limits : Limits) (c : Config) (k : Numbers) (a : Spot) (room : ℕ) wh
   pair_same b m e = rw (eq-eqb a.engine b.engine e)
 
   module _ (b : Spot) (m : Message) (other : a.engine ≡ b.engine → ⊥) where
-    pub pair_none : exchange c.issued a.engine b.engine k.branch b.values b.process m ≡ none → pair_of limits c k a b m room ≡ refused no_fit
+    pub pair_none : exchange (meeting c k a b) m ≡ none → pair_of limits c k a b m room ≡ refused no_fit
     unfolding pair_of effect guarded also ◌!◌ ◌>>=◌
     pair_none e = rw (ne_eqb a.engine b.engine other, e)
 
     pub pair_some :
-        (x : Exchange) → exchange c.issued a.engine b.engine k.branch b.values b.process m ≡ some x →
+        (x : Exchange) → exchange (meeting c k a b) m ≡ some x →
         pair_of limits c k a b m room ≡ fitted limits room (exchanged c a b x)
     unfolding pair_of effect carried_out guarded also ◌!◌ ◌>>=◌
     pair_some x e = rw (ne_eqb a.engine b.engine other, e)
