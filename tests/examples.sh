@@ -59,7 +59,7 @@ gcc -shared -nostdlib -Wl,--whole-archive "$library" -o "$scratch/library.so"
 
 # ---- The inputs, plain and explained
 
-for name in worked lockage bridge compensation dead-waiter choice booking; do
+for name in worked lockage bridge compensation dead-waiter choice booking counting; do
     bin/handover "examples/$name.hex" | same "$name.hex" "examples/$name.txt"
     echo "$name.hex"
     bin/handover --explain "examples/$name.hex"

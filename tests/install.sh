@@ -14,12 +14,16 @@ wrong() {
 
 prefix="$scratch/a prefix"
 make -s install PREFIX="$prefix" >"$scratch/log" 2>&1 || { cat "$scratch/log" >&2; wrong "make install failed"; }
-expected='bin/handover
+expected="bin/handover
 bin/sock
 include/sock.h
 lib/libcabinet.a
 lib/pkgconfig/sock.pc
-share/man/man1/sock.1'
+share/doc/sock/FORMAT.md
+share/doc/sock/TEXT.md
+share/doc/sock/TUTORIAL.md
+$(printf 'share/doc/sock/%s\n' examples/*.sock | LC_ALL=C sort)
+share/man/man1/sock.1"
 [ "$(cd "$prefix" && find . -type f | sed 's|^\./||' | LC_ALL=C sort)" = "$expected" ] || wrong "other files: $(cd "$prefix" && find . -type f)"
 grep -rqF '@' "$prefix/lib/pkgconfig/sock.pc" "$prefix/share/man/man1/sock.1" && wrong "a placeholder is left"
 
@@ -75,22 +79,23 @@ make -s install DESTDIR="$scratch/package" PREFIX=/usr >/dev/null 2>&1
 [ -e "$scratch/package/usr/lib/libcabinet.a" ] || wrong "DESTDIR is not heeded"
 grep -q '^prefix=/usr$' "$scratch/package/usr/lib/pkgconfig/sock.pc" || wrong "DESTDIR is in the pkg-config file"
 make -s uninstall PREFIX="$prefix"
-[ -z "$(find "$prefix" -type f)" ] || wrong "left behind: $(find "$prefix" -type f)"
+[ -z "$(find "$prefix" -type f)" ] && [ ! -e "$prefix/share/doc/sock" ] || wrong "left behind: $(find "$prefix" -type f)"
+make -s uninstall PREFIX="$prefix" || wrong "nothing can be taken away twice"
 
 # ---- Building: in a copy, with stand-ins for rt and cargo that prove and compile nothing
 
 copy=$scratch/copy
-mkdir -p "$copy/crates/sock" "$scratch/path"
+mkdir -p "$copy/crates/sock" "$copy/crates/cabinet_c" "$scratch/path"
 cp -R bin tools "$copy"
 echo 'sock:' >"$copy/crates.txt"
-built=$PWD/target scratch=$scratch
+built=$PWD/target
 export built scratch
 cat >"$scratch/path/rt" <<'EOF'
 #!/bin/sh
 echo "rt $*" >>"$scratch/asked"
-[ ! -e "$scratch/unproved" ] || { echo "rt: sock NOT PROVED"; exit 1; }
-mkdir -p target/staticlib
-cp "$built/staticlib/libcabinet.a" target/staticlib/
+[ ! -e "$scratch/unproved" ] || { echo "logic=not-proved"; exit 1; }
+mkdir -p out
+cp "$built/staticlib/libcabinet.a" out/libcabinet_c.a
 EOF
 cat >"$scratch/path/cargo" <<'EOF'
 #!/bin/sh
@@ -99,7 +104,7 @@ cp "$built/tools/release/sock" ../../target/tools/release/
 EOF
 chmod +x "$scratch/path/rt" "$scratch/path/cargo"
 says() { (cd "$copy" && PATH=$scratch/path:$PATH bin/sock --version) 2>"$scratch/said"; }
-asked() { [ "$(grep -c '^rt staticlib cabinet$' "$scratch/asked")" = "$1" ] || wrong "rt was asked: $(cat "$scratch/asked")"; }
+asked() { [ "$(grep -c '^rt lib$' "$scratch/asked")" = "$1" ] || wrong "rt was asked: $(cat "$scratch/asked")"; }
 [ "$(says)" = "sock $version" ] || wrong "bin/sock does not run from nothing: $(cat "$scratch/said")"
 asked 1 && grep -q 'is not built yet' "$scratch/said" || wrong "it is not said that the library is built first"
 [ "$(says)" = "sock $version" ] && asked 1 && [ ! -s "$scratch/said" ] || wrong "what is built is built again"

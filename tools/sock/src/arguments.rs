@@ -7,11 +7,6 @@ pub type Done<T> = Result<T, Failure>;
 
 /// Options with how many words follow each, by command.
 const OPTIONS: &[(&str, &str, usize)] = &[
-    ("dis", "--plan", 0),
-    ("check", "--plan", 0),
-    ("show", "--plan", 0),
-    ("moves", "--plan", 0),
-    ("run", "--plan", 0),
     ("asm", "-o", 1),
     ("dis", "-o", 1),
     ("dis", "--names", 1),

@@ -1,12 +1,12 @@
 //! From a text to words: lengths and positions are computed, and labels in steps become positions. To know where a labelled process
 //! stands, the steps before are taken by the proved step; every result goes through the proved start check.
 
-use crate::diagnose::{self, Diagnosis};
-use crate::follow::{find, follow};
-use crate::library::{self, Move, WORDS};
+use crate::follow::find;
+use crate::library::{self, Move};
 use crate::names::Names;
 use crate::parser::{parse, Place, Program, Spot};
-use crate::tree::{places, At, Configuration};
+use crate::state::State;
+use crate::tree::{places, Configuration};
 use crate::words::{Input, Trouble};
 
 /// A text assembled.
@@ -16,74 +16,35 @@ pub struct Assembled {
     /// With the labels of the text.
     pub configuration: Configuration,
     pub input: Input,
-    /// What the start check answers: 0, or 11 for a configuration in the middle of a run.
+    /// What the start check answers: 0, 11 for a configuration in the middle of a run, or 1.
     pub start: u8,
 }
 
+/// The words of a text, readable or not; without the steps if they are not.
 pub fn assemble(text: &str) -> Result<Assembled, Trouble> {
     let program = parse(text)?;
     let words = program.configuration.words();
-    if words.len() > WORDS {
-        let text = format!("a configuration has at most 8,192 words, and this has {}", words.len());
-        return Err(Trouble::new(text));
-    }
     let start = library::check_start(&words);
-    if start == 1 {
-        return Err(unreadable(&program.configuration, &words));
-    }
-    let steps = resolve(&program, &words)?;
+    let steps = if start == 1 { Vec::new() } else { resolve(&program, &words)? };
     let Program { names, configuration, .. } = program;
     Ok(Assembled { names, configuration, input: Input { words, steps }, start })
 }
 
-/// Why the words are not readable, with the place in the text.
-fn unreadable(configuration: &Configuration, words: &[u16]) -> Trouble {
-    match diagnose::read(words) {
-        Err(diagnosis) => match source(configuration, &diagnosis) {
-            Some(at) => {
-                Trouble::at(at, format!("expected of a configuration: {}", diagnosis.sentence))
-            }
-            None => Trouble::new(diagnosis.sentence),
-        },
-        Ok(_) => {
-            Trouble::new("the proved check says that this is unreadable, and no reason is found")
-        }
-    }
-}
-
-/// Where the process that a diagnosis names stands in the text.
-fn source(configuration: &Configuration, diagnosis: &Diagnosis) -> Option<At> {
-    let engine = configuration.engines.get(diagnosis.engine?)?;
-    let (_, held) = diagnosis.process?;
-    let word = diagnosis.position()?;
-    let all = places(&engine.process);
-    // The word at fault may be the head of a process in the one that is named.
-    let exact = all.iter().find(|place| place.position == word);
-    let place = exact.or_else(|| all.iter().find(|place| place.position == held));
-    place.map(|place| place.process.at).filter(|at| at.line > 0)
-}
-
 /// The steps with positions for labels, each looked up in what the accepted ones before it have left.
 fn resolve(program: &Program, words: &[u16]) -> Result<Vec<Move>, Trouble> {
-    let mut now = program.configuration.clone();
-    let mut words = words.to_vec();
+    let mut now = State { words: words.to_vec(), tree: program.configuration.clone() };
     let mut moves = Vec::new();
     for step in &program.steps {
-        let (position, _) = spot(program, &now, &step.first, moves.len())?;
+        let (position, _) = spot(program, &now.tree, &step.first, moves.len())?;
         let mut next = Move::alone(step.first.engine, position);
         if let Some(second) = &step.second {
-            let (position, branch) = spot(program, &now, second, moves.len())?;
+            let (position, branch) = spot(program, &now.tree, second, moves.len())?;
             next.second = second.engine;
             next.second_position = position;
             next.branch = if step.branch == 0 { branch } else { step.branch };
         }
         moves.push(next);
-        if let (_, Some(after)) = library::step(&words, next) {
-            let read =
-                diagnose::read(&after).map_err(|_| Trouble::new("a step's result is not read"))?;
-            now = follow(&now, next, &read);
-            words = after;
-        }
+        now = now.take(next).1.unwrap_or(now);
     }
     Ok(moves)
 }

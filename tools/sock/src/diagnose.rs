@@ -4,16 +4,23 @@
 
 use crate::library::WORDS;
 use crate::tree::{
-    enables, places, Configuration, Engine, Entry, Expression, Key, Kind, Mark, Process, OPERATORS,
+    enables, places, At, Configuration, Engine, Entry, Expression, Key, Kind, Mark, Process,
+    OPERATORS,
 };
 
 const DEPTH: usize = 64;
 
-/// What a planners' start breaks, which has kind 19.
-pub const KIND: &str = "the first 5 bits of a head are a kind, 0 to 18";
-
 /// What the words of the earlier format break, in which no counts of variables stood.
-pub const COUNT: &str = "a message has 1 to 4 variables, and this word is their count";
+const COUNT: &str = "a message has 1 to 4 variables, and this word is their count";
+
+const EARLIER: &str =
+    "(an earlier input, without counts of variables, is rewritten by bin/handover --rewrite)\n";
+
+const UNPROVED: &str = "(where and why are found by a second reader, which is not proved)\n";
+
+/// What is said where there should be a reason: the two readers differ, which a test excludes as far as tests do.
+pub const UNEXPLAINED: &str =
+    "the proved check refuses this, and no reason is found: please report it";
 
 /// Why words are not readable, or not fresh.
 #[derive(Clone, Debug, PartialEq, Eq)]
@@ -34,6 +41,41 @@ impl Diagnosis {
     pub fn position(&self) -> Option<usize> {
         self.process.and_then(|_| self.word.checked_sub(self.start))
     }
+
+    /// Where it stands in the text from which the tree comes: the process whose head the word is, else the one that holds it.
+    pub fn source(&self, tree: &Configuration) -> Option<At> {
+        let Some(engine) = self.engine else { return last_up_to(tree, self.word) };
+        let all = places(&tree.engines.get(engine)?.process);
+        let at = |position| all.iter().find(|place| place.position == position);
+        let (_, held) = self.process?;
+        at(self.position()?).or_else(|| at(held)).map(|place| place.process.at)
+    }
+
+    /// Where and why, for people.
+    pub fn said(&self) -> String {
+        let content = self.content.map_or("no word".to_string(), |word| format!("{word:04x}"));
+        let engine = self.engine.map_or(String::new(), |engine| format!(", engine {engine}"));
+        let position = self.position();
+        let position = position.map_or(String::new(), |position| format!(", position {position}"));
+        let process = match self.process {
+            Some((kind, position)) => format!("in the {} at position {position}", kind.name()),
+            None if self.engine.is_none() => "in no process".to_string(),
+            None if self.word == self.start => "where the engine's process begins".to_string(),
+            None => "among the engine's values".to_string(),
+        };
+        let hint = if self.sentence == COUNT { EARLIER } else { "" };
+        let (word, sentence) = (self.word, self.sentence);
+        format!("where: word {word}{engine}{position}: {content}, {process}\nwhy: {sentence}\n{hint}{UNPROVED}")
+    }
+}
+
+/// The last process that begins up to a word.
+fn last_up_to(tree: &Configuration, word: usize) -> Option<At> {
+    let starts = tree.starts();
+    let engine = starts.iter().rposition(|start| *start <= word)?;
+    let all = places(&tree.engines[engine].process);
+    let last = all.iter().rfind(|place| starts[engine] + place.position <= word);
+    last.map(|place| place.process.at)
 }
 
 /// The configuration that the words are, or why they are none.
@@ -134,7 +176,7 @@ impl Reader<'_> {
         self.ask(around.depth > 0, here, "depth is at most 64")?;
         let head = self.word()?;
         let Some(kind) = Kind::of(head >> 11) else {
-            return self.wrong(here, KIND);
+            return self.wrong(here, "the first 5 bits of a head are a kind, 0 to 18");
         };
         self.inside.push((kind, here - self.start));
         let mut process = Process::new(kind);

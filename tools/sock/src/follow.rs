@@ -12,13 +12,16 @@ pub fn follow(before: &Configuration, step: Move, after: &Configuration) -> Conf
     let issued = after.issued;
     for (index, engine) in labelled.engines.iter_mut().enumerate() {
         let Some(old) = before.engines.get(index) else { continue };
-        let mut candidates = vec![old.process.clone()];
-        if index == first {
-            candidates.extend(moved(&old.process, step, issued));
-        } else if index == second {
-            candidates.extend(received(before, &old.process, step, issued));
-        }
         let words = engine.process.words();
+        if old.process.words() == words {
+            engine.process = old.process.clone();
+            continue;
+        }
+        let candidates = match index {
+            index if index == first => moved(&old.process, step, issued),
+            index if index == second => received(before, &old.process, step, issued),
+            _ => Vec::new(),
+        };
         if let Some(found) = candidates.into_iter().find(|candidate| candidate.words() == words) {
             engine.process = found;
         }

@@ -1,5 +1,21 @@
 //! What `sock --help` and the help of each subcommand say.
 
+use crate::run::COMMANDS;
+
+/// The help of a subcommand, if there is one of that name.
+pub fn of(command: &str) -> Option<String> {
+    let text = match command {
+        "asm" => ASM,
+        "dis" => DIS,
+        "check" => CHECK,
+        "show" => SHOW,
+        "moves" => MOVES,
+        "run" => RUN,
+        _ => return None,
+    };
+    Some(text.replace("@COMMANDS@\n", COMMANDS))
+}
+
 pub const GENERAL: &str = "usage: sock COMMAND [OPTIONS] FILE
 
 For people who write and run configurations of SOCK engines.
@@ -11,13 +27,11 @@ For people who write and run configurations of SOCK engines.
     moves FILE [STEP]    every step that is accepted now
     run FILE             take steps by number, go back, write what came out; or a random run, or a trace
 
-`sock COMMAND --help` says more of one. FILE is a text if its name ends in .sock (docs/TEXT.md), hexadecimal words if it ends in .hex, and
-bytes otherwise (docs/FORMAT.md): a configuration, and steps behind it if there are any.
+`sock COMMAND --help` says more of one, with examples; docs/TUTORIAL.md leads from an empty file to a run. FILE is a text if its name ends
+in .sock (docs/TEXT.md), hexadecimal words if it ends in .hex, and bytes otherwise (docs/FORMAT.md): a configuration, and steps behind it if
+there are any.
 
-With `--plan`, which all but asm take, FILE holds words of a planners' start (docs/FORMAT.md): it is translated by the proved library
-first, and the steps are for the start that it becomes.
-
-Steps, checks, ends and translations come from the proved library. All else here (the text form, the reasons of `check`, the tree) is not proved; it
+Steps, checks and ends come from the proved library. All else here (the text form, the reasons of `check`, the tree) is not proved; it
 is tested against the library.
 
     --help       say this
@@ -26,10 +40,10 @@ is tested against the library.
 status: 0 done    1 the text or the words are refused, or wrong    2 wrong usage, or a file that cannot be read    3 not all could be written
 ";
 
-pub const ASM: &str = "usage: sock asm [-o OUT] FILE.sock
+const ASM: &str = "usage: sock asm [-o OUT] FILE.sock
 
-Assembles a text. Lengths and positions are computed, and labels in its steps become positions: the steps before are taken by the proved
-step to know where a labelled process stands. The result goes through the proved start check. What is wrong in the text is said
+Assembles a text (docs/TEXT.md). Lengths and positions are computed, and labels in its steps become positions: the steps before are taken by
+the proved step to know where a labelled process stands. The result goes through the proved start check. What is wrong in the text is said
 with file, line, column and what was expected.
 
     -o OUT    write to OUT: hexadecimal text if its name ends in .hex, the text form if .sock, otherwise bytes.
@@ -41,9 +55,10 @@ so: `sock run` goes on from it, but bin/handover begins with starts only.
     sock asm -o bridge.hex examples/bridge.sock && bin/handover --explain bridge.hex
 ";
 
-pub const DIS: &str = "usage: sock dis [--plan] [--names FILE.sock] [-o OUT] FILE
+const DIS: &str = "usage: sock dis [--names FILE.sock] [-o OUT] FILE
 
-Prints the text of a configuration and its steps; assembled, the text gives the same words again.
+Prints the text of a configuration and its steps; before that it is assembled, and has to give the same words again. Steps name processes by
+labels if FILE is a text that has them, else by positions.
 
     --names FILE.sock    take the names of engines, variables, operations, faults and scopes from this text; otherwise all are numbers
     -o OUT               write to OUT
@@ -52,21 +67,23 @@ Prints the text of a configuration and its steps; assembled, the text gives the 
     sock dis --names examples/bridge.sock examples/bridge.hex
 ";
 
-pub const CHECK: &str = "usage: sock check [--plan] FILE
+const CHECK: &str = "usage: sock check FILE
 
 Makes the two proved checks, readable and start, and prints their numbers with the keeper's words. If the words are unreadable it says
-where and why: the word, the process in which it stands, and the sentence of the format that it breaks. Of a configuration that is
-no start it says what is not fresh. The reasons are not the proved part; the two numbers are.
+where and why: the word, the process in which it stands, and the sentence of the format that it breaks; of a text also the line and the
+column. Of a configuration that is no start it says what is not fresh. The reasons are not the proved part; the two numbers are.
 
 status: 0 if both answer 0, else 1
+
+    sock check examples/bridge.sock
 ";
 
-pub const SHOW: &str = "usage: sock show [--plan] [--svg | --dot] [-o OUT] FILE [STEP]
+const SHOW: &str = "usage: sock show [--svg | --dot] [-o OUT] FILE [STEP]
 
 Shows the configuration: each engine's values that are not 0, its process as a tree, a line for each process in it with its position,
 and the open serials with both ends.
 
-    >    this process can move now (the step was tried)
+    >    this process can move now: a step was tried and accepted (at most 20,000 are tried)
     *    enabled
 
 With STEP, a number from 1, it shows the configuration before and after that step of the file, and what changed. Step 0 is the start.
@@ -81,31 +98,25 @@ Output is in colour on a terminal, unless NO_COLOR is set.
     sock show --svg -o bridge.svg examples/bridge.sock
 ";
 
-pub const MOVES: &str = "usage: sock moves [--plan] [--most N] FILE [STEP]
+const MOVES: &str = "usage: sock moves [--most N] FILE [STEP]
 
 Lists every step that is accepted now, one on a line: the five words of a step as a .hex file has them, and behind # the step in the text
 form and in words. With STEP: after so many of the file's steps (refused ones leave things as they are); without it at the start.
 
-    --most N    stop after N moves, 1000 if not said
+    --most N    stop after N moves, 1000 if not said, or after 20 N tries; that there may be more is then said in a last line
 
 Only what can fit is tried: processes that move alone, senders with the receivers of their operation in the engine they name, working
 ends with the waiter of their serial. Whether a step is accepted is the proved step's answer.
+
+    sock moves examples/lockage.sock 1
 ";
 
-pub const RUN: &str = "usage: sock run [--plan] [--replay] [--random SEED N] [--trace] [--write OUT] [--steps OUT] FILE
+const RUN: &str = "usage: sock run [--replay] [--random SEED N] [--trace] [--write OUT] [--steps OUT] FILE
 
 Runs from the configuration in FILE. Without --random it is interactive: it shows the configuration, lists the moves by number and reads
 commands from standard input:
 
-  NUMBER      take that move
-  b           go back by one step
-  s           show the configuration
-  m           list the moves again
-  h           the steps so far
-  w FILE      write the configuration (.sock, .hex or bytes), to be resumed
-  l FILE      write the start and the list of steps
-  q           quit (so does the end of the input)
-  ?           these commands
+@COMMANDS@
 
     --replay           take the steps of FILE first; with it and nothing else that is all
     --random SEED N    take up to N steps at random; the same seed gives the same run

@@ -19,12 +19,25 @@ pub enum Token {
 /// Longer ones first where one begins another.
 const SIGNS: [&str; 13] = [":=", "->", "{", "}", "(", ")", ",", ";", "|", ":", "=", ".", "@"];
 
+/// What is expected in the place of signs that other languages have.
+const INSTEAD: [(&str, &str); 9] = [
+    ("+", "'sum'"),
+    ("-", "'difference', or a number's digits behind the sign,"),
+    ("<", "'less'"),
+    (">", "'less' with the sides changed"),
+    ("/", "'#' before a comment"),
+    ("!", "'equal' and a test against 0"),
+    ("&", "'|' between processes"),
+    ("[", "'{'"),
+    ("]", "'}'"),
+];
+
 impl Token {
     /// How a person would call it.
     pub fn said(&self) -> String {
         match self {
             Token::Word(word) => format!("'{word}'"),
-            Token::Number(number) => format!("{number}"),
+            Token::Number(number) => (*number as i32).to_string(),
             Token::Variable(variable) => format!("${variable}"),
             Token::Sign(sign) => format!("'{sign}'"),
             Token::End => "the end of the text".to_string(),
@@ -78,11 +91,18 @@ fn token(text: &str, at: At) -> Result<(Token, usize), Trouble> {
             return Ok((Token::Sign(sign), sign.len()));
         }
     }
-    if let Some(digits) = text.strip_prefix('-') {
-        return negative(digits, at);
+    match text.strip_prefix('-') {
+        Some(digits) if word_length(digits) > 0 => negative(digits, at),
+        _ => Err(foreign(text, at)),
     }
+}
+
+/// A sign that is none of the text form.
+fn foreign(text: &str, at: At) -> Trouble {
     let first: String = text.chars().take(1).collect();
-    Err(Trouble::at(at, format!("'{first}': no sign of the text form")))
+    let instead = INSTEAD.iter().find(|(sign, _)| text.starts_with(sign));
+    let expected = instead.map_or("a word, a number or a sign of the text form", |(_, what)| what);
+    Trouble::at(at, format!("{expected} is expected, not '{first}'"))
 }
 
 /// A minus stands inside a word only where a letter, digit or _ follows; there is no operator of that sign.

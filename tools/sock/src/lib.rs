@@ -3,8 +3,10 @@
 
 pub mod assemble;
 pub mod diagnose;
+pub mod files;
 pub mod follow;
 pub mod help;
+pub mod hex;
 pub mod lexer;
 pub mod library;
 pub mod moves;

@@ -28,24 +28,33 @@ fn command(arguments: &[String]) -> Done<u8> {
     let Some((name, rest)) = arguments.split_first() else {
         return Err(Failure(2, help::GENERAL.trim_end().to_string()));
     };
-    let (text, does): (&str, fn(&Arguments) -> Done<u8>) = match name.as_str() {
-        "asm" => (help::ASM, asm),
-        "dis" => (help::DIS, dis),
-        "check" => (help::CHECK, check),
-        "show" => (help::SHOW, show_file),
-        "moves" => (help::MOVES, list_moves),
-        "run" => (help::RUN, run),
-        "--help" | "help" => return say(help::GENERAL).map(|_| 0),
+    let does: fn(&Arguments) -> Done<u8> = match name.as_str() {
+        "asm" => asm,
+        "dis" => dis,
+        "check" => check,
+        "show" => show_file,
+        "moves" => list_moves,
+        "run" => run,
+        "--help" | "-h" | "help" => return helped(rest.first()),
         "--version" => return say(&format!("sock {}\n", env!("SOCK_VERSION"))).map(|_| 0),
-        _ => {
-            return Err(Failure(
-                2,
-                format!("sock: no such command: {name} (sock --help lists them)"),
-            ))
-        }
+        _ => return Err(unknown(name)),
     };
-    if rest.iter().take_while(|argument| *argument != "--").any(|argument| argument == "--help") {
-        return say(text).map(|_| 0);
+    let asks = |word: &String| word == "--help" || word == "-h";
+    if rest.iter().take_while(|word| *word != "--").any(asks) {
+        return helped(Some(name));
     }
     does(&Arguments::of(name, rest)?)
+}
+
+/// Says the help of a subcommand, or that of the whole.
+fn helped(command: Option<&String>) -> Done<u8> {
+    let text = match command {
+        None => help::GENERAL.to_string(),
+        Some(name) => help::of(name).ok_or_else(|| unknown(name))?,
+    };
+    say(&text).map(|_| 0)
+}
+
+fn unknown(name: &str) -> Failure {
+    Failure(2, format!("sock: no such command: {name} (sock --help lists them)"))
 }

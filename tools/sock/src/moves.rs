@@ -5,24 +5,47 @@ use crate::library::{self, Move};
 use crate::random::Random;
 use crate::state::State;
 use crate::tree::{places, Configuration, Kind, Place, Process};
+use std::collections::BTreeSet;
 
-/// Steps tried at most: enough for a thousand moves among many that are refused for what only the step knows (6 to 9, 13).
-pub const TRIES: usize = 20_000;
+/// Steps tried for each move that is asked for: what fits may still be refused for what only the step knows (6 to 9, 13).
+const TRIES: usize = 20;
 
-/// The moves that were found, how many steps were tried for them, and whether more may be accepted.
+/// Steps tried at most to find what can move.
+const MARKING: usize = 20_000;
+
+/// The moves that were found, and how many of the steps that can fit were tried for them.
 #[derive(Clone, Debug, Default)]
 pub struct Found {
     pub moves: Vec<Move>,
     pub tried: usize,
-    pub more: bool,
+    pub fitting: usize,
+}
+
+impl Found {
+    /// Whether there may be more: not all was tried.
+    pub fn more(&self) -> bool {
+        self.tried < self.fitting
+    }
+
+    /// What a list of the moves ends with where it does not say all by itself.
+    pub fn note(&self) -> Option<String> {
+        if self.more() {
+            let (tried, fitting) = (self.tried, self.fitting);
+            return Some(format!(
+                "there may be more: {tried} of {fitting} that can fit were tried"
+            ));
+        }
+        self.moves.is_empty().then(|| "nothing moves".to_string())
+    }
 }
 
 /// The accepted steps in the order of their first engines and positions, up to `most`.
 pub fn moves(state: &State, most: usize) -> Found {
-    let mut found = Found::default();
-    for step in fitting(&state.tree) {
-        if found.moves.len() == most || found.tried == TRIES {
-            found.more = true;
+    let tries = most.saturating_mul(TRIES);
+    let steps = fitting(&state.tree);
+    let mut found = Found { fitting: steps.len(), ..Found::default() };
+    for step in steps {
+        if found.moves.len() == most || found.tried == tries {
             break;
         }
         found.tried += 1;
@@ -31,6 +54,23 @@ pub fn moves(state: &State, most: usize) -> Found {
         }
     }
     found
+}
+
+/// Engines and positions of what can move now: of each, steps are tried up to the first that is accepted.
+pub fn able(state: &State) -> BTreeSet<(u16, u16)> {
+    let mut able = BTreeSet::new();
+    let mut tried = 0;
+    for step in fitting(&state.tree) {
+        let first = (step.engine, step.position);
+        if tried == MARKING || able.contains(&first) {
+            continue;
+        }
+        tried += 1;
+        if library::step(&state.words, step).0.number == 0 {
+            able.insert(first);
+        }
+    }
+    able
 }
 
 /// One of the accepted steps, each as likely as the others: what can fit is tried in random order up to the first that is accepted.

@@ -61,15 +61,36 @@ impl Names {
         written(self.table(family), number)
     }
 
+    /// In a sentence, where a bare number would not say what it is: the name, or "operation 3".
+    pub fn said(&self, family: Family, number: u8) -> String {
+        let name = name_of(self.table(family), number);
+        name.map_or_else(|| format!("{} {number}", family.word()), str::to_string)
+    }
+
+    pub fn engine_name(&self, engine: usize) -> Option<&str> {
+        u8::try_from(engine).ok().and_then(|number| name_of(&self.engines, number))
+    }
+
     pub fn engine(&self, engine: usize) -> String {
-        match u8::try_from(engine) {
-            Ok(number) => written(&self.engines, number),
-            Err(_) => engine.to_string(),
-        }
+        self.engine_name(engine).map_or_else(|| engine.to_string(), str::to_string)
+    }
+
+    /// In a sentence: the name, or "engine 3".
+    pub fn engine_said(&self, engine: usize) -> String {
+        self.engine_name(engine).map_or_else(|| format!("engine {engine}"), str::to_string)
     }
 
     pub fn variable_name(&self, engine: usize, variable: u8) -> Option<&str> {
         self.variables.get(engine).and_then(|table| name_of(table, variable))
+    }
+
+    /// With its engine: "lock.light", or "$5 of engine 0".
+    pub fn variable_said(&self, engine: usize, variable: u8) -> String {
+        let which = self.variable(engine, variable);
+        match self.engine_name(engine) {
+            Some(name) => format!("{name}.{which}"),
+            None => format!("{which} of engine {engine}"),
+        }
     }
 
     /// The name, or the number behind a dollar sign, since a plain number is a constant.
@@ -87,8 +108,6 @@ fn written(table: &Table, number: u8) -> String {
 
 /// "engine 0, lock", or without a name.
 pub fn title(names: &Names, engine: usize) -> String {
-    match name_of(&names.engines, engine as u8) {
-        Some(name) => format!("engine {engine}, {name}"),
-        None => format!("engine {engine}"),
-    }
+    let name = names.engine_name(engine).map_or(String::new(), |name| format!(", {name}"));
+    format!("engine {engine}{name}")
 }

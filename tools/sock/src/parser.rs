@@ -161,6 +161,15 @@ impl Parser {
         }
     }
 
+    /// Behind the items of a block, of which one may be forgotten to be joined.
+    fn block_end(&mut self) -> Parsed<()> {
+        if self.sign("}") {
+            Ok(())
+        } else {
+            self.expected("';', '|' or '}'")
+        }
+    }
+
     fn number(&mut self, most: u32, what: &str) -> Parsed<u32> {
         match *self.peek() {
             Token::Number(number) if number <= most => {
@@ -209,33 +218,23 @@ impl Parser {
         Ok(Program { names: std::mem::take(&mut self.names), configuration, steps })
     }
 
-    /// The names behind `engine`, in their order, which is that of the engines' numbers.
+    /// The names behind `engine`, in their order, which is that of the engines' numbers; the word stands nowhere else.
     fn engine_names(&mut self) -> Parsed<()> {
-        let mut depth = 0;
-        let mut count = 0;
-        for index in 0..self.tokens.len() {
-            match &self.tokens[index].0 {
-                Token::Sign("{") => depth += 1,
-                Token::Sign("}") => depth -= 1,
-                Token::Word(word) if word == "engine" && depth == 0 => {
-                    self.next = index + 1;
-                    if count == 8 {
-                        return Err(Trouble::at(
-                            self.tokens[index].1,
-                            "at most 8 engines are expected",
-                        ));
-                    }
-                    if !self.is_sign("{") {
-                        let at = self.at();
-                        let name = self.new_name("an engine's name or '{'")?;
-                        enter(&mut self.names.engines, name, count, at)?;
-                    }
-                    count += 1;
-                }
-                _ => {}
+        let names = |token: &Token| matches!(token, Token::Word(word) if word == "engine");
+        let found: Vec<usize> =
+            (0..self.tokens.len()).filter(|index| names(&self.tokens[*index].0)).collect();
+        if let Some(ninth) = found.get(8) {
+            return Err(Trouble::at(self.tokens[*ninth].1, "at most 8 engines are expected"));
+        }
+        for (number, index) in (0..).zip(&found) {
+            self.next = index + 1;
+            if !self.is_sign("{") {
+                let at = self.at();
+                let name = self.new_name("an engine's name or '{'")?;
+                enter(&mut self.names.engines, name, number, at)?;
             }
         }
-        self.names.variables = vec![Table::new(); usize::from(count)];
+        self.names.variables = vec![Table::new(); found.len()];
         self.next = 0;
         Ok(())
     }
@@ -284,7 +283,7 @@ impl Parser {
         let mut values = [0; 32];
         self.variables(&mut values)?;
         let process = self.process()?;
-        self.needs_sign("}")?;
+        self.block_end()?;
         Ok(Engine { values, process })
     }
 

@@ -1,7 +1,8 @@
 //! The tree of a configuration as a picture: SVG, or the language of graphviz. Rows are those of the viewer; an open serial joins its ends.
 
+use crate::moves::able;
 use crate::names::{title, Names};
-use crate::show::{able, rows, serials, values_lines, Row};
+use crate::show::{rows, serials, values_lines, Row};
 use crate::state::State;
 use std::collections::{BTreeMap, BTreeSet};
 use std::fmt::Write;

@@ -1,6 +1,5 @@
 //! From the tree to the text form: the inverse of the parser, in the layout that docs/TEXT.md describes. What has a name is written by it.
 
-use crate::library::Move;
 use crate::names::{Family, Names};
 use crate::tree::{
     Configuration, Engine, Entry, Expression, Key, Kind, Mark, Operator, Process, OPERATORS,
@@ -10,7 +9,7 @@ use crate::tree::{
 const WIDTH: usize = 100;
 
 /// The text of a configuration and of steps behind it.
-pub fn print(names: &Names, configuration: &Configuration, steps: &[Move]) -> String {
+pub fn print(names: &Names, configuration: &Configuration, steps: &[String]) -> String {
     let mut lines = Vec::new();
     for family in [Family::Operation, Family::Fault, Family::Scope] {
         for (name, number) in names.table(family) {
@@ -29,29 +28,15 @@ pub fn print(names: &Names, configuration: &Configuration, steps: &[Move]) -> St
     if !steps.is_empty() {
         lines.push(String::new());
         lines.push("steps {".to_string());
-        lines.extend(steps.iter().map(|step| format!("    {}", step_text(names, *step))));
+        lines.extend(steps.iter().map(|step| format!("    {step}")));
         lines.push("}".to_string());
     }
     lines.join("\n") + "\n"
 }
 
-/// A step in the text form, by positions.
-pub fn step_text(names: &Names, step: Move) -> String {
-    let first = format!("{} at {}", names.engine(usize::from(step.engine)), step.position);
-    if step.is_alone() {
-        return first;
-    }
-    let branch = if step.branch == 0 { String::new() } else { format!(" branch {}", step.branch) };
-    format!(
-        "{first} -> {} at {}{branch}",
-        names.engine(usize::from(step.second)),
-        step.second_position
-    )
-}
-
 fn engine_lines(names: &Names, index: usize, engine: &Engine) -> Vec<String> {
     let printer = Printer { names, engine: index };
-    let name = crate::names::name_of(&names.engines, index as u8);
+    let name = names.engine_name(index);
     let mut lines = vec![name.map_or("engine {".to_string(), |name| format!("engine {name} {{"))];
     let mut inner = Vec::new();
     for variable in 0..32u8 {

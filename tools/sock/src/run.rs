@@ -10,20 +10,27 @@ use crate::state::State;
 use crate::tell::{sentence, step_by_labels, told};
 use std::io::{self, BufRead, Write};
 
-/// Moves listed at most; more are counted as "and more".
+/// Moves listed at most if nothing else is said.
 pub const MOST: usize = 1000;
 
 pub struct Run {
     pub names: Names,
-    /// The start, and what each accepted step left.
-    pub states: Vec<State>,
+    /// The start, and what each accepted step left, or the last one alone.
+    states: Vec<State>,
     pub steps: Vec<Move>,
+    /// What each step did is printed.
     pub trace: bool,
+    /// All configurations are kept, so that one can go back.
+    pub keeps: bool,
 }
 
 impl Run {
-    pub fn new(names: Names, start: State, trace: bool) -> Run {
-        Run { names, states: vec![start], steps: Vec::new(), trace }
+    pub fn new(names: Names, start: State) -> Run {
+        Run { names, states: vec![start], steps: Vec::new(), trace: false, keeps: true }
+    }
+
+    pub fn start(&self) -> &State {
+        &self.states[0]
     }
 
     pub fn now(&self) -> &State {
@@ -36,6 +43,9 @@ impl Run {
         let line = told(&self.names, self.now(), step, answer, after.as_ref());
         let accepted = after.is_some();
         if let Some(after) = after {
+            if !self.keeps {
+                self.states.truncate(1);
+            }
             self.states.push(after);
             self.steps.push(step);
         }
@@ -78,9 +88,9 @@ impl Run {
     pub fn summary(&self) -> String {
         let open = moves(self.now(), MOST);
         let said = match open.moves.len() {
-            0 if !open.more => "nothing moves any more".to_string(),
-            1 if !open.more => "1 move is open".to_string(),
-            count if open.more => format!("{count} moves are open, and perhaps more"),
+            count if open.more() => format!("{count} moves are open, and perhaps more"),
+            0 => "nothing moves any more".to_string(),
+            1 => "1 move is open".to_string(),
             count => format!("{count} moves are open"),
         };
         format!("{} taken; {said}", counted(self.steps.len(), "step"))
@@ -98,11 +108,8 @@ impl Run {
                 step_by_labels(&self.names, &self.now().tree, *step)
             )?;
         }
-        if found.moves.is_empty() {
-            writeln!(out, "      nothing moves any more")?;
-        }
-        if found.more {
-            writeln!(out, "      and more: only the first {MOST} are listed")?;
+        if let Some(note) = found.note() {
+            writeln!(out, "      {note}")?;
         }
         Ok(found.moves)
     }
@@ -179,7 +186,7 @@ fn obey<In, Out: Write>(
         "b" if run.back() => *open = run.list(out)?,
         "b" => writeln!(out, "this is the start")?,
         "w" => answer(out, (desk.save)(rest.trim(), &run.names, run.now(), &[]))?,
-        "l" => answer(out, (desk.save)(rest.trim(), &run.names, &run.states[0], &run.steps))?,
+        "l" => answer(out, (desk.save)(rest.trim(), &run.names, run.start(), &run.steps))?,
         word => match number.and_then(|number| open.get(number).copied()) {
             Some(step) => {
                 writeln!(out, "{}", run.take(step).1)?;

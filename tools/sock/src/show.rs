@@ -2,7 +2,7 @@
 //! move, the open serials with both ends; and what a step changed.
 
 use crate::library::{self, Move};
-use crate::moves::moves;
+use crate::moves::able;
 use crate::names::{title, Names};
 use crate::print::Printer;
 use crate::state::State;
@@ -10,9 +10,6 @@ use crate::tell::{step_by_labels, told, values};
 use crate::tree::{places, Kind, Place, Role};
 use std::collections::{BTreeMap, BTreeSet};
 use std::fmt::Write;
-
-/// Moves beyond so many are not looked for; what is marked as able to move then stands among the first.
-const MOST: usize = 1000;
 
 /// Colours of a terminal, or none.
 #[derive(Clone, Copy, Debug, PartialEq, Eq)]
@@ -52,13 +49,14 @@ pub fn rows(names: &Names, state: &State, engine: usize, able: &BTreeSet<(u16, u
         depth: place.depth,
         enabled: place.enabled,
         moves: able.contains(&(engine as u16, place.position as u16)),
-        text: text(&printer, place, place.holder.map(|holder| all[holder].process.kind)),
+        text: said(&printer, &all, place),
     };
     all.iter().map(row).collect()
 }
 
-/// What it is in its holder, its labels and its head.
-fn text(printer: &Printer, place: &Place, holder: Option<Kind>) -> String {
+/// What a process among all of its engine is in its holder, its labels and its head.
+pub fn said(printer: &Printer, all: &[Place], place: &Place) -> String {
+    let holder = place.holder.map(|holder| all[holder].process.kind);
     let role = match (place.role, holder) {
         (Role::Entry(key), _) => format!("on {}: ", printer.key(key)),
         (Role::Part(1), Some(Kind::If)) => "else: ".to_string(),
@@ -70,11 +68,6 @@ fn text(printer: &Printer, place: &Place, holder: Option<Kind>) -> String {
     };
     let labels: String = place.process.labels.iter().map(|label| format!("{label}: ")).collect();
     format!("{role}{labels}{}", printer.head(place.process))
-}
-
-/// Engines and positions of what can move now.
-pub fn able(state: &State) -> BTreeSet<(u16, u16)> {
-    moves(state, MOST).moves.iter().map(|step| (step.engine, step.position)).collect()
 }
 
 /// An end of a serial: engine, position, what it is.
@@ -157,7 +150,7 @@ fn serials_text(names: &Names, state: &State, colours: Colours) -> String {
         let said: Vec<String> = ends
             .iter()
             .map(|(engine, position, what)| {
-                format!("{what} at {} {position}", names.engine(*engine))
+                format!("{what} at position {position} of {}", names.engine_said(*engine))
             })
             .collect();
         let counted = library::ends(&state.words, serial).unwrap_or((0, 0));
@@ -216,7 +209,7 @@ fn changes(names: &Names, before: &State, after: &State, colours: Colours) -> St
         let (old, new) = (rows(names, before, engine, &none), rows(names, after, engine, &none));
         for (sign, text) in differences(&texts(&old), &texts(&new)) {
             let code = if sign == '-' { "31" } else { "32" };
-            let line = format!("    {sign} {}: {text}", names.engine(engine));
+            let line = format!("    {sign} {}: {text}", names.engine_said(engine));
             let _ = writeln!(out, "{}", colours.paint(code, &line));
         }
     }

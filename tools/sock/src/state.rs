@@ -1,13 +1,9 @@
-//! A configuration as a run has it: its words, which the archive wrote, and its tree with labels. Files are loaded into it and written from it.
+//! A configuration as a run has it: its words, which the archive wrote, and its tree with labels.
 
-use crate::assemble::assemble;
 use crate::diagnose;
 use crate::follow::follow;
 use crate::library::{self, Answer, Move};
-use crate::names::Names;
-use crate::print::print;
 use crate::tree::Configuration;
-use crate::words::{self, Input, Trouble};
 
 #[derive(Clone, Debug)]
 pub struct State {
@@ -18,68 +14,40 @@ pub struct State {
 impl State {
     /// None if the proved check does not read the words.
     pub fn of(words: &[u16]) -> Option<State> {
-        if library::check_readable(words) != 0 {
-            return None;
-        }
-        let tree = diagnose::read(words).ok()?;
-        Some(State { words: words.to_vec(), tree })
+        (library::check_readable(words) == 0)
+            .then(|| State { words: words.to_vec(), tree: tree(words) })
     }
 
     /// The archive's step from here.
     pub fn take(&self, step: Move) -> (Answer, Option<State>) {
         let (answer, after) = library::step(&self.words, step);
-        let next = after.and_then(|words| {
-            let tree = diagnose::read(&words).ok()?;
-            Some(State { tree: follow(&self.tree, step, &tree), words })
-        });
+        let next =
+            after.map(|words| State { tree: follow(&self.tree, step, &tree(&words)), words });
         (answer, next)
     }
-}
 
-/// A file with what it holds: names if it is a text, words and steps.
-#[derive(Clone, Debug)]
-pub struct Loaded {
-    pub names: Names,
-    pub input: Input,
-    /// With the labels of a text; None if the words are not readable.
-    pub start: Option<State>,
-}
-
-pub fn is_text(name: &str) -> bool {
-    name.ends_with(".sock")
-}
-
-/// What a file of this name holds.
-pub fn load(name: &str, content: &[u8]) -> Result<Loaded, Trouble> {
-    if !is_text(name) {
-        let input = words::read(name, content)?;
-        let start = State::of(&input.words);
-        return Ok(Loaded { names: Names::default(), input, start });
+    /// After these steps; refused ones leave things as they are.
+    pub fn after(self, steps: &[Move]) -> State {
+        steps.iter().fold(self, |now, step| now.take(*step).1.unwrap_or(now))
     }
-    let text = std::str::from_utf8(content);
-    let text = text.map_err(|_| Trouble::new("not a text in UTF-8"))?;
-    let assembled = assemble(text)?;
-    let start = State { words: assembled.input.words.clone(), tree: assembled.configuration };
-    Ok(Loaded { names: assembled.names, input: assembled.input, start: Some(start) })
 }
 
-/// With the start that the planners' one becomes, by the proved call; its number if it refuses.
-pub fn translated(loaded: Loaded) -> Result<Loaded, u8> {
-    let words = library::translate(&loaded.input.words)?;
-    let start = State::of(&words);
-    let input = Input { words, steps: loaded.input.steps };
-    Ok(Loaded { names: loaded.names, input, start })
+/// Of words that the archive reads; that the second reader reads them too is tested.
+fn tree(words: &[u16]) -> Configuration {
+    diagnose::read(words).unwrap_or_else(|why| {
+        panic!("words that the proved library reads are not read here: please report {why:?}")
+    })
 }
 
-/// The content of a file of this name: text, hexadecimal text or bytes.
-pub fn content(name: &str, names: &Names, state: &State, steps: &[Move]) -> Vec<u8> {
-    if is_text(name) {
-        return print(names, &state.tree, steps).into_bytes();
+/// What is said of each step and of what it reads.
+pub fn along<T>(start: &State, steps: &[Move], say: impl Fn(&State, Move) -> T) -> Vec<T> {
+    let mut now = start.clone();
+    let mut said = Vec::new();
+    for step in steps {
+        said.push(say(&now, *step));
+        if let (_, Some(next)) = now.take(*step) {
+            now = next;
+        }
     }
-    let input = Input { words: state.words.clone(), steps: steps.to_vec() };
-    if words::is_hex(name) {
-        words::to_hex(&input, names, &state.tree).into_bytes()
-    } else {
-        words::to_bytes(&input)
-    }
+    said
 }

@@ -1,7 +1,7 @@
 //! Steps in words: who does what, by name, and what a step has done to values and serials.
 
 use crate::follow::{find, way};
-use crate::library::{word_for, Answer, Move};
+use crate::library::{self, word_for, Answer, Move};
 use crate::names::{Family, Names};
 use crate::print::Printer;
 use crate::state::State;
@@ -37,6 +37,20 @@ pub fn step_by_labels(names: &Names, tree: &Configuration, step: Move) -> String
     format!("{first} -> {}{branch}", at(step.second, step.second_position))
 }
 
+/// A step as files of words have it, and behind # the step in the text form and in words; of a refused one why.
+pub fn step_line(names: &Names, before: &State, step: Move) -> String {
+    let words: Vec<String> = step.words().iter().map(|word| format!("{word:04x}")).collect();
+    let (text, said) =
+        (step_by_labels(names, &before.tree, step), sentence(names, &before.tree, step));
+    let number = library::step(&before.words, step).0.number;
+    let refused = if number == 0 { String::new() } else { refusal(number) };
+    format!("{} # {text}: {said}{refused}", words.join(" "))
+}
+
+fn refusal(number: u8) -> String {
+    format!(": refused, {number} {}", word_for(number))
+}
+
 /// A label that stands at this position and branch and nowhere else in the engine.
 fn label(tree: &Configuration, engine: u16, position: u16, branch: u16) -> Option<&str> {
     let process = acting(tree, engine, position)?;
@@ -50,13 +64,13 @@ fn label(tree: &Configuration, engine: u16, position: u16, branch: u16) -> Optio
 
 /// What a step would do, or does: "lock asks bridge: open ($2 = 0)".
 pub fn sentence(names: &Names, tree: &Configuration, step: Move) -> String {
-    let who = names.engine(usize::from(step.engine));
+    let who = names.engine_said(usize::from(step.engine));
     let Some(process) = acting(tree, step.engine, step.position) else {
         return format!("nothing is enabled at position {} of {who}", step.position);
     };
-    let other = names.engine(usize::from(step.second));
+    let other = names.engine_said(usize::from(step.second));
     let printer = Printer { names, engine: usize::from(step.engine) };
-    let operation = names.written(Family::Operation, process.name);
+    let operation = names.said(Family::Operation, process.name);
     let message = message(names, tree, step.engine, &process.y);
     match process.kind {
         Kind::Assign | Kind::If | Kind::While => format!("{who}: {}", printer.head(process)),
@@ -127,7 +141,7 @@ pub fn told(
 ) -> String {
     let sentence = sentence(names, &before.tree, step);
     let Some(after) = after else {
-        return format!("{sentence}: refused, {} {}", answer.number, word_for(answer.number));
+        return sentence + &refusal(answer.number);
     };
     let mut parts = vec![sentence];
     let kind = Kind::of(u16::from(answer.kind));
@@ -150,8 +164,8 @@ pub fn values(names: &Names, before: &State, after: &State) -> Vec<String> {
         for variable in 0..32u8 {
             let (was, is) = (old.values[usize::from(variable)], new.values[usize::from(variable)]);
             if was != is {
-                let (engine, variable) = (names.engine(index), names.variable(index, variable));
-                changed.push(format!("{engine}.{variable}: {} -> {}", was as i32, is as i32));
+                let variable = names.variable_said(index, variable);
+                changed.push(format!("{variable}: {} -> {}", was as i32, is as i32));
             }
         }
     }

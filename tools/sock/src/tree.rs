@@ -121,6 +121,14 @@ pub enum Expression {
 }
 
 impl Expression {
+    fn length(&self) -> usize {
+        match self {
+            Expression::Constant(_) => 3,
+            Expression::Variable(_) => 1,
+            Expression::Binary(_, left, right) => 1 + left.length() + right.length(),
+        }
+    }
+
     pub fn write(&self, out: &mut Vec<u16>) {
         match self {
             Expression::Constant(value) => {
@@ -148,6 +156,19 @@ pub struct Entry {
 pub struct At {
     pub line: usize,
     pub column: usize,
+}
+
+impl At {
+    /// As compilers write it.
+    pub fn in_file(self, file: &str) -> String {
+        format!("{file}:{}:{}", self.line, self.column)
+    }
+
+    /// Where the next sign would stand behind a text.
+    pub fn behind(text: &str) -> At {
+        let last = text.rsplit('\n').next().unwrap_or("");
+        At { line: text.matches('\n').count() + 1, column: last.chars().count() + 1 }
+    }
 }
 
 /// A process of any kind; what its kind does not have is empty.
@@ -223,6 +244,17 @@ impl Process {
         for part in &self.parts {
             part.write(out);
         }
+    }
+
+    /// How many words stand before its list and processes. A list of variables has a word for each: the first stands in the fixed words, and
+    /// a count stands before the further ones.
+    fn own_length(&self) -> usize {
+        let fixed = match self.kind {
+            Kind::Request | Kind::Notify | Kind::Solicit | Kind::Scope => 2,
+            Kind::Executor | Kind::Waiter | Kind::Notice => 3,
+            _ => 1,
+        };
+        fixed + self.x.len() + self.y.len() + self.expression.as_ref().map_or(0, Expression::length)
     }
 
     /// Head, fixed words and variables.
@@ -317,12 +349,7 @@ pub fn places(root: &Process) -> Vec<Place<'_>> {
 fn collect<'a>(place: Place<'a>, found: &mut Vec<Place<'a>>) -> usize {
     let (process, holder) = (place.process, Some(found.len()));
     found.push(place);
-    let mut own = Vec::new();
-    process.write_own(&mut own);
-    if let Some(expression) = &process.expression {
-        expression.write(&mut own);
-    }
-    let mut at = place.position + own.len() + usize::from(process.kind.has_list());
+    let mut at = place.position + process.own_length() + usize::from(process.kind.has_list());
     let depth = place.depth + 1;
     for entry in &process.list {
         let role = Role::Entry(entry.key);

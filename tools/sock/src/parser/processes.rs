@@ -54,7 +54,7 @@ impl Parser {
     fn block(&mut self) -> Parsed<Process> {
         self.needs_sign("{")?;
         let process = self.deeper(Parser::process)?;
-        self.needs_sign("}")?;
+        self.block_end()?;
         Ok(process)
     }
 

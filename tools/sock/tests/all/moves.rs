@@ -2,9 +2,10 @@
 
 use reference::generate::run::{Run, ORIGINS};
 use sock::library::{self, Move};
-use sock::moves::moves;
+use sock::moves::{able, moves};
 use sock::state::State;
 use sock::tree::places;
+use std::time::{Duration, Instant};
 
 /// Every accepted step among these first places, second places and branches 0 to 9.
 fn tried(state: &State, firsts: &[(u16, u16)], seconds: &[(u16, u16)]) -> Vec<Move> {
@@ -26,7 +27,7 @@ fn tried(state: &State, firsts: &[(u16, u16)], seconds: &[(u16, u16)]) -> Vec<Mo
 
 fn sorted(state: &State) -> Vec<Move> {
     let found = moves(state, usize::MAX);
-    assert!(!found.more && found.tried >= found.moves.len());
+    assert!(!found.more() && found.tried >= found.moves.len());
     let mut moves = found.moves;
     moves.sort();
     moves
@@ -71,10 +72,10 @@ fn as_many_as_by_trying_all_that_is_enabled() {
 fn as_many_as_by_trying_every_position() {
     let mut seen = 0;
     for (name, content) in [
-        ("bridge", include_str!("../../../examples/bridge.sock")),
-        ("choice", include_str!("../../../examples/choice.sock")),
+        ("bridge", include_str!("../../../../examples/bridge.sock")),
+        ("choice", include_str!("../../../../examples/choice.sock")),
     ] {
-        let loaded = sock::state::load(&format!("{name}.sock"), content.as_bytes()).unwrap();
+        let loaded = sock::files::load(&format!("{name}.sock"), content.as_bytes()).unwrap();
         let mut state = loaded.start.unwrap();
         for step in loaded.input.steps {
             let all: Vec<(u16, u16)> =
@@ -102,9 +103,55 @@ fn few_tries() {
         side(&senders),
         side(&receivers)
     );
-    let state = sock::state::load("a.sock", text.as_bytes()).unwrap().start.unwrap();
+    let state = sock::files::load("a.sock", text.as_bytes()).unwrap().start.unwrap();
     let found = moves(&state, usize::MAX);
     assert_eq!((found.moves.len(), found.tried), (60, 60));
     let found = moves(&state, 10);
-    assert_eq!((found.moves.len(), found.tried, found.more), (10, 10, true));
+    assert_eq!((found.moves.len(), found.tried, found.more()), (10, 10, true));
+    let note = "there may be more: 10 of 60 that can fit were tried";
+    assert_eq!(found.note().as_deref(), Some(note));
+}
+
+/// Processes beside each other in as few levels as there can be.
+fn beside(items: &[String]) -> String {
+    match items {
+        [one] => one.clone(),
+        _ => {
+            let (left, right) = items.split_at(items.len() / 2);
+            format!("{{ {} | {} }}", beside(left), beside(right))
+        }
+    }
+}
+
+/// The most that can fit: as many senders and receivers of one operation as a configuration holds, and all that they do is refused, since all
+/// serials are spent.
+#[test]
+fn the_worst_case_is_bounded() {
+    let side = |item: &str| beside(&vec![item.to_string(); 500]);
+    let text = format!(
+        "issued 65535 engine {{ var $1 = 1 scope 1 {{ {} }} }} engine {{ scope 1 {{ {} }} }}",
+        side("solicit 1 ($2) to $1 reply ($3)"),
+        side("request 1 ($2) reply ($3)")
+    );
+    let state = sock::files::load("a.sock", text.as_bytes()).unwrap().start.unwrap();
+    assert!(state.words.len() > 6000);
+    let began = Instant::now();
+    let found = moves(&state, 1000);
+    assert_eq!((found.moves.len(), found.tried, found.fitting), (0, 20_000, 250_000));
+    assert!(able(&state).is_empty());
+    assert!(began.elapsed() < Duration::from_secs(30), "{:?}", began.elapsed());
+}
+
+/// What is marked as able to move is what some accepted step begins with.
+#[test]
+fn able_is_what_moves() {
+    let mut seen = 0;
+    for seed in 0..300 {
+        let run = Run::new(seed, ORIGINS[seed as usize % ORIGINS.len()]);
+        let state = State::of(&run.words).unwrap();
+        let firsts = sorted(&state).iter().map(|step| (step.engine, step.position)).collect();
+        assert_eq!(able(&state), firsts, "seed {seed}");
+        seen += firsts.len();
+    }
+    assert!(seen > 300, "{seen}");
 }

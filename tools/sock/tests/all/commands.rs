@@ -1,82 +1,9 @@
-//! The command: each subcommand from files to what it prints, its status and its help; runs by typed lines, at random, traced, resumed;
-//! pictures that are well-formed.
+//! The command's asm, dis, check, show and moves, from files to what they print and their status; pictures that are well-formed.
 
+use crate::given::{example, prints, says, scratch, sock};
+use sock::files::load;
 use sock::library;
-use sock::state::load;
-use std::io::Write;
-use std::path::PathBuf;
-use std::process::{Command, Output, Stdio};
-
-const EXAMPLES: &str = "../../examples";
-
-fn sock(arguments: &[&str], typed: &str) -> Output {
-    let mut child = Command::new(env!("CARGO_BIN_EXE_sock"));
-    child.args(arguments).stdin(Stdio::piped()).stdout(Stdio::piped()).stderr(Stdio::piped());
-    let mut child = child.spawn().unwrap();
-    let _ = child.stdin.take().unwrap().write_all(typed.as_bytes());
-    child.wait_with_output().unwrap()
-}
-
-/// What is printed, with this status; nothing on standard error if it is 0.
-fn prints(status: i32, arguments: &[&str], typed: &str) -> String {
-    let output = sock(arguments, typed);
-    let said = String::from_utf8(output.stderr).unwrap();
-    assert_eq!(output.status.code(), Some(status), "{arguments:?}: {said}");
-    assert_eq!(said.is_empty(), status == 0, "{arguments:?}: {said}");
-    String::from_utf8(output.stdout).unwrap()
-}
-
-/// What is said on standard error, with this status, and nothing printed.
-fn says(status: i32, arguments: &[&str]) -> String {
-    let output = sock(arguments, "");
-    assert_eq!(output.status.code(), Some(status), "{arguments:?}");
-    assert!(output.stdout.is_empty(), "{arguments:?}");
-    String::from_utf8(output.stderr).unwrap()
-}
-
-fn example(name: &str) -> String {
-    format!("{EXAMPLES}/{name}")
-}
-
-fn scratch(name: &str) -> String {
-    let folder = PathBuf::from(env!("CARGO_TARGET_TMPDIR"));
-    folder.join(name).to_string_lossy().into_owned()
-}
-
-#[test]
-fn help_for_every_command() {
-    let general = prints(0, &["--help"], "");
-    for command in ["asm", "dis", "check", "show", "moves", "run"] {
-        assert!(general.contains(&format!("    {command} ")), "{command}");
-        let help = prints(0, &[command, "--help"], "");
-        assert!(help.starts_with(&format!("usage: sock {command} ")), "{help}");
-        assert!(help.lines().count() > 5 && help.lines().all(|line| line.len() <= 150), "{help}");
-    }
-    let help = prints(0, &["run", "--help"], "");
-    assert!(sock::run::COMMANDS.lines().all(|line| help.contains(line)), "{help}");
-    let header = std::fs::read_to_string("../../include/sock.h").unwrap();
-    let version =
-        prints(0, &["--version"], "").trim().replace("sock ", "#define SOCK_VERSION \"") + "\"";
-    assert!(header.contains(&version), "{version}");
-}
-
-#[test]
-fn wrong_usage() {
-    assert!(says(2, &[]).contains("usage:"));
-    assert!(says(2, &["assemble"]).contains("no such command: assemble"));
-    assert!(says(2, &["asm"]).contains("a file is expected"));
-    assert!(says(2, &["asm", &example("worked.hex")]).contains("a text is expected"));
-    assert!(says(2, &["show", "--png", &example("worked.hex")]).contains("no such option: --png"));
-    assert!(says(2, &["show", &example("worked.hex"), "x"]).contains("a step's number is expected"));
-    assert!(says(2, &["show", &example("worked.hex"), "99"]).contains("has 5 steps, not 99"));
-    assert!(says(2, &["run", "--random", "1"]).contains("--random wants 2 more"));
-    assert!(says(2, &["check", "a", "b"]).contains("more than is expected: b"));
-    assert!(says(2, &["check", "no-such-file"]).contains("cannot be read"));
-    assert!(says(3, &["asm", "-o", "/no/such/folder", &example("worked.sock")])
-        .contains("could not be written"));
-    assert!(says(2, &["run", "--random", "1", "x", &example("worked.hex")])
-        .contains("a number is expected, not x"));
-}
+use std::process::{Command, Stdio};
 
 #[test]
 fn errors_with_file_line_and_column() {
@@ -93,8 +20,16 @@ fn errors_with_file_line_and_column() {
 
 #[test]
 fn assembled_and_back() {
-    for name in ["worked", "lockage", "bridge", "compensation", "dead-waiter", "choice", "booking"]
-    {
+    for name in [
+        "worked",
+        "counting",
+        "lockage",
+        "bridge",
+        "compensation",
+        "dead-waiter",
+        "choice",
+        "booking",
+    ] {
         let (text, hex) = (example(&format!("{name}.sock")), example(&format!("{name}.hex")));
         let (out, bytes, again) = (
             scratch(&format!("{name}.hex")),
@@ -112,6 +47,48 @@ fn assembled_and_back() {
         let named = prints(0, &["dis", "--names", &text, &out], "");
         assert_eq!(named, std::fs::read_to_string(&again).unwrap());
     }
+}
+
+/// Hexadecimal text says of each process what it is, and of each step what it does.
+#[test]
+fn hexadecimal_text_is_explained() {
+    let hex = prints(0, &["asm", &example("bridge.sock")], "");
+    for line in [
+        "    6000 0001                            # prepare: inst\n",
+        "      0400 0940 0000 0000 0001           # on fault stuck: red: light := 1\n",
+        "0000 0008 0001 0003 0000 # lock.ask -> bridge.work: lock asks bridge: open ($2 = 0)\n",
+        "0001 0003 0000 0008 0000 # bridge.work -> lock.ask: bridge replies to lock: open ($3 = 0), serial 1: refused, 3 no move\n",
+    ] {
+        assert!(hex.contains(line), "{line}: {hex}");
+    }
+}
+
+/// Where there are no names a sentence says what a number is.
+#[test]
+fn numbers_are_named() {
+    let traced = prints(0, &["run", "--replay", "--trace", &example("bridge.hex")], "");
+    for text in [
+        "engine 0 asks engine 1: operation 1 ($2 = 0); serial 1 is issued\n",
+        "engine 0 installs a handler for fault 2\n",
+        "engine 0: $5 := 1; $5 of engine 0: 0 -> 1\n",
+    ] {
+        assert!(traced.contains(text), "{text}: {traced}");
+    }
+    assert_eq!(
+        prints(0, &["moves", &example("bridge.hex"), "1"], ""),
+        "0000 0008 0001 0003 0000 # 0 at 8 -> 1 at 3: engine 0 asks engine 1: operation 1 ($2 = 0)\n"
+    );
+}
+
+/// What a text prints of itself has its labels, also in its steps.
+#[test]
+fn a_text_of_a_text() {
+    let printed = prints(0, &["dis", &example("bridge.sock")], "");
+    assert!(printed.contains("    bridge.work -> lock.ask\n    bridge.jam\n"), "{printed}");
+    let steps = scratch("labelled.sock");
+    prints(0, &["run", "--replay", "--steps", &steps, &example("bridge.sock")], "");
+    let written = std::fs::read_to_string(steps).unwrap();
+    assert!(written.contains("    lock.ask -> bridge.work\n    bridge.jam\n"), "{written}");
 }
 
 #[test]
@@ -142,6 +119,22 @@ fn check_says_where_and_why() {
     }
 }
 
+/// Of a text the place is said too, and the other commands say it as compilers do.
+#[test]
+fn an_unreadable_text() {
+    let file = scratch("unreadable.sock");
+    std::fs::write(&file, "engine lock {\n    scope 1 {\n        cH\n    }\n}\n").unwrap();
+    let said = String::from_utf8(sock(&["check", &file], "").stdout).unwrap();
+    let sentence = "cH stands only inside the list entries of kinds 10, 12, 17";
+    assert_eq!(
+        said,
+        format!("readable 1 unreadable\nstart 1 unreadable\nat: {file}:3:9\nwhere: word 69, engine 0, position 3: 7800, in the cH at position 3\nwhy: {sentence}\n(where and why are found by a second reader, which is not proved)\n")
+    );
+    for command in ["asm", "dis", "show", "moves", "run"] {
+        assert_eq!(says(1, &[command, &file]), format!("{file}:3:9: unreadable: {sentence}\n"));
+    }
+}
+
 /// Words of the time when a message had one value are told from others.
 #[test]
 fn check_of_an_earlier_input() {
@@ -165,6 +158,15 @@ fn check_of_a_configuration_in_the_middle_of_a_run() {
     let output = sock(&["asm", &file], "");
     assert_eq!(output.status.code(), Some(0));
     assert!(String::from_utf8(output.stderr).unwrap().contains("no start (11, not fresh)"));
+    std::fs::write(&file, "engine {\n}\n").unwrap();
+    let said = String::from_utf8(sock(&["check", &file], "").stdout).unwrap();
+    let at = format!(
+        "at: {file}:2:1\nwhere: word 66, engine 0, position 0: 0000, in the nil at position 0\n"
+    );
+    assert!(
+        said.contains(&at) && said.contains("why: in a start every engine's process is a scope"),
+        "{said}"
+    );
 }
 
 #[test]
@@ -191,7 +193,7 @@ fn show_and_what_changed() {
         assert!(step.contains(text), "{text}: {step}");
     }
     assert!(
-        step.contains("1 waiter at lock 8, executor at bridge 3 (ends: 1 waiting, 1 working)\n"),
+        step.contains("1 waiter at position 8 of lock, executor at position 3 of bridge (ends: 1 waiting, 1 working)\n"),
         "{step}"
     );
     let refused = prints(0, &["show", &example("bridge.sock"), "3"], "");
@@ -285,88 +287,6 @@ fn moves_are_steps() {
 }
 
 #[test]
-fn a_run_by_typed_lines() {
-    let (later, steps, hex) = (scratch("later.sock"), scratch("steps.hex"), scratch("later.hex"));
-    let typed = format!("1\n1\n1\nb\n?\nh\ns\nm\n7\nnonsense\nw\nw {later}\nw {hex}\nl {steps}\nw /no/such/folder\nq\n");
-    let printed = prints(0, &["run", &example("bridge.sock")], &typed);
-    assert!(printed.contains("> 1\n   1  lock installs a handler for fault stuck\n"), "{printed}");
-    assert!(printed.contains("'nonsense': the number of a move is expected, 1 to 1"), "{printed}");
-    assert!(
-        printed.contains("a file's name is expected\n") && printed.contains("could not be written"),
-        "{printed}"
-    );
-    // After two steps, the third taken back.
-    let start =
-        load(&example("bridge.sock"), &std::fs::read(example("bridge.sock")).unwrap()).unwrap();
-    let taken = load(&steps, &std::fs::read(&steps).unwrap()).unwrap();
-    assert_eq!(taken.input.words, start.input.words);
-    assert_eq!(taken.input.steps, start.input.steps[..2]);
-    let mut state = start.start.unwrap();
-    for step in &taken.input.steps {
-        state = state.take(*step).1.unwrap();
-    }
-    for file in [&later, &hex] {
-        assert_eq!(
-            load(file, &std::fs::read(file).unwrap()).unwrap().input.words,
-            state.words,
-            "{file}"
-        );
-    }
-    // Resumed: names and labels are there, and the rest of the run.
-    let resumed = prints(0, &["run", &later], "1\n1\n1\n1\n1\n1\nb\nb\nb\nb\nb\nb\nb\n");
-    assert!(
-        resumed.contains("   1  bridge.jam                       bridge throws fault stuck\n"),
-        "{resumed}"
-    );
-    assert!(
-        resumed.contains("lock: light := 1; lock.light: 0 -> 1")
-            && resumed.contains("this is the start"),
-        "{resumed}"
-    );
-}
-
-#[test]
-fn random_runs_are_the_same_by_seed_and_can_be_resumed() {
-    let run = |seed: &str, count: &str, file: &str, from: &str| {
-        prints(0, &["run", "--trace", "--random", seed, count, "--write", file, from], "")
-    };
-    let (one, two) = (scratch("one.sock"), scratch("two.sock"));
-    let from = example("counting.sock");
-    assert_eq!(run("5", "9", &one, &from), run("5", "9", &two, &from));
-    assert_eq!(std::fs::read(&one).unwrap(), std::fs::read(&two).unwrap());
-    let whole = run("5", "100", &two, &from);
-    assert!(whole.ends_with("16 steps taken; nothing moves any more\n"), "{whole}");
-    let rest = run("5", "100", &two, &one);
-    assert!(rest.ends_with("7 steps taken; nothing moves any more\n"), "{rest}");
-    let steps = scratch("random.hex");
-    prints(0, &["run", "--random", "3", "50", "--steps", &steps, &example("lockage.hex")], "");
-    let again = prints(0, &["run", "--replay", "--trace", &steps], "");
-    assert!(again.lines().all(|line| !line.contains("refused")), "{again}");
-}
-
-#[test]
-fn a_trace_has_values_and_names() {
-    let traced = prints(0, &["run", "--replay", "--trace", &example("booking.sock")], "");
-    for text in [
-        "   -  lock asks office: book (litres = 90000, pound = 3, class = 2, lockage = 11): refused, 5 no fit\n",
-        "serial 1 is issued; office.litres: 0 -> 90000; office.pound: 0 -> 3",
-        "office replies to lock: book (number = 12, hour = 9), serial 1; lock.number: 0 -> 12; lock.hour: 0 -> 9\n",
-    ] {
-        assert!(traced.contains(text), "{text}: {traced}");
-    }
-    let counted = prints(0, &["run", "--replay", "--trace", &example("counting.sock")], "");
-    assert!(
-        counted.contains("while level less 0; true: once more\n")
-            && counted.contains("while level less 0; false: it ends\n"),
-        "{counted}"
-    );
-    assert!(
-        counted.contains("if level less 1; true\n") && counted.contains("weir.light: 0 -> 1\n"),
-        "{counted}"
-    );
-}
-
-#[test]
 fn what_cannot_be_written_is_said() {
     for arguments in [
         vec!["--help"],
@@ -383,32 +303,4 @@ fn what_cannot_be_written_is_said() {
         assert_eq!(output.status.code(), Some(3), "{arguments:?}");
         assert!(!output.stderr.is_empty());
     }
-}
-
-#[test]
-fn planners_starts() {
-    let plan = example("plan.hex");
-    let unread = sock(&["check", &plan], "");
-    let said = String::from_utf8(unread.stdout).unwrap();
-    assert!(!unread.status.success() && said.starts_with("readable 1 unreadable\n"), "{said}");
-    assert!(said.contains("where the engine's process begins"), "{said}");
-    assert!(said.contains("--plan translates"), "{said}");
-    assert_eq!(
-        prints(0, &["check", "--plan", &plan], ""),
-        "readable 0 accepted\nstart 0 accepted\n"
-    );
-    let text = scratch("plan.sock");
-    prints(0, &["dis", "--plan", "-o", &text, &plan], "");
-    for command in ["show", "moves"] {
-        assert_eq!(prints(0, &[command, "--plan", &plan], ""), prints(0, &[command, &text], ""));
-    }
-    let traced = prints(0, &["run", "--plan", "--replay", "--trace", &plan], "");
-    assert!(traced.lines().count() > 5, "{traced}");
-    // A start without fixed scopes stays as it is.
-    let worked = example("worked.hex");
-    assert_eq!(prints(0, &["dis", "--plan", &worked], ""), prints(0, &["dis", &worked], ""));
-    let refused =
-        says(1, &["moves", "--plan", "../../tests/reference/earlier/examples/worked.hex"]);
-    assert!(refused.ends_with("worked.hex: the planners' start is refused: 1 unreadable\n"));
-    assert!(says(2, &["run", "--plan", &text]).contains("--plan is for words"));
 }
