@@ -83,6 +83,14 @@ int main(void)
     house = sock_let_go(out, sock_bytes(answer.length), wider, sizeof wider);
     printf(", then %s, %d words\n", sock_word(house.number), house.length);
 
+    /* A planners' start: one engine, a fixed scope named 1 with nil handlers around throw 2. It becomes a scope that installs them and then throws. */
+    static uint8_t plan[2 * 71];
+    sock_put(plan, 0, 1);
+    sock_put(plan, sock_put(plan, 66, 0x9820) + 3, 0x6840);
+    struct sock_plan_answer laid = sock_lay_out(plan, sizeof plan, out, sizeof out);
+    printf("a plan: %s, %d words", sock_word(laid.number), laid.length);
+    printf(", as a start: %s\n", sock_word(sock_test_start(out, sock_bytes(laid.length)).number));
+
     /* What engines 2 and 7 owe: two replies of 1 litre at 1 cent per 1,000 litres, each a cent, and one of 1,000 litres at 250. */
     static uint8_t rates[SOCK_RATE_BYTES], replies[3 * SOCK_REPLY_BYTES];
     static const uint32_t list[9] = {5, 2, 1, 5, 2, 1, 6, 7, 1000};

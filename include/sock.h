@@ -26,7 +26,7 @@
  * calls may read one configuration at the same time; nobody may write to it, or touch an output, until the call has returned.
  *
  * Stack. A call needs at most SOCK_STACK bytes, one that ends in _small at most SOCK_STACK_SMALL, on the stack of its thread or of the signal
- * handler (sigaltstack).
+ * handler (sigaltstack). sock_translate, which is for the planning office and not for a cabinet, needs more: at most SOCK_STACK_PLAN.
  */
 #ifndef SOCK_H
 #define SOCK_H
@@ -40,9 +40,9 @@ extern "C" {
 
 /* This header's version. The first number rises when a call, an answer or the format changes, the second when something is added. */
 #define SOCK_VERSION_MAJOR 4
-#define SOCK_VERSION_MINOR 5
+#define SOCK_VERSION_MINOR 6
 #define SOCK_VERSION_PATCH 0
-#define SOCK_VERSION "4.5.0"
+#define SOCK_VERSION "4.6.0"
 
 /* The most words and bytes that a configuration has. */
 #define SOCK_WORDS 8192
@@ -68,10 +68,11 @@ extern "C" {
 #define SOCK_WINDOW_WORDS (SOCK_OPERATIONS + 1 + SOCK_WINDOW_WIDEST)
 #define SOCK_WINDOW_BYTES (2 * SOCK_WINDOW_WORDS)
 
-/* Bytes of stack that are enough for any call, and for any of the swing bridge cabinet's. The most that a call was seen to use is below three
- * quarters of it, which is tested. */
+/* Bytes of stack that are enough for any call but sock_translate, for any of the swing bridge cabinet's, and for sock_translate. The most that
+ * a call was seen to use is below three quarters of it, which is tested. */
 #define SOCK_STACK 262144
 #define SOCK_STACK_SMALL 114688
+#define SOCK_STACK_PLAN 307200
 
 /* What a call answers: a result (0), or why there is none. */
 enum sock_number {
@@ -89,6 +90,7 @@ enum sock_number {
     SOCK_NOT_FRESH = 11,      /* start check: readable, but not a start; joining: the newcomer is not readable and fresh */
     SOCK_UNKNOWN_SERIAL = 12, /* ends: the serial is 0 or above issued */
     SOCK_NOT_DECIMAL = 13,    /* assign, if or while: an operand of a decimal operator has a digit above 9; after 5 and before 6 */
+    SOCK_FIXED_CH = 14,       /* translating: cH stands free in one of a fixed scope's own handlers; after 1 and before 11 */
     SOCK_UNMATCHED = 15,      /* taking back: the journal is cut or does not match, or what it restores is not readable */
     SOCK_JOURNAL_SHORT = 16,  /* step with a journal: the journal lent is shorter than this step's; after 10 */
     SOCK_INDEX_SHORT = 17,    /* index: fewer than 2,049 words, or, once begun, not in order; before all others */
@@ -100,7 +102,7 @@ enum sock_number {
     SOCK_OVERLAP = 255        /* inline calls that write: what was lent overlaps, so no call was made */
 };
 
-/* The nineteen kinds of process, the first 5 bits of a head. */
+/* The nineteen kinds of process, the first 5 bits of a head, and the planners' one. */
 enum sock_kind {
     SOCK_NIL = 0,
     SOCK_ASSIGN = 1,
@@ -120,7 +122,8 @@ enum sock_kind {
     SOCK_CH = 15,
     SOCK_EXECUTOR = 16,
     SOCK_WAITER = 17,
-    SOCK_NOTICE = 18
+    SOCK_NOTICE = 18,
+    SOCK_FIXED_SCOPE = 19 /* in a planners' start only: sock_translate takes it, every other call refuses it */
 };
 
 /* The keeper's word for a number, as documents 01 and 02 have it; "accepted" for 0. Takes what any call or accessor gives as number. */
@@ -141,6 +144,7 @@ static inline const char *sock_word(unsigned number)
     case SOCK_NOT_FRESH: return "not fresh";
     case SOCK_UNKNOWN_SERIAL: return "unknown serial";
     case SOCK_NOT_DECIMAL: return "not decimal";
+    case SOCK_FIXED_CH: return "cH in a fixed scope";
     case SOCK_UNMATCHED: return "journal doesn't match";
     case SOCK_JOURNAL_SHORT: return "journal short";
     case SOCK_INDEX_SHORT: return "index short";
@@ -360,6 +364,34 @@ static inline struct sock_house_answer sock_let_go(const uint8_t *config, size_t
     went.number = sock_number(answer);
     went.length = sock_length(answer);
     return went;
+}
+
+/* ---- Planners' starts ----
+ *
+ * `config` is a start in which fixed scopes, kind 19, may stand wherever an unmarked scope may: scopes with all their handlers given
+ * beforehand (docs/FORMAT.md). Accepted: `out`, which must not overlap it, holds the start that it is translated into, in which each of them
+ * is a scope that installs its handlers. SOCK_UNREADABLE (also for an odd length), SOCK_FIXED_CH, SOCK_NOT_FRESH; SOCK_DEEP, SOCK_LONG and
+ * SOCK_SHORT_PAPER for what it becomes. The answer is a number and a length, as taking back's; a refusal changes no byte of `out`, and bytes
+ * past the length stay. A start without fixed scopes comes out as it is.
+ */
+uint64_t sock_translate(const uint8_t *config, size_t config_length, uint8_t *out, size_t out_length);
+
+struct sock_plan_answer {
+    enum sock_number number;
+    uint16_t length; /* words of the start */
+};
+
+/* Translating; SOCK_OVERLAP, before all others, where output and configuration overlap. */
+static inline struct sock_plan_answer sock_lay_out(const uint8_t *config, size_t config_length, uint8_t *out, size_t out_length)
+{
+    struct sock_plan_answer laid = {SOCK_OVERLAP, 0};
+    uint64_t answer;
+    if (sock_overlap(config, config_length, out, out_length))
+        return laid;
+    answer = sock_translate(config, config_length, out, out_length);
+    laid.number = sock_number(answer);
+    laid.length = sock_length(answer);
+    return laid;
 }
 
 /* ---- Index of open requests: how many serials are open, and the oldest one, without reading the engines. ----

@@ -64,7 +64,27 @@ for name in worked lockage bridge compensation dead-waiter choice booking counti
     echo "$name.hex"
     bin/handover --explain "examples/$name.hex"
 done >"$scratch/explained"
+{ echo plan.hex; bin/handover --plan --explain examples/plan.hex; } >>"$scratch/explained"
 same "explained" examples/explained.txt <"$scratch/explained"
+
+# The planners' example: the same lines from what it is translated into. What is no plan is run as it is; no other way takes a plan.
+ends 0 examples/plan.txt 'bin/handover --plan examples/plan.hex'
+ends 0 examples/worked.txt 'bin/handover --plan --example'
+echo "start 1" >"$scratch/no-plan.txt"
+ends 1 "$scratch/no-plan.txt" 'bin/handover examples/plan.hex'
+ends 1 "$scratch/no-plan.txt" 'bin/handover --plan </dev/null'
+# planned NUMBER WORDS REASON: one engine with these words as its process is refused so, plain and explained.
+planned() {
+    { printf '%04x 0001 0000 0000*64' "$((66 + $(echo "$2" | wc -w)))"; echo " $2"; } >"$scratch/planned.hex"
+    echo "start $1" >"$scratch/planned.txt"
+    ends 1 "$scratch/planned.txt" 'bin/handover --plan "$scratch/planned.hex"'
+    printf '%-16s %s\n' "start $1" "$3" >"$scratch/planned.txt"
+    ends 1 "$scratch/planned.txt" 'bin/handover --plan --explain "$scratch/planned.hex"'
+}
+planned 14 '9820 0000 7800 0000 0000' "cH in a fixed scope: it stands free in one of a fixed scope's own handlers"
+planned 11 '9820 0000 0000 0000 5804 0000 0000 0000' 'not fresh: readable, but no start'
+planned 8 "$(for _ in 1 2 3 4 5 6 7 8 9 10 11 12 13 14 15 16; do printf '9800 0000 0000 0000 '; done)6800" 'deep: what it is translated into would nest deeper than 64'
+ends 2 /dev/null 'bin/handover --plan --rewrite examples/plan.hex' && says '--rewrite'
 
 # The file that docs/FORMAT.md has, and what it says that it prints.
 in_format() {

@@ -88,7 +88,7 @@ static void inline_and_raw(size_t length)
     check(sock_test_readable(out, sock_bytes(taken.length)).number == SOCK_ACCEPTED, "readable");
     check(sock_test_readable(config, length - 1).number == SOCK_UNREADABLE, "odd length");
     check(strcmp(sock_word(sock_check_readable(config, length - 1)), "unreadable") == 0, "the word for a raw answer");
-    check(strcmp(sock_word(12), "unknown serial") == 0 && strcmp(sock_word(13), "not decimal") == 0 && strcmp(sock_word(14), "") == 0, "words at the end of their table");
+    check(strcmp(sock_word(12), "unknown serial") == 0 && strcmp(sock_word(13), "not decimal") == 0 && strcmp(sock_word(23), "") == 0, "words at the end of their table");
     check(strcmp(sock_word(15), "journal doesn't match") == 0 && strcmp(sock_word(16), "journal short") == 0, "words about journals");
     check(strcmp(sock_word(SOCK_OVERLAP), "overlap") == 0, "the word for overlap");
 }
@@ -158,6 +158,29 @@ static void engines(size_t length)
     check(sock_join(NULL, 0, NULL, 0, NULL, 0) == (uint64_t)SOCK_UNREADABLE << 56, "nothing to join");
     check(sock_leave(NULL, 0, NULL, 0) == (uint64_t)SOCK_UNREADABLE << 56, "nothing to leave");
     check(strcmp(sock_word(21), "house full") == 0 && strcmp(sock_word(22), "still at work") == 0, "words about engines");
+}
+
+/* A fixed scope around nil becomes a scope that installs its handlers. */
+static void plans(void)
+{
+    static uint8_t plan[2 * 71], start[SOCK_BYTES];
+    memset(plan, 0, sizeof plan);
+    sock_put(plan, 0, 1);
+    sock_put(plan, 66, SOCK_FIXED_SCOPE << 11 | 5 << 5);
+    struct sock_plan_answer laid = sock_lay_out(plan, sizeof plan, start, sizeof start);
+    uint64_t raw = sock_translate(plan, sizeof plan, start, sizeof start);
+    check(laid.number == SOCK_ACCEPTED && laid.length == 81 && raw == 81, "a plan translated");
+    check(sock_test_start(start, sock_bytes(81)).number == SOCK_ACCEPTED, "into a start");
+    check(sock_get(start, 66) == (SOCK_SCOPE << 11 | 5 << 5) && sock_get(start, 69) == SOCK_SEQ << 11, "a scope with a seq");
+    check(sock_test_readable(plan, sizeof plan).number == SOCK_UNREADABLE, "no other call reads a plan");
+    check(sock_lay_out(start, sock_bytes(81), out, sizeof out).length == 81 && memcmp(start, out, 162) == 0, "the same once more");
+    check(sock_lay_out(plan, sizeof plan, start, 161).number == SOCK_SHORT_PAPER, "short paper for a plan");
+    check(sock_lay_out(plan, sizeof plan - 1, start, sizeof start).number == SOCK_UNREADABLE, "an odd plan");
+    check(sock_lay_out(plan, sizeof plan, plan, 2).number == SOCK_OVERLAP, "an output in the plan");
+    sock_put(plan, 68, SOCK_CH << 11);
+    check(sock_lay_out(plan, sizeof plan, start, sizeof start).number == SOCK_FIXED_CH, "cH in a fixed scope");
+    check(sock_translate(NULL, 0, NULL, 0) == (uint64_t)SOCK_UNREADABLE << 56, "nothing to translate");
+    check(strcmp(sock_word(14), "cH in a fixed scope") == 0, "the word about plans");
 }
 
 /* An index over a solicit, taken back. */
@@ -248,7 +271,7 @@ static void bills(void)
     check(bill.number == SOCK_LIST_UNFIT && bill.totals[5] == 0, "an engine that is none");
     sock_put_value(rates, 0, 1000001);
     check(sock_charge(rates, reply, 1).number == SOCK_RATE_TOO_HIGH, "a rate too high, before all else");
-    check(strcmp(sock_word(19), "rate too high") == 0 && *sock_word(14) == 0, "the words of numbers");
+    check(strcmp(sock_word(19), "rate too high") == 0 && *sock_word(23) == 0, "the words of numbers");
 }
 
 /* A throw beside an inst: refused, and the call says by what. */
@@ -306,6 +329,7 @@ int main(void)
     journals(sock_bytes(words));
     indexes(sock_bytes(words));
     engines(sock_bytes(words));
+    plans();
     small_cabinet(sock_bytes(words));
     null_pointers(sock_bytes(words));
     bills();

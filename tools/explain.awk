@@ -53,7 +53,15 @@ function unreadable() {
     return "no configuration that can be read (an earlier one, without counts of variables, is rewritten by --rewrite)"
 }
 
-$1 == "start" { text = $2 == 0 ? "the run begins" : $2 == 1 ? "unreadable: " unreadable() : "not fresh: readable, but no start" }
+# Why a planners' start is not translated.
+function untranslated(number) {
+    if (number == 14) return "cH in a fixed scope: it stands free in one of a fixed scope's own handlers"
+    return word[number] ": " (number == 8 ? "what it is translated into would nest deeper than 64" : "what it is translated into would be longer than 8,192 words")
+}
+
+$1 == "start" {
+    text = $2 == 0 ? "the run begins" : $2 == 1 ? "unreadable: " unreadable() : $2 == 11 ? "not fresh: readable, but no start" : untranslated($2)
+}
 $1 == "end" { text = "the configuration's words" }
 $1 == "cut" { text = "the input ends inside a step" }
 $1 ~ /^[0-9]/ { text = $2 == 0 ? done($3, $4, $1) : word[$2] ": " why($2, $1) }

@@ -3,3 +3,4 @@ pub mod Indexing
 pub mod Journaling
 pub mod TakingBack
 pub mod Numbered
+mod Planning

@@ -90,6 +90,12 @@ extern "C" {
         output: *mut u8,
         output_length: usize,
     ) -> u64;
+    fn sock_translate(
+        config: *const u8,
+        config_length: usize,
+        output: *mut u8,
+        output_length: usize,
+    ) -> u64;
     fn sock_begin_index(
         config: *const u8,
         config_length: usize,
@@ -220,6 +226,10 @@ pub fn join(config: Lent, newcomer: Lent, output: Lent) -> u64 {
 
 pub fn leave(config: Lent, output: Lent) -> u64 {
     unsafe { sock_leave(config.start, config.length, output.start, output.length) }
+}
+
+pub fn translate(config: Lent, output: Lent) -> u64 {
+    unsafe { sock_translate(config.start, config.length, output.start, output.length) }
 }
 
 pub fn begin_index(config: Lent, index: Lent) -> u8 {

@@ -35,6 +35,7 @@ pub enum Call {
     Indexed { call: &'static str, index: usize },
     Join { newcomer: usize, output: usize },
     Leave { output: usize },
+    Translate { output: usize },
 }
 
 /// Bytes of a configuration that are printed; the seed gives the others.

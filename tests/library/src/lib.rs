@@ -12,7 +12,8 @@
 //!
 //! `window` does the same for the window of faults, which reads no configuration, `journal`
 //! for the step with a journal and for taking back, `index` for both with an index of open
-//! requests, its beginning and its two questions, and `engines` for joining and leaving.
+//! requests, its beginning and its two questions, `engines` for joining and leaving, and `planning`
+//! for translating planners' starts.
 
 pub mod billing;
 pub mod bytes;
@@ -31,5 +32,6 @@ pub mod memory_fault;
 pub mod outputs;
 pub mod pages;
 pub mod painted;
+pub mod planning;
 pub mod walk;
 pub mod window;

@@ -1,7 +1,7 @@
 //! The stack that each call needs: on configurations that are deep and long at once, every call is
 //! made on a painted stack (the bill and the window, which read none, on the most they take), and the
 //! most that one used stays below three quarters of what `include/sock.h` promises to be enough; the
-//! small cabinet's calls have a promise of their own. The answers are the second implementation's.
+//! small cabinet's calls have a promise of their own, and so has the call that translates. The answers are the second implementation's.
 
 use library::cabinet::Cabinet;
 use library::counts::ACTORS;
@@ -14,8 +14,10 @@ use reference::bytes::{from_words, to_words};
 use reference::configuration::Configuration;
 use reference::engines;
 use reference::generate::comers::words;
+use reference::generate::plans::{bare, beside, fixed, scope, start, NIL, PAR, THROW};
 use reference::generate::steps::{fitting, stands};
 use reference::index::{index_of, open_serials, Serials, INDEX_BYTES, MOST};
+use reference::planning;
 use reference::{readable, write, Numbers};
 use std::collections::{BTreeMap, BTreeSet};
 use std::io::Write;
@@ -104,6 +106,7 @@ impl Most {
             self.call("sock_begin_index", shape, || exported::begin_index(lent, begun).into());
         assert_eq!(number, start, "{shape}");
         self.engines(shape, config);
+        self.translate(shape, config);
         let ends = self.call("sock_ends", shape, || exported::ends(lent, 1));
         assert_eq!(ends, reference::sock_ends(config, 1), "{shape}");
         for engine in 0..3 {
@@ -139,6 +142,16 @@ impl Most {
                 assert!(output.bytes() == expected, "{shape}: another output");
             }
         }
+    }
+
+    fn translate(&mut self, shape: &str, config: &[u8]) -> u64 {
+        let lent = Lent { start: config.as_ptr().cast_mut(), length: config.len() };
+        let (mut out, mut expected) = (vec![7u8; 16_384], vec![7u8; 16_384]);
+        let output = lend(&mut out);
+        let laid = self.call("sock_translate", shape, || exported::translate(lent, output));
+        assert_eq!(laid, planning::sock_translate(config, &mut expected), "{shape}");
+        assert!(output.bytes() == expected, "{shape}: another output");
+        laid >> 56
     }
 
     /// Past the capture of the test's output, so that a run that passes shows it too.
@@ -252,7 +265,11 @@ impl Most {
         assert!(self.kinds.iter().copied().eq(actors), "accepted kinds {:?}", self.kinds);
         assert_eq!(self.used.len(), calls, "a call was not made");
         for (call, (used, shape)) in &self.used {
-            assert!(4 * used <= 3 * promised, "{call} used {used} bytes of stack ({shape})");
+            let enough = match *call {
+                "sock_translate" => self::promised("SOCK_STACK_PLAN"),
+                _ => promised,
+            };
+            assert!(4 * used <= 3 * enough, "{call} used {used} bytes of stack ({shape})");
         }
     }
 }
@@ -278,6 +295,36 @@ fn others(most: &mut Most) {
         sock_window_count(63, start, 2178)
     });
     assert_eq!(count, 1024);
+}
+
+/// Planners' starts, as deep as is read and as long: fixed scopes nested in each of their places, and in all in turn; what they become is
+/// too deep and too long. And starts that are accepted.
+fn plans(most: &mut Most) {
+    let nil: &[u16] = &[NIL];
+    let around = |place: usize, inner: Vec<u16>| match place {
+        0 => fixed(1, &[(0, &inner)], nil, nil, nil),
+        1 => fixed(1, &[], &inner, nil, nil),
+        2 => fixed(1, &[], nil, &inner, nil),
+        _ => fixed(1, &[], nil, nil, &inner),
+    };
+    for (name, places) in [
+        ("fault handlers", vec![0]),
+        ("termination processes", vec![1]),
+        ("compensation processes", vec![2]),
+        ("bodies", vec![3]),
+        ("all in turn", vec![0, 1, 2, 3]),
+        ("compensation processes and bodies", vec![2, 3]),
+    ] {
+        for (levels, beside_it, number) in [(61, 1200, 8), (61, 1, 8), (12, 490, 0), (12, 900, 9)] {
+            let deep = (0..levels)
+                .fold(vec![THROW], |inner, level| around(places[level % places.len()], inner));
+            let all = [vec![PAR], deep, beside(&vec![bare(); beside_it])].concat();
+            let config = from_words(&start(&scope(&all)));
+            let shape = format!("{levels} {name}, {beside_it} beside");
+            assert!(config.len() <= 16_384, "{shape}");
+            assert_eq!(most.translate(&shape, &config), number, "{shape}");
+        }
+    }
 }
 
 /// What acts, first of all; also the first and the last that are enabled, whatever they are.
@@ -308,7 +355,8 @@ fn no_call_needs_more_stack_than_three_quarters_of_the_promise() {
     let mut most = Most::new(Cabinet::Large);
     most.all(own(Cabinet::Large));
     others(&mut most);
-    most.judge(18, promised("SOCK_STACK"));
+    plans(&mut most);
+    most.judge(19, promised("SOCK_STACK"));
 }
 
 /// Also on configurations that it refuses: too long, and too deep only.

@@ -22,7 +22,8 @@
 //! `window` is document 02's change h, and stands by itself; `pending` is change b: what a side has
 //! that can't be killed is searched apart from killing it. `earlier` is the format before change c,
 //! with no lists of variables, and how it is rewritten. `journal` is change f, over the
-//! step of `calls`, `index` change g, over both, and `engines` change k.
+//! step of `calls`, `index` change g, over both, and `engines` change k. `planning` is change e, a
+//! reader of its own.
 
 pub mod alone;
 pub mod billing;
@@ -46,6 +47,7 @@ pub mod limits;
 pub mod measure;
 pub mod pair;
 pub mod pending;
+pub mod planning;
 pub mod process;
 pub mod read;
 pub mod readable;

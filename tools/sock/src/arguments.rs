@@ -8,12 +8,17 @@ pub type Done<T> = Result<T, Failure>;
 /// Options with how many words follow each, by command.
 const OPTIONS: &[(&str, &str, usize)] = &[
     ("asm", "-o", 1),
+    ("dis", "--plan", 0),
     ("dis", "-o", 1),
     ("dis", "--names", 1),
+    ("check", "--plan", 0),
+    ("show", "--plan", 0),
     ("show", "-o", 1),
     ("show", "--svg", 0),
     ("show", "--dot", 0),
+    ("moves", "--plan", 0),
     ("moves", "--most", 1),
+    ("run", "--plan", 0),
     ("run", "--replay", 0),
     ("run", "--random", 2),
     ("run", "--trace", 0),

@@ -47,6 +47,17 @@ fn loaded(file: &str) -> Done<Loaded> {
     load(file, &bytes).map_err(|trouble| Failure(1, trouble.in_file(file)))
 }
 
+/// What a file holds; with --plan its start is a planners' one, and translated.
+fn given(arguments: &Arguments, file: &str) -> Done<Loaded> {
+    if arguments.option("--plan").is_none() {
+        return loaded(file);
+    }
+    if Form::of(file) == Form::Text {
+        return Err(arguments.misused("--plan is for words: texts have no fixed scopes"));
+    }
+    loaded(file)?.translated().map_err(|trouble| Failure(1, trouble.in_file(file)))
+}
+
 /// The start of a file, which has to be readable.
 fn started(file: &str, loaded: &Loaded) -> Done<State> {
     let refusal = || Failure(1, loaded.refusal().in_file(file).trim_end().to_string());
@@ -89,7 +100,7 @@ pub fn asm(arguments: &Arguments) -> Done<u8> {
 
 pub fn dis(arguments: &Arguments) -> Done<u8> {
     let (file, _) = arguments.file(false)?;
-    let words = loaded(file)?;
+    let words = given(arguments, file)?;
     let state = started(file, &words)?;
     let names = match arguments.value("--names") {
         Some(other) => fitting_names(loaded(other)?.names, &state),
@@ -117,7 +128,7 @@ fn fitting_names(mut names: Names, state: &State) -> Names {
 
 pub fn check(arguments: &Arguments) -> Done<u8> {
     let (file, _) = arguments.file(false)?;
-    let loaded = loaded(file)?;
+    let loaded = given(arguments, file)?;
     let words = &loaded.input.words;
     let (readable, start) = (check_readable(words), check_start(words));
     let mut out =
@@ -142,7 +153,7 @@ pub fn check(arguments: &Arguments) -> Done<u8> {
 
 pub fn show_file(arguments: &Arguments) -> Done<u8> {
     let (file, step) = arguments.file(true)?;
-    let loaded = loaded(file)?;
+    let loaded = given(arguments, file)?;
     let step = step.unwrap_or(0);
     let whole = after(file, &loaded, step)?;
     if arguments.option("--svg").is_some() {
@@ -169,7 +180,7 @@ pub fn show_file(arguments: &Arguments) -> Done<u8> {
 pub fn list_moves(arguments: &Arguments) -> Done<u8> {
     let (file, step) = arguments.file(true)?;
     let most = arguments.value("--most").map_or(Ok(MOST), |text| arguments.number(text))?;
-    let loaded = loaded(file)?;
+    let loaded = given(arguments, file)?;
     let state = after(file, &loaded, step.unwrap_or(0))?;
     let found = moves::moves(&state, most);
     let mut out = String::new();
@@ -190,7 +201,7 @@ pub fn run(arguments: &Arguments) -> Done<u8> {
         _ => None,
     };
     let replays = arguments.option("--replay").is_some();
-    let loaded = loaded(file)?;
+    let loaded = given(arguments, file)?;
     let typed = random.is_none() && !replays;
     let mut run = Run::new(loaded.names.clone(), started(file, &loaded)?);
     run.trace = arguments.option("--trace").is_some();

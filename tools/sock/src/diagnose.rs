@@ -16,6 +16,11 @@ const COUNT: &str = "a message has 1 to 4 variables, and this word is their coun
 const EARLIER: &str =
     "(an earlier input, without counts of variables, is rewritten by bin/handover --rewrite)\n";
 
+/// What a planners' start breaks, whose fixed scopes are of kind 19.
+const KIND: &str = "the first 5 bits of a head are a kind, 0 to 18";
+
+const PLANNED: &str = "(kind 19 is the planners': with --plan their start is translated first)\n";
+
 const UNPROVED: &str = "(where and why are found by a second reader, which is not proved)\n";
 
 /// What is said where there should be a reason: the two readers differ, which a test excludes as far as tests do.
@@ -63,7 +68,11 @@ impl Diagnosis {
             None if self.word == self.start => "where the engine's process begins".to_string(),
             None => "among the engine's values".to_string(),
         };
-        let hint = if self.sentence == COUNT { EARLIER } else { "" };
+        let hint = match self.sentence {
+            COUNT => EARLIER,
+            KIND if self.content.is_some_and(|word| word >> 11 == 19) => PLANNED,
+            _ => "",
+        };
         let (word, sentence) = (self.word, self.sentence);
         format!("where: word {word}{engine}{position}: {content}, {process}\nwhy: {sentence}\n{hint}{UNPROVED}")
     }
@@ -176,7 +185,7 @@ impl Reader<'_> {
         self.ask(around.depth > 0, here, "depth is at most 64")?;
         let head = self.word()?;
         let Some(kind) = Kind::of(head >> 11) else {
-            return self.wrong(here, "the first 5 bits of a head are a kind, 0 to 18");
+            return self.wrong(here, KIND);
         };
         self.inside.push((kind, here - self.start));
         let mut process = Process::new(kind);

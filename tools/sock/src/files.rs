@@ -3,7 +3,7 @@
 use crate::assemble::{assemble, Assembled};
 use crate::diagnose::{self, Diagnosis};
 use crate::hex::hex;
-use crate::library::Move;
+use crate::library::{translate, word_for, Move};
 use crate::names::Names;
 use crate::print::print;
 use crate::state::{along, State};
@@ -45,6 +45,20 @@ pub struct Loaded {
 }
 
 impl Loaded {
+    /// Of words, which have no names.
+    fn of(input: Input) -> Loaded {
+        let start = State::of(&input.words);
+        Loaded { names: Names::default(), input, start, text: None }
+    }
+
+    /// These words as a planners' start: what the proved call makes of it, and the steps as they are.
+    pub fn translated(self) -> Result<Loaded, Trouble> {
+        let words = translate(&self.input.words).map_err(|number| {
+            Trouble::new(format!("the planners' start is refused: {number} {}", word_for(number)))
+        })?;
+        Ok(Loaded::of(Input { words, steps: self.input.steps }))
+    }
+
     /// The place in the text of what a diagnosis names; none in words.
     pub fn place(&self, why: &Diagnosis) -> Option<At> {
         self.text.as_ref().and_then(|tree| why.source(tree))
@@ -68,9 +82,7 @@ impl Loaded {
 /// What a file of this name holds.
 pub fn load(name: &str, content: &[u8]) -> Result<Loaded, Trouble> {
     if Form::of(name) != Form::Text {
-        let input = words::read(Form::of(name), content)?;
-        let start = State::of(&input.words);
-        return Ok(Loaded { names: Names::default(), input, start, text: None });
+        return words::read(Form::of(name), content).map(Loaded::of);
     }
     let Assembled { names, configuration, input, start } = assemble(words::utf8(content)?)?;
     let readable = start != 1;

@@ -29,10 +29,11 @@ For people who write and run configurations of SOCK engines.
 
 `sock COMMAND --help` says more of one, with examples; docs/TUTORIAL.md leads from an empty file to a run. FILE is a text if its name ends
 in .sock (docs/TEXT.md), hexadecimal words if it ends in .hex, and bytes otherwise (docs/FORMAT.md): a configuration, and steps behind it if
-there are any.
+there are any. With `--plan`, which all but asm take, FILE holds words of a planners' start (docs/FORMAT.md): the proved library translates
+it first, and the steps are for the start that it becomes.
 
-Steps, checks and ends come from the proved library. All else here (the text form, the reasons of `check`, the tree) is not proved; it
-is tested against the library.
+Steps, checks, ends and translations come from the proved library. All else here (the text form, the reasons of `check`, the tree) is not
+proved; it is tested against the library.
 
     --help       say this
     --version    say the version
@@ -55,11 +56,12 @@ so: `sock run` goes on from it, but bin/handover begins with starts only.
     sock asm -o bridge.hex examples/bridge.sock && bin/handover --explain bridge.hex
 ";
 
-const DIS: &str = "usage: sock dis [--names FILE.sock] [-o OUT] FILE
+const DIS: &str = "usage: sock dis [--plan] [--names FILE.sock] [-o OUT] FILE
 
 Prints the text of a configuration and its steps; before that it is assembled, and has to give the same words again. Steps name processes by
 labels if FILE is a text that has them, else by positions.
 
+    --plan               FILE holds a planners' start (docs/FORMAT.md), which the proved library translates first; steps are for what it becomes
     --names FILE.sock    take the names of engines, variables, operations, faults and scopes from this text; otherwise all are numbers
     -o OUT               write to OUT
 
@@ -67,18 +69,20 @@ labels if FILE is a text that has them, else by positions.
     sock dis --names examples/bridge.sock examples/bridge.hex
 ";
 
-const CHECK: &str = "usage: sock check FILE
+const CHECK: &str = "usage: sock check [--plan] FILE
 
 Makes the two proved checks, readable and start, and prints their numbers with the keeper's words. If the words are unreadable it says
 where and why: the word, the process in which it stands, and the sentence of the format that it breaks; of a text also the line and the
 column. Of a configuration that is no start it says what is not fresh. The reasons are not the proved part; the two numbers are.
+
+    --plan    FILE holds a planners' start (docs/FORMAT.md), which the proved library translates first; what it becomes is checked
 
 status: 0 if both answer 0, else 1
 
     sock check examples/bridge.sock
 ";
 
-const SHOW: &str = "usage: sock show [--svg | --dot] [-o OUT] FILE [STEP]
+const SHOW: &str = "usage: sock show [--plan] [--svg | --dot] [-o OUT] FILE [STEP]
 
 Shows the configuration: each engine's values that are not 0, its process as a tree, a line for each process in it with its position,
 and the open serials with both ends.
@@ -88,6 +92,7 @@ and the open serials with both ends.
 
 With STEP, a number from 1, it shows the configuration before and after that step of the file, and what changed. Step 0 is the start.
 
+    --plan    FILE holds a planners' start (docs/FORMAT.md), which the proved library translates first; steps are for what it becomes
     --svg     the tree as a picture, in SVG; with STEP the configuration after it
     --dot     the same for graphviz
     -o OUT    write to OUT
@@ -98,11 +103,12 @@ Output is in colour on a terminal, unless NO_COLOR is set.
     sock show --svg -o bridge.svg examples/bridge.sock
 ";
 
-const MOVES: &str = "usage: sock moves [--most N] FILE [STEP]
+const MOVES: &str = "usage: sock moves [--plan] [--most N] FILE [STEP]
 
 Lists every step that is accepted now, one on a line: the five words of a step as a .hex file has them, and behind # the step in the text
 form and in words. With STEP: after so many of the file's steps (refused ones leave things as they are); without it at the start.
 
+    --plan      FILE holds a planners' start (docs/FORMAT.md), which the proved library translates first; steps are for what it becomes
     --most N    stop after N moves, 1000 if not said, or after 20 N tries; that there may be more is then said in a last line
 
 Only what can fit is tried: processes that move alone, senders with the receivers of their operation in the engine they name, working
@@ -111,13 +117,14 @@ ends with the waiter of their serial. Whether a step is accepted is the proved s
     sock moves examples/lockage.sock 1
 ";
 
-const RUN: &str = "usage: sock run [--replay] [--random SEED N] [--trace] [--write OUT] [--steps OUT] FILE
+const RUN: &str = "usage: sock run [--plan] [--replay] [--random SEED N] [--trace] [--write OUT] [--steps OUT] FILE
 
 Runs from the configuration in FILE. Without --random it is interactive: it shows the configuration, lists the moves by number and reads
 commands from standard input:
 
 @COMMANDS@
 
+    --plan             FILE holds a planners' start (docs/FORMAT.md), which the proved library translates first; steps are for what it becomes
     --replay           take the steps of FILE first; with it and nothing else that is all
     --random SEED N    take up to N steps at random; the same seed gives the same run
     --trace            print what each step did, with names, values and serials

@@ -1,4 +1,5 @@
-//! The calls of the proved archive (`include/sock.h`), on words. Steps, checks and ends come from here and from nowhere else.
+//! The calls of the proved archive (`include/sock.h`), on words. Steps, checks, ends and what a planners' start becomes come from here and
+//! from nowhere else.
 //!
 //! Each unsafe block is one call, and lends what the header asks for: a pointer and a length of one vector; an output of its own,
 //! which overlaps nothing.
@@ -24,6 +25,12 @@ extern "C" {
     ) -> u64;
     fn sock_ends(config: *const u8, config_length: usize, serial: u16) -> u64;
     fn sock_process(config: *const u8, config_length: usize, engine: u16) -> u64;
+    fn sock_translate(
+        config: *const u8,
+        config_length: usize,
+        out: *mut u8,
+        out_length: usize,
+    ) -> u64;
 }
 
 /// The five numbers of a step.
@@ -117,6 +124,18 @@ pub fn process(words: &[u16], engine: u16) -> Range<usize> {
     first..first + count
 }
 
+/// The start that a planners' start becomes, or the number of the refusal.
+pub fn translate(words: &[u16]) -> Result<Vec<u16>, u8> {
+    let config = bytes(words);
+    let mut out = vec![0u8; 2 * WORDS];
+    let (from, to) = (config.as_ptr(), out.as_mut_ptr());
+    let packed = unsafe { sock_translate(from, config.len(), to, out.len()) };
+    match (packed >> 56) as u8 {
+        0 => Ok(from_bytes(&out[..2 * usize::from(packed as u16)])),
+        number => Err(number),
+    }
+}
+
 /// The keeper's word for a number of document 01 and 02.
 pub fn word_for(number: u8) -> &'static str {
     match number {
@@ -134,6 +153,7 @@ pub fn word_for(number: u8) -> &'static str {
         11 => "not fresh",
         12 => "unknown serial",
         13 => "not decimal",
+        14 => "cH in a fixed scope",
         _ => "refused",
     }
 }

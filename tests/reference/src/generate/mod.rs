@@ -9,6 +9,7 @@ pub mod damage;
 pub mod edges;
 pub mod growth;
 pub mod indexes;
+pub mod plans;
 pub mod random;
 pub mod replace;
 pub mod roles;

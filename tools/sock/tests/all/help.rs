@@ -60,12 +60,12 @@ fn as_the_header_says() {
     for line in header.lines().filter(|line| line.trim().starts_with("case SOCK_")) {
         let (name, word) = line.trim()["case ".len()..].split_once(": return \"").unwrap();
         let number = numbered(name);
-        if number <= 13 {
+        if number <= 14 {
             assert_eq!(library::word_for(number), word.trim_end_matches("\";"), "{name}");
             words += 1;
         }
     }
-    assert_eq!(words, 14);
+    assert_eq!(words, 15);
     for (number, (_, name)) in sock::tree::KINDS.iter().enumerate() {
         let constant = format!("SOCK_{}", name.to_uppercase().replace('-', "_"));
         assert_eq!(usize::from(numbered(&constant)), number, "{name}");

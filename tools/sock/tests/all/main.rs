@@ -7,6 +7,7 @@ mod given;
 mod help;
 mod labels;
 mod moves;
+mod plans;
 mod runs;
 mod show;
 mod text;

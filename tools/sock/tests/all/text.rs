@@ -17,9 +17,13 @@ use sock::words::{self, Input};
 fn every_example() {
     let all = examples(".hex").into_iter();
     let all = all.map(|(name, content)| (name, words::read(Form::Hex, &content).unwrap()));
-    // A planners' start, which no call reads yet, is none of them (docs/PORT.md, "Unfinished work").
-    let starts: Vec<(String, Input)> =
-        all.filter(|(_, input)| library::check_start(&input.words) == 0).collect();
+    // A planners' start has no text; what it becomes has one.
+    let (starts, plans): (Vec<_>, Vec<_>) =
+        all.partition(|(_, input)| library::check_start(&input.words) == 0);
+    for (name, Input { words, steps }) in plans {
+        let words = library::translate(&words).unwrap();
+        round_trip(&Input { words, steps }, &Names::default(), &name);
+    }
     assert_eq!(starts.len(), examples(".sock").len());
     for (name, input) in starts {
         round_trip(&input, &Names::default(), &name);

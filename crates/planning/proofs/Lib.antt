@@ -1,0 +1,14 @@
+pub mod Steps
+pub mod Laying
+pub mod Rewrites
+pub mod Parts
+pub mod Processes
+pub mod Plans
+pub mod Answers
+pub mod Accepted
+pub mod Layouts
+pub mod Unchanged
+pub mod Growth
+pub mod Resting
+pub mod Starting
+pub mod Examples
