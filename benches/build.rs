@@ -7,6 +7,7 @@ fn main() {
         ("step", "libcabinet.a"),
         ("bill", "libcabinet.a"),
         ("journal", "libcabinet.a"),
+        ("keeper", "libcabinet.a"),
     ] {
         let path = format!("../target/staticlib/{library}");
         println!("cargo:rustc-link-arg-bin={program}={path}");

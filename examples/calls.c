@@ -90,6 +90,15 @@ int main(void)
     struct sock_plan_answer laid = sock_lay_out(plan, sizeof plan, out, sizeof out);
     printf("a plan: %s, %d words", sock_word(laid.number), laid.length);
     printf(", as a start: %s\n", sock_word(sock_test_start(out, sock_bytes(laid.length)).number));
+    /* Can request 1 be brought home? By the keeper of engine 1 in one move; the keeper of engine 0 passes, and the river can do nothing else. */
+    static uint16_t scratch[SOCK_KEEPER_WORDS];
+    struct sock_keeper_answer played = sock_play(config, length, 1 << 1, 1, 1, scratch, sizeof scratch);
+    printf("keeper of engine 1, one move: %s, by engine %d's position %d\n", played.outcome == SOCK_YES ? "yes" : "no", played.move.engine,
+           played.move.position);
+    played = sock_play(config, length, 1 << 0, 1, 1, scratch, sizeof scratch);
+    printf("keeper of engine 0, one move: %s", played.outcome == SOCK_NO ? "no" : "yes");
+    played = sock_play(config, length, 1 << 0, 1, 2, scratch, sizeof scratch);
+    printf(", two: %s\n", played.outcome == SOCK_YES_BY_PASS ? "yes, by a pass" : "no");
 
     /* What engines 2 and 7 owe: two replies of 1 litre at 1 cent per 1,000 litres, each a cent, and one of 1,000 litres at 250. */
     static uint8_t rates[SOCK_RATE_BYTES], replies[3 * SOCK_REPLY_BYTES];

@@ -40,9 +40,9 @@ extern "C" {
 
 /* This header's version. The first number rises when a call, an answer or the format changes, the second when something is added. */
 #define SOCK_VERSION_MAJOR 4
-#define SOCK_VERSION_MINOR 6
+#define SOCK_VERSION_MINOR 7
 #define SOCK_VERSION_PATCH 0
-#define SOCK_VERSION "4.6.0"
+#define SOCK_VERSION "4.7.0"
 
 /* The most words and bytes that a configuration has. */
 #define SOCK_WORDS 8192
@@ -99,6 +99,7 @@ enum sock_number {
     SOCK_LIST_UNFIT = 20,     /* bill: list cut or too long, operation above 63 or engine above 7; or totals of fewer than 64 bytes */
     SOCK_HOUSE_FULL = 21,     /* joining: there are eight engines; after 1 */
     SOCK_STILL_AT_WORK = 22,  /* leaving: the last engine is the only one, its process is not nil, or an end elsewhere names it; after 1 */
+    SOCK_TOO_MANY_MOVES = 23, /* keeper against the river: more than 6 moves; after 12 */
     SOCK_OVERLAP = 255        /* inline calls that write: what was lent overlaps, so no call was made */
 };
 
@@ -153,6 +154,7 @@ static inline const char *sock_word(unsigned number)
     case SOCK_LIST_UNFIT: return "list cut or too long, operation above 63 or engine above 7";
     case SOCK_HOUSE_FULL: return "house full";
     case SOCK_STILL_AT_WORK: return "still at work";
+    case SOCK_TOO_MANY_MOVES: return "too many moves";
     case SOCK_OVERLAP: return "overlap";
     default: return "";
     }
@@ -392,6 +394,71 @@ static inline struct sock_plan_answer sock_lay_out(const uint8_t *config, size_t
     laid.number = sock_number(answer);
     laid.length = sock_length(answer);
     return laid;
+}
+
+/* ---- Keeper against the river: whether a request can be brought home. ----
+ *
+ * Keeper and river move in turn, the keeper first. A move is any step accepted with SOCK_WORDS words of output whose first engine is of the mover's
+ * side; a side without one passes, which counts. The answer is yes exactly if the keeper can force, for every play of the river, that the
+ * serial is delivered within `k` moves (0 to SOCK_KEEPER_MOVES), the first time by a reply and not a fault. A yes shows one first move, or a pass,
+ * that keeps this; k 0 is a no, and so is a serial whose ends are gone. A yes within k moves is a yes within k + 1.
+ *
+ * Bit e of `engines` is 1 where engine e is the keeper's; all others are the river's. `scratch` has SOCK_KEEPER_BYTES at least, half of them in
+ * words, and begins where a uint16_t may (malloc's memory does, and an array of uint16_t); it must not overlap the configuration. What it holds
+ * afterwards means nothing; a refusal changes no byte of it. sock_keeper_words is the same with its scratch counted in words.
+ * SOCK_UNREADABLE, SOCK_UNKNOWN_SERIAL (0 or above issued), SOCK_TOO_MANY_MOVES, SOCK_SHORT_PAPER (scratch), in this order.
+ *
+ * Time. The worst case grows as the number of moves to the power k, and one configuration may have millions of moves: such a call does not end
+ * in a time that anyone waits for. Games of some 650 words with 7 to 13 moves took less than 6 ms each for k 6 (docs/changes/m.md). Where there are more
+ * moves, ask for a small k first and for one more while the answer is no.
+ */
+#define SOCK_KEEPER_MOVES 6
+#define SOCK_KEEPER_WORDS (7 * SOCK_WORDS)
+#define SOCK_KEEPER_BYTES (2 * SOCK_KEEPER_WORDS)
+uint64_t sock_keeper_words(const uint8_t *config, size_t config_length, uint8_t engines, uint16_t serial, uint16_t k, uint16_t *scratch,
+                           size_t scratch_words);
+
+static inline uint64_t sock_keeper(const uint8_t *config, size_t config_length, uint8_t engines, uint16_t serial, uint16_t k, void *scratch,
+                                   size_t scratch_length)
+{
+    return sock_keeper_words(config, config_length, engines, serial, k, (uint16_t *)scratch, scratch_length / 2);
+}
+
+/* No; yes by the move shown; yes by a pass, the keeper's first, since he has no move. */
+enum sock_outcome { SOCK_NO = 0, SOCK_YES = 1, SOCK_YES_BY_PASS = 2 };
+
+/* Parts of the answer; its number is sock_number's. The move is all zeros but for SOCK_YES. */
+static inline enum sock_outcome sock_outcome_of(uint64_t played) { return (enum sock_outcome)(played >> 48 & 0xff); }
+static inline struct sock_move sock_move_of(uint64_t played)
+{
+    struct sock_move move;
+    move.engine = (uint16_t)(played >> 29 & 7);
+    move.position = (uint16_t)(played >> 16 & 0x1fff);
+    move.second = (uint16_t)(played >> 13 & 7);
+    move.second_position = (uint16_t)(played & 0x1fff);
+    move.branch = (uint16_t)(played >> 32 & 0xff);
+    return move;
+}
+
+struct sock_keeper_answer {
+    enum sock_number number;
+    enum sock_outcome outcome;
+    struct sock_move move;
+};
+
+/* SOCK_OVERLAP, before all others, where scratch and configuration overlap. */
+static inline struct sock_keeper_answer sock_play(const uint8_t *config, size_t config_length, uint8_t engines, uint16_t serial, uint16_t k,
+                                                  void *scratch, size_t scratch_length)
+{
+    struct sock_keeper_answer played = {SOCK_OVERLAP, SOCK_NO, {0, 0, 0, 0, 0}};
+    uint64_t answer;
+    if (sock_overlap(config, config_length, (const uint8_t *)scratch, scratch_length))
+        return played;
+    answer = sock_keeper(config, config_length, engines, serial, k, scratch, scratch_length);
+    played.number = sock_number(answer);
+    played.outcome = sock_outcome_of(answer);
+    played.move = sock_move_of(answer);
+    return played;
 }
 
 /* ---- Index of open requests: how many serials are open, and the oldest one, without reading the engines. ----

@@ -88,7 +88,7 @@ static void inline_and_raw(size_t length)
     check(sock_test_readable(out, sock_bytes(taken.length)).number == SOCK_ACCEPTED, "readable");
     check(sock_test_readable(config, length - 1).number == SOCK_UNREADABLE, "odd length");
     check(strcmp(sock_word(sock_check_readable(config, length - 1)), "unreadable") == 0, "the word for a raw answer");
-    check(strcmp(sock_word(12), "unknown serial") == 0 && strcmp(sock_word(13), "not decimal") == 0 && strcmp(sock_word(23), "") == 0, "words at the end of their table");
+    check(strcmp(sock_word(12), "unknown serial") == 0 && strcmp(sock_word(13), "not decimal") == 0 && strcmp(sock_word(24), "") == 0, "words at the end of their table");
     check(strcmp(sock_word(15), "journal doesn't match") == 0 && strcmp(sock_word(16), "journal short") == 0, "words about journals");
     check(strcmp(sock_word(SOCK_OVERLAP), "overlap") == 0, "the word for overlap");
 }
@@ -183,6 +183,30 @@ static void plans(void)
     check(strcmp(sock_word(14), "cH in a fixed scope") == 0, "the word about plans");
 }
 
+/* Keeper against the river, once the solicit is made: the reply is the keeper's first move, or the river's only one. */
+static void keeper(size_t length)
+{
+    static uint16_t scratch[SOCK_KEEPER_WORDS];
+    struct sock_step_answer taken = sock_take_step(ask, config, length, out, sizeof out);
+    size_t asked = sock_bytes(taken.length);
+    struct sock_keeper_answer played = sock_play(out, asked, 2, 1, 1, scratch, sizeof scratch);
+    uint64_t raw = sock_keeper(out, asked, 2, 1, 1, scratch, sizeof scratch);
+    check(SOCK_KEEPER_WORDS == 57344 && sizeof scratch == SOCK_KEEPER_BYTES, "words of scratch");
+    check(sock_keeper_words(out, asked, 2, 1, 1, scratch, SOCK_KEEPER_WORDS) == raw, "the scratch counted in words");
+    check(played.number == SOCK_ACCEPTED && played.outcome == SOCK_YES && raw == 0x0001000020030003, "brought home by a reply");
+    check(played.move.engine == 1 && played.move.position == 3 && played.move.second == 0, "the move shown");
+    check(played.move.second_position == 3 && played.move.branch == 0, "and the other end");
+    check(sock_play(out, asked, 1, 1, 1, scratch, sizeof scratch).outcome == SOCK_NO, "not within one move");
+    played = sock_play(out, asked, 1, 1, 2, scratch, sizeof scratch);
+    check(played.outcome == SOCK_YES_BY_PASS && played.move.engine == 0 && played.move.position == 0, "by a pass");
+    check(sock_play(out, asked, 2, 2, 7, scratch, 0).number == SOCK_UNKNOWN_SERIAL, "a serial that was not issued");
+    check(sock_play(out, asked, 2, 1, 7, scratch, 0).number == SOCK_TOO_MANY_MOVES, "seven moves");
+    check(sock_play(out, asked, 2, 1, 6, scratch, SOCK_KEEPER_BYTES - 1).number == SOCK_SHORT_PAPER, "scratch that is short");
+    check(sock_play((const uint8_t *)scratch, asked, 2, 1, 6, scratch, 1).number == SOCK_OVERLAP, "a scratch in the configuration");
+    check(sock_keeper(NULL, 0, 0, 0, 0, NULL, 0) == (uint64_t)SOCK_UNREADABLE << 56, "nothing to play");
+    check(strcmp(sock_word(23), "too many moves") == 0, "the word about moves");
+}
+
 /* An index over a solicit, taken back. */
 static void indexes(size_t length)
 {
@@ -271,7 +295,7 @@ static void bills(void)
     check(bill.number == SOCK_LIST_UNFIT && bill.totals[5] == 0, "an engine that is none");
     sock_put_value(rates, 0, 1000001);
     check(sock_charge(rates, reply, 1).number == SOCK_RATE_TOO_HIGH, "a rate too high, before all else");
-    check(strcmp(sock_word(19), "rate too high") == 0 && *sock_word(23) == 0, "the words of numbers");
+    check(strcmp(sock_word(19), "rate too high") == 0 && *sock_word(24) == 0, "the words of numbers");
 }
 
 /* A throw beside an inst: refused, and the call says by what. */
@@ -330,6 +354,7 @@ int main(void)
     indexes(sock_bytes(words));
     engines(sock_bytes(words));
     plans();
+    keeper(sock_bytes(words));
     small_cabinet(sock_bytes(words));
     null_pointers(sock_bytes(words));
     bills();

@@ -6,6 +6,7 @@ pub mod calls;
 pub mod engines_bytes;
 pub mod index_bytes;
 pub mod journal_bytes;
+pub mod keeper_bytes;
 pub mod planning_bytes;
 pub mod small_bytes;
 pub mod stepping_bytes;

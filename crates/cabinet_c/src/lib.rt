@@ -7,6 +7,7 @@ mod calls;
 mod engines_bytes;
 mod index_bytes;
 mod journal_bytes;
+mod keeper_bytes;
 mod planning_bytes;
 mod small_bytes;
 mod stepping_bytes;

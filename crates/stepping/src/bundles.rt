@@ -33,7 +33,7 @@ pub struct Engines {
 
 impl Engines {
     // Where an engine's process begins; 0 for one beyond those that a survey has places for.
-    pub(crate) fn start(self, e: usize) -> usize
+    pub fn start(self, e: usize) -> usize
         ensures { result ≡ start_at (engines_of self) e }
     {
         self.found.starts.get(e).copied().unwrap_or(0)

@@ -41,7 +41,7 @@ fn body_nil(noted: &Noted, at: usize) -> bool
 
 // What a process that can move does: it moves alone, or it sends to another engine.
 #[derive(Clone, Copy, Debug, PartialEq, Eq)]
-enum Way {
+pub enum Way {
     Alone,
     Sending,
 }
@@ -61,7 +61,7 @@ fn by_kind(kind: Kind) -> Option<Way>
 
 // What the process at a position does: a scope ends, and an executor replies, once its body is nil.
 #[tactic(auto, unfolding(crate::specs::Stepping::moves_w))]
-fn moves(noted: &Noted, at: usize, kind: Kind) -> Option<Way>
+pub fn moves(noted: &Noted, at: usize, kind: Kind) -> Option<Way>
     ensures { result ≡ way_as (moves_w noted.now.ws.now noted.now.notes.now at (number_of kind)) }
 {
     match kind {
@@ -102,7 +102,7 @@ fn none_else(second: u16, place: u16, branch: u16) -> bool
 
 // The process a was found in the first engine.
 #[tactic(auto, unfolding(crate::specs::Stepping::moving_w))]
-fn moving(
+pub fn moving(
     noted: &Noted,
     g: Engines,
     k: Numbers,

@@ -136,6 +136,15 @@ extern "C" {
     fn sock_ends(config: *const u8, length: usize, serial: u16) -> u64;
     fn sock_process(config: *const u8, length: usize, engine: u16) -> u64;
     fn sock_pending(engine: u16, position: u16, config: *const u8, length: usize) -> u64;
+    fn sock_keeper_words(
+        config: *const u8,
+        length: usize,
+        engines: u8,
+        serial: u16,
+        k: u16,
+        scratch: *mut u16,
+        scratch_length: usize,
+    ) -> u64;
 }
 
 fn make_step(step: Step, numbers: Numbers, config: Lent, output: Lent) -> u64 {
@@ -313,4 +322,10 @@ pub fn process(config: Lent, engine: u16) -> u64 {
 
 pub fn pending(config: Lent, engine: u16, position: u16) -> u64 {
     unsafe { sock_pending(engine, position, config.start, config.length) }
+}
+
+/// The scratch is lent as words.
+pub fn keeper(config: Lent, engines: u8, serial: u16, k: u16, scratch: Lent) -> u64 {
+    let (start, words) = (scratch.start.cast(), scratch.length / 2);
+    unsafe { sock_keeper_words(config.start, config.length, engines, serial, k, start, words) }
 }

@@ -36,6 +36,7 @@ pub enum Call {
     Join { newcomer: usize, output: usize },
     Leave { output: usize },
     Translate { output: usize },
+    Keeper { engines: u8, serial: u16, k: u16, scratch: usize },
 }
 
 /// Bytes of a configuration that are printed; the seed gives the others.

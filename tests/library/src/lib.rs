@@ -12,8 +12,8 @@
 //!
 //! `window` does the same for the window of faults, which reads no configuration, `journal`
 //! for the step with a journal and for taking back, `index` for both with an index of open
-//! requests, its beginning and its two questions, `engines` for joining and leaving, and `planning`
-//! for translating planners' starts.
+//! requests, its beginning and its two questions, `engines` for joining and leaving, `planning` for
+//! translating planners' starts, and `keeper` for keeper against the river.
 
 pub mod billing;
 pub mod bytes;
@@ -27,6 +27,7 @@ pub mod guard;
 pub mod index;
 pub mod input;
 pub mod journal;
+pub mod keeper;
 pub mod memory;
 pub mod memory_fault;
 pub mod outputs;

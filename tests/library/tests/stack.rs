@@ -11,12 +11,13 @@ use library::memory::Lent;
 use library::painted::Painted;
 use reference::build;
 use reference::bytes::{from_words, to_words};
-use reference::configuration::Configuration;
+use reference::configuration::{Configuration, Engine};
 use reference::engines;
 use reference::generate::comers::words;
 use reference::generate::plans::{bare, beside, fixed, scope, start, NIL, PAR, THROW};
 use reference::generate::steps::{fitting, stands};
 use reference::index::{index_of, open_serials, Serials, INDEX_BYTES, MOST};
+use reference::keeper::{sock_keeper, Game, SCRATCH};
 use reference::planning;
 use reference::{readable, write, Numbers};
 use std::collections::{BTreeMap, BTreeSet};
@@ -154,6 +155,29 @@ impl Most {
         laid >> 56
     }
 
+    /// The longest game, in which the keeper has no engine and passes and the river's first move decides, so that it goes down to the
+    /// last move; and one move of a keeper who has all engines. Two engines more have the ends of serial 1, or nothing would be played.
+    fn keeper(&mut self, shape: &str, configuration: &Configuration) {
+        let mut played = configuration.clone();
+        let count = played.engines.len() as u8;
+        let waits = build::waiter(1, 1, false, count + 1, 1, build::list([]));
+        let works = build::executor(1, 1, count, 1, build::nil());
+        for end in [waits, works] {
+            played.engines.push(Engine { values: [0; 32], process: build::scope(1, end) });
+        }
+        played.issued = played.issued.max(1);
+        let config = from_words(&write::configuration(&played));
+        let lent = Lent { start: config.as_ptr().cast_mut(), length: config.len() };
+        let mut words = vec![7u8; 2 * SCRATCH];
+        let scratch = lend(&mut words);
+        for (engines, k) in [(0, 6), (0xff, 1)] {
+            let played =
+                self.call("sock_keeper", shape, || exported::keeper(lent, engines, 1, k, scratch));
+            let expected = sock_keeper(&config, Game::new(engines, 1, 1), 0, SCRATCH);
+            assert_eq!((played >> 56) as u8, expected.expect("no moves").number, "{shape}");
+        }
+    }
+
     /// Past the capture of the test's output, so that a run that passes shows it too.
     fn print(&self) {
         let mut out = std::io::stdout();
@@ -252,6 +276,9 @@ impl Most {
         for (shape, configuration) in shapes {
             let config = from_words(&write::configuration(&configuration));
             self.read(&shape, &config);
+            if self.cabinet == Cabinet::Large {
+                self.keeper(&shape, &configuration);
+            }
             for numbers in steps(&configuration) {
                 self.step(&shape, &config, numbers);
             }
@@ -356,7 +383,7 @@ fn no_call_needs_more_stack_than_three_quarters_of_the_promise() {
     most.all(own(Cabinet::Large));
     others(&mut most);
     plans(&mut most);
-    most.judge(19, promised("SOCK_STACK"));
+    most.judge(20, promised("SOCK_STACK"));
 }
 
 /// Also on configurations that it refuses: too long, and too deep only.

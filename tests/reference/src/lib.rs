@@ -23,7 +23,7 @@
 //! that can't be killed is searched apart from killing it. `earlier` is the format before change c,
 //! with no lists of variables, and how it is rewritten. `journal` is change f, over the
 //! step of `calls`, `index` change g, over both, and `engines` change k. `planning` is change e, a
-//! reader of its own.
+//! reader of its own, and `keeper` change m, a naive recursion over the step.
 
 pub mod alone;
 pub mod billing;
@@ -43,6 +43,7 @@ pub mod handlers;
 pub mod handover;
 pub mod index;
 pub mod journal;
+pub mod keeper;
 pub mod limits;
 pub mod measure;
 pub mod pair;

@@ -21,6 +21,8 @@ pub enum Refusal {
     IndexShort,
     HouseFull,
     StillAtWork,
+    /// Keeper against the river: more than 6.
+    TooManyMoves,
 }
 
 impl Refusal {
@@ -44,6 +46,7 @@ impl Refusal {
             Refusal::IndexShort => 17,
             Refusal::HouseFull => 21,
             Refusal::StillAtWork => 22,
+            Refusal::TooManyMoves => 23,
         }
     }
 }

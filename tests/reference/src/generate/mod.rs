@@ -7,6 +7,7 @@ pub mod code;
 pub mod comers;
 pub mod damage;
 pub mod edges;
+pub mod games;
 pub mod growth;
 pub mod indexes;
 pub mod plans;

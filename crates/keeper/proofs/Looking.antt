@@ -1,0 +1,445 @@
+-- The search for moves, from what each call of its code leaves.
+-- Assumes nothing.
+use Prim.Native.Nat.{ℕ, suc, ◌+◌, ◌/◌, ◌%◌, ◌≤◌, ◌<◌}
+use native.Mathlib.Omega.{arith}
+use native.Mathlib.Decide.{ℕ_discrete, dec_lt}
+use native.Mathlib.Nat.{div-div-eq-div-mul}
+use mathlib.Core.Path.{◌≡◌, refl, sym, subst, ap, ◌∙◌}
+use mathlib.Core.Bool.{Bool, true, false}
+use mathlib.Core.List.{List}
+use borrow.Author.Tests.{ne_eqb}
+use lib.Dec.{T}
+use lib.ListN.{length, get_or}
+use Rattle.sock.specs.Words.{kind_of}
+use Rattle.sock.specs.Calls.{Answer}
+use Rattle.sock.proofs.Logic.{true_test}
+use Rattle.sock.specs.Configuration.{standard}
+use Rattle.reading.specs.Survey.{no_starts, surveyed}
+use Rattle.reading.specs.declared.starts.Starts.{Starts as Found}
+use Rattle.reading.specs.Answers.{starts_in}
+use Rattle.reading.proofs.Combining.{Words}
+use Rattle.layout.specs.Positions.{onward}
+use Rattle.finding.specs.declared.find.Site.{Site}
+use Rattle.finding.specs.declared.find.Found.TheVariants.{Hit, Past}
+use Rattle.finding.specs.Find.{find_w}
+use Rattle.rules.specs.Rewriting.{at}
+use Rattle.stepping.specs.declared.bundles.Numbers.{Numbers}
+use Rattle.stepping.specs.Bundles.{Engines, numbers_as, start_at}
+use Rattle.std.specs.Prelude.{Option, None, Some, Result, Ok, Err}
+use Rattle.std.proofs.lemmas.Option.{none-some}
+use Rattle.stepping.specs.declared.steps.Way.{Way}
+use Rattle.layout.specs.Kinds.{kind_named, number_of, counted_as}
+use Rattle.layout.specs.declared.kind.Kind.{Kind}
+use Rattle.stepping.specs.Answering.{answered, refusing}
+use Rattle.stepping.specs.declared.steps.Way.TheVariants.{Alone, Sending}
+use Rattle.stepping.specs.Stepping.{way_as, moves_w, moving_w}
+use Rattle.stepping.specs.declared.answer.Accepted.{Accepted}
+use Rattle.stepping.specs.Answers.{told}
+use Rattle.stepping.proofs.Goal.{given}
+use Rattle.layout.specs.declared.refusal.Refusal.{Refusal}
+use Rattle.layout.proofs.Refusing.{some_number}
+use Rattle.keeper.specs.declared.seek.Move.{Move}
+use Rattle.keeper.specs.Answers.{index_in, answer_in}
+use Rattle.keeper.specs.Game.{Side, of_side, moved, any}
+use Rattle.keeper.specs.Moves.{numbers_at, past_of}
+use Rattle.keeper.specs.Glances.{acts_w, hears_w, behind_w, meant_w}
+use Rattle.keeper.specs.Seeking.{side_of, large, move_at, Surveyed, Refused, Idle, There, Here, Sends, Tried, Looked, Scanned}
+use Rattle.keeper.proofs.Some.{move_there}
+use Rattle.keeper.proofs.Bounds.{Small, accepted_small}
+use Rattle.keeper.proofs.Blocks.{past_further, same_engine, same_position, same_second, same_place, not_first}
+use Rattle.keeper.proofs.Glancing.{behind_nothing}
+use Rattle.keeper.proofs.Trying.{unread, beyond, nobody, idle, beyond_end, moving_is, stuck, crowded, nowhere, nobody_beside, unmeant, deaf, given_refused, given_made}
+
+alone_sends : Some Alone ≡ Some Sending → ⊥
+alone_sends e = subst (λ (o : Option Way). is_alone o) e tt
+  where
+    is_alone : Option Way → Type 0
+    is_alone (Some Alone) = Unit {0}
+    is_alone (Some Sending) = ⊥
+    is_alone None = ⊥
+
+low_position : (j : ℕ) → (numbers_at j).position < 65536
+unfolding numbers_at
+low_position j = omega arith
+
+low_place : (j : ℕ) → (numbers_at j).second_position < 65536
+unfolding numbers_at
+low_place j = omega arith
+
+-- positions rise within a block
+later_position : (i j : ℕ) → i < j → j < past_of i 8589934592 → (numbers_at i).position ≤ (numbers_at j).position
+unfolding past_of numbers_at
+later_position i j h u =
+    let e : j / 8589934592 ≡ i / 8589934592 = omega arith in
+    let a : i / 1048576 / 8192 ≡ i / 8589934592 = div-div-eq-div-mul i 1048576 8192 in
+    let b : j / 1048576 / 8192 ≡ j / 8589934592 = div-div-eq-div-mul j 1048576 8192 in
+    let c : i / 1048576 ≤ j / 1048576 = omega arith in
+    omega arith
+
+later_place : (i j : ℕ) → i < j → j < past_of i 131072 → (numbers_at i).second_position ≤ (numbers_at j).second_position
+unfolding past_of numbers_at
+later_place i j h u =
+    let e : j / 131072 ≡ i / 131072 = omega arith in
+    let a : i / 16 / 8192 ≡ i / 131072 = div-div-eq-div-mul i 16 8192 in
+    let b : j / 16 / 8192 ≡ j / 131072 = div-div-eq-div-mul j 16 8192 in
+    let c : i / 16 ≤ j / 16 = omega arith in
+    omega arith
+
+-- no accepted step names a position past the configuration's words
+far_position : (ws : List ℕ) (j : ℕ) → length ws ≤ (numbers_at j).position → Refused ws j
+far_position ws j h x d = let s : Small ws (move_at j) = accepted_small ws (move_at j) x d in omega (arith, s.first.position)
+
+far_place : (ws : List ℕ) (j : ℕ) → length ws ≤ (numbers_at j).second_position → Refused ws j
+far_place ws j h x d = let s : Small ws (move_at j) = accepted_small ws (move_at j) x d in omega (arith, s.place)
+
+-- what it does by name, by number
+way_none : (n : ℕ) → way_as n ≡ None → n ≡ 0
+way_none n e = by (ℕ_discrete n 0) (ℕ_discrete n 1)
+  where
+    by : Dec (n ≡ 0) → Dec (n ≡ 1) → n ≡ 0
+    by (yes z) d = z
+    by (no z) (yes u) = absurd (none-some Alone (sym (rw u at e)))
+    by (no z) (no u) = absurd (none-some Sending (sym (rw (ne_eqb n 0 z, ne_eqb n 1 u) at e)))
+
+way_alone : (n : ℕ) → way_as n ≡ Some Alone → n ≡ 1
+way_alone n e = by (ℕ_discrete n 0) (ℕ_discrete n 1)
+  where
+    by : Dec (n ≡ 0) → Dec (n ≡ 1) → n ≡ 1
+    by (yes z) d = absurd (none-some Alone (rw z at e))
+    by (no z) (yes u) = u
+    by (no z) (no u) = absurd (alone_sends (sym (rw (ne_eqb n 0 z, ne_eqb n 1 u) at e)))
+
+way_sends : (n : ℕ) → way_as n ≡ Some Sending → (n ≡ 0 → ⊥) × (n ≡ 1 → ⊥)
+way_sends n e = (λ z. none-some Sending (sym (ap way_as z) ∙ e), λ u. alone_sends (sym (ap way_as u) ∙ e))
+
+-- a refusal passes a block
+passing :
+    (ws : List ℕ) (i n : ℕ) (a : Answer) (next : ℕ) (out : List ℕ) → a ≡ refusing (suc n) → i < next → Refused ws i → ((j : ℕ) → i < j → j < next → Refused ws j) →
+    Tried ws i a next out
+passing ws i n a next out e h r b =
+    record {
+      further = h;
+      refused = λ z. r;
+      made = λ z. absurd (omega (arith, ap (λ (x : Answer). x.number) e));
+      between = b;
+    }
+
+module _ (ws notes : List ℕ) (g : Engines) (k : Numbers) (a : Site) (i : ℕ) (h : Here ws notes g k a i) where
+  abbrev ok : Words ws
+  ok = h.surveyed.words
+
+  abbrev does : ℕ
+  does = moves_w ws notes a.at (counted_as (kind_of (at ws a.at)))
+
+  abbrev sv : Surveyed ws notes g
+  sv = h.surveyed
+
+  -- the same process for other numbers
+  module _ (j : ℕ) (e1 : (numbers_at j).engine ≡ (numbers_at i).engine) (e2 : (numbers_at j).position ≡ (numbers_at i).position) where
+    to_engine : (numbers_at j).engine ≡ k.engine
+    to_engine = e1 ∙ sym (ap (λ (n : Numbers). n.engine) h.numbers)
+
+    to_position : (numbers_at j).position ≡ k.position
+    to_position = e2 ∙ sym (ap (λ (n : Numbers). n.position) h.numbers)
+
+    inside_at : (numbers_at j).engine < g.count
+    inside_at = omega (arith, to_engine, h.inside)
+
+    hit_at : find_w 64 ws notes (onward (start_at g (numbers_at j).engine) (numbers_at j).position) 1 (start_at g (numbers_at j).engine) ≡ Hit a
+    hit_at = rw (to_engine, to_position) h.found
+
+    stuck_at : does ≡ 0 → Refused ws j
+    stuck_at z = stuck ws notes ok g sv (numbers_at j) (low_position j) (low_place j) inside_at a hit_at z
+
+  -- ---- no move
+
+  pub tried_stuck : (r : Answer) (next : ℕ) (out : List ℕ) → r ≡ refusing 3 → next ≡ past_of i 1048576 → way_as does ≡ None → Tried ws i r next out
+  tried_stuck r next out e f none =
+      let z = way_none does none in
+      passing ws i 2 r next out e (rw f (past_further i).2) (stuck_at i refl refl z)
+      λ j u v. let w = rw f at v in let (p, q) = same_position i j u w in stuck_at j p q z
+
+  -- ---- what is tried
+
+  made_by : (out : List ℕ) → length out ≡ 8192 → moving_w large ws notes g k a out ≡ given (moved ws (move_at i)) out
+  made_by out e =
+      moving_is ws notes ok g sv k (omega (arith, low_position i, ap (λ (n : Numbers). n.position) h.numbers)) (omega (arith, low_place i, ap (λ (n : Numbers). n.second_position) h.numbers)) h.inside a h.found out e
+      ∙ ap (λ (n : Numbers). given (moved ws (numbers_as n)) out) h.numbers
+
+  tried_moving :
+      (r : Answer) (next : ℕ) (out out' : List ℕ) → length out ≡ 8192 → r ≡ (moving_w large ws notes g k a out).answer → out' ≡ (moving_w large ws notes g k a out).out →
+      i < next → ((j : ℕ) → i < j → j < next → Refused ws j) → Tried ws i r next out'
+  tried_moving r next out out' l e f n b =
+      let q : answered r out' ≡ given (moved ws (move_at i)) out = ap (λ (x : Answer). answered x out') e ∙ ap (λ (o : List ℕ). answered (moving_w large ws notes g k a out).answer o) f ∙ made_by out l in
+      record { further = n; refused = given_refused ws i (answered r out') out q; made = given_made ws i (answered r out') out q; between = b }
+
+  pub tried_alone :
+      (r : Answer) (next : ℕ) (out out' : List ℕ) → length out ≡ 8192 → r ≡ (moving_w large ws notes g k a out).answer → out' ≡ (moving_w large ws notes g k a out).out →
+      next ≡ past_of i 1048576 → way_as does ≡ Some Alone → Tried ws i r next out'
+  tried_alone r next out out' l e f n alone =
+      tried_moving r next out out' l e f (rw n (past_further i).2) λ j u v.
+      let w = rw n at v in
+      let (p, q) = same_position i j u w in
+      crowded ws notes ok g sv (numbers_at j) (low_position j) (low_place j) (inside_at j p q) a (hit_at j p q) (way_alone does alone) (not_first i j u w)
+
+  pub tried_beside :
+      (r : Answer) (next : ℕ) (out out' : List ℕ) → length out ≡ 8192 → r ≡ (moving_w large ws notes g k a out).answer → out' ≡ (moving_w large ws notes g k a out).out →
+      next ≡ i + 1 → Tried ws i r next out'
+  tried_beside r next out out' l e f n = tried_moving r next out out' l e f (omega arith) λ j u v. absurd (omega arith)
+
+  -- ---- nobody to send to
+
+  module _ (sending : Sends ws notes a) where
+    sends : (does ≡ 0 → ⊥) × (does ≡ 1 → ⊥)
+    sends = way_sends does sending
+
+    nowhere_at : (j : ℕ) → (numbers_at j).engine ≡ (numbers_at i).engine → (numbers_at j).position ≡ (numbers_at i).position → g.count ≤ (numbers_at j).second → Refused ws j
+    nowhere_at j p q u = nowhere ws notes ok g sv (numbers_at j) (low_position j) (low_place j) (inside_at j p q) a (hit_at j p q) sends u
+
+    pub tried_nowhere : (r : Answer) (next : ℕ) (out : List ℕ) (e : ℕ) → e ≡ k.second → r ≡ refusing 4 → next ≡ past_of i 131072 → g.count ≤ e → Tried ws i r next out
+    tried_nowhere r next out e e1 q n u =
+        let s : e ≡ (numbers_at i).second = e1 ∙ ap (λ (n : Numbers). n.second) h.numbers in
+        passing ws i 3 r next out q (rw n (past_further i).1) (nowhere_at i refl refl (omega arith)) λ j v w.
+        let (p1, p2, p3) = same_second i j v (rw n at w) in
+        nowhere_at j p1 p2 (omega (arith, p3))
+
+    pub tried_far : (r : Answer) (next : ℕ) (out : List ℕ) (place : ℕ) → place ≡ k.second_position → r ≡ refusing 4 → next ≡ past_of i 131072 → length ws ≤ place → Tried ws i r next out
+    tried_far r next out place e1 q n u =
+        let s : place ≡ (numbers_at i).second_position = e1 ∙ ap (λ (n : Numbers). n.second_position) h.numbers in
+        passing ws i 3 r next out q (rw n (past_further i).1) (far_place ws i (omega arith)) λ j v w.
+        far_place ws j (omega (arith, later_place i j v (rw n at w)))
+
+    pub tried_unmeant :
+        (r : Answer) (next : ℕ) (out : List ℕ) (f start w : ℕ) (n : Kind) → f ≡ k.engine → start ≡ start_at g f → k.second < g.count → w ≡ get_or ws a.at 0 → n ≡ kind_named (kind_of w) →
+        meant_w ws start a.at (number_of n) k.second ≡ false → r ≡ refusing 5 → next ≡ past_of i 131072 → Tried ws i r next out
+    tried_unmeant r next out f start w n e2 begins inside e3 e4 off m b =
+        let e = k.second in
+        let s : (numbers_at i).second ≡ e = sym (ap (λ (n : Numbers). n.second) h.numbers) in
+        let t : (numbers_at i).engine ≡ f = sym (e2 ∙ ap (λ (n : Numbers). n.engine) h.numbers) in
+        let off' : meant_w ws (start_at g f) a.at (counted_as (kind_of (at ws a.at))) e ≡ false = rw (begins, e4, e3) at off in
+        passing ws i 4 r next out m (rw b (past_further i).1) (there i refl refl t s off') λ j u v.
+        let (p1, p2, p3) = same_second i j u (rw b at v) in
+        there j p1 p2 (p1 ∙ t) (p3 ∙ s) off'
+      where
+        there :
+            (j : ℕ) → (numbers_at j).engine ≡ (numbers_at i).engine → (numbers_at j).position ≡ (numbers_at i).position → (numbers_at j).engine ≡ f → (numbers_at j).second ≡ k.second →
+            meant_w ws (start_at g f) a.at (counted_as (kind_of (at ws a.at))) k.second ≡ false → Refused ws j
+        there j p1 p2 p3 p4 q =
+            unmeant ws notes ok g sv (numbers_at j) (low_position j) (low_place j) (inside_at j p1 p2) a (hit_at j p1 p2) sends (omega (arith, p4)) (rw (p3, p4) q)
+
+    -- places behind the second engine's process
+    pub tried_behind_second :
+        (r : Answer) (next : ℕ) (out : List ℕ) (e start place t : ℕ) → e ≡ k.second → start ≡ start_at g e → place ≡ k.second_position → k.second < g.count → t ≡ onward start place →
+        behind_w notes start t ≡ true → r ≡ refusing 4 → next ≡ past_of i 131072 → Tried ws i r next out
+    tried_behind_second r next out e start place t e1 begins e2 inside e3 so m n =
+        let s : (numbers_at i).second ≡ e = sym (e1 ∙ ap (λ (n : Numbers). n.second) h.numbers) in
+        let p : (numbers_at i).second_position ≡ place = sym (e2 ∙ ap (λ (n : Numbers). n.second_position) h.numbers) in
+        let so' : behind_w notes (get_or g.starts e 0) (onward (get_or g.starts e 0) place) ≡ true = rw (e3, begins) at so in
+        passing ws i 3 r next out m (rw n (past_further i).1) (there i refl refl s (omega arith) so') λ j u v.
+        let (p1, p2, p3) = same_second i j u (rw n at v) in
+        let q = later_place i j u (rw n at v) in
+        there j p1 p2 (p3 ∙ s) (omega arith) so'
+      where
+        there :
+            (j : ℕ) → (numbers_at j).engine ≡ (numbers_at i).engine → (numbers_at j).position ≡ (numbers_at i).position → (numbers_at j).second ≡ e → place ≤ (numbers_at j).second_position →
+            behind_w notes (get_or g.starts e 0) (onward (get_or g.starts e 0) place) ≡ true → Refused ws j
+        there j p1 p2 p3 p4 q =
+            let (past, f) = behind_nothing ws notes (get_or g.starts e 0) place (numbers_at j).second_position q p4 (low_place j) in
+            nobody_beside ws notes ok g sv (numbers_at j) (low_position j) (low_place j) (inside_at j p1 p2) a (hit_at j p1 p2) sends (omega (arith, p3)) past (rw p3 f)
+
+    -- a place of no receiver
+    pub tried_deaf :
+        (r : Answer) (next : ℕ) (out : List ℕ) (e start place t w : ℕ) (n : Kind) → e ≡ k.second → start ≡ start_at g e → place ≡ k.second_position → k.second < g.count → t ≡ onward start place →
+        w ≡ get_or ws t 0 → n ≡ kind_named (kind_of w) → hears_w (number_of n) ≡ false → r ≡ refusing 5 → next ≡ past_of i 16 → Tried ws i r next out
+    tried_deaf r next out e start place t w n e1 begins e2 inside e3 e4 e5 off m b =
+        let s : (numbers_at i).second ≡ e = sym (e1 ∙ ap (λ (n : Numbers). n.second) h.numbers) in
+        let p : (numbers_at i).second_position ≡ place = sym (e2 ∙ ap (λ (n : Numbers). n.second_position) h.numbers) in
+        let off' : hears_w (counted_as (kind_of (at ws (onward (get_or g.starts e 0) place)))) ≡ false = rw (e5, e4, e3, begins) at off in
+        passing ws i 4 r next out m (rw b (past_further i).0) (there i refl refl s p off') λ j u v.
+        let (p1, p2, p3, p4) = same_place i j u (rw b at v) in
+        there j p1 p2 (p3 ∙ s) (p4 ∙ p) off'
+      where
+        there :
+            (j : ℕ) → (numbers_at j).engine ≡ (numbers_at i).engine → (numbers_at j).position ≡ (numbers_at i).position → (numbers_at j).second ≡ e → (numbers_at j).second_position ≡ place →
+            hears_w (counted_as (kind_of (at ws (onward (get_or g.starts e 0) place)))) ≡ false → Refused ws j
+        there j p1 p2 p3 p4 q =
+            deaf ws notes ok g sv (numbers_at j) (low_position j) (low_place j) (inside_at j p1 p2) a (hit_at j p1 p2) sends (omega (arith, p3)) (rw (p3, p4) q)
+
+    pub tried_nobody :
+        (r : Answer) (next : ℕ) (out : List ℕ) (e start place t q : ℕ) → e ≡ k.second → start ≡ start_at g e → place ≡ k.second_position → k.second < g.count → t ≡ onward start place →
+        find_w 64 ws notes t 1 start ≡ Past q → r ≡ refusing 4 → next ≡ past_of i 16 → Tried ws i r next out
+    tried_nobody r next out e start place t q e1 begins e2 inside e3 past m n =
+        let s : (numbers_at i).second ≡ e = sym (e1 ∙ ap (λ (n : Numbers). n.second) h.numbers) in
+        let p : (numbers_at i).second_position ≡ place = sym (e2 ∙ ap (λ (n : Numbers). n.second_position) h.numbers) in
+        let past' : find_w 64 ws notes (onward (get_or g.starts e 0) place) 1 (get_or g.starts e 0) ≡ Past q = rw (e3, begins) at past in
+        passing ws i 3 r next out m (rw n (past_further i).0) (there i refl refl s p past') λ j v w.
+        let (p1, p2, p3, p4) = same_place i j v (rw n at w) in
+        there j p1 p2 (p3 ∙ s) (p4 ∙ p) past'
+      where
+        there :
+            (j : ℕ) → (numbers_at j).engine ≡ (numbers_at i).engine → (numbers_at j).position ≡ (numbers_at i).position → (numbers_at j).second ≡ e → (numbers_at j).second_position ≡ place →
+            find_w 64 ws notes (onward (get_or g.starts e 0) place) 1 (get_or g.starts e 0) ≡ Past q → Refused ws j
+        there j p1 p2 p3 p4 f =
+            nobody_beside ws notes ok g sv (numbers_at j) (low_position j) (low_place j) (inside_at j p1 p2) a (hit_at j p1 p2) sends (omega (arith, p3)) q (rw (p3, p4) f)
+
+-- ---- nobody to move
+
+module _ (ws notes : List ℕ) (g : Engines) (k : Numbers) (i : ℕ) (h : There ws notes g k i) (r : Answer) (next : ℕ) (out : List ℕ) where
+  first_engine : (numbers_at i).engine ≡ k.engine
+  first_engine = sym (ap (λ (n : Numbers). n.engine) h.numbers)
+
+  pub tried_far_off : (p : ℕ) → p ≡ k.position → length ws ≤ p → r ≡ refusing 2 → next ≡ past_of i 8589934592 → Tried ws i r next out
+  tried_far_off p e u m n =
+      let s : p ≡ (numbers_at i).position = e ∙ ap (λ (n : Numbers). n.position) h.numbers in
+      passing ws i 1 r next out m (rw n (past_further i).3) (far_position ws i (omega arith)) λ j v w.
+      far_position ws j (omega (arith, later_position i j v (rw n at w)))
+
+  module _ (e start p t : ℕ) (e1 : e ≡ k.engine) (begins : start ≡ start_at g e) (e2 : p ≡ k.position) (e3 : t ≡ onward start p) where
+    of_engine : (numbers_at i).engine ≡ e
+    of_engine = first_engine ∙ sym e1
+
+    of_position : (numbers_at i).position ≡ p
+    of_position = sym (e2 ∙ ap (λ (n : Numbers). n.position) h.numbers)
+
+    there_inside : (j : ℕ) → (numbers_at j).engine ≡ e → (numbers_at j).engine < g.count
+    there_inside j q = omega (arith, q, e1, h.inside)
+
+    -- places behind the engine's process
+    pub tried_behind : behind_w notes start t ≡ true → r ≡ refusing 2 → next ≡ past_of i 8589934592 → Tried ws i r next out
+    tried_behind so m n =
+        let so' : behind_w notes (get_or g.starts e 0) (onward (get_or g.starts e 0) p) ≡ true = rw (e3, begins) at so in
+        passing ws i 1 r next out m (rw n (past_further i).3) (there i of_engine (omega (arith, of_position)) so') λ j u v.
+        let q = same_engine i j u (rw n at v) in
+        let l = later_position i j u (rw n at v) in
+        there j (q ∙ of_engine) (omega (arith, of_position)) so'
+      where
+        there : (j : ℕ) → (numbers_at j).engine ≡ e → p ≤ (numbers_at j).position → behind_w notes (get_or g.starts e 0) (onward (get_or g.starts e 0) p) ≡ true → Refused ws j
+        there j p1 p2 q = beyond_end ws notes h.surveyed.words g h.surveyed (numbers_at j) (low_position j) (low_place j) (there_inside j p1) p p2 (rw p1 q)
+
+    -- a place of no process that moves
+    pub tried_idle : (w : ℕ) (n : Kind) → w ≡ get_or ws t 0 → n ≡ kind_named (kind_of w) → acts_w (number_of n) ≡ false → r ≡ refusing 3 → next ≡ past_of i 1048576 → Tried ws i r next out
+    tried_idle w n e4 e5 off m b =
+        let off' : acts_w (counted_as (kind_of (at ws (onward (get_or g.starts e 0) p)))) ≡ false = rw (e5, e4, e3, begins) at off in
+        passing ws i 2 r next out m (rw b (past_further i).2) (there i of_engine of_position off') λ j u v.
+        let (p1, p2) = same_position i j u (rw b at v) in
+        there j (p1 ∙ of_engine) (p2 ∙ of_position) off'
+      where
+        there : (j : ℕ) → (numbers_at j).engine ≡ e → (numbers_at j).position ≡ p → acts_w (counted_as (kind_of (at ws (onward (get_or g.starts e 0) p)))) ≡ false → Refused ws j
+        there j p1 p2 q = idle ws notes h.surveyed.words g h.surveyed (numbers_at j) (low_position j) (low_place j) (there_inside j p1) (rw (p1, p2) q)
+
+    -- nobody is found
+    pub tried_absent : (q : ℕ) → find_w 64 ws notes t 1 start ≡ Past q → r ≡ refusing 2 → next ≡ past_of i 1048576 → Tried ws i r next out
+    tried_absent q past m n =
+        let past' : find_w 64 ws notes (onward (get_or g.starts e 0) p) 1 (get_or g.starts e 0) ≡ Past q = rw (e3, begins) at past in
+        passing ws i 1 r next out m (rw n (past_further i).2) (there i of_engine of_position past') λ j u v.
+        let (p1, p2) = same_position i j u (rw n at v) in
+        there j (p1 ∙ of_engine) (p2 ∙ of_position) past'
+      where
+        there : (j : ℕ) → (numbers_at j).engine ≡ e → (numbers_at j).position ≡ p → find_w 64 ws notes (onward (get_or g.starts e 0) p) 1 (get_or g.starts e 0) ≡ Past q → Refused ws j
+        there j p1 p2 f = nobody ws notes h.surveyed.words g h.surveyed (numbers_at j) (low_position j) (low_place j) (there_inside j p1) q (rw (p1, p2) f)
+
+-- ---- of a side
+
+module _ (engines : ℕ) (side : Side) (ws : List ℕ) where
+  -- refused, or of the other side
+  pub idle_refused : (j : ℕ) → Refused ws j → Idle engines side ws j
+  idle_refused j r t = let (x, s, d, u) = move_there engines side ws any (move_at j) t in r x d
+
+  idle_other : (j : ℕ) → (T (of_side engines side (move_at j).engine) → ⊥) → Idle engines side ws j
+  idle_other j n t = let (x, s, d, u) = move_there engines side ws any (move_at j) t in n s
+
+  overlooked :
+      (i n : ℕ) (a : Answer) (next : ℕ) (out : List ℕ) → a ≡ refusing (suc n) → i < next → Idle engines side ws i → ((j : ℕ) → i < j → j < next → Idle engines side ws j) →
+      Looked engines side ws i a next out
+  overlooked i n a next out e h r b =
+      let z : a.number ≡ suc n = ap (λ (x : Answer). x.number) e in
+      record { further = h; refused = λ y. r; mine = λ y. absurd (omega arith); made = λ y. absurd (omega arith); between = b }
+
+module _ (engines : ℕ) (b : Bool) (ws : List ℕ) (i : ℕ) (k : Numbers) (numbers : k ≡ numbers_at i) (e : ℕ) (e1 : e ≡ k.engine) (r : Answer) (next : ℕ) (out : List ℕ) where
+  engine_is : (numbers_at i).engine ≡ e
+  engine_is = sym (e1 ∙ ap (λ (n : Numbers). n.engine) numbers)
+
+  other_at : (j : ℕ) → (numbers_at j).engine ≡ e → of_side engines (side_of b) e ≡ false → Idle engines (side_of b) ws j
+  other_at j u q = idle_other engines (side_of b) ws j λ t. subst T (ap (of_side engines (side_of b)) u ∙ q) t
+
+  pub looked_other : of_side engines (side_of b) e ≡ false → r ≡ refusing 2 → next ≡ past_of i 8589934592 → Looked engines (side_of b) ws i r next out
+  looked_other q m n =
+      overlooked engines (side_of b) ws i 1 r next out m (rw n (past_further i).3) (other_at i engine_is q) λ j u v.
+      other_at j (same_engine i j u (rw n at v) ∙ engine_is) q
+
+  pub looked_beyond : (notes : List ℕ) (g : Engines) → Surveyed ws notes g → g.count ≤ e → r ≡ refusing 2 → next ≡ past_of i 8589934592 → Looked engines (side_of b) ws i r next out
+  looked_beyond notes g sv h m n =
+      overlooked engines (side_of b) ws i 1 r next out m (rw n (past_further i).3) (at_number i refl) λ j u v. at_number j (same_engine i j u (rw n at v))
+    where
+      at_number : (j : ℕ) → (numbers_at j).engine ≡ (numbers_at i).engine → Idle engines (side_of b) ws j
+      at_number j q = idle_refused engines (side_of b) ws j (beyond ws notes sv.words g sv (numbers_at j) (low_position j) (low_place j) (omega (arith, q, engine_is)))
+
+  pub looked_tried : of_side engines (side_of b) e ≡ true → Tried ws i r next out → Looked engines (side_of b) ws i r next out
+  looked_tried n t =
+      record {
+        further = t.further;
+        refused = λ z. idle_refused engines (side_of b) ws i (t.refused z);
+        mine = λ z. subst (λ (x : ℕ). T (of_side engines (side_of b) x)) (sym engine_is) (true_test n);
+        made = t.made;
+        between = λ j u v. idle_refused engines (side_of b) ws j (t.between j u v);
+      }
+
+-- ---- what the calls leave, in the laws' terms
+
+pub does_is :
+    (ws notes : List ℕ) (i w : ℕ) (k : Kind) → w ≡ get_or ws i 0 → k ≡ kind_named (kind_of w) →
+    moves_w ws notes i (number_of k) ≡ moves_w ws notes i (counted_as (kind_of (at ws i)))
+does_is ws notes i w k e1 e2 = ap (λ (x : Kind). moves_w ws notes i (number_of x)) (e2 ∙ ap (λ (h : ℕ). kind_named (kind_of h)) e1)
+
+pub low_engine : (i e : ℕ) (k : Numbers) → k ≡ numbers_at i → e ≡ k.engine → e < 8
+unfolding numbers_at
+low_engine i e k q e1 = let z : e ≡ i / 8589934592 % 8 = e1 ∙ ap (λ (n : Numbers). n.engine) q in omega arith
+
+-- ---- the scan, turn by turn
+
+module _ (engines : ℕ) (side : Side) (ws : List ℕ) (from i : ℕ) (later : from ≤ i) (passed : (j : ℕ) → from ≤ j → j < i → Idle engines side ws j) where
+  -- a number that is none
+  pub scan_next :
+      (y : Refusal) (r : Result Accepted Refusal) (next : ℕ) (out : List ℕ) → r ≡ Err y → Looked engines side ws i (told r) next out →
+      (j : ℕ) → from ≤ j → j < next → Idle engines side ws j
+  scan_next y r next out e l j h u = by (dec_lt j i) (ℕ_discrete j i)
+    where
+      none : (told r).number ≡ 0 → ⊥
+      none z = some_number y (sym (ap (λ (x : Result Accepted Refusal). (told x).number) e) ∙ z)
+
+      by : Dec (j < i) → Dec (j ≡ i) → Idle engines side ws j
+      by (yes v) d = passed j h v
+      by (no v) (yes q) = subst (Idle engines side ws) (sym q) (l.refused none)
+      by (no v) (no q) = l.between j (omega (arith, v, q)) u
+
+  pub scan_found :
+      (a : Accepted) (r : Result Accepted Refusal) (next : ℕ) (out : List ℕ) → i < 68719476736 → r ≡ Ok a → Looked engines side ws i (told r) next out →
+      Scanned engines side ws from i (told (Ok a)) out
+  scan_found a r next out h e l =
+      let m = subst (λ (x : Result Accepted Refusal). Looked engines side ws i (told x) next out) e l in
+      record { later = λ u. later; within = omega arith; passed = passed; mine = λ u. m.mine refl; made = λ u. m.made refl }
+
+  pub scan_none : (a : Answer) (out : List ℕ) → 68719476736 ≤ i → Scanned engines side ws from 68719476736 a out
+  scan_none a out h =
+      record {
+        later = λ u. u;
+        within = omega arith;
+        passed = λ j u v. passed j u (omega arith);
+        mine = λ u. absurd (omega arith);
+        made = λ u. absurd (omega arith);
+      }
+
+-- nothing moves in what is not readable
+pub scan_unread :
+    (engines : ℕ) (side : Side) (ws : List ℕ) → Words ws → (from : ℕ) (o : Option Found) (m : Option Move) (out : List ℕ) → starts_in o ≡ surveyed standard 11 ws → o ≡ None → m ≡ None →
+    Scanned engines side ws from (index_in m) (answer_in m) out
+unfolding no_starts
+scan_unread engines side ws ok from o m out e n z =
+    subst (λ (x : Option Move). Scanned engines side ws from (index_in x) (answer_in x) out) (sym z)
+    (record {
+      later = λ u. u;
+      within = omega arith;
+      passed = λ j u v. idle_refused engines side ws j (unread ws ok (numbers_at j) (low_position j) (low_place j) no_starts (sym (ap starts_in n) ∙ e) refl);
+      mine = λ u. absurd (omega arith);
+      made = λ u. absurd (omega arith);
+    })

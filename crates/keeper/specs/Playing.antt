@@ -1,0 +1,45 @@
+-- The game as the code goes through it. No contract of a call names it.
+use Rattle.std.specs.Prelude.{ℕ, suc, ◌≤◌, ◌<◌, ◌≡◌, Bool, true, false, not, ◌&&◌, ◌||◌, cond, List, T, eqb, take, drop}
+use Rattle.sock.specs.Kind
+use Rattle.sock.specs.Calls.{Answer, Stepped}
+use Rattle.keeper.specs.Game.{keeper, river, moves, has_move, won, forces}
+use Rattle.keeper.specs.Seeking.{side_of, move_at, Scanned}
+
+-- by a step's answer and its result's words
+unfoldable pub delivers_by : ℕ → Answer → Bool
+delivers_by serial a = (eqb a.kind Kind.executor || eqb a.kind Kind.notice) && eqb a.serial serial
+
+unfoldable pub won_by : ℕ → (List ℕ → Bool) → Answer → List ℕ → Bool
+won_by serial rest a words = cond (delivers_by serial a) (eqb a.fault 0) (rest words)
+
+-- a move decides for the keeper if it wins, for the river if it does not
+unfoldable pub turned : Bool → Bool → Bool
+turned true v = not v
+turned false v = v
+
+unfoldable pub decides : Bool → (Stepped → Bool) → Stepped → Bool
+decides b test x = turned b (test x)
+
+-- the game with one move less, the other side to move
+abbrev pub after : ℕ → ℕ → ℕ → Bool → Stepped → Bool
+after engines serial left b = won serial (forces engines serial left (side_of (not b)))
+
+-- the verdict on a configuration, and the move that decided; b is whether the river moves
+pub record Forced (engines serial left : ℕ) (b : Bool) (ws : List ℕ) (v : Bool) (index : ℕ) : Type 0 where
+  pub verdict : v ≡ forces engines serial left (side_of b) ws
+  pub shown : b ≡ false → v ≡ true → index < 68719476736 → (j : ℕ) → left ≡ suc j → T (moves engines keeper ws (won serial (forces engines serial j river)) (move_at index))
+  pub passed : b ≡ false → v ≡ true → 68719476736 ≤ index → has_move engines keeper ws ≡ false
+  pub met : b ≡ false → index < 68719476736 → has_move engines keeper ws ≡ true
+
+-- the first move of a side, in scratch
+pub record First (engines : ℕ) (b : Bool) (len i : ℕ) (a : Answer) (scratch : List ℕ) : Type 0 where
+  pub short : a.length ≤ 8192
+  pub scanned : Scanned engines (side_of b) (take len scratch) 0 i a (drop 8192 scratch)
+  pub there : i < 68719476736
+
+-- what the loop over a side's moves keeps: no move so far decides, and the next one, if there is one, stands in scratch
+pub record Going (engines serial left : ℕ) (b : Bool) (ws : List ℕ) (i : ℕ) (a : Answer) (scratch : List ℕ) : Type 0 where
+  pub has : T (has_move engines (side_of b) ws)
+  pub short : i < 68719476736 → a.length ≤ 8192
+  pub undecided : (j : ℕ) → j < i → T (moves engines (side_of b) ws (decides b (after engines serial left b)) (move_at j)) → ⊥
+  pub next : Scanned engines (side_of b) ws i i a (drop 8192 scratch)

@@ -1,0 +1,203 @@
+// The moves of a side one after the other: each five numbers that can be a move are tried by the step, and such that cannot are passed by. What
+// is enabled is known from one survey.
+ghost use Rattle.std.specs.Prelude.{◌≡◌, ◌<◌, ◌≤◌, length, IfSome};
+ghost use Rattle.layout.specs.Refusals.{refusal_number};
+ghost use Rattle.stepping.specs.Answers.{told};
+ghost use Rattle.stepping.specs.Answering.{refusing};
+ghost use Rattle.stepping.specs.Bundles.{engines_of};
+ghost use Rattle.keeper.specs.Answers.{is_river, index_in, answer_in};
+ghost use Rattle.keeper.specs.Moves.{past_of};
+ghost use Rattle.keeper.specs.Seeking.{side_of, Surveyed, There, Here, Sends, Tried, Looked, Scanned, Sought};
+
+use crate::glance::{acts, behind, hears, meant};
+use crate::moves::{COUNT, ENGINE, Mover, PLACE, POSITION, SECOND, numbers_at, past};
+use finding::find::{Found, Site, locate};
+use layout::kind::Kind;
+use layout::limit::{FUEL, LONGEST, STANDARD};
+use layout::number::{further, wide, word};
+use layout::refusal::Refusal;
+use noting::survey::survey;
+use skipping::pass::Noted;
+use stepping::answer::Accepted;
+use stepping::bundles::{Engines, Numbers};
+use stepping::steps::{MANY, Way, moves, moving};
+use writers::write::copy;
+
+// What the step answers where it was tried, or why it was not; and where to go on.
+#[derive(Clone, Copy)]
+struct Glance {
+    answer: Result<Accepted, Refusal>,
+    next: usize,
+}
+
+// Nothing is tried: all with the same part of so many are passed by.
+fn pass_by(refusal: Refusal, i: usize, unit: usize) -> Glance
+    requires { (i < 68719476736) × (0 < unit) × (unit ≤ 8589934592) }
+    ensures answered { told result.answer ≡ refusing (refusal_number refusal) }
+    ensures further { result.next ≡ past_of i unit }
+{
+    Glance {
+        answer: Err(refusal),
+        next: past(i, unit),
+    }
+}
+
+// The number of a move, and what its step answers.
+#[derive(Clone, Copy)]
+pub struct Move {
+    pub index: usize,
+    pub accepted: Accepted,
+}
+
+// What stays the same through the search of a position: its words with their notes, and its engines.
+#[derive(Clone, Copy)]
+struct Search<'a> {
+    noted: Noted<'a>,
+    engines: Engines,
+}
+
+impl<'a> Search<'a> {
+    // The process a sends to the second engine; the receiver is sought at the second position.
+    fn look_place(&self, k: Numbers, a: Site, i: usize, out: &mut [u16]) -> Glance
+        requires { Here self.now.noted.ws.now self.now.noted.notes.now (engines_of self.now.engines) k a i × Sends self.now.noted.ws.now self.now.noted.notes.now a × (k.second < self.now.engines.found.engines) × (length out.old ≡ 8192) }
+        ensures { Tried self.now.noted.ws.now i (told result.answer) result.next out.new }
+    {
+        let ws = self.noted.ws;
+        let place = wide(k.second_position);
+        if ws.len() <= place {
+            return pass_by(Refusal::NoPartner, i, SECOND);
+        }
+        let start = self.engines.start(wide(k.second));
+        let to = further(start, place);
+        if behind(&self.noted, start, to) {
+            return pass_by(Refusal::NoPartner, i, SECOND);
+        }
+        if !hears(Kind::of(word(ws, to))) {
+            return pass_by(Refusal::NoFit, i, PLACE);
+        }
+        match locate(&self.noted, start, to, FUEL, 1) {
+            Found::Past(e) => pass_by(Refusal::NoPartner, i, PLACE),
+            Found::Hit(b) => Glance {
+                answer: moving(&self.noted, self.engines, k, a, STANDARD, out),
+                next: i + 1,
+            },
+        }
+    }
+
+    // The process a sends, and may be for the second engine.
+    fn look_beside(&self, k: Numbers, a: Site, i: usize, out: &mut [u16]) -> Glance
+        requires { Here self.now.noted.ws.now self.now.noted.notes.now (engines_of self.now.engines) k a i × Sends self.now.noted.ws.now self.now.noted.notes.now a × (length out.old ≡ 8192) }
+        ensures { Tried self.now.noted.ws.now i (told result.answer) result.next out.new }
+    {
+        let ws = self.noted.ws;
+        if self.engines.found.engines <= wide(k.second) {
+            return pass_by(Refusal::NoPartner, i, SECOND);
+        }
+        let start = self.engines.start(wide(k.engine));
+        if meant(ws, start, a.at, Kind::of(word(ws, a.at)), k.second) {
+            return self.look_place(k, a, i, out);
+        }
+        pass_by(Refusal::NoFit, i, SECOND)
+    }
+
+    // The process a was found: it may have no move, move alone or send.
+    fn look_at(&self, k: Numbers, a: Site, i: usize, out: &mut [u16]) -> Glance
+        requires { Here self.now.noted.ws.now self.now.noted.notes.now (engines_of self.now.engines) k a i × (length out.old ≡ 8192) }
+        ensures { Tried self.now.noted.ws.now i (told result.answer) result.next out.new }
+    {
+        match moves(&self.noted, a.at, Kind::of(word(self.noted.ws, a.at))) {
+            None => pass_by(Refusal::NoMove, i, POSITION),
+            Some(Way::Sending) => self.look_beside(k, a, i, out),
+            Some(Way::Alone) => Glance {
+                answer: moving(&self.noted, self.engines, k, a, STANDARD, out),
+                next: past(i, POSITION),
+            },
+        }
+    }
+
+    // The first engine is there; the process that moves is sought at the position.
+    fn look_in(&self, k: Numbers, i: usize, out: &mut [u16]) -> Glance
+        requires { There self.now.noted.ws.now self.now.noted.notes.now (engines_of self.now.engines) k i × (length out.old ≡ 8192) }
+        ensures { Tried self.now.noted.ws.now i (told result.answer) result.next out.new }
+    {
+        let ws = self.noted.ws;
+        let position = wide(k.position);
+        if ws.len() <= position {
+            return pass_by(Refusal::NoProcess, i, ENGINE);
+        }
+        let start = self.engines.start(wide(k.engine));
+        let at = further(start, position);
+        if behind(&self.noted, start, at) {
+            return pass_by(Refusal::NoProcess, i, ENGINE);
+        }
+        if !acts(Kind::of(word(ws, at))) {
+            return pass_by(Refusal::NoMove, i, POSITION);
+        }
+        match locate(&self.noted, start, at, FUEL, 1) {
+            Found::Past(e) => pass_by(Refusal::NoProcess, i, POSITION),
+            Found::Hit(a) => self.look_at(k, a, i, out),
+        }
+    }
+
+    // The move with the number i is tried if it can be one of the side.
+    fn look(&self, mover: Mover, i: usize, out: &mut [u16]) -> Glance
+        requires { Surveyed self.now.noted.ws.now self.now.noted.notes.now (engines_of self.now.engines) × (i < 68719476736) × (length out.old ≡ 8192) }
+        ensures { Looked mover.engines (side_of (is_river mover.side)) self.now.noted.ws.now i (told result.answer) result.next out.new }
+    {
+        let k = numbers_at(i);
+        if !mover.owns(k.engine) {
+            return pass_by(Refusal::NoProcess, i, ENGINE);
+        }
+        if self.engines.found.engines <= wide(k.engine) {
+            return pass_by(Refusal::NoProcess, i, ENGINE);
+        }
+        self.look_in(k, i, out)
+    }
+
+    // The first move of a side from one number on.
+    fn scan(&self, mover: Mover, from: usize, out: &mut [u16]) -> Option<Move>
+        requires { Surveyed self.now.noted.ws.now self.now.noted.notes.now (engines_of self.now.engines) × (length out.old ≡ 8192) }
+        ensures scanned { Scanned mover.engines (side_of (is_river mover.side)) self.now.noted.ws.now from (index_in result) (answer_in result) out.new }
+        ensures there { IfSome result (λ m. m.index < 68719476736) }
+    {
+        let mut i = from;
+        while i < COUNT {
+            let l = self.look(mover, i, out);
+            if let Ok(accepted) = l.answer {
+                return Some(Move { index: i, accepted });
+            }
+            i = l.next;
+        }
+        None
+    }
+}
+
+// The same from the words alone.
+fn first_from(ws: &[u16], mover: Mover, from: usize, out: &mut [u16]) -> Option<Move>
+    requires { length out.old ≡ 8192 }
+    ensures scanned { Scanned mover.engines (side_of (is_river mover.side)) ws.now from (index_in result) (answer_in result) out.new }
+    ensures there { IfSome result (λ m. m.index < 68719476736) }
+{
+    let mut notes = [0u16; MANY];
+    let found = survey(ws, STANDARD, &mut notes)?;
+    let search = Search {
+        noted: Noted { ws, notes: &notes },
+        engines: Engines {
+            found,
+            issued: word(ws, 1),
+        },
+    };
+    search.scan(mover, from, out)
+}
+
+// The same for the configuration that the scratch begins with; that of the result begins 8,192 words further on.
+pub fn seek(scratch: &mut [u16], len: usize, mover: Mover, from: usize) -> Option<Move>
+    requires { (len ≤ 8192) × (16384 ≤ length scratch.old) }
+    ensures sought { Sought mover.engines (side_of (is_river mover.side)) scratch.old len from (index_in result) (answer_in result) scratch.new }
+    ensures there { IfSome result (λ m. m.index < 68719476736) }
+{
+    let mut out = [0u16; LONGEST];
+    let m = first_from(&scratch[..len], mover, from, &mut out)?;
+    copy(&out, 0, wide(m.accepted.length), scratch, LONGEST);
+    Some(m)
+}
