@@ -155,14 +155,19 @@ gone_in_one waiters workers e = by (ℕ_discrete waiters 0)
     by (yes z) = inl z
     by (no z) = inr (eqb→eq workers 0 (true_test (rw (ne_eqb waiters 0 z) at e)))
 
+-- a position that is lost
+pub lost_at_once :
+    (ws : List ℕ) (engines serial k room : ℕ) → 0 ≡ (ends standard ws serial).number → k ≤ 6 → 57344 ≤ room → forces engines serial k keeper ws ≡ false → 0 ≡ keeper_outcome ws engines serial k room
+unfolding outcome_of
+lost_at_once ws engines serial k room e few long lost =
+    outcome_played ws engines serial k room 0 (number_none ws serial 0 e k room refl few long) 0 refl (rw lost)
+
 pub given_up :
     (ws : List ℕ) (engines serial k room : ℕ) (x : EndCounts) → record { number = 0; waiters = x.waiters; workers = x.workers } ≡ ends standard ws serial → k ≤ 6 → 57344 ≤ room →
     gone_in x.waiters x.workers ≡ true → 0 ≡ keeper_outcome ws engines serial k room
-unfolding outcome_of
 given_up ws engines serial k room x e few long t =
-    let n : 0 ≡ keeper_number ws serial k room = number_none ws serial 0 (ap (λ (y : Ends). y.number) e) k room refl few long in
-    let lost : forces engines serial k keeper ws ≡ false = ends_gone engines serial k keeper ws (sym (ap (λ (y : Ends). y.number) e)) (moved_over (gone_in_one x.waiters x.workers t)) in
-    outcome_played ws engines serial k room 0 n 0 refl (rw lost)
+    let counted : 0 ≡ (ends standard ws serial).number = ap (λ (y : Ends). y.number) e in
+    lost_at_once ws engines serial k room counted few long (ends_gone engines serial k keeper ws (sym counted) (moved_over (gone_in_one x.waiters x.workers t)))
   where
     moved_over : (x.waiters ≡ 0) ⊎ (x.workers ≡ 0) → ((ends standard ws serial).waiters ≡ 0) ⊎ ((ends standard ws serial).workers ≡ 0)
     moved_over (inl u) = inl (sym (ap (λ (y : Ends). y.waiters) e) ∙ u)

@@ -7,14 +7,14 @@ use mathlib.Core.Bool.{Bool, true, false, not, ◌&&◌, ◌||◌, cond}
 use mathlib.Core.Option.{Option, none, some}
 use mathlib.Core.List.{List}
 use native.Mathlib.Decide.{dec_le}
-use borrow.Author.Tests.{ne_eqb, le-ltb}
+use borrow.Author.Tests.{le-ltb}
 use lib.Dec.{T, leb, ltb, eqb, eqb→eq, leb→le, le→leb}
 use lib.ListN.{length}
 use Rattle.sock.specs.Kind
 use Rattle.sock.specs.Words.{kind_of, count_of}
-use Rattle.sock.specs.Term.{Node, node, Nodes, Entries}
+use Rattle.sock.specs.Term.{Node, node, Nodes}
 use Rattle.sock.specs.Reading.{code, anywhere, branched}
-use Rattle.sock.specs.Running.{Run, nil, seq, par, scope, executor, waiter, notice, act}
+use Rattle.sock.specs.Running.{Run}
 use Rattle.sock.specs.Configuration.{standard, Config, encode, guarded, read_config}
 use Rattle.sock.specs.Rules.{deaf, Message, notification, solicitation, reply, failure, offer, offered, chosen, bare, Meeting, if_hears, if_serves, Exchange, exchange}
 use Rattle.sock.specs.Calls.{Numbers, Spot, Result, refused, done, Stepped, enabled_at, meeting, step, journal_short, ◌>>=◌, ◌>>◌, ◌unless◌}

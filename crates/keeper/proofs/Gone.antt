@@ -14,11 +14,12 @@ use lib.Dec.{T, leb, ltb, eqb, leb→le}
 use Rattle.sock.specs.Kind
 use Rattle.sock.specs.Words.{bit}
 use Rattle.sock.specs.Term.{kind}
-use Rattle.sock.specs.Running.{Run, as_node}
+use Rattle.sock.specs.Running.{Run, nil, seq, par, scope, executor, waiter, notice, act, as_node}
 use Rattle.sock.specs.Configuration.{standard, Config, Engine, encode, read_config}
 use Rattle.sock.specs.Rules.{also}
-use Rattle.sock.specs.Calls.{Numbers, Spot, enabled_at, done, Stepped, End, waiting, working, waits, works, tally, tally_all, ◌>>=◌, ◌>>◌, ◌!◌, ◌unless◌, unreadable, unknown_serial, known, counted, ends}
-use Rattle.sock.specs.Runs.{call, named, of_spot, carries}
+use Rattle.sock.specs.Calls.{Numbers, Spot, engine_at, enabled_at, done, Stepped, End, waiting, working, waits, works, tally, tally_all, ◌>>=◌, ◌>>◌, ◌!◌, ◌unless◌, known, counted, ends}
+use Rattle.sock.specs.Runs.{call, named, of_spot, carries, same}
+use Rattle.sock.proofs.Ledger.{waiting_same, working_same}
 use Rattle.sock.proofs.Logic.{and_right, all_some_lem, true_test}
 use Rattle.sock.proofs.Fits.{Sound, nil_sound, seq_sound, par_sound, scope_sound, executor_sound, waiter_sound, notice_sound, act_sound}
 use Rattle.sock.proofs.ByKind.{run_kind, kind_as_node, code_kind}
@@ -109,30 +110,7 @@ pub delivers_carries : (ws : List ℕ) (k : Numbers) (x : Stepped) (s : ℕ) →
 unfolding named of_spot also
 delivers_carries ws k x s d = let y : Turning ws k x = turning ws k x d in y.delivers s ∙ rw (y.reads, y.named)
 
--- ---- ends that are gone
-
--- a test that only ends of s pass, and one of any two that it has
-pub record Telling (s : ℕ) (t : End → Bool) : Type 0 where
-  pub others : (n o g : ℕ) → (n ≡ s → ⊥) → (t (waiting n o g) ≡ false) × (t (working n o g) ≡ false)
-  pub one : (o client server : ℕ) → (i : ℕ) × (0 < share t i s o client server)
-
-pub telling_waits : (s : ℕ) → Telling s (waits s)
-unfolding waits
-telling_waits s =
-    record {
-      others = λ n o g e. (ne_eqb s n (λ q. e (sym q)), refl);
-      one = λ o client server.
-          (client, (let a : here client client (bit (eqb s s)) ≡ 1 = here_same client client (bit (eqb s s)) refl ∙ ap bit (eq-eqb s s refl) in omega arith));
-    }
-
-pub telling_works : (s : ℕ) → Telling s (works s)
-unfolding works
-telling_works s =
-    record {
-      others = λ n o g e. (refl, ne_eqb s n (λ q. e (sym q)));
-      one = λ o client server.
-          (server, (let a : here server server (bit (eqb s s)) ≡ 1 = here_same server server (bit (eqb s s)) refl ∙ ap bit (eq-eqb s s refl) in omega arith));
-    }
+-- ---- ends of which no two name each other
 
 won_later : (s : ℕ) (rest : List ℕ → Bool) (x : Stepped) → delivers s x ≡ false → won s rest x ≡ rest (encode x.config)
 unfolding won
@@ -142,56 +120,116 @@ readable_next : (ws : List ℕ) (k : Numbers) (x : Stepped) → moved ws k ≡ d
 unfolding moved
 readable_next ws k x d = step_readable standard ws k 8192 x d
 
--- the serial is issued and no end passes the test
-pub record Gone (s : ℕ) (t : End → Bool) (c : Config) : Type 0 where
+-- The serial is issued, and no working end and no waiter of it name each other
+pub record Apart (s : ℕ) (c : Config) : Type 0 where
   pub issued : s ≤ c.issued
-  pub none : (i : ℕ) → ends_at t c i ≡ 0
+  pub none : (o i j : ℕ) → 0 < ends_at (same (working s o j)) c i → 0 < ends_at (same (waiting s o i)) c j → ⊥
 
-module _ (s : ℕ) (t : End → Bool) (tells : Telling s t) where
-  no_share : (i n o client server : ℕ) → (n ≡ s → ⊥) → share t i n o client server ≡ 0
-  no_share i n o client server e =
-      let a : here i client (bit (t (waiting n o server))) ≡ 0 = ap (λ (b : Bool). here i client (bit b)) (tells.others n o server e).0 ∙ here_zero i client in
-      let b : here i server (bit (t (working n o client))) ≡ 0 = ap (λ (b : Bool). here i server (bit b)) (tells.others n o client e).1 ∙ here_zero i server in
+abbrev serial_of : End → ℕ
+serial_of (waiting n o g) = n
+serial_of (working n o g) = n
+
+same_itself : (x : End) → bit (same x x) ≡ 1
+same_itself (waiting n o g) = waiting_same n o g
+same_itself (working n o g) = working_same n o g
+
+module _ (s : ℕ) where
+  -- ends of another serial are not such
+  no_share : (x : End) → serial_of x ≡ s → (i n o client server : ℕ) → (n ≡ s → ⊥) → share (same x) i n o client server ≡ 0
+  unfolding same
+  no_share (waiting m p g) e i n o client server d =
+      let f : eqb m n ≡ false = ne_eqb m n (λ q. d (sym q ∙ e)) in
+      rw f (omega (arith, here_zero i client, here_zero i server))
+  no_share (working m p g) e i n o client server d =
+      let f : eqb m n ≡ false = ne_eqb m n (λ q. d (sym q ∙ e)) in
+      rw f (omega (arith, here_zero i client, here_zero i server))
+
+  -- those of a call that ends are
+  working_share : (o client server : ℕ) → 0 < share (same (working s o client)) server s o client server
+  unfolding same
+  working_share o client server =
+      let a : here server server (bit (same (working s o client) (working s o client))) ≡ 1 = here_same server server _ refl ∙ same_itself (working s o client) in
       omega arith
 
-  gone_turns : {c c' : Config} {p : Run} {serial : ℕ} → Turn c c' p serial → Gone s t c → Gone s t c' × (carries s p ≡ false)
-  gone_turns (quietly u i h) g = (record { issued = omega (arith, i, g.issued); none = λ k. h k t ∙ g.none k }, u.delivers s)
-  gone_turns {c} (begins o client server a u k i f h) g = (
+  waiting_share : (o client server : ℕ) → 0 < share (same (waiting s o server)) client s o client server
+  unfolding same
+  waiting_share o client server =
+      let a : here client client (bit (same (waiting s o server) (waiting s o server))) ≡ 1 = here_same client client _ refl ∙ same_itself (waiting s o server) in
+      omega arith
+
+  apart_turns : {c c' : Config} {p : Run} {serial : ℕ} → Turn c c' p serial → Apart s c → Apart s c' × (carries s p ≡ false)
+  apart_turns (quietly u i h) g = (record { issued = omega (arith, i, g.issued); none = λ o k l a b. g.none o k l (omega (arith, h k (same (working s o l)), a)) (omega (arith, h l (same (waiting s o k)), b)) }, u.delivers s)
+  apart_turns {c} (begins o client server a u k i f h) g = (
     record {
       issued = omega (arith, i, g.issued);
-      none = λ j. omega (arith, h j t, g.none j, no_share j (suc c.issued) o client server (λ q. omega (arith, q, g.issued)));
+      none = λ p m l x y.
+          g.none p m l
+          (omega (arith, h m (same (working s p l)), no_share (working s p l) refl m (suc c.issued) o client server (λ q. omega (arith, q, g.issued)), x))
+          (omega (arith, h l (same (waiting s p m)), no_share (waiting s p m) refl l (suc c.issued) o client server (λ q. omega (arith, q, g.issued)), y));
     },
     k s,
   )
-  gone_turns {c} {c'} (ended m o client server u k i f h) g =
-      (record { issued = omega (arith, i, g.issued); none = λ j. omega (arith, h j t, g.none j) }, k s ∙ ne_eqb s m (λ q. other (sym q)))
+  apart_turns {c} {c'} (ended m o client server u k i f h) g =
+      (record {
+        issued = omega (arith, i, g.issued);
+        none = λ p n l x y. g.none p n l (omega (arith, h n (same (working s p l)), x)) (omega (arith, h l (same (waiting s p n)), y));
+      }, k s ∙ ne_eqb s m (λ q. other (sym q)))
     where
       other : m ≡ s → ⊥
       other q =
-          let (j, more) = tells.one o client server in
-          let same : share t j m o client server ≡ share t j s o client server = ap (λ (n : ℕ). share t j n o client server) q in
-          omega (arith, h j t, g.none j)
+          let one : share (same (working s o client)) server m o client server ≡ share (same (working s o client)) server s o client server = ap (λ (n : ℕ). share (same (working s o client)) server n o client server) q in
+          let two : share (same (waiting s o server)) client m o client server ≡ share (same (waiting s o server)) client s o client server = ap (λ (n : ℕ). share (same (waiting s o server)) client n o client server) q in
+          g.none o server client
+          (omega (arith, h server (same (working s o client)), one, working_share o client server))
+          (omega (arith, h client (same (waiting s o server)), two, waiting_share o client server))
 
-  -- a move loses if what is gone before the next one loses
-  gone_loses :
-      (rest : List ℕ → Bool) → ((us : List ℕ) (c : Config) → read_config standard us ≡ some c → Gone s t c → rest us ≡ false) → (ws : List ℕ) (c : Config) → read_config standard ws ≡ some c → Gone s t c →
+  -- a move loses if what it leaves loses
+  apart_loses :
+      (rest : List ℕ → Bool) → ((us : List ℕ) (c : Config) → read_config standard us ≡ some c → Apart s c → rest us ≡ false) → (ws : List ℕ) (c : Config) → read_config standard ws ≡ some c → Apart s c →
       (k : Numbers) (x : Stepped) → moved ws k ≡ done x → won s rest x ≡ false
-  gone_loses rest lost ws c r g k x d =
+  apart_loses rest lost ws c r g k x d =
       let y : Turning ws k x = turning ws k x d in
       let same : y.before ≡ c = cc in
-      let (g', quiet) = gone_turns y.turn (subst (Gone s t) (sym same) g) in
+      let (g', quiet) = apart_turns y.turn (subst (Apart s) (sym same) g) in
       won_later s rest x (y.delivers s ∙ quiet) ∙ lost (encode x.config) x.config (readable_next ws k x d) g'
 
   -- lost within any number of moves
-  pub gone_lost : (engines n : ℕ) (side : Side) (ws : List ℕ) (c : Config) → read_config standard ws ≡ some c → Gone s t c → forces engines s n side ws ≡ false
+  pub apart_lost : (engines n : ℕ) (side : Side) (ws : List ℕ) (c : Config) → read_config standard ws ≡ some c → Apart s c → forces engines s n side ws ≡ false
   unfolding forces
-  gone_lost engines zero side ws c r g = refl
-  gone_lost engines (suc n) side ws c r g =
+  apart_lost engines zero side ws c r g = refl
+  apart_lost engines (suc n) side ws c r g =
       lose engines s n side ws
-      (gone_loses (forces engines s n (across side)) (λ us c' r' g'. gone_lost engines n (across side) us c' r' g') ws c r g)
-      (gone_lost engines n (across side) ws c r g)
+      (apart_loses (forces engines s n (across side)) (λ us c' r' g'. apart_lost engines n (across side) us c' r' g') ws c r g)
+      (apart_lost engines n (across side) ws c r g)
 
 -- ---- by the counts of the call ends
+
+-- ends that pass a test pass each that is weaker
+fewer : (t u : End → Bool) → ((x : End) → bit (t x) ≤ bit (u x)) → (r : Run) → tally t r ≤ tally u r
+unfolding tally
+fewer t u h nil = omega arith
+fewer t u h (seq p q) = fewer t u h p
+fewer t u h (par p q) = omega (arith, fewer t u h p, fewer t u h q)
+fewer t u h (scope name mark zombie l p) = fewer t u h p
+fewer t u h (executor o y client serial p) = omega (arith, h (working serial o client), fewer t u h p)
+fewer t u h (waiter o x dead server serial l) = h (waiting serial o server)
+fewer t u h (notice o f client serial) = h (working serial o client)
+fewer t u h (act p) = omega arith
+
+bit_and : (a b : Bool) → bit (a && b) ≤ bit a
+bit_and true true = omega arith
+bit_and true false = omega arith
+bit_and false b = omega arith
+
+waits_same : (s o g : ℕ) (x : End) → bit (same (waiting s o g) x) ≤ bit (waits s x)
+unfolding same waits
+waits_same s o g (waiting n p f) = omega (arith, bit_and (eqb s n && eqb o p) (eqb g f), bit_and (eqb s n) (eqb o p))
+waits_same s o g (working n p f) = omega arith
+
+works_same : (s o g : ℕ) (x : End) → bit (same (working s o g) x) ≤ bit (works s x)
+unfolding same works
+works_same s o g (waiting n p f) = omega arith
+works_same s o g (working n p f) = omega (arith, bit_and (eqb s n && eqb o p) (eqb g f), bit_and (eqb s n) (eqb o p))
 
 all_zero : (t : End → Bool) (es : List Engine) → tally_all t es ≡ 0 → (i : ℕ) → ends_in t es i ≡ 0
 unfolding tally_all tally
@@ -199,29 +237,43 @@ all_zero t [] e i = refl
 all_zero t (x ∷ es) e zero = omega arith
 all_zero t (x ∷ es) e (suc i) = all_zero t es (omega arith) i
 
-count_gone :
-    (s : ℕ) (c : Config) (b : Bool) → (ltb 0 s && leb s c.issued) ≡ b → (counted s (◌>>◌ (unknown_serial unless b) (done c))).number ≡ 0 →
-    ((counted s (◌>>◌ (unknown_serial unless b) (done c))).waiters ≡ 0) ⊎ ((counted s (◌>>◌ (unknown_serial unless b) (done c))).workers ≡ 0) → Gone s (waits s) c ⊎ Gone s (works s) c
-unfolding counted ◌>>◌ ◌unless◌
-count_gone s c false q z e = absurd (omega arith)
-count_gone s c true q z (inl e) = inl (record { issued = leb→le s c.issued (and_right (ltb 0 s) (leb s c.issued) (true_test q)); none = all_zero (waits s) c.engines e })
-count_gone s c true q z (inr e) = inr (record { issued = leb→le s c.issued (and_right (ltb 0 s) (leb s c.issued) (true_test q)); none = all_zero (works s) c.engines e })
+no_waiter : (s : ℕ) (c : Config) → s ≤ c.issued → tally_all (waits s) c.engines ≡ 0 → Apart s c
+no_waiter s c u e =
+    record { issued = u; none = λ o i j a b. omega (arith, b, fewer (same (waiting s o i)) (waits s) (waits_same s o i) (engine_at c j).process, all_zero (waits s) c.engines e j) }
+
+no_worker : (s : ℕ) (c : Config) → s ≤ c.issued → tally_all (works s) c.engines ≡ 0 → Apart s c
+no_worker s c u e =
+    record { issued = u; none = λ o i j a b. omega (arith, a, fewer (same (working s o j)) (works s) (works_same s o j) (engine_at c i).process, all_zero (works s) c.engines e i) }
+
+-- the serial is issued where the call ends counts its ends
+pub record Counted (s : ℕ) (ws : List ℕ) : Type 0 where
+  pub config : Config
+  pub reads : read_config standard ws ≡ some config
+  pub issued : s ≤ config.issued
+  pub waiters : (ends standard ws s).waiters ≡ tally_all (waits s) config.engines
+  pub workers : (ends standard ws s).workers ≡ tally_all (works s) config.engines
+
+pub counted_at : (s : ℕ) (ws : List ℕ) → (ends standard ws s).number ≡ 0 → Counted s ws
+unfolding ends known counted ◌>>=◌ ◌!◌ ◌>>◌ ◌unless◌
+counted_at s ws z = by (read_config standard ws) refl
+  where
+    by : (o : Option Config) → read_config standard ws ≡ o → Counted s ws
+    by none r = absurd (let q = (rw r at z) in omega (arith, q))
+    by (some c) r = on (ltb 0 s && leb s c.issued) refl
+      where
+        on : (b : Bool) → (ltb 0 s && leb s c.issued) ≡ b → Counted s ws
+        on false q = absurd (let w = (rw (r, q) at z) in omega (arith, w))
+        on true q = record { config = c; reads = r; issued = leb→le s c.issued (and_right (ltb 0 s) (leb s c.issued) (true_test q)); waiters = rw (r, q); workers = rw (r, q) }
 
 -- A serial with no waiter, or no executor and no notice, is lost
 pub ends_gone :
     (engines serial k : ℕ) (side : Side) (ws : List ℕ) → (ends standard ws serial).number ≡ 0 → ((ends standard ws serial).waiters ≡ 0) ⊎ ((ends standard ws serial).workers ≡ 0) →
     forces engines serial k side ws ≡ false
-unfolding ends known counted ◌>>=◌ ◌!◌
-ends_gone engines serial k side ws z e = by (read_config standard ws) refl z e
+ends_gone engines serial k side ws z e = by e
   where
-    on : (c : Config) → read_config standard ws ≡ some c → Gone serial (waits serial) c ⊎ Gone serial (works serial) c → forces engines serial k side ws ≡ false
-    on c r (inl g) = gone_lost serial (waits serial) (telling_waits serial) engines k side ws c r g
-    on c r (inr g) = gone_lost serial (works serial) (telling_works serial) engines k side ws c r g
+    x : Counted serial ws
+    x = counted_at serial ws z
 
-    by :
-        (o : Option Config) → read_config standard ws ≡ o →
-        (counted serial ((unreadable ! o) >>= λ c. ◌>>◌ (unknown_serial unless (ltb 0 serial && leb serial c.issued)) (done c))).number ≡ 0 →
-        ((counted serial ((unreadable ! o) >>= λ c. ◌>>◌ (unknown_serial unless (ltb 0 serial && leb serial c.issued)) (done c))).waiters ≡ 0)
-        ⊎ ((counted serial ((unreadable ! o) >>= λ c. ◌>>◌ (unknown_serial unless (ltb 0 serial && leb serial c.issued)) (done c))).workers ≡ 0) → forces engines serial k side ws ≡ false
-    by none r z e = absurd (omega (arith, z))
-    by (some c) r z e = on c r (count_gone serial c (ltb 0 serial && leb serial c.issued) refl z e)
+    by : ((ends standard ws serial).waiters ≡ 0) ⊎ ((ends standard ws serial).workers ≡ 0) → forces engines serial k side ws ≡ false
+    by (inl u) = apart_lost serial engines k side ws x.config x.reads (no_waiter serial x.config x.issued (sym x.waiters ∙ u))
+    by (inr u) = apart_lost serial engines k side ws x.config x.reads (no_worker serial x.config x.issued (sym x.workers ∙ u))

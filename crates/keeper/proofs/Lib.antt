@@ -12,3 +12,4 @@ pub mod Gone
 pub mod Deciding
 pub mod Answering
 pub mod Packing
+pub mod Pairing

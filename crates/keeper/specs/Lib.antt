@@ -4,6 +4,7 @@ pub mod Moves
 pub mod Glances
 pub mod Seeking
 pub mod Hopes
+pub mod Pairs
 pub mod Playing
 pub mod Answers
 pub mod Bytes

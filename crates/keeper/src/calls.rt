@@ -4,6 +4,7 @@ ghost use Rattle.keeper.specs.Calls.{keeper_number, keeper_outcome, outcome_of, 
 ghost use Rattle.keeper.specs.Answers.{number_in, outcome_in, outcome_number, move_in, move_of};
 ghost use Rattle.keeper.specs.Hopes.{gone_in};
 
+use crate::apart::apart;
 use crate::game::Game;
 use crate::moves::{Side, numbers_at};
 use crate::refusal::Refusal;
@@ -74,6 +75,9 @@ pub fn keeper(
         return Err(Plain::OutputShort.into());
     }
     if gone(e) {
+        return Ok(Outcome::No);
+    }
+    if apart(ws, serial) {
         return Ok(Outcome::No);
     }
     Ok(play(ws, Game { engines, serial }, k, scratch))
