@@ -169,11 +169,13 @@ module _ (s : ℕ) where
     },
     k s,
   )
-  apart_turns {c} {c'} (ended m o client server u k i f h) g =
-      (record {
-        issued = omega (arith, i, g.issued);
-        none = λ p n l x y. g.none p n l (omega (arith, h n (same (working s p l)), x)) (omega (arith, h l (same (waiting s p n)), y));
-      }, k s ∙ ne_eqb s m (λ q. other (sym q)))
+  apart_turns {c} {c'} (ended m o client server u k i f h) g = (
+    record {
+      issued = omega (arith, i, g.issued);
+      none = λ p n l x y. g.none p n l (omega (arith, h n (same (working s p l)), x)) (omega (arith, h l (same (waiting s p n)), y));
+    },
+    k s ∙ ne_eqb s m (λ q. other (sym q)),
+  )
     where
       other : m ≡ s → ⊥
       other q =

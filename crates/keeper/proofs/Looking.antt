@@ -5,10 +5,10 @@ use native.Mathlib.Omega.{arith}
 use native.Mathlib.Decide.{ℕ_discrete, dec_lt}
 use native.Mathlib.Nat.{div-div-eq-div-mul}
 use mathlib.Core.Path.{◌≡◌, refl, sym, subst, ap, ◌∙◌}
-use mathlib.Core.Bool.{Bool, true, false}
+use mathlib.Core.Bool.{Bool, true, false, cond}
 use mathlib.Core.List.{List}
 use borrow.Author.Tests.{ne_eqb}
-use lib.Dec.{T}
+use lib.Dec.{T, leb, leb→le}
 use lib.ListN.{length, get_or}
 use Rattle.sock.specs.Words.{kind_of}
 use Rattle.sock.specs.Calls.{Answer}
@@ -20,6 +20,7 @@ use Rattle.reading.specs.Answers.{starts_in}
 use Rattle.reading.proofs.Combining.{Words}
 use Rattle.layout.specs.Positions.{onward}
 use Rattle.finding.specs.declared.find.Site.{Site}
+use Rattle.finding.specs.declared.find.Found.{Found as Sought}
 use Rattle.finding.specs.declared.find.Found.TheVariants.{Hit, Past}
 use Rattle.finding.specs.Find.{find_w}
 use Rattle.rules.specs.Rewriting.{at}
@@ -43,7 +44,7 @@ use Rattle.keeper.specs.Answers.{index_in, answer_in}
 use Rattle.keeper.specs.Game.{Side, of_side, moved, any}
 use Rattle.keeper.specs.Moves.{numbers_at, past_of}
 use Rattle.keeper.specs.Glances.{acts_w, hears_w, behind_w, meant_w}
-use Rattle.keeper.specs.Seeking.{side_of, large, move_at, Surveyed, Refused, Idle, There, Here, Sends, Tried, Looked, Scanned}
+use Rattle.keeper.specs.Seeking.{side_of, large, move_at, Surveyed, place_w, Refused, Idle, There, Here, Sends, Passed, Tried, Looked, Scanned}
 use Rattle.keeper.proofs.Some.{move_there}
 use Rattle.keeper.proofs.Bounds.{Small, accepted_small}
 use Rattle.keeper.proofs.Blocks.{past_further, same_engine, same_position, same_second, same_place, not_first}
@@ -92,6 +93,36 @@ far_position ws j h x d = let s : Small ws (move_at j) = accepted_small ws (move
 far_place : (ws : List ℕ) (j : ℕ) → length ws ≤ (numbers_at j).second_position → Refused ws j
 far_place ws j h x d = let s : Small ws (move_at j) = accepted_small ws (move_at j) x d in omega (arith, s.place)
 
+-- a place, or none
+module _ (ws notes : List ℕ) (g : Engines) (e p : ℕ) where
+  abbrev there_at : ℕ
+  there_at = onward (start_at g e) p
+
+  pub place_some : (t : ℕ) → place_w ws notes g e p ≡ Some t → t ≡ there_at
+  unfolding place_w
+  place_some t q = by (leb (length ws) p) (behind_w notes (start_at g e) there_at) q
+    where
+      by : (a b : Bool) → cond a None (cond b None (Some there_at)) ≡ Some t → t ≡ there_at
+      by true b q = absurd (none-some t q)
+      by false true q = absurd (none-some t q)
+      by false false q = cc
+
+  -- what is found there
+  pub found_there : (t start e' : ℕ) (f : Sought) → e' ≡ e → start ≡ start_at g e' → place_w ws notes g e p ≡ Some t → find_w 64 ws notes t 1 start ≡ f → find_w 64 ws notes there_at 1 (start_at g e) ≡ f
+  found_there t start e' f same begins q found =
+      let s : start ≡ start_at g e = begins ∙ ap (start_at g) same in
+      let u : t ≡ there_at = place_some t q in
+      sym (ap (λ (x : ℕ). find_w 64 ws notes x 1 start) u ∙ ap (find_w 64 ws notes there_at 1) s) ∙ found
+
+  pub place_none : {A : Type 0} → place_w ws notes g e p ≡ None → (length ws ≤ p → A) → (behind_w notes (start_at g e) there_at ≡ true → A) → A
+  unfolding place_w
+  place_none {A} q far behind = by (leb (length ws) p) (behind_w notes (start_at g e) there_at) refl refl q
+    where
+      by : (a b : Bool) → leb (length ws) p ≡ a → behind_w notes (start_at g e) there_at ≡ b → cond a None (cond b None (Some there_at)) ≡ None → A
+      by true b u v q = far (leb→le (length ws) p (true_test u))
+      by false true u v q = behind v
+      by false false u v q = absurd (none-some there_at (sym q))
+
 -- what it does by name, by number
 way_none : (n : ℕ) → way_as n ≡ None → n ≡ 0
 way_none n e = by (ℕ_discrete n 0) (ℕ_discrete n 1)
@@ -111,6 +142,23 @@ way_alone n e = by (ℕ_discrete n 0) (ℕ_discrete n 1)
 
 way_sends : (n : ℕ) → way_as n ≡ Some Sending → (n ≡ 0 → ⊥) × (n ≡ 1 → ⊥)
 way_sends n e = (λ z. none-some Sending (sym (ap way_as z) ∙ e), λ u. alone_sends (sym (ap way_as u) ∙ e))
+
+pub passes_by : (ws : List ℕ) (i n : ℕ) (a : Answer) (next : ℕ) (out : List ℕ) → a ≡ refusing (suc n) → Passed ws i next → Tried ws i a next out
+passes_by ws i n a next out e p =
+    record {
+      further = p.further;
+      refused = λ z. p.refused i (omega arith) p.further;
+      made = λ z. absurd (omega (arith, ap (λ (x : Answer). x.number) e));
+      between = λ j u v. p.refused j (omega arith) v;
+    }
+
+-- all in a block are refused: the first, and the later ones
+all_passed : (ws : List ℕ) (i next : ℕ) → i < next → Refused ws i → ((j : ℕ) → i < j → j < next → Refused ws j) → Passed ws i next
+all_passed ws i next h r b = record { further = h; refused = λ j u v. by j u v (ℕ_discrete j i) }
+  where
+    by : (j : ℕ) → i ≤ j → j < next → Dec (j ≡ i) → Refused ws j
+    by j u v (yes e) = subst (Refused ws) (sym e) r
+    by j u v (no n) = b j (omega (arith, u, n)) v
 
 -- a refusal passes a block
 passing :
@@ -196,28 +244,28 @@ module _ (ws notes : List ℕ) (g : Engines) (k : Numbers) (a : Site) (i : ℕ) 
     nowhere_at : (j : ℕ) → (numbers_at j).engine ≡ (numbers_at i).engine → (numbers_at j).position ≡ (numbers_at i).position → g.count ≤ (numbers_at j).second → Refused ws j
     nowhere_at j p q u = nowhere ws notes ok g sv (numbers_at j) (low_position j) (low_place j) (inside_at j p q) a (hit_at j p q) sends u
 
-    pub tried_nowhere : (r : Answer) (next : ℕ) (out : List ℕ) (e : ℕ) → e ≡ k.second → r ≡ refusing 4 → next ≡ past_of i 131072 → g.count ≤ e → Tried ws i r next out
-    tried_nowhere r next out e e1 q n u =
+    pub passed_nowhere : (next : ℕ) (e : ℕ) → e ≡ k.second → next ≡ past_of i 131072 → g.count ≤ e → Passed ws i next
+    passed_nowhere next e e1 n u =
         let s : e ≡ (numbers_at i).second = e1 ∙ ap (λ (n : Numbers). n.second) h.numbers in
-        passing ws i 3 r next out q (rw n (past_further i).1) (nowhere_at i refl refl (omega arith)) λ j v w.
+        all_passed ws i next (rw n (past_further i).1) (nowhere_at i refl refl (omega arith)) λ j v w.
         let (p1, p2, p3) = same_second i j v (rw n at w) in
         nowhere_at j p1 p2 (omega (arith, p3))
 
-    pub tried_far : (r : Answer) (next : ℕ) (out : List ℕ) (place : ℕ) → place ≡ k.second_position → r ≡ refusing 4 → next ≡ past_of i 131072 → length ws ≤ place → Tried ws i r next out
-    tried_far r next out place e1 q n u =
+    pub passed_far : (next : ℕ) (place : ℕ) → place ≡ k.second_position → next ≡ past_of i 131072 → length ws ≤ place → Passed ws i next
+    passed_far next place e1 n u =
         let s : place ≡ (numbers_at i).second_position = e1 ∙ ap (λ (n : Numbers). n.second_position) h.numbers in
-        passing ws i 3 r next out q (rw n (past_further i).1) (far_place ws i (omega arith)) λ j v w.
+        all_passed ws i next (rw n (past_further i).1) (far_place ws i (omega arith)) λ j v w.
         far_place ws j (omega (arith, later_place i j v (rw n at w)))
 
-    pub tried_unmeant :
-        (r : Answer) (next : ℕ) (out : List ℕ) (f start w : ℕ) (n : Kind) → f ≡ k.engine → start ≡ start_at g f → k.second < g.count → w ≡ get_or ws a.at 0 → n ≡ kind_named (kind_of w) →
-        meant_w ws start a.at (number_of n) k.second ≡ false → r ≡ refusing 5 → next ≡ past_of i 131072 → Tried ws i r next out
-    tried_unmeant r next out f start w n e2 begins inside e3 e4 off m b =
+    pub passed_unmeant :
+        (next : ℕ) (f start w : ℕ) (n : Kind) → f ≡ k.engine → start ≡ start_at g f → k.second < g.count → w ≡ get_or ws a.at 0 → n ≡ kind_named (kind_of w) →
+        meant_w ws start a.at (number_of n) k.second ≡ false → next ≡ past_of i 131072 → Passed ws i next
+    passed_unmeant next f start w n e2 begins inside e3 e4 off b =
         let e = k.second in
         let s : (numbers_at i).second ≡ e = sym (ap (λ (n : Numbers). n.second) h.numbers) in
         let t : (numbers_at i).engine ≡ f = sym (e2 ∙ ap (λ (n : Numbers). n.engine) h.numbers) in
         let off' : meant_w ws (start_at g f) a.at (counted_as (kind_of (at ws a.at))) e ≡ false = rw (begins, e4, e3) at off in
-        passing ws i 4 r next out m (rw b (past_further i).1) (there i refl refl t s off') λ j u v.
+        all_passed ws i next (rw b (past_further i).1) (there i refl refl t s off') λ j u v.
         let (p1, p2, p3) = same_second i j u (rw b at v) in
         there j p1 p2 (p1 ∙ t) (p3 ∙ s) off'
       where
@@ -228,14 +276,14 @@ module _ (ws notes : List ℕ) (g : Engines) (k : Numbers) (a : Site) (i : ℕ) 
             unmeant ws notes ok g sv (numbers_at j) (low_position j) (low_place j) (inside_at j p1 p2) a (hit_at j p1 p2) sends (omega (arith, p4)) (rw (p3, p4) q)
 
     -- places behind the second engine's process
-    pub tried_behind_second :
-        (r : Answer) (next : ℕ) (out : List ℕ) (e start place t : ℕ) → e ≡ k.second → start ≡ start_at g e → place ≡ k.second_position → k.second < g.count → t ≡ onward start place →
-        behind_w notes start t ≡ true → r ≡ refusing 4 → next ≡ past_of i 131072 → Tried ws i r next out
-    tried_behind_second r next out e start place t e1 begins e2 inside e3 so m n =
+    pub passed_behind_second :
+        (next : ℕ) (e start place t : ℕ) → e ≡ k.second → start ≡ start_at g e → place ≡ k.second_position → k.second < g.count → t ≡ onward start place →
+        behind_w notes start t ≡ true → next ≡ past_of i 131072 → Passed ws i next
+    passed_behind_second next e start place t e1 begins e2 inside e3 so n =
         let s : (numbers_at i).second ≡ e = sym (e1 ∙ ap (λ (n : Numbers). n.second) h.numbers) in
         let p : (numbers_at i).second_position ≡ place = sym (e2 ∙ ap (λ (n : Numbers). n.second_position) h.numbers) in
         let so' : behind_w notes (get_or g.starts e 0) (onward (get_or g.starts e 0) place) ≡ true = rw (e3, begins) at so in
-        passing ws i 3 r next out m (rw n (past_further i).1) (there i refl refl s (omega arith) so') λ j u v.
+        all_passed ws i next (rw n (past_further i).1) (there i refl refl s (omega arith) so') λ j u v.
         let (p1, p2, p3) = same_second i j u (rw n at v) in
         let q = later_place i j u (rw n at v) in
         there j p1 p2 (p3 ∙ s) (omega arith) so'
@@ -248,14 +296,14 @@ module _ (ws notes : List ℕ) (g : Engines) (k : Numbers) (a : Site) (i : ℕ) 
             nobody_beside ws notes ok g sv (numbers_at j) (low_position j) (low_place j) (inside_at j p1 p2) a (hit_at j p1 p2) sends (omega (arith, p3)) past (rw p3 f)
 
     -- a place of no receiver
-    pub tried_deaf :
-        (r : Answer) (next : ℕ) (out : List ℕ) (e start place t w : ℕ) (n : Kind) → e ≡ k.second → start ≡ start_at g e → place ≡ k.second_position → k.second < g.count → t ≡ onward start place →
-        w ≡ get_or ws t 0 → n ≡ kind_named (kind_of w) → hears_w (number_of n) ≡ false → r ≡ refusing 5 → next ≡ past_of i 16 → Tried ws i r next out
-    tried_deaf r next out e start place t w n e1 begins e2 inside e3 e4 e5 off m b =
+    pub passed_deaf :
+        (next : ℕ) (e start place t w : ℕ) (n : Kind) → e ≡ k.second → start ≡ start_at g e → place ≡ k.second_position → k.second < g.count → t ≡ onward start place →
+        w ≡ get_or ws t 0 → n ≡ kind_named (kind_of w) → hears_w (number_of n) ≡ false → next ≡ past_of i 16 → Passed ws i next
+    passed_deaf next e start place t w n e1 begins e2 inside e3 e4 e5 off b =
         let s : (numbers_at i).second ≡ e = sym (e1 ∙ ap (λ (n : Numbers). n.second) h.numbers) in
         let p : (numbers_at i).second_position ≡ place = sym (e2 ∙ ap (λ (n : Numbers). n.second_position) h.numbers) in
         let off' : hears_w (counted_as (kind_of (at ws (onward (get_or g.starts e 0) place)))) ≡ false = rw (e5, e4, e3, begins) at off in
-        passing ws i 4 r next out m (rw b (past_further i).0) (there i refl refl s p off') λ j u v.
+        all_passed ws i next (rw b (past_further i).0) (there i refl refl s p off') λ j u v.
         let (p1, p2, p3, p4) = same_place i j u (rw b at v) in
         there j p1 p2 (p3 ∙ s) (p4 ∙ p) off'
       where
@@ -265,14 +313,14 @@ module _ (ws notes : List ℕ) (g : Engines) (k : Numbers) (a : Site) (i : ℕ) 
         there j p1 p2 p3 p4 q =
             deaf ws notes ok g sv (numbers_at j) (low_position j) (low_place j) (inside_at j p1 p2) a (hit_at j p1 p2) sends (omega (arith, p3)) (rw (p3, p4) q)
 
-    pub tried_nobody :
-        (r : Answer) (next : ℕ) (out : List ℕ) (e start place t q : ℕ) → e ≡ k.second → start ≡ start_at g e → place ≡ k.second_position → k.second < g.count → t ≡ onward start place →
-        find_w 64 ws notes t 1 start ≡ Past q → r ≡ refusing 4 → next ≡ past_of i 16 → Tried ws i r next out
-    tried_nobody r next out e start place t q e1 begins e2 inside e3 past m n =
+    pub passed_nobody :
+        (next : ℕ) (e start place t q : ℕ) → e ≡ k.second → start ≡ start_at g e → place ≡ k.second_position → k.second < g.count → t ≡ onward start place →
+        find_w 64 ws notes t 1 start ≡ Past q → next ≡ past_of i 16 → Passed ws i next
+    passed_nobody next e start place t q e1 begins e2 inside e3 past n =
         let s : (numbers_at i).second ≡ e = sym (e1 ∙ ap (λ (n : Numbers). n.second) h.numbers) in
         let p : (numbers_at i).second_position ≡ place = sym (e2 ∙ ap (λ (n : Numbers). n.second_position) h.numbers) in
         let past' : find_w 64 ws notes (onward (get_or g.starts e 0) place) 1 (get_or g.starts e 0) ≡ Past q = rw (e3, begins) at past in
-        passing ws i 3 r next out m (rw n (past_further i).0) (there i refl refl s p past') λ j v w.
+        all_passed ws i next (rw n (past_further i).0) (there i refl refl s p past') λ j v w.
         let (p1, p2, p3, p4) = same_place i j v (rw n at w) in
         there j p1 p2 (p3 ∙ s) (p4 ∙ p) past'
       where
@@ -282,16 +330,24 @@ module _ (ws notes : List ℕ) (g : Engines) (k : Numbers) (a : Site) (i : ℕ) 
         there j p1 p2 p3 p4 f =
             nobody_beside ws notes ok g sv (numbers_at j) (low_position j) (low_place j) (inside_at j p1 p2) a (hit_at j p1 p2) sends (omega (arith, p3)) q (rw (p3, p4) f)
 
+pub passed_receiverless :
+    (ws notes : List ℕ) (g : Engines) (k : Numbers) (a : Site) (i : ℕ) → Here ws notes g k a i → Sends ws notes a → k.second < g.count → (next : ℕ) → place_w ws notes g k.second k.second_position ≡ None →
+    next ≡ past_of i 131072 → Passed ws i next
+passed_receiverless ws notes g k a i h sends inside next e n =
+    place_none ws notes g k.second k.second_position e
+    (λ u. passed_far ws notes g k a i h sends next k.second_position refl n u)
+    (λ u. passed_behind_second ws notes g k a i h sends next k.second (start_at g k.second) k.second_position (onward (start_at g k.second) k.second_position) refl refl refl inside refl u n)
+
 -- ---- nobody to move
 
-module _ (ws notes : List ℕ) (g : Engines) (k : Numbers) (i : ℕ) (h : There ws notes g k i) (r : Answer) (next : ℕ) (out : List ℕ) where
+module _ (ws notes : List ℕ) (g : Engines) (k : Numbers) (i : ℕ) (h : There ws notes g k i) (next : ℕ) where
   first_engine : (numbers_at i).engine ≡ k.engine
   first_engine = sym (ap (λ (n : Numbers). n.engine) h.numbers)
 
-  pub tried_far_off : (p : ℕ) → p ≡ k.position → length ws ≤ p → r ≡ refusing 2 → next ≡ past_of i 8589934592 → Tried ws i r next out
-  tried_far_off p e u m n =
+  pub passed_far_off : (p : ℕ) → p ≡ k.position → length ws ≤ p → next ≡ past_of i 8589934592 → Passed ws i next
+  passed_far_off p e u n =
       let s : p ≡ (numbers_at i).position = e ∙ ap (λ (n : Numbers). n.position) h.numbers in
-      passing ws i 1 r next out m (rw n (past_further i).3) (far_position ws i (omega arith)) λ j v w.
+      all_passed ws i next (rw n (past_further i).3) (far_position ws i (omega arith)) λ j v w.
       far_position ws j (omega (arith, later_position i j v (rw n at w)))
 
   module _ (e start p t : ℕ) (e1 : e ≡ k.engine) (begins : start ≡ start_at g e) (e2 : p ≡ k.position) (e3 : t ≡ onward start p) where
@@ -305,10 +361,10 @@ module _ (ws notes : List ℕ) (g : Engines) (k : Numbers) (i : ℕ) (h : There 
     there_inside j q = omega (arith, q, e1, h.inside)
 
     -- places behind the engine's process
-    pub tried_behind : behind_w notes start t ≡ true → r ≡ refusing 2 → next ≡ past_of i 8589934592 → Tried ws i r next out
-    tried_behind so m n =
+    pub passed_behind : behind_w notes start t ≡ true → next ≡ past_of i 8589934592 → Passed ws i next
+    passed_behind so n =
         let so' : behind_w notes (get_or g.starts e 0) (onward (get_or g.starts e 0) p) ≡ true = rw (e3, begins) at so in
-        passing ws i 1 r next out m (rw n (past_further i).3) (there i of_engine (omega (arith, of_position)) so') λ j u v.
+        all_passed ws i next (rw n (past_further i).3) (there i of_engine (omega (arith, of_position)) so') λ j u v.
         let q = same_engine i j u (rw n at v) in
         let l = later_position i j u (rw n at v) in
         there j (q ∙ of_engine) (omega (arith, of_position)) so'
@@ -317,10 +373,10 @@ module _ (ws notes : List ℕ) (g : Engines) (k : Numbers) (i : ℕ) (h : There 
         there j p1 p2 q = beyond_end ws notes h.surveyed.words g h.surveyed (numbers_at j) (low_position j) (low_place j) (there_inside j p1) p p2 (rw p1 q)
 
     -- a place of no process that moves
-    pub tried_idle : (w : ℕ) (n : Kind) → w ≡ get_or ws t 0 → n ≡ kind_named (kind_of w) → acts_w (number_of n) ≡ false → r ≡ refusing 3 → next ≡ past_of i 1048576 → Tried ws i r next out
-    tried_idle w n e4 e5 off m b =
+    pub passed_idle : (w : ℕ) (n : Kind) → w ≡ get_or ws t 0 → n ≡ kind_named (kind_of w) → acts_w (number_of n) ≡ false → next ≡ past_of i 1048576 → Passed ws i next
+    passed_idle w n e4 e5 off b =
         let off' : acts_w (counted_as (kind_of (at ws (onward (get_or g.starts e 0) p)))) ≡ false = rw (e5, e4, e3, begins) at off in
-        passing ws i 2 r next out m (rw b (past_further i).2) (there i of_engine of_position off') λ j u v.
+        all_passed ws i next (rw b (past_further i).2) (there i of_engine of_position off') λ j u v.
         let (p1, p2) = same_position i j u (rw b at v) in
         there j (p1 ∙ of_engine) (p2 ∙ of_position) off'
       where
@@ -328,15 +384,27 @@ module _ (ws notes : List ℕ) (g : Engines) (k : Numbers) (i : ℕ) (h : There 
         there j p1 p2 q = idle ws notes h.surveyed.words g h.surveyed (numbers_at j) (low_position j) (low_place j) (there_inside j p1) (rw (p1, p2) q)
 
     -- nobody is found
-    pub tried_absent : (q : ℕ) → find_w 64 ws notes t 1 start ≡ Past q → r ≡ refusing 2 → next ≡ past_of i 1048576 → Tried ws i r next out
-    tried_absent q past m n =
+    pub passed_absent : (q : ℕ) → find_w 64 ws notes t 1 start ≡ Past q → next ≡ past_of i 1048576 → Passed ws i next
+    passed_absent q past n =
         let past' : find_w 64 ws notes (onward (get_or g.starts e 0) p) 1 (get_or g.starts e 0) ≡ Past q = rw (e3, begins) at past in
-        passing ws i 1 r next out m (rw n (past_further i).2) (there i of_engine of_position past') λ j u v.
+        all_passed ws i next (rw n (past_further i).2) (there i of_engine of_position past') λ j u v.
         let (p1, p2) = same_position i j u (rw n at v) in
         there j (p1 ∙ of_engine) (p2 ∙ of_position) past'
       where
         there : (j : ℕ) → (numbers_at j).engine ≡ e → (numbers_at j).position ≡ p → find_w 64 ws notes (onward (get_or g.starts e 0) p) 1 (get_or g.starts e 0) ≡ Past q → Refused ws j
         there j p1 p2 f = nobody ws notes h.surveyed.words g h.surveyed (numbers_at j) (low_position j) (low_place j) (there_inside j p1) q (rw (p1, p2) f)
+        -- no place
+
+-- the process found
+pub here_found : (ws notes : List ℕ) (g : Engines) (k : Numbers) (i : ℕ) → There ws notes g k i → (a : Site) → find_w 64 ws notes (onward (start_at g k.engine) k.position) 1 (start_at g k.engine) ≡ Hit a → Here ws notes g k a i
+here_found ws notes g k i h a e = record { surveyed = h.surveyed; index = h.index; numbers = h.numbers; inside = h.inside; found = e }
+
+-- no place, nobody
+pub passed_placeless : (ws notes : List ℕ) (g : Engines) (k : Numbers) (i : ℕ) → There ws notes g k i → (next : ℕ) → place_w ws notes g k.engine k.position ≡ None → next ≡ past_of i 8589934592 → Passed ws i next
+passed_placeless ws notes g k i h next e n =
+    place_none ws notes g k.engine k.position e
+    (λ u. passed_far_off ws notes g k i h next k.position refl u n)
+    (λ u. passed_behind ws notes g k i h next k.engine (start_at g k.engine) k.position (onward (start_at g k.engine) k.position) refl refl refl refl u n)
 
 -- ---- of a side
 

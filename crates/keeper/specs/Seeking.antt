@@ -1,5 +1,5 @@
 -- What the search for the moves of a side gives, step by step. No contract of a call names it.
-use Rattle.std.specs.Prelude.{ℕ, ◌≤◌, ◌<◌, ◌≡◌, Bool, true, false, List, Some, T, length, get_or, take, drop, replicate}
+use Rattle.std.specs.Prelude.{ℕ, ◌≤◌, ◌<◌, ◌≡◌, Bool, true, false, cond, List, Option, None, Some, Result, Ok, Err, T, leb, length, get_or, take, drop, replicate}
 use Rattle.sock.specs.Words.{kind_of}
 use Rattle.sock.specs.Configuration.{standard, encode}
 use Rattle.sock.specs.Calls.{Numbers as Asked, Answer, done, Stepped}
@@ -17,6 +17,7 @@ use Rattle.stepping.specs.Stepping.{way_as, moves_w}
 use Rattle.stepping.specs.declared.steps.Way.TheVariants.{Sending}
 use Rattle.keeper.specs.Game.{Side, keeper, river, of_side, moved, any, moves}
 use Rattle.keeper.specs.Moves.{numbers_at}
+use Rattle.keeper.specs.Glances.{behind_w}
 
 -- who moves, as the code says it
 abbrev pub side_of : Bool → Side
@@ -77,6 +78,21 @@ pub record Here (ws notes : List ℕ) (g : Engines) (k : Numbers) (a : Site) (i 
   pub numbers : k ≡ numbers_at i
   pub inside : k.engine < g.count
   pub found : find_w 64 ws notes (onward (start_at g k.engine) k.position) 1 (start_at g k.engine) ≡ Hit a
+
+-- the place of a position of an engine; none where no process can stand there or further on
+unfoldable pub place_w : List ℕ → List ℕ → Engines → ℕ → ℕ → Option ℕ
+place_w ws notes g e p =
+    cond (leb (length ws) p) None (cond (behind_w notes (start_at g e) (onward (start_at g e) p)) None (Some (onward (start_at g e) p)))
+
+-- no number is accepted from one on to the next that is looked at
+pub record Passed (ws : List ℕ) (i next : ℕ) : Type 0 where
+  pub further : i < next
+  pub refused : (j : ℕ) → i ≤ j → j < next → Refused ws j
+
+-- the receiver found, or the next number
+abbrev pub Received : List ℕ → List ℕ → Engines → Numbers → ℕ → Result Site ℕ → Type 0
+Received ws notes g k i (Ok b) = (k.second < g.count) × (find_w 64 ws notes (onward (start_at g k.second) k.second_position) 1 (start_at g k.second) ≡ Hit b)
+Received ws notes g k i (Err n) = Passed ws i n
 
 -- one number tried, and those passed by
 pub record Tried (ws : List ℕ) (i : ℕ) (a : Answer) (next : ℕ) (out : List ℕ) : Type 0 where

@@ -7,7 +7,7 @@ ghost use Rattle.stepping.specs.Answering.{refusing};
 ghost use Rattle.stepping.specs.Bundles.{engines_of};
 ghost use Rattle.keeper.specs.Answers.{is_river, index_in, answer_in};
 ghost use Rattle.keeper.specs.Moves.{past_of};
-ghost use Rattle.keeper.specs.Seeking.{side_of, Surveyed, There, Here, Sends, Tried, Looked, Scanned, Sought};
+ghost use Rattle.keeper.specs.Seeking.{side_of, place_w, Surveyed, There, Here, Sends, Received, Tried, Looked, Scanned, Sought};
 
 use crate::glance::{acts, behind, hears, meant};
 use crate::moves::{COUNT, ENGINE, Mover, PLACE, POSITION, SECOND, numbers_at, past};
@@ -57,47 +57,71 @@ struct Search<'a> {
 }
 
 impl<'a> Search<'a> {
-    // The process a sends to the second engine; the receiver is sought at the second position.
-    fn look_place(&self, k: Numbers, a: Site, i: usize, out: &mut [u16]) -> Glance
-        requires { Here self.now.noted.ws.now self.now.noted.notes.now (engines_of self.now.engines) k a i × Sends self.now.noted.ws.now self.now.noted.notes.now a × (k.second < self.now.engines.found.engines) × (length out.old ≡ 8192) }
-        ensures { Tried self.now.noted.ws.now i (told result.answer) result.next out.new }
+    // The place of a position of an engine; none if no process can stand there, or further on in that engine.
+    #[tactic(auto, unfolding(crate::specs::Seeking::place_w))]
+    fn place(&self, engine: u16, position: u16) -> Option<usize>
+        ensures { result ≡ place_w self.now.noted.ws.now self.now.noted.notes.now (engines_of self.now.engines) engine position }
     {
-        let ws = self.noted.ws;
-        let place = wide(k.second_position);
-        if ws.len() <= place {
-            return pass_by(Refusal::NoPartner, i, SECOND);
+        let position = wide(position);
+        if self.noted.ws.len() <= position {
+            return None;
         }
-        let start = self.engines.start(wide(k.second));
-        let to = further(start, place);
-        if behind(&self.noted, start, to) {
-            return pass_by(Refusal::NoPartner, i, SECOND);
+        let start = self.engines.start(wide(engine));
+        let at = further(start, position);
+        if behind(&self.noted, start, at) {
+            return None;
         }
-        if !hears(Kind::of(word(ws, to))) {
-            return pass_by(Refusal::NoFit, i, PLACE);
+        Some(at)
+    }
+
+    // The receiver at the second position; or where to go on, if none can stand there.
+    fn receiver_at(&self, k: Numbers, a: Site, i: usize) -> Result<Site, usize>
+        requires { Here self.now.noted.ws.now self.now.noted.notes.now (engines_of self.now.engines) k a i × Sends self.now.noted.ws.now self.now.noted.notes.now a × (k.second < self.now.engines.found.engines) }
+        ensures { Received self.now.noted.ws.now self.now.noted.notes.now (engines_of self.now.engines) k i result }
+    {
+        let Some(to) = self.place(k.second, k.second_position) else {
+            return Err(past(i, SECOND));
+        };
+        if !hears(Kind::of(word(self.noted.ws, to))) {
+            return Err(past(i, PLACE));
         }
-        match locate(&self.noted, start, to, FUEL, 1) {
-            Found::Past(e) => pass_by(Refusal::NoPartner, i, PLACE),
-            Found::Hit(b) => Glance {
-                answer: moving(&self.noted, self.engines, k, a, STANDARD, out),
-                next: i + 1,
-            },
+        match locate(&self.noted, self.engines.start(wide(k.second)), to, FUEL, 1) {
+            Found::Past(e) => Err(past(i, PLACE)),
+            Found::Hit(b) => Ok(b),
         }
     }
 
     // The process a sends, and may be for the second engine.
+    fn receiver(&self, k: Numbers, a: Site, i: usize) -> Result<Site, usize>
+        requires { Here self.now.noted.ws.now self.now.noted.notes.now (engines_of self.now.engines) k a i × Sends self.now.noted.ws.now self.now.noted.notes.now a }
+        ensures { Received self.now.noted.ws.now self.now.noted.notes.now (engines_of self.now.engines) k i result }
+    {
+        let ws = self.noted.ws;
+        if self.engines.found.engines <= wide(k.second) {
+            return Err(past(i, SECOND));
+        }
+        let start = self.engines.start(wide(k.engine));
+        if meant(ws, start, a.at, Kind::of(word(ws, a.at)), k.second) {
+            return self.receiver_at(k, a, i);
+        }
+        Err(past(i, SECOND))
+    }
+
+    // The process a sends to the receiver, if there is one.
     fn look_beside(&self, k: Numbers, a: Site, i: usize, out: &mut [u16]) -> Glance
         requires { Here self.now.noted.ws.now self.now.noted.notes.now (engines_of self.now.engines) k a i × Sends self.now.noted.ws.now self.now.noted.notes.now a × (length out.old ≡ 8192) }
         ensures { Tried self.now.noted.ws.now i (told result.answer) result.next out.new }
     {
-        let ws = self.noted.ws;
-        if self.engines.found.engines <= wide(k.second) {
-            return pass_by(Refusal::NoPartner, i, SECOND);
+        match self.receiver(k, a, i) {
+            Err(next) => Glance {
+                answer: Err(Refusal::NoPartner),
+                next,
+            },
+            Ok(b) => Glance {
+                answer: moving(&self.noted, self.engines, k, a, STANDARD, out),
+                next: i + 1,
+            },
         }
-        let start = self.engines.start(wide(k.engine));
-        if meant(ws, start, a.at, Kind::of(word(ws, a.at)), k.second) {
-            return self.look_place(k, a, i, out);
-        }
-        pass_by(Refusal::NoFit, i, SECOND)
     }
 
     // The process a was found: it may have no move, move alone or send.
@@ -120,20 +144,13 @@ impl<'a> Search<'a> {
         requires { There self.now.noted.ws.now self.now.noted.notes.now (engines_of self.now.engines) k i × (length out.old ≡ 8192) }
         ensures { Tried self.now.noted.ws.now i (told result.answer) result.next out.new }
     {
-        let ws = self.noted.ws;
-        let position = wide(k.position);
-        if ws.len() <= position {
+        let Some(at) = self.place(k.engine, k.position) else {
             return pass_by(Refusal::NoProcess, i, ENGINE);
-        }
-        let start = self.engines.start(wide(k.engine));
-        let at = further(start, position);
-        if behind(&self.noted, start, at) {
-            return pass_by(Refusal::NoProcess, i, ENGINE);
-        }
-        if !acts(Kind::of(word(ws, at))) {
+        };
+        if !acts(Kind::of(word(self.noted.ws, at))) {
             return pass_by(Refusal::NoMove, i, POSITION);
         }
-        match locate(&self.noted, start, at, FUEL, 1) {
+        match locate(&self.noted, self.engines.start(wide(k.engine)), at, FUEL, 1) {
             Found::Past(e) => pass_by(Refusal::NoProcess, i, POSITION),
             Found::Hit(a) => self.look_at(k, a, i, out),
         }

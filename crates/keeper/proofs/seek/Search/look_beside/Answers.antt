@@ -1,14 +1,11 @@
 -- `look_beside` of `keeper::seek::Search` meets its contract.
-use native.Mathlib.Omega.{arith}
-use mathlib.Core.Path.{sym, ◌∙◌}
-use Rattle.keeper.proofs.Looking.{tried_nowhere, tried_unmeant}
+use mathlib.Core.Path.{refl}
+use Rattle.keeper.proofs.Looking.{passes_by, tried_beside}
 use Rattle.keeper.proofs.seek.Search.look_beside.Goals as goal
 
-pub returns-then-self-wide : goal.returns-then-self-wide
-returns-then-self-wide c =
-    tried_nowhere c.args.self.now.noted.ws.now c.args.self.now.noted.notes.now _ c.args.k c.args.a c.args.i c.requires.0 c.requires.1 _ _ _ _ c.wide.ensures.0 c.pass_by.ensures.answered c.pass_by.ensures.further c.if-self-wide.true
+pub returns-in-Ok : goal.returns-in-Ok
+returns-in-Ok c =
+    tried_beside c.args.self.now.noted.ws.now c.args.self.now.noted.notes.now _ c.args.k c.args.a c.args.i c.requires.0 _ _ c.args.out.now _ c.requires.2 c.moving.ensures.answered c.moving.ensures.written refl
 
-pub returns : goal.returns
-returns c =
-    tried_unmeant c.args.self.now.noted.ws.now c.args.self.now.noted.notes.now _ c.args.k c.args.a c.args.i c.requires.0 c.requires.1 _ _ _ _ _ _ _ c.wide-2.ensures.0 c.start-start.ensures (omega (arith, c.wide.ensures.0, c.if-self-wide.false))
-    c.word.ensures c.of.ensures (sym c.meant.ensures ∙ c.if-meant.false) c.pass_by-2.ensures.answered c.pass_by-2.ensures.further
+pub returns-in-Err : goal.returns-in-Err
+returns-in-Err c = passes_by c.args.self.now.noted.ws.now c.args.i 3 _ _ _ refl (c.in-Err.ensures)

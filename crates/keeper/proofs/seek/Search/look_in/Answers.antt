@@ -1,23 +1,31 @@
 -- `look_in` of `keeper::seek::Search` meets its contract.
-use mathlib.Core.Path.{sym, ◌∙◌}
-use Rattle.keeper.proofs.Looking.{tried_far_off, tried_behind, tried_idle, tried_absent}
+use mathlib.Core.Path.{refl, sym, ◌∙◌}
+use Rattle.stepping.specs.Bundles.{engines_of}
+use Rattle.keeper.proofs.Looking.{place_some, found_there, here_found, passes_by, passed_placeless, passed_idle, passed_absent}
 use Rattle.keeper.proofs.seek.Search.look_in.Goals as goal
 
-pub returns-then-ws-position : goal.returns-then-ws-position
-returns-then-ws-position c =
-    tried_far_off c.args.self.now.noted.ws.now c.args.self.now.noted.notes.now _ c.args.k c.args.i c.requires.0 _ _ _ _ c.wide-position.ensures.0 c.if-ws-position.true c.pass_by.ensures.answered c.pass_by.ensures.further
-
-pub returns-then-behind : goal.returns-then-behind
-returns-then-behind c =
-    tried_behind c.args.self.now.noted.ws.now c.args.self.now.noted.notes.now _ c.args.k c.args.i c.requires.0 _ _ _ _ _ _ _ c.wide.ensures.0 c.start-start.ensures c.wide-position.ensures.0 c.further-at.ensures
-    (sym c.behind.ensures ∙ c.if-behind.true) c.pass_by-then-behind.ensures.answered c.pass_by-then-behind.ensures.further
+pub returns-in_default : goal.returns-in_default
+returns-in_default c =
+    passes_by c.args.self.now.noted.ws.now c.args.i 1 _ _ _ c.pass_by.ensures.answered
+    (passed_placeless c.args.self.now.noted.ws.now c.args.self.now.noted.notes.now _ c.args.k c.args.i c.requires.0 _ (sym c.place.ensures ∙ c.in_default.is) c.pass_by.ensures.further)
 
 pub returns-then-not-acts : goal.returns-then-not-acts
 returns-then-not-acts c =
-    tried_idle c.args.self.now.noted.ws.now c.args.self.now.noted.notes.now _ c.args.k c.args.i c.requires.0 _ _ _ _ _ _ _ c.wide.ensures.0 c.start-start.ensures c.wide-position.ensures.0 c.further-at.ensures _ _
-    c.word.ensures c.of.ensures (sym c.acts.ensures ∙ c.if-not-acts.true) c.pass_by-then-not-acts.ensures.answered c.pass_by-then-not-acts.ensures.further
+    passes_by c.args.self.now.noted.ws.now c.args.i 2 _ _ _ c.pass_by-then-not-acts.ensures.answered
+    (passed_idle c.args.self.now.noted.ws.now c.args.self.now.noted.notes.now _ c.args.k c.args.i c.requires.0 _ _ _ _ _ refl refl refl
+    (place_some c.args.self.now.noted.ws.now c.args.self.now.noted.notes.now (engines_of c.args.self.now.engines) _ _ _ (sym c.place.ensures ∙ c.in-Some.is)) _ _
+    c.word.ensures c.of.ensures (sym c.acts.ensures ∙ c.if-not-acts.true) c.pass_by-then-not-acts.ensures.further)
 
 pub returns-in-Past : goal.returns-in-Past
 returns-in-Past c =
-    tried_absent c.args.self.now.noted.ws.now c.args.self.now.noted.notes.now _ c.args.k c.args.i c.requires.0 _ _ _ _ _ _ _ c.wide.ensures.0 c.start-start.ensures c.wide-position.ensures.0 c.further-at.ensures _
-    (sym c.locate.ensures ∙ c.in-Past.is) c.pass_by-in-Past.ensures.answered c.pass_by-in-Past.ensures.further
+    passes_by c.args.self.now.noted.ws.now c.args.i 1 _ _ _ c.pass_by-in-Past.ensures.answered
+    (passed_absent c.args.self.now.noted.ws.now c.args.self.now.noted.notes.now _ c.args.k c.args.i c.requires.0 _ _ _ _ _ refl refl refl refl _
+    (found_there c.args.self.now.noted.ws.now c.args.self.now.noted.notes.now (engines_of c.args.self.now.engines) _ _ _ _ _ _ c.wide.ensures.0 c.start.ensures (sym c.place.ensures ∙ c.in-Some.is) (sym c.locate.ensures ∙ c.in-Past.is))
+    c.pass_by-in-Past.ensures.further)
+
+pub look_at-requires : goal.look_at-requires
+look_at-requires c = (
+  here_found c.args.self.now.noted.ws.now c.args.self.now.noted.notes.now _ c.args.k c.args.i c.requires.0 _
+      (found_there c.args.self.now.noted.ws.now c.args.self.now.noted.notes.now (engines_of c.args.self.now.engines) _ _ _ _ _ _ c.wide.ensures.0 c.start.ensures (sym c.place.ensures ∙ c.in-Some.is) (sym c.locate.ensures ∙ c.in-Hit.is)),
+  c.requires.1,
+)
