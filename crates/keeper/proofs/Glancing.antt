@@ -248,7 +248,7 @@ module _ (other : List ℕ) (none : hears_w (counted_as (kind_of (at other 0))) 
 
 -- ---- refused with 5
 
-abbrev Five : Answered → Type 0
+abbrev pub Five : Answered → Type 0
 Five w = w.answer.number ≡ 5
 
 pub between_five :

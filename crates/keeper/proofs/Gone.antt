@@ -75,7 +75,7 @@ turn_delivers {p = p} s x e g (begins o client server a u k i f h) = rw (ap deli
 turn_delivers {p = p} s x e g (ended m o client server u k i f h) =
     rw (ap delivering (e ∙ kind_as_node g) ∙ carrying_kind g m (k m ∙ eq-eqb m m refl)) (ap (λ (n : ℕ). eqb n s) f ∙ eqb_swap m s ∙ sym (k s))
 
-taken_kind : {c : Config} {k : Numbers} {s : Stepped} {a : Spot} → Taken c k s → enabled_at c k.engine k.position ≡ some a → s.kind ≡ kind (as_node a.process)
+pub taken_kind : {c : Config} {k : Numbers} {s : Stepped} {a : Spot} → Taken c k s → enabled_at c k.engine k.position ≡ some a → s.kind ≡ kind (as_node a.process)
 taken_kind {a = a} (taken_alone b vs p at e t) named = let same : b ≡ a = cc in ap (λ (a : Spot). kind (as_node a.process)) same
 taken_kind {a = a} (taken_between b b' m x at e meets t q) named = let same : b ≡ a = cc in ap (λ (a : Spot). kind (as_node a.process)) same
 

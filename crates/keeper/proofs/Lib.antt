@@ -13,3 +13,5 @@ pub mod Deciding
 pub mod Answering
 pub mod Packing
 pub mod Pairing
+pub mod Readied
+pub mod Sighting

@@ -8,11 +8,11 @@ use mathlib.Core.Path.{◌≡◌, refl, sym, subst, ap, ◌∙◌}
 use mathlib.Core.Bool.{Bool, true, false, cond}
 use mathlib.Core.List.{List}
 use borrow.Author.Tests.{ne_eqb}
-use lib.Dec.{T, leb, leb→le}
+use lib.Dec.{T, leb, ltb, eqb, leb→le}
 use lib.ListN.{length, get_or}
 use Rattle.sock.specs.Words.{kind_of}
 use Rattle.sock.specs.Calls.{Answer}
-use Rattle.sock.proofs.Logic.{true_test}
+use Rattle.sock.proofs.Logic.{true_test, cond-case}
 use Rattle.sock.specs.Configuration.{standard}
 use Rattle.reading.specs.Survey.{no_starts, surveyed}
 use Rattle.reading.specs.declared.starts.Starts.{Starts as Found}
@@ -44,12 +44,14 @@ use Rattle.keeper.specs.Answers.{index_in, answer_in}
 use Rattle.keeper.specs.Game.{Side, of_side, moved, any}
 use Rattle.keeper.specs.Moves.{numbers_at, past_of}
 use Rattle.keeper.specs.Glances.{acts_w, hears_w, behind_w, meant_w}
+use Rattle.stepping.specs.Meeting.{replied_w, replies_w}
+use Rattle.keeper.specs.Replies.{answered_w}
 use Rattle.keeper.specs.Seeking.{side_of, large, move_at, Surveyed, place_w, Refused, Idle, There, Here, Sends, Passed, Tried, Looked, Scanned}
 use Rattle.keeper.proofs.Some.{move_there}
 use Rattle.keeper.proofs.Bounds.{Small, accepted_small}
 use Rattle.keeper.proofs.Blocks.{past_further, same_engine, same_position, same_second, same_place, not_first}
 use Rattle.keeper.proofs.Glancing.{behind_nothing}
-use Rattle.keeper.proofs.Trying.{unread, beyond, nobody, idle, beyond_end, moving_is, stuck, crowded, nowhere, nobody_beside, unmeant, deaf, given_refused, given_made}
+use Rattle.keeper.proofs.Trying.{unread, beyond, nobody, idle, beyond_end, moving_is, stuck, crowded, nowhere, nobody_beside, unmeant, deaf, unanswered, given_refused, given_made}
 
 alone_sends : Some Alone ≡ Some Sending → ⊥
 alone_sends e = subst (λ (o : Option Way). is_alone o) e tt
@@ -59,11 +61,11 @@ alone_sends e = subst (λ (o : Option Way). is_alone o) e tt
     is_alone (Some Sending) = ⊥
     is_alone None = ⊥
 
-low_position : (j : ℕ) → (numbers_at j).position < 65536
+pub low_position : (j : ℕ) → (numbers_at j).position < 65536
 unfolding numbers_at
 low_position j = omega arith
 
-low_place : (j : ℕ) → (numbers_at j).second_position < 65536
+pub low_place : (j : ℕ) → (numbers_at j).second_position < 65536
 unfolding numbers_at
 low_place j = omega arith
 
@@ -171,6 +173,13 @@ passing ws i n a next out e h r b =
       made = λ z. absurd (omega (arith, ap (λ (x : Answer). x.number) e));
       between = b;
     }
+
+-- a later branch of a place is not the first
+later_branch_some : (i j : ℕ) → i < j → j < past_of i 16 → (numbers_at j).branch ≡ 0 → ⊥
+unfolding past_of numbers_at
+later_branch_some i j h u z =
+    let e : j / 16 ≡ i / 16 = omega arith in
+    omega arith
 
 module _ (ws notes : List ℕ) (g : Engines) (k : Numbers) (a : Site) (i : ℕ) (h : Here ws notes g k a i) where
   abbrev ok : Words ws
@@ -329,6 +338,33 @@ module _ (ws notes : List ℕ) (g : Engines) (k : Numbers) (a : Site) (i : ℕ) 
             find_w 64 ws notes (onward (get_or g.starts e 0) place) 1 (get_or g.starts e 0) ≡ Past q → Refused ws j
         there j p1 p2 p3 p4 f =
             nobody_beside ws notes ok g sv (numbers_at j) (low_position j) (low_place j) (inside_at j p1 p2) a (hit_at j p1 p2) sends (omega (arith, p3)) q (rw (p3, p4) f)
+
+-- a reply that is not taken, and the branches of one that may be
+module _ (ws notes : List ℕ) (g : Engines) (k : Numbers) (a : Site) (i : ℕ) (h : Here ws notes g k a i) (sending : Sends ws notes a) (inside : k.second < g.count) (kd : counted_as (kind_of (at ws a.at)) ≡ 16) (b : Site)
+    (receives : find_w 64 ws notes (onward (start_at g k.second) k.second_position) 1 (start_at g k.second) ≡ Hit b) where
+  unanswered_at :
+      (j : ℕ) → (numbers_at j).engine ≡ (numbers_at i).engine → (numbers_at j).position ≡ (numbers_at i).position → (numbers_at j).second ≡ (numbers_at i).second → (numbers_at j).second_position ≡ (numbers_at i).second_position →
+      answered_w ws a.at b.at (numbers_at j).branch (numbers_at j).engine (numbers_at j).second ≡ false → Refused ws j
+  unanswered_at j p1 p2 p3 p4 n =
+      let s : (numbers_at j).second ≡ k.second = p3 ∙ sym (ap (λ (n : Numbers). n.second) h.numbers) in
+      let t : (numbers_at j).second_position ≡ k.second_position = p4 ∙ sym (ap (λ (n : Numbers). n.second_position) h.numbers) in
+      unanswered ws notes h.surveyed.words g h.surveyed (numbers_at j) (low_position j) (low_place j) (inside_at ws notes g k a i h j p1 p2) a (hit_at ws notes g k a i h j p1 p2)
+      (way_sends _ sending) (omega (arith, s, inside)) kd b (rw (s, t) receives) n
+
+  pub not_answered : answered_w ws a.at b.at k.branch k.engine k.second ≡ false → Refused ws i
+  not_answered n = unanswered_at i refl refl refl refl (subst (λ (m : Numbers). answered_w ws a.at b.at m.branch m.engine m.second ≡ false) h.numbers n)
+
+  branched : (branch e e' : ℕ) → (branch ≡ 0 → ⊥) → answered_w ws a.at b.at branch e e' ≡ false
+  unfolding answered_w replied_w replies_w
+  branched branch e e' n =
+      cond-case (λ v. v ≡ false) (eqb e e') (λ t. refl) λ t.
+      cond-case (λ v. v ≡ false) (ltb (length ws) a.at) (λ t. refl) λ t.
+      cond-case (λ v. v ≡ false) (ltb (length ws) b.at) (λ t. refl) λ t. rw (ne_eqb branch 0 n)
+
+  pub later_branch : (j : ℕ) → i < j → j < past_of i 16 → Refused ws j
+  later_branch j u v =
+      let (p1, p2, p3, p4) = same_place i j u v in
+      unanswered_at j p1 p2 p3 p4 (branched (numbers_at j).branch (numbers_at j).engine (numbers_at j).second (later_branch_some i j u v))
 
 pub passed_receiverless :
     (ws notes : List ℕ) (g : Engines) (k : Numbers) (a : Site) (i : ℕ) → Here ws notes g k a i → Sends ws notes a → k.second < g.count → (next : ℕ) → place_w ws notes g k.second k.second_position ≡ None →

@@ -14,7 +14,7 @@ use Rattle.keeper.specs.Game.{Side, keeper, river, moved, any, fails, some_move,
 use Rattle.keeper.specs.Hopes.{ready_at, Hope}
 use Rattle.keeper.proofs.Some.{move_here, move_there}
 use Rattle.keeper.proofs.Forcing.{some_move_lem, move_of}
-use Rattle.keeper.proofs.Replying.{Ready, reply_ready}
+use Rattle.keeper.proofs.Replying.{reply_ready, was_read}
 
 -- ---- every move loses
 
@@ -63,7 +63,7 @@ module _ (serial : ℕ) (ws : List ℕ) (none : (i : ℕ) → i < length ws → 
   unfolding won
   last_loses rest lost k x d =
       cond-case No (delivers serial x)
-      (λ t. off (eqb x.fault 0) λ f. (let r : Ready serial ws = reply_ready ws k x serial d t (eqb→eq x.fault 0 f) in subst T (sym r.ready ∙ none r.place r.inside) tt))
+      (λ t. off (eqb x.fault 0) λ f. (let (c, reads) = was_read ws k x d in let r = reply_ready ws k x serial d t (eqb→eq x.fault 0 f) c reads in subst T (sym r.ready ∙ none _ r.inside) tt))
       (λ t. lost (encode x.config))
 
   nothing_left : (engines : ℕ) (side : Side) (us : List ℕ) → forces engines serial 0 side us ≡ false

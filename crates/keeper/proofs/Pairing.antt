@@ -102,7 +102,7 @@ module _ (ws : List ℕ) (i : ℕ) (low : i ≤ 8192) (h a b : ℕ) (rest : List
   word_1 : at ws (onward i 1) ≡ a
   word_1 = ap (at ws) (onward_by 1 (omega arith)) ∙ (at_head ws (i + 1) _ _ (at_head ws i _ _ stands).next).word
 
-  word_2 : at ws (onward i 2) ≡ b
+  pub word_2 : at ws (onward i 2) ≡ b
   word_2 =
       ap (at ws) (onward_by 2 (omega arith) ∙ (let z : i + 2 ≡ i + 1 + 1 = omega arith in z))
       ∙ (at_head ws (i + 1 + 1) _ _ (at_head ws (i + 1) _ _ (at_head ws i _ _ stands).next).next).word

@@ -15,7 +15,7 @@ use Rattle.sock.specs.Words.{kind_of, head_of, name_fields}
 use Rattle.sock.specs.Variables.{first_of, variable_words, values_at}
 use Rattle.sock.specs.Term.{Entries, kind, head_word}
 use Rattle.sock.specs.Running.{Run, nil, seq, par, scope, executor, waiter, notice, act, as_node, run_words}
-use Rattle.sock.specs.Configuration.{standard, Config, encode}
+use Rattle.sock.specs.Configuration.{standard, Config, encode, read_config}
 use Rattle.sock.specs.Frames.{Frame, is_done}
 use Rattle.sock.specs.Rules.{Message, reply, failure, stuck, alone, sends, ending, move_of, once_done, Meeting, if_waits, awaited, Exchange, exchange}
 use Rattle.sock.specs.Calls.{Numbers, done, meeting, Stepped}
@@ -39,8 +39,7 @@ use Rattle.rules.proofs.Edits.{done_nil}
 use Rattle.keeper.specs.Game.{moved, delivers}
 use Rattle.keeper.specs.Hopes.{ready_at}
 
-pub record Ready (serial : ℕ) (ws : List ℕ) : Type 0 where
-  pub place : ℕ
+pub record Ready (serial : ℕ) (ws : List ℕ) (place : ℕ) : Type 0 where
   pub inside : place < length ws
   pub ready : ready_at serial ws place ≡ true
 
@@ -61,7 +60,7 @@ module _ (o : ℕ) (y : List ℕ) (client serial : ℕ) (a : Run) (ws : List ℕ
   unfolding run_words as_node
   body_word k e = head_on ws k (as_node a) rest e ∙ ap (λ (r : Run). head_word (as_node r)) (done_nil a d)
 
-  executor_ready : {n issued : ℕ} → n ≤ 8 → issued < 65536 → Sound n issued (executor o y client serial a) → Ready serial ws
+  executor_ready : {n issued : ℕ} → n ≤ 8 → issued < 65536 → Sound n issued (executor o y client serial a) → Ready serial ws i
   unfolding row_of rows ready_at onward
   executor_ready {n} {issued} few small (executor_sound bo by t g) =
       let k : kind_of h ≡ 16 = head_kind 16 (name_fields o (first_of y)) (fields_below o (first_of y) bo (laid y by).low) in
@@ -79,12 +78,12 @@ module _ (o : ℕ) (y : List ℕ) (client serial : ℕ) (a : Run) (ws : List ℕ
       let two : onward i 2 ≡ i + 1 + 1 = rw (lt-leb 1152921504606846976 i (omega arith)) (let z : i + 2 ≡ i + 1 + 1 = omega arith in z) in
       let serial_is : at ws (onward i 2) ≡ serial = ap (at ws) two ∙ third.word in
       let body : at ws (own_end ws i) ≡ 0 = ap (at ws) ends ∙ body_word (i + 1 + length own) past in
-      record { place = i; inside = first.inside; ready = rw (eq-eqb (kind_of (at ws i)) 16 kind_is, eq-eqb (at ws (onward i 2)) serial serial_is, eq-eqb (at ws (own_end ws i)) 0 body) }
+      record { inside = first.inside; ready = rw (eq-eqb (kind_of (at ws i)) 16 kind_is, eq-eqb (at ws (onward i 2)) serial serial_is, eq-eqb (at ws (own_end ws i)) 0 body) }
 
 -- ---- by the rules
 
 -- what holds of all that is made of a waiter
-waits_any :
+pub waits_any :
     {A : Type 0} {P : A → Type 0} (r : Run) {f : ℕ → List ℕ → Bool → ℕ → ℕ → Entries → Option A} →
     ((o : ℕ) (x : List ℕ) (dead : Bool) (server serial : ℕ) (l : Entries) → All P (f o x dead server serial l)) → All P (if_waits r f)
 unfolding if_waits
@@ -118,7 +117,7 @@ later_kind k h t =
 apart : {A : Type 0} {m : Message} → stuck ≡ sends m → A
 apart e = let q : ◌≡◌ {A = ℕ} 0 1 = cc in absurd (omega arith)
 
-alone_apart : {A : Type 0} {m : Message} {vs : List ℕ} {o : Option Run} → alone vs o ≡ sends m → A
+pub alone_apart : {A : Type 0} {m : Message} {vs : List ℕ} {o : Option Run} → alone vs o ≡ sends m → A
 alone_apart e = let q : ◌≡◌ {A = ℕ} 0 1 = cc in absurd (omega arith)
 
 -- once its body is nil
@@ -126,7 +125,7 @@ once_apart : {A : Type 0} {m : Message} (vs : List ℕ) (o : Option Run) (d : Bo
 once_apart vs o true e = alone_apart e
 once_apart vs o false e = apart e
 
-once_sends : {m : Message} (m' : Message) (d : Bool) → cond d (sends m') stuck ≡ sends m → (d ≡ true) × (m' ≡ m)
+pub once_sends : {m : Message} (m' : Message) (d : Bool) → cond d (sends m') stuck ≡ sends m → (d ≡ true) × (m' ≡ m)
 once_sends m' true e = (refl, (cc))
 once_sends m' false e = apart e
 
@@ -134,14 +133,14 @@ once_alone : {vs : List ℕ} {o : Option Run} (m : Message) (d : Bool) → cond 
 once_alone m true e = let q : ◌≡◌ {A = ℕ} 0 1 = cc in omega arith
 once_alone m false e = let q : ◌≡◌ {A = ℕ} 0 1 = cc in omega arith
 
-same_message : (m m' : Message) → sends m ≡ sends m' → m ≡ m'
+pub same_message : (m m' : Message) → sends m ≡ sends m' → m ≡ m'
 same_message m m' e = cc
 
 -- who delivers by a reply
 module _ (ws : List ℕ) (short : length ws ≤ 8192) (i : ℕ) (rest : List ℕ) (vs : List ℕ) (fs : List Frame) (met : Meeting) (m : Message) (x : Exchange)
     (gives : exchange met m ≡ some x) (calm : x.fault ≡ 0) where
   sender_ready :
-      {n issued : ℕ} {r : Run} → n ≤ 8 → issued < 65536 → Sound n issued r → drop i ws ≡ run_words r ++ rest → move_of vs fs r ≡ sends m → Delivering (kind (as_node r)) → Ready x.serial ws
+      {n issued : ℕ} {r : Run} → n ≤ 8 → issued < 65536 → Sound n issued r → drop i ws ≡ run_words r ++ rest → move_of vs fs r ≡ sends m → Delivering (kind (as_node r)) → Ready x.serial ws i
   unfolding move_of once_done as_node
   sender_ready few small nil_sound stood e k = apart e
   sender_ready few small (seq_sound g t p) stood e k = apart e
@@ -150,7 +149,7 @@ module _ (ws : List ℕ) (short : length ws ≤ 8192) (i : ℕ) (rest : List ℕ
   sender_ready few small (executor_sound {o} {y} {client} {serial} {a = p} bo by t g) stood e k =
       let (d, is) = once_sends (reply o (values_at vs y) client serial) (is_done p) e in
       let says : x.serial ≡ serial = all_some_lem (reply_says met o client serial (values_at vs y)) (ap (exchange met) is ∙ gives) in
-      subst (λ (s : ℕ). Ready s ws) (sym says) (executor_ready o y client serial p ws short i rest stood d few small (executor_sound bo by t g))
+      subst (λ (s : ℕ). Ready s ws i) (sym says) (executor_ready o y client serial p ws short i rest stood d few small (executor_sound bo by t g))
   sender_ready few small (waiter_sound bo bx t l) stood e k = apart e
   sender_ready few small (notice_sound {o} {f} {client} {serial} bo bf t) stood e k =
       let says : x.fault ≡ 1 = all_some_lem (fault_says met o f client serial) (ap (exchange met) (same_message _ m e) ∙ gives) in
@@ -176,21 +175,29 @@ alone_quiet {n} {issued} {r} vs ws fs o g e k = by g e (subst Delivering (kind_a
         let low : kind p < 15 = code_kind f in
         later_kind (kind p) low k
 
--- A delivery by a reply has its executor in the words
-pub reply_ready : (ws : List ℕ) (k : Numbers) (x : Stepped) (serial : ℕ) → moved ws k ≡ done x → T (delivers serial x) → x.fault ≡ 0 → Ready serial ws
+-- A delivery by a reply has its executor in the words, where the first engine and position say
+pub reply_ready :
+    (ws : List ℕ) (k : Numbers) (x : Stepped) (serial : ℕ) → moved ws k ≡ done x → T (delivers serial x) → x.fault ≡ 0 → (c : Config) → read_config standard ws ≡ some c →
+    Ready serial ws (start_of c k.engine + k.position)
 unfolding moved delivers
-reply_ready ws k x serial d t calm =
+reply_ready ws k x serial d t calm c reads =
     let a : Accepts standard ws k 8192 x = sure_done_lem (step_accepts standard ws k 8192) d in
-    let (same, r) = config_found standard ws a.config a.reads in
+    let one : a.config ≡ c = (let r = a.reads in cc) in
+    let (same, r) = config_found standard ws c reads in
     let is : x.serial ≡ serial = eqb→eq x.serial serial (and_right (eqb x.kind 16 || eqb x.kind 18) (eqb x.serial serial) t) in
-    subst (λ (s : ℕ). Ready s ws) is
-    (by a.config same r.fitting (omega (arith, ap length same, r.short)) (and_left (eqb x.kind 16 || eqb x.kind 18) (eqb x.serial serial) t) calm a.taken)
+    subst (λ (s : ℕ). Ready s ws (start_of c k.engine + k.position)) is
+    (by same r.fitting (omega (arith, ap length same, r.short)) (and_left (eqb x.kind 16 || eqb x.kind 18) (eqb x.serial serial) t) calm (subst (λ (c : Config). Taken c k x) one a.taken))
   where
-    by : (c : Config) → encode c ≡ ws → FitsConfig c → length ws ≤ 8192 → {s : Stepped} → Delivering s.kind → s.fault ≡ 0 → Taken c k s → Ready s.serial ws
-    by c same f short kd calm (taken_alone a vs p at e t) =
+    by : encode c ≡ ws → FitsConfig c → length ws ≤ 8192 → {s : Stepped} → Delivering s.kind → s.fault ≡ 0 → Taken c k s → Ready s.serial ws (start_of c k.engine + k.position)
+    by same f short kd calm (taken_alone a vs p at e t) =
         absurd (alone_quiet a.values vs a.frames (some p) (all_some_lem (enabled_fits f k.engine k.position) at).process e kd)
-    by c same f short kd calm (taken_between a b m y at e meets t q) =
+    by same f short kd calm (taken_between a b m y at e meets t q) =
         let stood : Enabled c k.engine k.position a = enabled_stands c k.engine k.position a f at in
         let begins = subst (λ (us : List ℕ). drop (start_of c k.engine + k.position) us ≡ run_words a.process ++ stood.stands.rest) same stood.stands.begins in
         sender_ready ws short (start_of c k.engine + k.position) stood.stands.rest a.values a.frames (meeting c k a b) m y q calm
         f.few f.word (all_some_lem (enabled_fits f k.engine k.position) at).process begins e kd
+
+-- the configuration that an accepted step read
+pub was_read : (ws : List ℕ) (k : Numbers) (x : Stepped) → moved ws k ≡ done x → (c : Config) × (read_config standard ws ≡ some c)
+unfolding moved
+was_read ws k x d = let a : Accepts standard ws k 8192 x = sure_done_lem (step_accepts standard ws k 8192) d in (a.config, a.reads)

@@ -2,10 +2,11 @@
 -- Assumes nothing.
 use Prim.Native.Nat.{ℕ, suc, ◌≤◌, ◌<◌}
 use native.Mathlib.Omega.{arith}
+use native.Mathlib.Decide.{ℕ_discrete}
 use mathlib.Core.Path.{◌≡◌, refl, sym, ap, ◌∙◌}
 use mathlib.Core.Bool.{true, false}
 use mathlib.Core.List.{List}
-use borrow.Author.Tests.{eq-eqb, ne_eqb, le-leb, lt-leb}
+use borrow.Author.Tests.{eq-eqb, ne_eqb, le-leb, lt-leb, le-ltb}
 use lib.ListN.{length, take, drop, replicate, length-replicate}
 use lib.Seq.{take_at}
 use Rattle.sock.specs.Words.{kind_of}
@@ -23,7 +24,8 @@ use Rattle.finding.specs.Find.{find_w}
 use Rattle.rules.specs.Rewriting.{at}
 use Rattle.stepping.specs.declared.bundles.Numbers.{Numbers}
 use Rattle.stepping.specs.Bundles.{Engines, numbers_as, start_at, encounter_of}
-use Rattle.stepping.specs.Exchanging.{lent}
+use Rattle.stepping.specs.Meeting.{fit_w}
+use Rattle.stepping.specs.Exchanging.{lent, between_w}
 use Rattle.layout.specs.Kinds.{counted_as}
 use Rattle.stepping.specs.Answering.{Answered}
 use Rattle.stepping.specs.Enabled.{hit_w, site_w, with_site, enabled_w}
@@ -33,19 +35,20 @@ use Rattle.stepping.proofs.Modest.{Modest, modest_standard}
 use Rattle.stepping.proofs.Law.{step_law}
 use Rattle.keeper.specs.Game.{moved}
 use Rattle.keeper.specs.Glances.{acts_w, hears_w, behind_w, meant_w}
+use Rattle.keeper.specs.Replies.{answered_w}
 use Rattle.keeper.specs.Seeking.{large, move_at, Surveyed, Refused, Made}
 use Rattle.keeper.proofs.Bounds.{accepted_small}
-use Rattle.keeper.proofs.Glancing.{found_at, behind_nothing, idle_moves, head_lent, unmeant_fit, deaf_fit, between_five}
+use Rattle.keeper.proofs.Glancing.{found_at, behind_nothing, idle_moves, head_lent, unmeant_fit, deaf_fit, Five, between_five}
 
 -- the step once the survey is done
 unfoldable try_w : List ℕ → List ℕ → Engines → Numbers → List ℕ → Answered
 try_w ws notes g k out =
     moved_w large ws notes k out (with_site g (site_w ws notes g k.engine k.position))
 
-modest : Modest large
+pub modest : Modest large
 modest = modest_standard refl
 
-abbrev blank : List ℕ
+abbrev pub blank : List ℕ
 blank = replicate 16384 0
 
 module _ (ws notes : List ℕ) (g : Engines) (sv : Surveyed ws notes g) (k : Numbers) where
@@ -158,6 +161,25 @@ module _ (ws notes : List ℕ) (ok : Words ws) (g : Engines) (sv : Surveyed ws n
               (between_five large ws (encounter_of g k (counted_as (kind_of (at ws a.at))) a b) page λ u1 u2 u3 u4.
               deaf_fit (lent b.at (length ws) ws) (ap (λ (w : ℕ). hears_w (counted_as (kind_of w))) (head_lent ws b.at ∙ ap (at ws) there) ∙ n) _ _ (counted_as (kind_of (at ws a.at))) k.branch k.engine k.second))
               x d
+
+      -- an executor whose reply the receiver does not take
+      unfit :
+          counted_as (kind_of (at ws a.at)) ≡ 16 → (b : Site) → answered_w ws a.at b.at k.branch k.engine k.second ≡ false → Dec (k.engine ≡ k.second) →
+          Five (between_w large ws (encounter_of g k (counted_as (kind_of (at ws a.at))) a b) page)
+      unfolding between_w answered_w fit_w
+      unfit kd b n (yes q) = rw (eq-eqb k.engine k.second q)
+      unfit kd b n (no q) =
+          between_five large ws (encounter_of g k (counted_as (kind_of (at ws a.at))) a b) page λ u1 u2 u3 u4.
+          rw kd (rw (ne_eqb k.engine k.second q, le-ltb (length ws) a.at u3, le-ltb (length ws) b.at u4) at n)
+
+      pub unanswered :
+          Sends → k.second < g.count → counted_as (kind_of (at ws a.at)) ≡ 16 → (b : Site) → find_w 64 ws notes (onward (start_at g k.second) k.second_position) 1 (start_at g k.second) ≡ Hit b →
+          answered_w ws a.at b.at k.branch k.engine k.second ≡ false → (x : Stepped) → moved ws (numbers_as k) ≡ done x → ⊥
+      unfolding moving_w receiving_w partner_w site_w hit_w
+      unanswered z h kd b e n =
+          refused_by 4
+          (ap (λ (w : Answered). w.answer.number) (hits page)
+          ∙ rw (ne_eqb does 0 z.0, ne_eqb does 1 z.1, lt-leb g.count k.second h, e) (unfit kd b n (ℕ_discrete k.engine k.second)))
 
     -- a place of no process that moves, and one behind the engine's process
     pub idle : acts_w (counted_as (kind_of (at ws (onward (start_at g k.engine) k.position)))) ≡ false → (x : Stepped) → moved ws (numbers_as k) ≡ done x → ⊥

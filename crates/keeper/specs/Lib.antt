@@ -5,6 +5,7 @@ pub mod Glances
 pub mod Seeking
 pub mod Hopes
 pub mod Pairs
+pub mod Replies
 pub mod Playing
 pub mod Answers
 pub mod Bytes

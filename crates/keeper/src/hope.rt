@@ -8,7 +8,7 @@ use layout::own::own_end;
 
 // Whether a reply of the serial may be ready at a place.
 #[tactic(auto, unfolding(crate::specs::Hopes::ready_at))]
-fn ready_at(ws: &[u16], serial: u16, at: usize) -> bool
+pub fn ready_at(ws: &[u16], serial: u16, at: usize) -> bool
     ensures { result ≡ ready_at serial ws.now at }
 {
     if Kind::of(word(ws, at)) != Kind::Executor {

@@ -8,4 +8,5 @@ mod glance;
 mod hope;
 mod moves;
 pub mod refusal;
+mod reply;
 mod seek;

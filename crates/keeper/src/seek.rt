@@ -51,15 +51,15 @@ pub struct Move {
 
 // What stays the same through the search of a position: its words with their notes, and its engines.
 #[derive(Clone, Copy)]
-struct Search<'a> {
-    noted: Noted<'a>,
-    engines: Engines,
+pub struct Search<'a> {
+    pub noted: Noted<'a>,
+    pub engines: Engines,
 }
 
 impl<'a> Search<'a> {
     // The place of a position of an engine; none if no process can stand there, or further on in that engine.
     #[tactic(auto, unfolding(crate::specs::Seeking::place_w))]
-    fn place(&self, engine: u16, position: u16) -> Option<usize>
+    pub fn place(&self, engine: u16, position: u16) -> Option<usize>
         ensures { result ≡ place_w self.now.noted.ws.now self.now.noted.notes.now (engines_of self.now.engines) engine position }
     {
         let position = wide(position);
@@ -92,7 +92,7 @@ impl<'a> Search<'a> {
     }
 
     // The process a sends, and may be for the second engine.
-    fn receiver(&self, k: Numbers, a: Site, i: usize) -> Result<Site, usize>
+    pub fn receiver(&self, k: Numbers, a: Site, i: usize) -> Result<Site, usize>
         requires { Here self.now.noted.ws.now self.now.noted.notes.now (engines_of self.now.engines) k a i × Sends self.now.noted.ws.now self.now.noted.notes.now a }
         ensures { Received self.now.noted.ws.now self.now.noted.notes.now (engines_of self.now.engines) k i result }
     {
