@@ -10,13 +10,11 @@ use mathlib.Core.List.{List}
 use borrow.Author.Tests.{eq-eqb, ne_eqb, le-leb, lt-leb}
 use mathlib.Core.Logic.{◌⊎◌, inl, inr}
 use lib.Dec.{T, leb, ltb, eqb→eq}
-use lib.ListN.{length, take}
-use lib.Seq.{take-length}
+use lib.ListN.{length}
 use Rattle.sock.specs.Configuration.{standard, Config, read_config}
 use Rattle.sock.specs.Calls.{Result, refused, done, Ends, unreadable, unknown_serial, ◌>>=◌, ◌>>◌, ◌!◌, ◌unless◌, known, counted, ends}
 use Rattle.sock.proofs.Logic.{and_left, and_right, true_test}
 use Rattle.sock.proofs.Configuration.{config_found}
-use Rattle.writers.specs.Writing.{pasted}
 use Rattle.stepping.specs.declared.bundles.Numbers.{Numbers}
 use Rattle.stepping.specs.Bundles.{numbers_as}
 use Rattle.std.specs.Prelude.{Option as Maybe, Some, IfSome}
@@ -29,14 +27,9 @@ use Rattle.keeper.specs.Seeking.{move_at}
 use Rattle.keeper.specs.Playing.{Forced}
 use Rattle.keeper.specs.Hopes.{gone_in}
 use Rattle.keeper.proofs.Gone.{ends_gone}
-use Rattle.keeper.proofs.Scratch.{pasted_words}
 use Rattle.keeper.proofs.Trying.{positive}
 
 -- ---- the game's answer
-
--- the configuration at the start of the scratch
-pub begun : (ws before : List ℕ) → length ws ≤ length before → take (length ws) (pasted ws 0 (length ws) before 0) ≡ ws
-begun ws before h = pasted_words ws before 0 (length ws) (omega arith) (omega arith) (omega arith) ∙ take-length ws
 
 -- with no moves it is a no
 never : (engines serial k : ℕ) (ws : List ℕ) (v : Bool) → k ≡ 0 → v ≡ forces engines serial k keeper ws → v ≡ true → ⊥
@@ -46,11 +39,18 @@ never engines serial k ws v z e t =
     let q : ◌≡◌ {A = ℕ} 0 1 = cc in
     omega arith
 
-module _ (engines serial k : ℕ) (ws us : List ℕ) (same : us ≡ ws) (left : ℕ) (all_moves : left ≡ k) (v : Bool) where
-  there : (i : ℕ) → Forced engines serial left false us v i → Forced engines serial k false ws v i
-  there i f = subst (λ (xs : List ℕ). Forced engines serial k false xs v i) same (subst (λ (m : ℕ). Forced engines serial m false us v i) all_moves f)
+-- a position that is lost
+pub said_lost : (engines serial k : ℕ) (ws : List ℕ) (left : ℕ) → left ≡ k → forces engines serial left keeper ws ≡ false → 0 ≡ outcome_of engines serial k ws
+unfolding outcome_of
+said_lost engines serial k ws left same lost =
+    let z : forces engines serial k keeper ws ≡ false = ap (λ (n : ℕ). forces engines serial n keeper ws) (sym same) ∙ lost in
+    rw z
 
-  module _ (i : ℕ) (f : Forced engines serial left false us v i) where
+module _ (engines serial k : ℕ) (ws : List ℕ) (left : ℕ) (all_moves : left ≡ k) (v : Bool) where
+  there : (i : ℕ) → Forced engines serial left false ws v i → Forced engines serial k false ws v i
+  there i f = subst (λ (m : ℕ). Forced engines serial m false ws v i) all_moves f
+
+  module _ (i : ℕ) (f : Forced engines serial left false ws v i) where
     abbrev here : Forced engines serial k false ws v i
     here = there i f
 

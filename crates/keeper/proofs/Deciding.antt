@@ -1,28 +1,42 @@
 -- The game move by move: one that decides ends it, and where none does the side to move has lost it; a side without a move passes.
 -- Assumes nothing.
-use Prim.Native.Nat.{ℕ, suc, ◌+◌, ◌-◌, ◌≤◌, ◌<◌}
+use Prim.Native.Nat.{ℕ, zero, suc, ◌+◌, ◌-◌, ◌≤◌, ◌<◌}
 use native.Mathlib.Omega.{arith}
 use native.Mathlib.Decide.{ℕ_discrete, dec_lt}
 use mathlib.Core.Path.{◌≡◌, refl, sym, subst, ap, ◌∙◌}
-use mathlib.Core.Bool.{Bool, true, false, not}
-use mathlib.Core.List.{List}
-use lib.Dec.{T, not_T, eqb}
-use lib.ListN.{length, take, drop, length-drop}
-use lib.Seq.{take_all, take-take}
+use mathlib.Core.Bool.{Bool, true, false, not, cond}
+use mathlib.Core.List.{List, ◌++◌}
+use borrow.Author.Tests.{eq-eqb}
+use lib.Dec.{T, not_T, eqb, eqb→eq}
+use lib.ListN.{length, take}
+use lib.Seq.{take-append-le}
 use Rattle.sock.specs.Calls.{Numbers, Answer, done, Stepped}
-use Rattle.sock.proofs.Logic.{test_true, test_false, true_test}
-use Rattle.std.specs.Prelude.{Option, Some, Ok, IfSome}
+use Rattle.sock.proofs.Logic.{test_true, test_false, true_test, cond-case}
+use Rattle.sock.specs.Configuration.{standard}
+use Rattle.reading.specs.Survey.{no_starts, surveyed}
+use Rattle.reading.specs.declared.starts.Starts.{Starts as Found}
+use Rattle.reading.specs.Answers.{starts_in}
+use Rattle.reading.proofs.Combining.{Words}
+use Rattle.std.specs.Prelude.{Option, None, Some, Ok}
+use Rattle.std.specs.Option.{is_some}
 use Rattle.sock.specs.Words.{bit}
 use Rattle.stepping.specs.declared.answer.Accepted.{Accepted}
 use Rattle.stepping.specs.Answers.{told}
-use Rattle.keeper.specs.declared.seek.Move.{Move}
-use Rattle.keeper.specs.Answers.{index_in, answer_in}
+use Rattle.keeper.specs.declared.game.Verdict.{Verdict}
+use Rattle.keeper.specs.Answers.{index_or_all}
+use Rattle.keeper.specs.Moves.{numbers_at}
+use Rattle.keeper.specs.Replies.{Reply, Replied}
+use Rattle.keeper.specs.Verdicts.{Judged}
 use Rattle.keeper.specs.Game.{Side, keeper, river, of_side, moved, any, fails, moves, some_move, every_move, has_move, delivers, won, forces}
-use Rattle.keeper.specs.Seeking.{side_of, move_at, Idle, Made, Scanned, Sought}
-use Rattle.keeper.specs.Playing.{delivers_by, won_by, turned, decides, after, Forced, First, Going}
+use Rattle.keeper.specs.Seeking.{side_of, move_at, Idle, Made, Scanned}
+use Rattle.keeper.specs.Playing.{delivers_by, won_by, turned, decides, after, Forced, Going}
 use Rattle.keeper.proofs.Some.{move_here, move_there, more_moves}
 use Rattle.keeper.proofs.Blocks.{number_of, numbered}
 use Rattle.keeper.proofs.Forcing.{some_move_lem, move_of}
+use Rattle.keeper.proofs.Losing.{across, lose}
+use Rattle.keeper.proofs.Scratch.{accepted_short}
+use Rattle.keeper.proofs.Trying.{unread}
+use Rattle.keeper.proofs.Looking.{low_position, low_place}
 
 -- ---- the answer says what the step does
 
@@ -83,20 +97,19 @@ module _ (engines serial left : ℕ) where
   passes true ws h = rw h
   passes false ws h = rw h
 
--- ---- the loop over the moves of a side
+true_is : {b : Bool} → T b → b ≡ true
+true_is {b} t = test_true b t
 
--- the side passes
-pub forced_pass :
-    (engines serial left : ℕ) (b v : Bool) (ws : List ℕ) (index : ℕ) (a : Answer) (out : List ℕ) (i : ℕ) → Scanned engines (side_of b) ws 0 i a out → 68719476736 ≤ i →
-    Forced engines serial left (not b) ws v index → Forced engines serial (suc left) b ws v 68719476736
-forced_pass engines serial left b v ws index a out i s h f =
-    let none = no_move engines (side_of b) ws (λ j u. s.passed j (omega arith) (omega arith)) in
-    record {
-      verdict = f.verdict ∙ passes engines serial left b ws none;
-      shown = λ e g u. absurd (omega arith);
-      passed = λ e g u. subst (λ (c : Bool). has_move engines (side_of c) ws ≡ false) e none;
-      met = λ e u. absurd (omega arith);
-    }
+-- with no move left only a delivery without a fault wins
+won_now : (serial engines : ℕ) (x : Stepped) → T (won serial (forces engines serial 0 river) x) → T (delivers serial x) × (x.fault ≡ 0)
+unfolding won forces
+won_now serial engines x w = by (delivers serial x) refl w
+  where
+    by : (d : Bool) → delivers serial x ≡ d → T (cond d (eqb x.fault 0) false) → T (delivers serial x) × (x.fault ≡ 0)
+    by true e t = (true_test e, eqb→eq x.fault 0 t)
+    by false e t = absurd t
+
+-- ---- the loop over the moves of a side
 
 pred_same : (m n : ℕ) → suc m ≡ suc n → m ≡ n
 pred_same m n e = omega arith
@@ -108,118 +121,207 @@ module _ (engines serial left : ℕ) (b : Bool) (ws : List ℕ) where
   abbrev W : Stepped → Bool
   W = after engines serial left b
 
-  pub going_first : (i : ℕ) (a : Answer) (scratch : List ℕ) (len : ℕ) → ws ≡ take len scratch → First engines b len i a scratch → Going engines serial left b ws i a scratch
-  unfolding any
-  going_first i a scratch len e f =
-      let s : Scanned engines (side_of b) ws 0 i a (drop 8192 scratch) = subst (λ (us : List ℕ). Scanned engines (side_of b) us 0 i a (drop 8192 scratch)) (sym e) f.scanned in
-      record {
-        has = true_test (a_move engines (side_of b) ws i a (drop 8192 scratch) (s.mine f.there) (s.made f.there));
-        short = λ h. f.short;
-        undecided = λ j u t. s.passed j (omega arith) u (more_moves engines (side_of b) ws (decides b W) any (λ x w. tt) (move_at j) t);
-        next = record { later = λ u. omega arith; within = s.within; passed = λ j u v. absurd (omega arith); mine = s.mine; made = s.made };
-      }
+  pub going_first : Going engines serial left b ws 0
+  going_first = record { has = λ z. absurd (z refl); within = omega arith; undecided = λ j u. absurd (omega (arith, u)) }
 
-  module _ (i : ℕ) (a : Answer) (scratch : List ℕ) (g : Going engines serial left b ws i a scratch) where
-    -- all moves were looked at
-    pub forced_none : 68719476736 ≤ i → Forced engines serial (suc left) b ws b 68719476736
-    forced_none h =
+  module _ (from : ℕ) (g : Going engines serial left b ws from) (i : ℕ) (a : Answer) (out : List ℕ) (s : Scanned engines (side_of b) ws from i a out) where
+    -- no move before the one found decides
+    none_before : (j : ℕ) → j < i → T (moves engines (side_of b) ws (decides b W) (move_at j)) → ⊥
+    unfolding any
+    none_before j u t = by (dec_lt j from)
+      where
+        by : Dec (j < from) → ⊥
+        by (yes v) = g.undecided j v t
+        by (no v) = s.passed j (omega (arith, v)) u (more_moves engines (side_of b) ws (decides b W) any (λ x w. tt) (move_at j) t)
+
+    -- all moves were looked at: there was none
+    pub none_at_all : from ≡ 0 → 68719476736 ≤ i → has_move engines (side_of b) ws ≡ false
+    none_at_all z h = no_move engines (side_of b) ws λ j u. s.passed j (omega arith) (omega arith)
+
+    -- or there were some, and none decides
+    pub forced_none : (from ≡ 0 → ⊥) → 68719476736 ≤ i → Forced engines serial (suc left) b ws b 68719476736
+    forced_none z h =
         record {
-          verdict = undecided engines serial left b ws (test_true _ g.has) (λ j u t. g.undecided j (omega arith) t);
+          verdict = undecided engines serial left b ws (g.has z) (λ j u t. none_before j (omega arith) t);
           shown = λ e f u. absurd (omega arith);
           passed = λ e f u. (let z : ◌≡◌ {A = ℕ} 0 1 = cc in absurd (omega arith));
           met = λ e u. absurd (omega arith);
         }
 
-    module _ (there : i < 68719476736) (v : Bool) (says : v ≡ won_by serial (forces engines serial left (side_of (not b))) a (take a.length (drop 8192 scratch))) where
-      abbrev made : Made ws i a (drop 8192 scratch)
-      made = g.next.made there
+    module _ (there : i < 68719476736) where
+      abbrev made : Made ws i a out
+      made = s.made there
 
-      verdict_is : v ≡ W made.stepped
-      verdict_is = says ∙ won_by_lem serial (forces engines serial left (side_of (not b))) ws i a (drop 8192 scratch) made
+      has_one : has_move engines (side_of b) ws ≡ true
+      has_one = a_move engines (side_of b) ws i a out (s.mine there) made
 
-      -- this move decides
-      decides_here : turned b v ≡ true → T (moves engines (side_of b) ws (decides b W) (move_at i))
-      unfolding decides
-      decides_here q =
-          move_here engines (side_of b) ws (decides b W) (move_at i) made.stepped (g.next.mine there) made.accepted (true_test (sym (ap (turned b) verdict_is) ∙ q))
+      pub short : a.length ≤ 8192
+      short = let l = accepted_short ws (move_at i) made.stepped made.accepted in omega (arith, made.length)
 
-      plain_test : (x : Stepped) → T (decides false (after engines serial left false) x) → T (after engines serial left false x)
-      unfolding decides turned
-      plain_test x t = t
+      module _ (v : Bool) (says : v ≡ won_by serial (forces engines serial left (side_of (not b))) a (take a.length out)) where
+        verdict_is : v ≡ W made.stepped
+        verdict_is = says ∙ won_by_lem serial (forces engines serial left (side_of (not b))) ws i a out made
 
-      plain : T (moves engines keeper ws (decides false (after engines serial left false)) (move_at i)) → T (moves engines keeper ws (after engines serial left false) (move_at i))
-      plain t = more_moves engines keeper ws (decides false (after engines serial left false)) (after engines serial left false) plain_test (move_at i) t
+        -- this move decides
+        decides_here : turned b v ≡ true → T (moves engines (side_of b) ws (decides b W) (move_at i))
+        unfolding decides
+        decides_here q = move_here engines (side_of b) ws (decides b W) (move_at i) made.stepped (s.mine there) made.accepted (true_test (sym (ap (turned b) verdict_is) ∙ q))
 
-      pub forced_here : turned b v ≡ true → Forced engines serial (suc left) b ws (not b) i
-      forced_here q =
-          record {
-            verdict = decided engines serial left b ws i (decides_here q);
-            shown = λ e f u j d. show b e (decides_here q) j d;
-            passed = λ e f u. absurd (omega arith);
-            met = λ e u. subst (λ (c : Bool). has_move engines (side_of c) ws ≡ true) e (test_true _ g.has);
-          }
-        where
-          show :
-              (c : Bool) → c ≡ false → T (moves engines (side_of c) ws (decides c (after engines serial left c)) (move_at i)) → (j : ℕ) → suc left ≡ suc j →
-              T (moves engines keeper ws (won serial (forces engines serial j river)) (move_at i))
-          show true e t j d = (let z : ◌≡◌ {A = ℕ} 0 1 = cc in absurd (omega arith))
-          show false e t j d = subst (λ (n : ℕ). T (moves engines keeper ws (won serial (forces engines serial n river)) (move_at i))) (pred_same left j d) (plain t)
+        plain_test : (x : Stepped) → T (decides false (after engines serial left false) x) → T (after engines serial left false x)
+        unfolding decides turned
+        plain_test x t = t
 
-      -- it does not, and the next one is sought
-      pub going_on : turned b v ≡ false → (before : List ℕ) (len : ℕ) → ws ≡ take len before → (i' : ℕ) (a' : Answer) (scratch' : List ℕ) → Sought engines (side_of b) before len (i + 1) i' a' scratch' → Going engines serial left b ws i' a' scratch'
-      unfolding decides any
-      going_on q before len e i' a' scratch' s =
-          let n : Scanned engines (side_of b) ws (i + 1) i' a' (drop 8192 scratch') = subst (λ (us : List ℕ). Scanned engines (side_of b) us (i + 1) i' a' (drop 8192 scratch')) (sym e) s.scanned in
-          record {
-            has = g.has;
-            short = s.short;
-            undecided = λ j u t. by j u t n (dec_lt j i) (ℕ_discrete j i);
-            next = record { later = λ u. omega arith; within = n.within; passed = λ j u w. absurd (omega arith); mine = n.mine; made = n.made };
-          }
-        where
-          here_not : T (moves engines (side_of b) ws (decides b W) (move_at i)) → ⊥
-          here_not t =
-              let (x, m, d, w) = move_there engines (side_of b) ws (decides b W) (move_at i) t in
-              let same : x ≡ made.stepped = same_step ws (move_at i) x made.stepped d made.accepted in
-              subst T (ap (λ (y : Stepped). turned b (W y)) same ∙ sym (ap (turned b) verdict_is) ∙ q) w
+        plain : T (moves engines keeper ws (decides false (after engines serial left false)) (move_at i)) → T (moves engines keeper ws (after engines serial left false) (move_at i))
+        plain t = more_moves engines keeper ws (decides false (after engines serial left false)) (after engines serial left false) plain_test (move_at i) t
 
-          by : (j : ℕ) → j < i' → T (moves engines (side_of b) ws (decides b W) (move_at j)) → Scanned engines (side_of b) ws (i + 1) i' a' (drop 8192 scratch') → Dec (j < i) → Dec (j ≡ i) → ⊥
-          by j u t n (yes v) d = g.undecided j v t
-          by j u t n (no v) (yes r) = here_not (subst (λ (m : ℕ). T (moves engines (side_of b) ws (decides b W) (move_at m))) r t)
-          by j u t n (no v) (no r) = n.passed j (omega (arith, v, r)) u (more_moves engines (side_of b) ws (decides b W) any (λ x w. tt) (move_at j) t)
+        pub forced_here : turned b v ≡ true → Forced engines serial (suc left) b ws (not b) i
+        forced_here q =
+            record {
+              verdict = decided engines serial left b ws i (decides_here q);
+              shown = λ e f u j d. show b e (decides_here q) j d;
+              passed = λ e f u. absurd (omega arith);
+              met = λ e u. subst (λ (c : Bool). has_move engines (side_of c) ws ≡ true) e has_one;
+            }
+          where
+            show :
+                (c : Bool) → c ≡ false → T (moves engines (side_of c) ws (decides c (after engines serial left c)) (move_at i)) → (j : ℕ) → suc left ≡ suc j →
+                T (moves engines keeper ws (won serial (forces engines serial j river)) (move_at i))
+            show true e t j d = (let z : ◌≡◌ {A = ℕ} 0 1 = cc in absurd (omega arith))
+            show false e t j d = subst (λ (n : ℕ). T (moves engines keeper ws (won serial (forces engines serial n river)) (move_at i))) (pred_same left j d) (plain t)
 
--- ---- what the calls leave, in the laws' terms
+        -- it does not, and the next one is sought
+        pub going_on : turned b v ≡ false → Going engines serial left b ws (i + 1)
+        unfolding decides
+        going_on q =
+            record { has = λ z. has_one; within = omega arith; undecided = λ j u t. by j u t (ℕ_discrete j i) }
+          where
+            here_not : T (moves engines (side_of b) ws (decides b W) (move_at i)) → ⊥
+            here_not t =
+                let (x, m, d, w) = move_there engines (side_of b) ws (decides b W) (move_at i) t in
+                let same : x ≡ made.stepped = same_step ws (move_at i) x made.stepped d made.accepted in
+                subst T (ap (λ (y : Stepped). turned b (W y)) same ∙ sym (ap (turned b) verdict_is) ∙ q) w
 
--- two scratches with the same first configuration
-pub same_words_lem : (len : ℕ) (us vs : List ℕ) → len ≤ 8192 → take 8192 us ≡ take 8192 vs → take len us ≡ take len vs
-same_words_lem len us vs h e = sym (take-take len 8192 us h) ∙ ap (take len) e ∙ take-take len 8192 vs h
+            by : (j : ℕ) → j < i + 1 → T (moves engines (side_of b) ws (decides b W) (move_at j)) → Dec (j ≡ i) → ⊥
+            by j u t (yes r) = here_not (subst (λ (m : ℕ). T (moves engines (side_of b) ws (decides b W) (move_at m))) r t)
+            by j u t (no r) = none_before j (omega (arith, u, r)) t
 
-pub first_of :
-    (engines : ℕ) (b : Bool) (before : List ℕ) (len i : ℕ) (a : Answer) (scratch : List ℕ) → len ≤ 8192 → Sought engines (side_of b) before len 0 i a scratch → i < 68719476736 → First engines b len i a scratch
-first_of engines b before len i a scratch h s u =
-    record {
-      short = s.short u;
-      scanned = subst (λ (us : List ℕ). Scanned engines (side_of b) us 0 i a (drop 8192 scratch)) (sym (same_words_lem len scratch before h s.stays)) s.scanned;
-      there = u;
-    }
+-- ---- the keeper's last move
+
+module _ (engines serial : ℕ) (ws : List ℕ) (v : Bool) where
+  reply_wins : (i j : ℕ) → T (of_side engines keeper (move_at i).engine) → Reply serial ws i → T (moves engines keeper ws (won serial (forces engines serial j river)) (move_at i))
+  unfolding won
+  reply_wins i j mine r =
+      move_here engines keeper ws (won serial (forces engines serial j river)) (move_at i) r.stepped mine r.accepted (rw (true_is r.delivers, eq-eqb r.stepped.fault 0 r.calm) tt)
+
+  -- a reply that is ready is a yes
+  pub last_yes : v ≡ true → (i : ℕ) → i < 68719476736 → T (of_side engines keeper (move_at i).engine) → Reply serial ws i → Forced engines serial 1 false ws v i
+  unfolding forces any
+  last_yes e i low mine r =
+      let has : has_move engines keeper ws ≡ true = some_has engines keeper ws _ i (reply_wins i 0 mine r) in
+      record {
+        verdict = e ∙ sym (rw (has, one_moves engines keeper ws (won serial (forces engines serial 0 river)) i (reply_wins i 0 mine r)) refl);
+        shown = λ q f u j d. reply_wins i j mine r;
+        passed = λ q f u. absurd (omega arith);
+        met = λ q u. has;
+      }
+
+  -- and where there is none it is a no
+  pub last_no : v ≡ false → Replied engines serial keeper ws None → Forced engines serial 1 false ws v 68719476736
+  unfolding forces
+  last_no e r =
+      record {
+        verdict = e ∙ sym (cond-case (λ (x : Bool). x ≡ false) (has_move engines keeper ws) (λ t. none_moves engines keeper ws (won serial (forces engines serial 0 river)) no_reply) (λ t. refl));
+        shown = λ q f u. absurd (subst T (sym f ∙ e) tt);
+        passed = λ q f u. absurd (subst T (sym f ∙ e) tt);
+        met = λ q u. absurd (omega arith);
+      }
+    where
+      no_reply : (i : ℕ) → i < 68719476736 → T (moves engines keeper ws (won serial (forces engines serial 0 river)) (move_at i)) → ⊥
+      no_reply i low t =
+          let (x, mine, d, w) = move_there engines keeper ws (won serial (forces engines serial 0 river)) (move_at i) t in
+          let (u, calm) = won_now serial engines x w in
+          r.no refl i low mine x d u calm
+
+-- ---- a position
 
 one_less : (left : ℕ) → (left ≡ 0 → ⊥) → suc (left - 1) ≡ left
 one_less left n = omega (arith, n)
 
-pub forced_as :
-    (engines serial left : ℕ) (b v : Bool) (before scratch : List ℕ) (len index : ℕ) → (left ≡ 0 → ⊥) → len ≤ 8192 → take 8192 scratch ≡ take 8192 before →
-    Forced engines serial (suc (left - 1)) b (take len scratch) v index → Forced engines serial left b (take len before) v index
-forced_as engines serial left b v before scratch len index n h e f =
-    subst (λ (us : List ℕ). Forced engines serial left b us v index) (same_words_lem len scratch before h e)
-    (subst (λ (m : ℕ). Forced engines serial m b (take len scratch) v index) (one_less left n) f)
+-- no move is left
+pub judged_end : (engines serial left : ℕ) (b : Bool) (ws : List ℕ) (v : Verdict) → left ≡ 0 → v.forced ≡ false → v.decided ≡ None → Judged engines serial left b ws v
+unfolding forces
+judged_end engines serial left b ws v e f n =
+    record {
+      forced =
+          record {
+            verdict = f ∙ sym (ap (λ (m : ℕ). forces engines serial m (side_of b) ws) e);
+            shown = λ c q u. absurd (subst T (sym q ∙ f) tt);
+            passed = λ c q u. absurd (subst T (sym q ∙ f) tt);
+            met = λ c u. absurd (omega (arith, u, ap index_or_all n));
+          };
+      there = rw n tt;
+    }
 
-pub forced_passing :
-    (engines serial left : ℕ) (b v : Bool) (before scratch : List ℕ) (len index i : ℕ) (a : Answer) → (left ≡ 0 → ⊥) → len ≤ 8192 → Sought engines (side_of b) before len 0 i a scratch → 68719476736 ≤ i →
-    Forced engines serial (left - 1) (not b) (take len scratch) v index → Forced engines serial left b (take len before) v 68719476736
-forced_passing engines serial left b v before scratch len index i a n h s u f =
-    subst (λ (m : ℕ). Forced engines serial m b (take len before) v 68719476736) (one_less left n)
-    (forced_pass engines serial (left - 1) b v (take len before) index a (drop 8192 scratch) i s.scanned u
-    (subst (λ (us : List ℕ). Forced engines serial (left - 1) (not b) us v index) (same_words_lem len scratch before h s.stays) f))
+-- what is not readable has no move
+pub judged_unread :
+    (engines serial left : ℕ) (b : Bool) (ws : List ℕ) (v : Verdict) → Words ws → (o : Option Found) → starts_in o ≡ surveyed standard 11 ws → o ≡ None → v.forced ≡ false → v.decided ≡ None → Judged engines serial left b ws v
+unfolding no_starts forces
+judged_unread engines serial left b ws v ok o e q f n =
+    record {
+      forced =
+          record {
+            verdict = f ∙ sym (lost left (side_of b));
+            shown = λ c z u. absurd (subst T (sym z ∙ f) tt);
+            passed = λ c z u. absurd (subst T (sym z ∙ f) tt);
+            met = λ c u. absurd (omega (arith, u, ap index_or_all n));
+          };
+      there = rw n tt;
+    }
+  where
+    no_step : (k : Numbers) (x : Stepped) → moved ws k ≡ done x → ⊥
+    no_step k x d =
+        let (low, same) = numbered ws k x d in
+        unread ws ok (numbers_at (number_of k)) (low_position (number_of k)) (low_place (number_of k)) no_starts (sym (ap starts_in q) ∙ e) refl x (ap (moved ws) same ∙ d)
+
+    lost : (n : ℕ) (side : Side) → forces engines serial n side ws ≡ false
+    lost zero side = refl
+    lost (suc n) side = lose engines serial n side ws (λ k x d. absurd (no_step k x d)) (lost n (across side))
+
+-- the keeper's last move
+pub judged_last :
+    (engines serial left : ℕ) (b : Bool) (ws : List ℕ) (v : Verdict) (o : Option ℕ) → left ≡ 1 → b ≡ false → v.forced ≡ is_some o → v.decided ≡ o → Replied engines serial (side_of b) ws o → Judged engines serial left b ws v
+judged_last engines serial left b ws v o e c f n r =
+    subst (λ (m : ℕ). Judged engines serial m b ws v) (sym e)
+    (subst (λ (d : Bool). Judged engines serial 1 d ws v) (sym c) (by o f n (subst (λ (d : Bool). Replied engines serial (side_of d) ws o) c r)))
+  where
+    by : (o : Option ℕ) → v.forced ≡ is_some o → v.decided ≡ o → Replied engines serial keeper ws o → Judged engines serial 1 false ws v
+    by None f n r = record { forced = subst (λ (i : ℕ). Forced engines serial 1 false ws v.forced i) (sym (ap index_or_all n)) (last_no engines serial ws v.forced f r); there = rw n tt }
+    by (Some i) f n r =
+        record {
+          forced = subst (λ (j : ℕ). Forced engines serial 1 false ws v.forced j) (sym (ap index_or_all n)) (last_yes engines serial ws v.forced f i (r.within i refl) (r.mine i refl) (r.yes i refl));
+          there = rw n (r.within i refl);
+        }
+
+-- by its side's moves
+pub judged_tried : (engines serial left : ℕ) (b : Bool) (ws : List ℕ) (v : Verdict) → (left ≡ 0 → ⊥) → Judged engines serial (suc (left - 1)) b ws v → Judged engines serial left b ws v
+judged_tried engines serial left b ws v n j = subst (λ (m : ℕ). Judged engines serial m b ws v) (one_less left n) j
+
+-- the side passes
+pub judged_pass :
+    (engines serial left : ℕ) (b c : Bool) (ws : List ℕ) (u v : Verdict) → (left ≡ 0 → ⊥) → has_move engines (side_of b) ws ≡ false → c ≡ not b → Judged engines serial (left - 1) c ws u →
+    v.forced ≡ u.forced → v.decided ≡ None → Judged engines serial left b ws v
+judged_pass engines serial left b c ws u v n none side j f d =
+    judged_tried engines serial left b ws v n
+    (record {
+      forced =
+          record {
+            verdict = f ∙ j.forced.verdict ∙ ap (λ (x : Bool). forces engines serial (left - 1) (side_of x) ws) side ∙ passes engines serial (left - 1) b ws none;
+            shown = λ e q w. absurd (omega (arith, w, ap index_or_all d));
+            passed = λ e q w. subst (λ (x : Bool). has_move engines (side_of x) ws ≡ false) e none;
+            met = λ e w. absurd (omega (arith, w, ap index_or_all d));
+          };
+      there = rw d tt;
+    })
 
 no_fault : (f : Bool) → not f ≡ eqb (bit f) 0
 no_fault true = refl
@@ -243,26 +345,15 @@ unfolding turned
 turned_is true v e = sym (not_true v e)
 turned_is false v e = sym e
 
--- the move that the loop has come to
-pub going_at :
-    (engines serial left : ℕ) (b : Bool) (ws : List ℕ) (o : Option Move) (m : Move) (scratch : List ℕ) → o ≡ Some m → Going engines serial left b ws (index_in o) (answer_in o) scratch →
-    IfSome o (λ m. m.index < 68719476736) → Going engines serial left b ws m.index (told (Ok m.accepted)) scratch × (m.index < 68719476736)
-going_at engines serial left b ws o m scratch e g i =
-    (subst (λ (x : Option Move). Going engines serial left b ws (index_in x) (answer_in x) scratch) e g, subst (λ (x : Option Move). IfSome x (λ m. m.index < 68719476736)) e i)
-
--- the scratch behind the first configuration
-rest_is : (n : ℕ) (us : List ℕ) → take (length us - n) (drop n us) ≡ drop n us
-rest_is n us = take_all (length us - n) (drop n us) (omega (arith, length-drop n us))
-
-pub judged_rest :
-    (engines serial left : ℕ) (b : Bool) (a : Answer) (us : List ℕ) (v : Bool) (n : ℕ) → n ≡ a.length → delivers_by serial a ≡ false →
-    v ≡ forces engines serial left (side_of b) (take n (take (length us - 8192) (drop 8192 us))) →
-    v ≡ won_by serial (forces engines serial left (side_of b)) a (take a.length (drop 8192 us))
-judged_rest engines serial left b a us v n q d e =
-    e ∙ ap (λ (m : ℕ). forces engines serial left (side_of b) (take m (take (length us - 8192) (drop 8192 us)))) q ∙ ap (λ (ws : List ℕ). forces engines serial left (side_of b) (take a.length ws)) (rest_is 8192 us) ∙ judged_later serial (forces engines serial left (side_of b)) a (take a.length (drop 8192 us)) d
-
 -- the other side to move
 pub judged_other :
     (engines serial left : ℕ) (b c v : Bool) (a : Answer) (words : List ℕ) → c ≡ not b → v ≡ won_by serial (forces engines serial left (side_of c)) a words →
     v ≡ won_by serial (forces engines serial left (side_of (not b))) a words
 judged_other engines serial left b c v a words e f = subst (λ (x : Bool). v ≡ won_by serial (forces engines serial left (side_of x)) a words) e f
+
+-- a result that is the first part of the scratch
+pub front_words : (a n : ℕ) (us front back : List ℕ) → us ≡ front ++ back → n ≡ a → a ≤ length front → take n front ≡ take a us
+front_words a n us front back e q h = ap (λ (m : ℕ). take m front) q ∙ sym (take-append-le a front back h) ∙ ap (take a) (sym e)
+
+pub judged_lost : (serial : ℕ) (rest : List ℕ → Bool) (a : Answer) (words us : List ℕ) → delivers_by serial a ≡ false → us ≡ words → rest us ≡ false → false ≡ won_by serial rest a words
+judged_lost serial rest a words us d e l = sym l ∙ ap rest e ∙ judged_later serial rest a words d

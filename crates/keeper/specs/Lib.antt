@@ -8,4 +8,5 @@ pub mod Pairs
 pub mod Replies
 pub mod Playing
 pub mod Answers
+pub mod Verdicts
 pub mod Bytes

@@ -1,9 +1,9 @@
 -- The game as the code goes through it. No contract of a call names it.
-use Rattle.std.specs.Prelude.{ℕ, suc, ◌≤◌, ◌<◌, ◌≡◌, Bool, true, false, not, ◌&&◌, ◌||◌, cond, List, T, eqb, take, drop}
+use Rattle.std.specs.Prelude.{ℕ, suc, ◌≤◌, ◌<◌, ◌≡◌, Bool, true, false, not, ◌&&◌, ◌||◌, cond, List, T, eqb}
 use Rattle.sock.specs.Kind
 use Rattle.sock.specs.Calls.{Answer, Stepped}
 use Rattle.keeper.specs.Game.{keeper, river, moves, has_move, won, forces}
-use Rattle.keeper.specs.Seeking.{side_of, move_at, Scanned}
+use Rattle.keeper.specs.Seeking.{side_of, move_at}
 
 -- by a step's answer and its result's words
 unfoldable pub delivers_by : ℕ → Answer → Bool
@@ -31,15 +31,8 @@ pub record Forced (engines serial left : ℕ) (b : Bool) (ws : List ℕ) (v : Bo
   pub passed : b ≡ false → v ≡ true → 68719476736 ≤ index → has_move engines keeper ws ≡ false
   pub met : b ≡ false → index < 68719476736 → has_move engines keeper ws ≡ true
 
--- the first move of a side, in scratch
-pub record First (engines : ℕ) (b : Bool) (len i : ℕ) (a : Answer) (scratch : List ℕ) : Type 0 where
-  pub short : a.length ≤ 8192
-  pub scanned : Scanned engines (side_of b) (take len scratch) 0 i a (drop 8192 scratch)
-  pub there : i < 68719476736
-
--- what the loop over a side's moves keeps: no move so far decides, and the next one, if there is one, stands in scratch
-pub record Going (engines serial left : ℕ) (b : Bool) (ws : List ℕ) (i : ℕ) (a : Answer) (scratch : List ℕ) : Type 0 where
-  pub has : T (has_move engines (side_of b) ws)
-  pub short : i < 68719476736 → a.length ≤ 8192
-  pub undecided : (j : ℕ) → j < i → T (moves engines (side_of b) ws (decides b (after engines serial left b)) (move_at j)) → ⊥
-  pub next : Scanned engines (side_of b) ws i i a (drop 8192 scratch)
+-- what the loop over a side's moves keeps: no move below a number decides, and where the number is not 0 there was one
+pub record Going (engines serial left : ℕ) (b : Bool) (ws : List ℕ) (from : ℕ) : Type 0 where
+  pub has : (from ≡ 0 → ⊥) → has_move engines (side_of b) ws ≡ true
+  pub within : from ≤ 68719476736
+  pub undecided : (j : ℕ) → j < from → T (moves engines (side_of b) ws (decides b (after engines serial left b)) (move_at j)) → ⊥

@@ -1,5 +1,5 @@
 -- What the search for the moves of a side gives, step by step. No contract of a call names it.
-use Rattle.std.specs.Prelude.{ℕ, ◌≤◌, ◌<◌, ◌≡◌, Bool, true, false, cond, List, Option, None, Some, Result, Ok, Err, T, leb, length, get_or, take, drop, replicate}
+use Rattle.std.specs.Prelude.{ℕ, ◌≤◌, ◌<◌, ◌≡◌, Bool, true, false, cond, List, Option, None, Some, Result, Ok, Err, T, leb, length, get_or, take, replicate}
 use Rattle.sock.specs.Words.{kind_of}
 use Rattle.sock.specs.Configuration.{standard, encode}
 use Rattle.sock.specs.Calls.{Numbers as Asked, Answer, done, Stepped}
@@ -116,9 +116,3 @@ pub record Scanned (engines : ℕ) (side : Side) (ws : List ℕ) (from i : ℕ) 
   pub passed : (j : ℕ) → from ≤ j → j < i → Idle engines side ws j
   pub mine : i < 68719476736 → T (of_side engines side (move_at i).engine)
   pub made : i < 68719476736 → Made ws i a out
-
--- the same in scratch: the configuration stays, and the result's words stand 8,192 words further on
-pub record Sought (engines : ℕ) (side : Side) (before : List ℕ) (len from i : ℕ) (a : Answer) (after : List ℕ) : Type 0 where
-  pub stays : take 8192 after ≡ take 8192 before
-  pub short : i < 68719476736 → a.length ≤ 8192
-  pub scanned : Scanned engines side (take len before) from i a (drop 8192 after)

@@ -6,16 +6,15 @@ ghost use Rattle.keeper.specs.Hopes.{gone_in};
 
 use crate::apart::apart;
 use crate::game::Game;
+use crate::hope::lost;
 use crate::moves::{Side, numbers_at};
 use crate::refusal::Refusal;
-use layout::limit::LONGEST;
 use layout::number::wide;
 use layout::refusal::Refusal as Plain;
 use reading::ends::{EndCounts, ends};
 use stepping::bundles::Numbers;
-use writers::write::copy;
 
-// The most moves, and the words of scratch: a configuration for each move and one more.
+// The most moves, and the words of scratch that document 02 asks for. The game writes one configuration for each move, so the last seventh stays.
 const MOVES: u16 = 6;
 
 const SCRATCH: usize = 57344;
@@ -34,8 +33,10 @@ fn play(ws: &[u16], game: Game, k: u16, scratch: &mut [u16]) -> Outcome
     ensures decided { outcome_number result ≡ outcome_of game.engines game.serial k ws.now }
     ensures shown { Showing game.engines game.serial k ws.now (outcome_number result) (move_of result) }
 {
-    copy(ws, 0, ws.len(), scratch, 0);
-    let v = game.force(scratch, ws.len(), wide(k), Side::Keeper);
+    if lost(ws, game.serial, wide(k)) {
+        return Outcome::No;
+    }
+    let v = game.force(ws, scratch, wide(k), Side::Keeper);
     if !v.forced {
         return Outcome::No;
     }

@@ -1,19 +1,27 @@
-// The game, depth first with the moves left falling. The scratch keeps one configuration a level, each 8,192 words behind the one it came from.
-ghost use Rattle.std.specs.Prelude.{◌≡◌, suc, ◌+◌, ◌*◌, ◌≤◌, ◌<◌, length, take, drop, Ok, IfSome};
+// The game, depth first with the moves left falling. Each position is surveyed once, whoever moves and however many moves there are; its words, its
+// notes and the place of the search stand still while the game below one of its moves is played in the scratch behind it.
+ghost use Rattle.std.specs.Prelude.{◌≡◌, suc, ◌+◌, ◌*◌, ◌≤◌, ◌<◌, false, length, take, drop, Ok, None};
+ghost use Rattle.std.specs.Option.{is_some};
+ghost use Rattle.stepping.specs.Bundles.{engines_of};
 ghost use Rattle.stepping.specs.Answers.{told};
-ghost use Rattle.keeper.specs.Answers.{is_river, index_or_all};
+ghost use Rattle.keeper.specs.Answers.{is_river};
 ghost use Rattle.keeper.specs.Game.{forces};
-ghost use Rattle.keeper.specs.Seeking.{side_of};
-ghost use Rattle.keeper.specs.Playing.{delivers_by, won_by, turned, Forced, First};
+ghost use Rattle.keeper.specs.Seeking.{side_of, Surveyed};
+ghost use Rattle.keeper.specs.Playing.{delivers_by, won_by, turned};
+ghost use Rattle.keeper.specs.Verdicts.{Judged, TriedAll};
 
 use crate::hope::lost;
 use crate::moves::{Mover, Side};
-use crate::seek::{Move, seek};
+use crate::seek::Search;
 use layout::kind::Kind;
-use layout::limit::LONGEST;
-use layout::number::wide;
+use layout::limit::{LONGEST, STANDARD};
+use layout::number::{wide, word};
+use noting::survey::survey;
+use skipping::pass::Noted;
 use stepping::answer::Accepted;
+use stepping::bundles::Engines;
 use stepping::serial::number;
+use stepping::steps::MANY;
 
 // What stays the same all through a game: the set of the keeper's engines, and the serial.
 #[derive(Clone, Copy)]
@@ -48,75 +56,120 @@ fn decides(side: Side, won: bool) -> bool
     }
 }
 
+// No, by whatever move.
+fn no() -> Verdict
+    ensures forced { result.forced ≡ false }
+    ensures decided { result.decided ≡ None }
+{
+    Verdict {
+        forced: false,
+        decided: None,
+    }
+}
+
+// With the keeper's last move: yes by a reply that is ready, or no.
+fn last(reply: Option<usize>) -> Verdict
+    ensures forced { result.forced ≡ is_some reply }
+    ensures decided { result.decided ≡ reply }
+{
+    Verdict {
+        forced: reply.is_some(),
+        decided: reply,
+    }
+}
+
 impl Game {
-    // After a step accepted, whose result begins behind the first configuration of the scratch; `side` is the one to move.
-    #[cycle(force_judged_tried)]
+    // After a step accepted, whose result the scratch begins with; `side` is the one to move.
+    #[cycle(force_judged_node_tried)]
     fn judged(self, scratch: &mut [u16], left: usize, side: Side, a: Accepted) -> bool
-        requires { (a.length ≤ 8192) × ((left + 2) * 8192 ≤ length scratch.old) }
-        ensures won { result ≡ won_by self.serial (forces self.engines self.serial left (side_of (is_river side))) (told (Ok a)) (take a.length (drop 8192 scratch.old)) }
-        ensures kept { take 8192 scratch.new ≡ take 8192 scratch.old }
+        requires { (a.length ≤ 8192) × ((left + 1) * 8192 ≤ length scratch.old) }
+        ensures { result ≡ won_by self.serial (forces self.engines self.serial left (side_of (is_river side))) (told (Ok a)) (take a.length scratch.old) }
     {
         if delivers(self.serial, a) {
             return !a.fault;
         }
-        self.force(&mut scratch[LONGEST..], wide(a.length), left, side)
-            .forced
+        let (here, rest) = scratch.split_at_mut(LONGEST);
+        let ws = &here[..wide(a.length)];
+        if lost(ws, self.serial, left) {
+            return false;
+        }
+        self.force(ws, rest, left, side).forced
     }
 
-    // The side has a move, of which `first` is the first, and `left` moves are left behind it: the keeper looks for one that wins, the river for one
-    // that does not.
-    #[cycle(force_judged_tried)]
-    fn tried(self, scratch: &mut [u16], len: usize, left: usize, side: Side, first: Move) -> Verdict
-        requires { (len ≤ 8192) × ((left + 2) * 8192 ≤ length scratch.old) × First self.engines (is_river side) len first.index (told (Ok first.accepted)) scratch.old }
-        ensures forced { Forced self.engines self.serial (suc left) (is_river side) (take len scratch.old) result.forced (index_or_all result.decided) }
-        ensures there { IfSome result.decided (λ i. i < 68719476736) }
-        ensures kept { take 8192 scratch.new ≡ take 8192 scratch.old }
+    // The moves of a side one after the other, with `left` moves left behind each: the keeper looks for one that wins, the river for one that does not.
+    // None if the side has no move.
+    #[cycle(force_judged_node_tried)]
+    fn tried(self, search: &Search, rest: &mut [u16], left: usize, side: Side) -> Option<Verdict>
+        requires { Surveyed search.now.noted.ws.now search.now.noted.notes.now (engines_of search.now.engines) × ((left + 1) * 8192 ≤ length rest.old) }
+        ensures { TriedAll self.engines self.serial left (is_river side) search.now.noted.ws.now result }
     {
         let mover = Mover {
             engines: self.engines,
             side,
         };
-        let mut next = Some(first);
-        while let Some(m) = next {
-            let won = self.judged(scratch, left, side.other(), m.accepted);
+        let mut from = 0;
+        while let Some(m) = search.scan(mover, from, &mut rest[..LONGEST]) {
+            let won = self.judged(rest, left, side.other(), m.accepted);
             if decides(side, won) {
-                return Verdict {
+                return Some(Verdict {
                     forced: won,
                     decided: Some(m.index),
-                };
+                });
             }
-            next = seek(scratch, len, mover, m.index + 1);
+            from = m.index + 1;
         }
-        Verdict {
+        if from == 0 {
+            return None;
+        }
+        Some(Verdict {
             forced: side == Side::River,
             decided: None,
-        }
+        })
     }
 
-    // Whether the keeper can force it with so many moves left, from the configuration that the scratch begins with.
-    #[cycle(force_judged_tried)]
-    pub fn force(self, scratch: &mut [u16], len: usize, left: usize, side: Side) -> Verdict
-        requires { (len ≤ 8192) × ((left + 1) * 8192 ≤ length scratch.old) }
-        ensures forced { Forced self.engines self.serial left (is_river side) (take len scratch.old) result.forced (index_or_all result.decided) }
-        ensures there { IfSome result.decided (λ i. i < 68719476736) }
-        ensures kept { take 8192 scratch.new ≡ take 8192 scratch.old }
+    // A position that was surveyed, with a side to move.
+    #[cycle(force_judged_node_tried)]
+    fn node(self, search: &Search, rest: &mut [u16], left: usize, side: Side) -> Verdict
+        requires { Surveyed search.now.noted.ws.now search.now.noted.notes.now (engines_of search.now.engines) × (left * 8192 ≤ length rest.old) }
+        ensures { Judged self.engines self.serial left (is_river side) search.now.noted.ws.now result }
     {
-        if lost(&scratch[..len], self.serial, left) {
-            return Verdict {
-                forced: false,
-                decided: None,
-            };
+        if left == 0 {
+            return no();
         }
-        let mover = Mover {
-            engines: self.engines,
-            side,
-        };
-        match seek(scratch, len, mover, 0) {
-            Some(first) => self.tried(scratch, len, left - 1, side, first),
+        if left == 1 && side == Side::Keeper {
+            let mover = Mover {
+                engines: self.engines,
+                side,
+            };
+            return last(search.reply(mover, self.serial));
+        }
+        match self.tried(search, rest, left - 1, side) {
+            Some(v) => v,
             None => Verdict {
-                forced: self.force(scratch, len, left - 1, side.other()).forced,
+                forced: self.node(search, rest, left - 1, side.other()).forced,
                 decided: None,
             },
         }
+    }
+
+    // Whether the keeper can force it with so many moves left, from a configuration's words on. Those that follow it are written into the rest, each
+    // 8,192 words behind the one it came from.
+    #[cycle(force_judged_node_tried)]
+    pub fn force(self, ws: &[u16], rest: &mut [u16], left: usize, side: Side) -> Verdict
+        requires { left * 8192 ≤ length rest.old }
+        ensures { Judged self.engines self.serial left (is_river side) ws.now result }
+    {
+        let mut notes = [0u16; MANY];
+        let Some(found) = survey(ws, STANDARD, &mut notes) else {
+            return no();
+        };
+        let search = Search {
+            noted: Noted { ws, notes: &notes },
+            engines: Engines {
+                found,
+                issued: word(ws, 1),
+            },
+        };
+        self.node(&search, rest, left, side)
     }
 }

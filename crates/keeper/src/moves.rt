@@ -6,7 +6,7 @@ ghost use Rattle.keeper.specs.Game.{kept, of_side};
 ghost use Rattle.keeper.specs.Moves.{numbers_at, past_of};
 ghost use Rattle.keeper.specs.Seeking.{side_of};
 
-use layout::number::wide;
+use layout::number::{wide, word_of};
 use stepping::bundles::Numbers;
 
 // Keeper and river move in turn.
@@ -43,11 +43,11 @@ pub fn numbers_at(i: usize) -> Numbers
     ensures { result ≡ numbers_at i }
 {
     Numbers {
-        engine: (i / ENGINE % 8) as u16,
-        position: (i / POSITION % 8192) as u16,
-        second: (i / SECOND % 8) as u16,
-        second_position: (i / PLACE % 8192) as u16,
-        branch: (i % PLACE) as u16,
+        engine: word_of(i / ENGINE % 8),
+        position: word_of(i / POSITION % 8192),
+        second: word_of(i / SECOND % 8),
+        second_position: word_of(i / PLACE % 8192),
+        branch: word_of(i % PLACE),
     }
 }
 

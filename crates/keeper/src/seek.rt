@@ -7,21 +7,19 @@ ghost use Rattle.stepping.specs.Answering.{refusing};
 ghost use Rattle.stepping.specs.Bundles.{engines_of};
 ghost use Rattle.keeper.specs.Answers.{is_river, index_in, answer_in};
 ghost use Rattle.keeper.specs.Moves.{past_of};
-ghost use Rattle.keeper.specs.Seeking.{side_of, place_w, Surveyed, There, Here, Sends, Received, Tried, Looked, Scanned, Sought};
+ghost use Rattle.keeper.specs.Seeking.{side_of, place_w, Surveyed, There, Here, Sends, Received, Tried, Looked, Scanned};
 
 use crate::glance::{acts, behind, hears, meant};
 use crate::moves::{COUNT, ENGINE, Mover, PLACE, POSITION, SECOND, numbers_at, past};
 use finding::find::{Found, Site, locate};
 use layout::kind::Kind;
-use layout::limit::{FUEL, LONGEST, STANDARD};
+use layout::limit::{FUEL, STANDARD};
 use layout::number::{further, wide, word};
 use layout::refusal::Refusal;
-use noting::survey::survey;
 use skipping::pass::Noted;
 use stepping::answer::Accepted;
 use stepping::bundles::{Engines, Numbers};
-use stepping::steps::{MANY, Way, moves, moving};
-use writers::write::copy;
+use stepping::steps::{Way, moves, moving};
 
 // What the step answers where it was tried, or why it was not; and where to go on.
 #[derive(Clone, Copy)]
@@ -49,7 +47,7 @@ pub struct Move {
     pub accepted: Accepted,
 }
 
-// What stays the same through the search of a position: its words with their notes, and its engines.
+// What stays the same through the search of a position, from its one survey: its words with their notes, and its engines.
 #[derive(Clone, Copy)]
 pub struct Search<'a> {
     pub noted: Noted<'a>,
@@ -172,7 +170,7 @@ impl<'a> Search<'a> {
     }
 
     // The first move of a side from one number on.
-    fn scan(&self, mover: Mover, from: usize, out: &mut [u16]) -> Option<Move>
+    pub fn scan(&self, mover: Mover, from: usize, out: &mut [u16]) -> Option<Move>
         requires { Surveyed self.now.noted.ws.now self.now.noted.notes.now (engines_of self.now.engines) × (length out.old ≡ 8192) }
         ensures scanned { Scanned mover.engines (side_of (is_river mover.side)) self.now.noted.ws.now from (index_in result) (answer_in result) out.new }
         ensures there { IfSome result (λ m. m.index < 68719476736) }
@@ -187,34 +185,4 @@ impl<'a> Search<'a> {
         }
         None
     }
-}
-
-// The same from the words alone.
-fn first_from(ws: &[u16], mover: Mover, from: usize, out: &mut [u16]) -> Option<Move>
-    requires { length out.old ≡ 8192 }
-    ensures scanned { Scanned mover.engines (side_of (is_river mover.side)) ws.now from (index_in result) (answer_in result) out.new }
-    ensures there { IfSome result (λ m. m.index < 68719476736) }
-{
-    let mut notes = [0u16; MANY];
-    let found = survey(ws, STANDARD, &mut notes)?;
-    let search = Search {
-        noted: Noted { ws, notes: &notes },
-        engines: Engines {
-            found,
-            issued: word(ws, 1),
-        },
-    };
-    search.scan(mover, from, out)
-}
-
-// The same for the configuration that the scratch begins with; that of the result begins 8,192 words further on.
-pub fn seek(scratch: &mut [u16], len: usize, mover: Mover, from: usize) -> Option<Move>
-    requires { (len ≤ 8192) × (16384 ≤ length scratch.old) }
-    ensures sought { Sought mover.engines (side_of (is_river mover.side)) scratch.old len from (index_in result) (answer_in result) scratch.new }
-    ensures there { IfSome result (λ m. m.index < 68719476736) }
-{
-    let mut out = [0u16; LONGEST];
-    let m = first_from(&scratch[..len], mover, from, &mut out)?;
-    copy(&out, 0, wide(m.accepted.length), scratch, LONGEST);
-    Some(m)
 }
