@@ -73,6 +73,7 @@ extern "C" {
 #define SOCK_STACK 262144
 #define SOCK_STACK_SMALL 114688
 #define SOCK_STACK_PLAN 307200
+#define SOCK_STACK_KEEPER 409600
 
 /* What a call answers: a result (0), or why there is none. */
 enum sock_number {

@@ -3,17 +3,21 @@
 //! runs, also such as no run gives, and damaged ones; each refusal and their order; document 01's worked case; and
 //! guard pages around all that is lent.
 
+use library::exported;
 use library::guard::{Edge, Guarded};
 use library::input::Source;
 use library::keeper::{Asked, Keepers, ENOUGH};
-use library::memory::{Memory, Plain};
+use library::memory::{Lent, Memory, Plain};
+use reference::build;
 use reference::bytes::from_words;
 use reference::configuration::Configuration;
 use reference::generate::games::game;
 use reference::generate::random::Random;
 use reference::generate::run::{Run, ORIGINS};
-use reference::keeper::{step, Outcome};
+use reference::keeper::{moves, step, unpack, Outcome, Packed, Side};
+use reference::process::Part;
 use reference::{readable, write, Numbers, STANDARD};
+use std::time::{Duration, Instant};
 
 /// Words of scratch that are too few.
 const SHORT: [usize; 3] = [0, 8192, ENOUGH - 1];
@@ -151,6 +155,115 @@ fn the_worked_case() {
         assert_eq!(ask(0b01, k).outcome.outcome, if k == 1 { 0 } else { 2 });
     }
     assert_eq!(ask(0b11, 0).outcome, Outcome::default());
+}
+
+/// A scope whose body is so many assigns beside each other, and the end if one is given: the game's size.
+fn busy(count: u8, end: Option<Part>) -> Part {
+    let assign = |x: u8| build::assign(x, build::constant(7));
+    let rest = (1..count).fold(assign(0), |rest, x| build::par(assign(x), rest));
+    build::scope(1, end.map_or(rest.clone(), |end| build::par(end, rest)))
+}
+
+/// What the library alone answers.
+fn asked(configuration: &Configuration, engines: u8, k: u16) -> Packed {
+    let mut config = from_words(&write::configuration(configuration));
+    let mut scratch = vec![0u8; 2 * ENOUGH];
+    let lend = |bytes: &mut [u8]| Lent { start: bytes.as_mut_ptr(), length: bytes.len() };
+    let bits = exported::keeper(lend(&mut config), engines, 1, k, lend(&mut scratch));
+    unpack(bits).expect("zero bits are 0")
+}
+
+/// Ends that do not name each other are a no at once: by engine, by operation, or by either of two. The game would have 40 moves a turn, and six turns.
+#[test]
+fn ends_apart() {
+    let waits = |o, server| build::waiter(o, 0, false, server, 1, build::list([]));
+    let works = |o, client| build::executor(o, 0, client, 1, build::one_way(9, 0));
+    let fault = |o, client| build::notice(o, 5, client, 1);
+    let sets: [[Option<Part>; 4]; 6] = [
+        [Some(waits(1, 1)), Some(works(1, 2)), None, None],
+        [Some(waits(1, 2)), Some(works(1, 0)), None, None],
+        [Some(waits(1, 1)), Some(works(2, 0)), None, None],
+        [Some(waits(1, 1)), Some(fault(1, 2)), Some(works(1, 3)), None],
+        [Some(waits(1, 2)), Some(works(1, 3)), Some(works(1, 3)), Some(waits(1, 0))],
+        [
+            Some(build::par(waits(1, 1), works(1, 1))),
+            Some(build::par(waits(2, 0), works(3, 0))),
+            None,
+            None,
+        ],
+    ];
+    for (at, ends) in sets.into_iter().enumerate() {
+        let named = ends.into_iter().map(|end| busy(20, end)).collect();
+        let configuration = build::configuration(1, named);
+        let words = write::configuration(&configuration);
+        assert!(readable::read(&STANDARD, &words).is_some(), "set {at}");
+        assert_eq!(moves(&words, 0b0011, Side::Keeper).len(), 40);
+        let start = Instant::now();
+        for engines in [0, 0b0011, 0b0101, 0b1111] {
+            assert_eq!(asked(&configuration, engines, 6).outcome, Outcome::default(), "set {at}");
+        }
+        let took = start.elapsed();
+        assert!(took < Duration::from_millis(200), "set {at} took {took:?}");
+    }
+}
+
+/// The keeper's last move: a reply that is ready is his, whoever waits for it; and such that only look ready.
+#[test]
+fn the_last_move() {
+    let mut keepers = keepers();
+    keepers.source.class = "last move";
+    let list = || build::list([]);
+    let waits = |o, x: &[u8], dead, server| build::waiter(o, x.to_vec(), dead, server, 1, list());
+    let works = |o, y: &[u8], client, body| build::executor(o, y.to_vec(), client, 1, body);
+    let nil = build::nil;
+    let work = || build::assign(9, build::constant(7));
+    let later = |end| build::seq(work(), end);
+    let cases: [(Part, Part, Part, u8); 12] = [
+        // Ready, its waiter live or dead, alone or beside others.
+        (waits(1, &[2], false, 1), works(1, &[1], 0, nil()), nil(), 1),
+        (waits(1, &[2], true, 1), works(1, &[1], 0, nil()), nil(), 1),
+        (waits(1, &[2, 3], false, 1), works(1, &[4, 1], 0, nil()), nil(), 1),
+        (
+            build::par(work(), waits(1, &[2], false, 1)),
+            build::par(work(), works(1, &[1], 0, nil())),
+            work(),
+            1,
+        ),
+        (
+            build::par(waits(2, &[2], false, 1), waits(1, &[2], false, 1)),
+            works(1, &[1], 0, nil()),
+            nil(),
+            1,
+        ),
+        // Counts that differ, another operation, work left, a waiter that names another engine or stands in one that is not named.
+        (waits(1, &[2, 3], false, 1), works(1, &[1], 0, nil()), nil(), 0),
+        (waits(2, &[2], false, 1), works(1, &[1], 0, nil()), nil(), 0),
+        (waits(1, &[2], false, 1), works(1, &[1], 0, work()), nil(), 0),
+        (waits(1, &[2], false, 2), works(1, &[1], 0, nil()), nil(), 0),
+        (work(), works(1, &[1], 0, nil()), waits(1, &[2], false, 1), 0),
+        // Nothing but a fault; and beside it a reply that no waiter names.
+        (waits(1, &[2], false, 1), build::notice(1, 5, 0, 1), nil(), 0),
+        (waits(1, &[2], false, 1), build::notice(1, 5, 0, 1), works(1, &[1], 0, nil()), 0),
+    ];
+    for (at, (client, server, other, yes)) in cases.into_iter().enumerate() {
+        let roots = [client, server, other].map(|body| build::scope(1, body));
+        let configuration = build::configuration(1, roots.to_vec());
+        let config = from_words(&write::configuration(&configuration));
+        for engines in 0..8 {
+            let asked = Asked { engines, serial: 1, k: 1, scratch: ENOUGH };
+            let packed = keepers.keeper(&config, asked).expect("one move");
+            let expected = if engines & 0b010 == 0 { 0 } else { yes };
+            assert_eq!((packed.outcome.number, packed.outcome.outcome), (0, expected), "case {at}");
+            if expected == 1 {
+                assert_eq!((packed.numbers.engine, packed.numbers.branch), (1, 0), "case {at}");
+            }
+            every_k(&mut keepers, &config, engines, 1);
+        }
+    }
+    // An executor that is not enabled is none.
+    let roots = [waits(1, &[2], false, 1), nil(), later(nil())].map(|body| build::scope(1, body));
+    let configuration = build::configuration(1, roots.to_vec());
+    assert_eq!(asked(&configuration, 0b111, 1).outcome, Outcome::default());
 }
 
 /// 1, then 12, then 23, then 10: each with all that are later.

@@ -1,7 +1,8 @@
 //! The stack that each call needs: on configurations that are deep and long at once, every call is
 //! made on a painted stack (the bill and the window, which read none, on the most they take), and the
 //! most that one used stays below three quarters of what `include/sock.h` promises to be enough; the
-//! small cabinet's calls have a promise of their own, and so has the call that translates. The answers are the second implementation's.
+//! small cabinet's calls have a promise of their own, and so have the call that translates and the one that plays. The answers are the second
+//! implementation's.
 
 use library::cabinet::Cabinet;
 use library::counts::ACTORS;
@@ -155,14 +156,17 @@ impl Most {
         laid >> 56
     }
 
-    /// The longest game, in which the keeper has no engine and passes and the river's first move decides, so that it goes down to the
-    /// last move; and one move of a keeper who has all engines. Two engines more have the ends of serial 1, or nothing would be played.
+    /// The longest game, in which the river's first move decides, so that it goes down to the last move: with a keeper who has no engine and
+    /// passes, and with one who has one move each time, so that a position of each move is on the stack; and one move of a keeper who has all
+    /// engines. Two engines more have the ends of serial 1, or nothing would be played, and a third the keeper's moves.
     fn keeper(&mut self, shape: &str, configuration: &Configuration) {
         let mut played = configuration.clone();
         let count = played.engines.len() as u8;
         let waits = build::waiter(1, 1, false, count + 1, 1, build::list([]));
         let works = build::executor(1, 1, count, 1, build::nil());
-        for end in [waits, works] {
+        let assign = || build::assign(1, build::constant(7));
+        let moves = (0..4).fold(assign(), |rest, _| build::seq(assign(), rest));
+        for end in [waits, works, moves] {
             played.engines.push(Engine { values: [0; 32], process: build::scope(1, end) });
         }
         played.issued = played.issued.max(1);
@@ -170,7 +174,7 @@ impl Most {
         let lent = Lent { start: config.as_ptr().cast_mut(), length: config.len() };
         let mut words = vec![7u8; 2 * SCRATCH];
         let scratch = lend(&mut words);
-        for (engines, k) in [(0, 6), (0xff, 1)] {
+        for (engines, k) in [(0, 6), (4 << count, 6), (0xff, 1)] {
             let played =
                 self.call("sock_keeper", shape, || exported::keeper(lent, engines, 1, k, scratch));
             let expected = sock_keeper(&config, Game::new(engines, 1, 1), 0, SCRATCH);
@@ -294,6 +298,7 @@ impl Most {
         for (call, (used, shape)) in &self.used {
             let enough = match *call {
                 "sock_translate" => self::promised("SOCK_STACK_PLAN"),
+                "sock_keeper" => self::promised("SOCK_STACK_KEEPER"),
                 _ => promised,
             };
             assert!(4 * used <= 3 * enough, "{call} used {used} bytes of stack ({shape})");
