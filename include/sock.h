@@ -26,7 +26,8 @@
  * calls may read one configuration at the same time; nobody may write to it, or touch an output, until the call has returned.
  *
  * Stack. A call needs at most SOCK_STACK bytes, one that ends in _small at most SOCK_STACK_SMALL, on the stack of its thread or of the signal
- * handler (sigaltstack). sock_translate, which is for the planning office and not for a cabinet, needs more: at most SOCK_STACK_PLAN.
+ * handler (sigaltstack). Two need more: sock_translate, which is for the planning office and not for a cabinet, at most SOCK_STACK_PLAN, and
+ * sock_keeper at most SOCK_STACK_KEEPER.
  */
 #ifndef SOCK_H
 #define SOCK_H
@@ -68,8 +69,8 @@ extern "C" {
 #define SOCK_WINDOW_WORDS (SOCK_OPERATIONS + 1 + SOCK_WINDOW_WIDEST)
 #define SOCK_WINDOW_BYTES (2 * SOCK_WINDOW_WORDS)
 
-/* Bytes of stack that are enough for any call but sock_translate, for any of the swing bridge cabinet's, and for sock_translate. The most that
- * a call was seen to use is below three quarters of it, which is tested. */
+/* Bytes of stack that are enough for any call but the two that follow, for any of the swing bridge cabinet's, for sock_translate, and for
+ * sock_keeper. The most that a call was seen to use is below three quarters of it, which is tested. */
 #define SOCK_STACK 262144
 #define SOCK_STACK_SMALL 114688
 #define SOCK_STACK_PLAN 307200
@@ -402,7 +403,7 @@ static inline struct sock_plan_answer sock_lay_out(const uint8_t *config, size_t
  * Keeper and river move in turn, the keeper first. A move is any step accepted with SOCK_WORDS words of output whose first engine is of the mover's
  * side; a side without one passes, which counts. The answer is yes exactly if the keeper can force, for every play of the river, that the
  * serial is delivered within `k` moves (0 to SOCK_KEEPER_MOVES), the first time by a reply and not a fault. A yes shows one first move, or a pass,
- * that keeps this; k 0 is a no, and so is a serial whose ends are gone. A yes within k moves is a yes within k + 1.
+ * that keeps this; k 0 is a no, and so is a serial whose ends are gone or do not name each other. A yes within k moves is a yes within k + 1.
  *
  * Bit e of `engines` is 1 where engine e is the keeper's; all others are the river's. `scratch` has SOCK_KEEPER_BYTES at least, half of them in
  * words, and begins where a uint16_t may (malloc's memory does, and an array of uint16_t); it must not overlap the configuration. What it holds

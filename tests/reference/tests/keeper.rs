@@ -1,7 +1,8 @@
 //! Document 02, m: keeper against the river on document 01's worked case, and the refusals in their order.
 
 use reference::keeper::{keeper, step, Game, Outcome, Side, SCRATCH};
-use reference::Numbers;
+use reference::process::Part;
+use reference::{build, write, Numbers};
 
 /// After the solicit: engine 0 waits for serial 1, engine 1 has its executor with nothing left to run.
 fn waiting() -> Vec<u16> {
@@ -47,4 +48,41 @@ fn refusals_in_their_order() {
     assert_eq!(number(&words, 1, 7, 0), refused(23));
     assert_eq!(number(&words, 1, 6, SCRATCH - 1), refused(10));
     assert_eq!(number(&words, 1, 0, SCRATCH), refused(0));
+}
+
+/// The executor names another engine than the waiter's, or the waiter another than the executor's, or the waiter stands in a third: never a yes.
+#[test]
+fn ends_that_do_not_name_each_other() {
+    let waits = |server| build::scope(1, build::waiter(1, 2, false, server, 1, build::list([])));
+    let works = |client| build::scope(1, build::executor(1, 1, client, 1, build::nil()));
+    let three = |roots: [Part; 3]| write::configuration(&build::configuration(1, roots.to_vec()));
+    let apart = [
+        three([waits(1), works(2), build::nil()]),
+        three([waits(2), works(0), build::nil()]),
+        three([build::nil(), works(0), waits(1)]),
+    ];
+    for words in &apart {
+        for engines in 0..8 {
+            assert!((0..=6).all(|k| outcome(words, engines, 1, k) == 0));
+        }
+    }
+    assert_eq!(outcome(&three([waits(1), works(0), build::nil()]), 0b010, 1, 1), 1);
+}
+
+/// With one move a reply needs a nil body, its waiter, and as many variables.
+#[test]
+fn the_last_move() {
+    let play = |waiter, executor| {
+        let roots = vec![build::scope(1, waiter), build::scope(1, executor)];
+        let words = write::configuration(&build::configuration(1, roots));
+        [0b01, 0b10].map(|engines| outcome(&words, engines, 1, 1))
+    };
+    let waits = |x: Vec<u8>, dead| build::waiter(1, x, dead, 1, 1, build::list([]));
+    let works = |y: Vec<u8>, body| build::executor(1, y, 0, 1, body);
+    let work = || build::assign(3, build::constant(7));
+    assert_eq!(play(waits(vec![2], false), works(vec![1], build::nil())), [0, 1]);
+    assert_eq!(play(waits(vec![2], true), works(vec![1], build::nil())), [0, 1]);
+    assert_eq!(play(waits(vec![2, 3], false), works(vec![1], build::nil())), [0, 0]);
+    assert_eq!(play(waits(vec![2], false), works(vec![1], work())), [0, 0]);
+    assert_eq!(play(waits(vec![2], false), build::notice(1, 5, 0, 1)), [0, 0]);
 }
