@@ -39,13 +39,6 @@ never engines serial k ws v z e t =
     let q : ◌≡◌ {A = ℕ} 0 1 = cc in
     omega arith
 
--- a position that is lost
-pub said_lost : (engines serial k : ℕ) (ws : List ℕ) (left : ℕ) → left ≡ k → forces engines serial left keeper ws ≡ false → 0 ≡ outcome_of engines serial k ws
-unfolding outcome_of
-said_lost engines serial k ws left same lost =
-    let z : forces engines serial k keeper ws ≡ false = ap (λ (n : ℕ). forces engines serial n keeper ws) (sym same) ∙ lost in
-    rw z
-
 module _ (engines serial k : ℕ) (ws : List ℕ) (left : ℕ) (all_moves : left ≡ k) (v : Bool) where
   there : (i : ℕ) → Forced engines serial left false ws v i → Forced engines serial k false ws v i
   there i f = subst (λ (m : ℕ). Forced engines serial m false ws v i) all_moves f

@@ -33,9 +33,6 @@ fn play(ws: &[u16], game: Game, k: u16, scratch: &mut [u16]) -> Outcome
     ensures decided { outcome_number result ≡ outcome_of game.engines game.serial k ws.now }
     ensures shown { Showing game.engines game.serial k ws.now (outcome_number result) (move_of result) }
 {
-    if lost(ws, game.serial, wide(k)) {
-        return Outcome::No;
-    }
     let v = game.force(ws, scratch, wide(k), Side::Keeper);
     if !v.forced {
         return Outcome::No;
@@ -76,6 +73,9 @@ pub fn keeper(
         return Err(Plain::OutputShort.into());
     }
     if gone(e) {
+        return Ok(Outcome::No);
+    }
+    if lost(ws, serial, wide(k)) {
         return Ok(Outcome::No);
     }
     if apart(ws, serial) {

@@ -6,7 +6,8 @@ use Rattle.std.proofs.lemmas.Result.{err_from_is_err_and}
 use Rattle.sock.specs.Calls.{Ends}
 use Rattle.layout.proofs.Refusing.{some_number}
 use Rattle.keeper.specs.Answers.{refusal_number, number_in, outcome_in}
-use Rattle.keeper.specs.Game.{keeper}
+use Prim.Native.Nat.{ℕ}
+use Rattle.keeper.specs.Game.{keeper, forces}
 use Rattle.keeper.proofs.Answering.{lost_at_once, number_first, number_moves, number_short, number_none, words_short, outcome_none, outcome_played, given_up}
 use Rattle.keeper.proofs.calls.keeper.Goals as goal
 
@@ -48,6 +49,15 @@ returns-then-gone-clause-numbered c =
 pub returns-then-gone-clause-decided : goal.returns-then-gone-clause-decided
 returns-then-gone-clause-decided c =
     given_up c.args.ws.now c.args.engines c.args.serial c.args.k (length c.args.scratch.now) c.in_ok-e.e c.in_ok-e.ensures c.if-k-gt-MOVES.false c.if-scratch-lt-SCRATCH.false (sym c.gone.ensures ∙ c.if-gone.true)
+
+pub returns-then-lost-clause-numbered : goal.returns-then-lost-clause-numbered
+returns-then-lost-clause-numbered c =
+    number_none c.args.ws.now c.args.serial 0 (ap (λ (y : Ends). y.number) c.in_ok-e.ensures) c.args.k (length c.args.scratch.now) refl c.if-k-gt-MOVES.false c.if-scratch-lt-SCRATCH.false
+
+pub returns-then-lost-clause-decided : goal.returns-then-lost-clause-decided
+returns-then-lost-clause-decided c =
+    lost_at_once c.args.ws.now c.args.engines c.args.serial c.args.k (length c.args.scratch.now) (ap (λ (y : Ends). y.number) c.in_ok-e.ensures) c.if-k-gt-MOVES.false c.if-scratch-lt-SCRATCH.false
+    (ap (λ (n : ℕ). forces c.args.engines c.args.serial n keeper c.args.ws.now) (sym c.wide.ensures.0) ∙ c.lost.ensures.none c.if-lost.true c.args.engines keeper)
 
 pub returns-then-apart-clause-numbered : goal.returns-then-apart-clause-numbered
 returns-then-apart-clause-numbered c =
