@@ -217,7 +217,6 @@ fn the_last_move() {
     let works = |o, y: &[u8], client, body| build::executor(o, y.to_vec(), client, 1, body);
     let nil = build::nil;
     let work = || build::assign(9, build::constant(7));
-    let later = |end| build::seq(work(), end);
     let cases: [(Part, Part, Part, u8); 12] = [
         // Ready, its waiter live or dead, alone or beside others.
         (waits(1, &[2], false, 1), works(1, &[1], 0, nil()), nil(), 1),
@@ -260,10 +259,6 @@ fn the_last_move() {
             every_k(&mut keepers, &config, engines, 1);
         }
     }
-    // An executor that is not enabled is none.
-    let roots = [waits(1, &[2], false, 1), nil(), later(nil())].map(|body| build::scope(1, body));
-    let configuration = build::configuration(1, roots.to_vec());
-    assert_eq!(asked(&configuration, 0b111, 1).outcome, Outcome::default());
 }
 
 /// 1, then 12, then 23, then 10: each with all that are later.
