@@ -4,17 +4,14 @@ use Prim.Native.Nat.{ℕ, zero, suc, ◌*◌, ◌≤◌, ◌<◌}
 use native.Mathlib.Omega.{arith}
 use native.Mathlib.Decide.{ℕ_discrete}
 use mathlib.Core.Path.{◌≡◌, refl, sym, subst, ap, ◌∙◌}
-use mathlib.Core.Bool.{Bool, true, false, ◌&&◌, cond}
-use mathlib.Core.Option.{Option, none, some}
+use mathlib.Core.Bool.{Bool, true, false, cond}
 use mathlib.Core.List.{List}
 use borrow.Author.Tests.{eq-eqb, ne_eqb, le-leb, lt-leb}
 use mathlib.Core.Logic.{◌⊎◌, inl, inr}
-use lib.Dec.{T, leb, ltb, eqb→eq}
-use lib.ListN.{length}
-use Rattle.sock.specs.Configuration.{standard, Config, read_config}
-use Rattle.sock.specs.Calls.{Result, refused, done, Ends, unreadable, unknown_serial, ◌>>=◌, ◌>>◌, ◌!◌, ◌unless◌, known, counted, ends}
+use lib.Dec.{T, leb, eqb→eq}
+use Rattle.sock.specs.Configuration.{standard, Config}
+use Rattle.sock.specs.Calls.{Result, refused, done, Ends, known, counted, ends}
 use Rattle.sock.proofs.Logic.{and_left, and_right, true_test}
-use Rattle.sock.proofs.Configuration.{config_found}
 use Rattle.stepping.specs.declared.bundles.Numbers.{Numbers}
 use Rattle.stepping.specs.Bundles.{numbers_as}
 use Rattle.std.specs.Prelude.{Option as Maybe, Some, IfSome}
@@ -117,17 +114,6 @@ module _ (ws : List ℕ) (serial : ℕ) (n : ℕ) (asked : n ≡ (ends standard 
 
   pub number_none : (k room : ℕ) → n ≡ 0 → k ≤ 6 → 57344 ≤ room → 0 ≡ keeper_number ws serial k room
   number_none k room z h u = passing k room 0 z (rw (le-leb k 6 h, le-leb 57344 room u))
-
-  -- what is readable is short
-  pub words_short : n ≡ 0 → length ws ≤ 8192
-  unfolding ends known counted ◌>>=◌ ◌!◌
-  words_short z = by (read_config standard ws) refl asked
-    where
-      by :
-          (o : Option Config) → read_config standard ws ≡ o →
-          n ≡ (counted serial ((unreadable ! o) >>= λ c. ◌>>◌ (unknown_serial unless (ltb 0 serial && leb serial c.issued)) (done c))).number → length ws ≤ 8192
-      by none q e = absurd (omega (arith, e, z))
-      by (some c) q e = let (same, r) = config_found standard ws c q in omega (arith, ap length same, r.short)
 
 -- a refusal
 module _ (ws : List ℕ) (engines serial k room m : ℕ) (e : m ≡ keeper_number ws serial k room) where

@@ -27,9 +27,9 @@ pub enum Outcome {
     ByPass,
 }
 
-// The game, of what is readable and within limits.
+// The game, within limits.
 fn play(ws: &[u16], game: Game, k: u16, scratch: &mut [u16]) -> Outcome
-    requires { (length ws.now ≤ 8192) × (k ≤ 6) × (57344 ≤ length scratch.old) }
+    requires { (k ≤ 6) × (57344 ≤ length scratch.old) }
     ensures decided { outcome_number result ≡ outcome_of game.engines game.serial k ws.now }
     ensures shown { Showing game.engines game.serial k ws.now (outcome_number result) (move_of result) }
 {

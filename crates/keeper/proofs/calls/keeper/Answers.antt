@@ -8,7 +8,7 @@ use Rattle.layout.proofs.Refusing.{some_number}
 use Rattle.keeper.specs.Answers.{refusal_number, number_in, outcome_in}
 use Prim.Native.Nat.{ℕ}
 use Rattle.keeper.specs.Game.{keeper, forces}
-use Rattle.keeper.proofs.Answering.{lost_at_once, number_first, number_moves, number_short, number_none, words_short, outcome_none, outcome_played, given_up}
+use Rattle.keeper.proofs.Answering.{lost_at_once, number_first, number_moves, number_short, number_none, outcome_none, outcome_played, given_up}
 use Rattle.keeper.proofs.calls.keeper.Goals as goal
 
 pub returns-in_err-e-clause-numbered : goal.returns-in_err-e-clause-numbered
@@ -67,9 +67,6 @@ pub returns-then-apart-clause-decided : goal.returns-then-apart-clause-decided
 returns-then-apart-clause-decided c =
     lost_at_once c.args.ws.now c.args.engines c.args.serial c.args.k (length c.args.scratch.now) (ap (λ (y : Ends). y.number) c.in_ok-e.ensures) c.if-k-gt-MOVES.false c.if-scratch-lt-SCRATCH.false
     (c.apart.ensures c.if-apart.true (sym (ap (λ (y : Ends). y.number) c.in_ok-e.ensures)) c.args.engines c.args.k keeper)
-
-pub play-requires : goal.play-requires
-play-requires c = (words_short c.args.ws.now c.args.serial 0 (ap (λ (y : Ends). y.number) c.in_ok-e.ensures) refl, c.if-k-gt-MOVES.false, c.if-scratch-lt-SCRATCH.false)
 
 pub returns-clause-numbered : goal.returns-clause-numbered
 returns-clause-numbered c =
