@@ -106,29 +106,24 @@ module _ (limits : Limits) (most : ℕ) (all : limits.longest ≤ most) (bytes :
   unfolding byte_output
   large_output = ap (λ (y : Result Stepped). bytes_after y out) whole
 
--- with scratch for a short configuration
-short_step :
-    (bytes : List ℕ) → length bytes ≤ 1024 → (k : Numbers) (room : ℕ) → step standard (held 512 bytes) k room ≡ byte_step standard bytes k room
-short_step bytes short k room = step_words_in standard bytes (held 512 bytes) (held_short 512 bytes (omega arith)) k room
-
--- a step in a short room that is not refused for that
-module _ (bytes : List ℕ) (short : length bytes ≤ 1024) (k : Numbers) (out : List ℕ) (a : Answer)
-    (q : a ≡ answer_of (step standard (held 512 bytes) k (room_of 1024 (length out)))) where
+-- a step in scratch for so many words, as the configuration has at most, and for a result of `most`, that is not refused for that
+module _ (words most : ℕ) (bytes : List ℕ) (fits : length bytes ≤ words * 2) (k : Numbers) (out : List ℕ) (a : Answer)
+    (q : a ≡ answer_of (step standard (held words bytes) k (room_of most (length out)))) where
   abbrev tried : Result Stepped
-  tried = byte_step standard bytes k (room_of 1024 (length out))
+  tried = byte_step standard bytes k (room_of most (length out))
 
-  tried_is : step standard (held 512 bytes) k (room_of 1024 (length out)) ≡ tried
-  tried_is = short_step bytes short k (room_of 1024 (length out))
+  tried_is : step standard (held words bytes) k (room_of most (length out)) ≡ tried
+  tried_is = step_words_in standard bytes (held words bytes) (held_short words bytes fits) k (room_of most (length out))
 
   p : a ≡ answer_of tried
   p = q ∙ ap (λ (x : Result Stepped). answer_of x) tried_is
 
-  agree : Agree 8192 (room_of 1024 (length out)) (length out / 2) tried (byte_step standard bytes k (length out / 2))
+  agree : Agree 8192 (room_of most (length out)) (length out / 2) tried (byte_step standard bytes k (length out / 2))
   unfolding byte_step
   agree =
-      let below = room_below 1024 (length out) in
-      bind_agrees standard (room_of 1024 (length out)) (length out / 2) below (unreadable ! words_of bytes) _ _
-      λ us. step_agrees standard (room_of 1024 (length out)) (length out / 2) below us k
+      let below = room_below most (length out) in
+      bind_agrees standard (room_of most (length out)) (length out / 2) below (unreadable ! words_of bytes) _ _
+      λ us. step_agrees standard (room_of most (length out)) (length out / 2) below us k
 
   its_number : a.number ≡ (answer_of tried).number
   its_number = ap (λ (b : Answer). b.number) p
@@ -140,10 +135,10 @@ module _ (bytes : List ℕ) (short : length bytes ≤ 1024) (k : Numbers) (out :
   unfolding byte_answer
   small_answer n = ap packed_as p ∙ packed_as_lem tried ∙ ap (λ (x : Result Stepped). packed (answer_of x)) (same n)
 
-  pub small_output : (a.number ≡ 10 → ⊥) → bytes_after (step standard (held 512 bytes) k (room_of 1024 (length out))) out ≡ byte_output standard bytes k out
+  pub small_output : (a.number ≡ 10 → ⊥) → bytes_after (step standard (held words bytes) k (room_of most (length out))) out ≡ byte_output standard bytes k out
   unfolding byte_output
   small_output n = ap (λ (x : Result Stepped). bytes_after x out) (tried_is ∙ same n)
 
   -- refused, it has changed no byte
-  pub small_keeps : a.number ≡ 10 → bytes_after (step standard (held 512 bytes) k (room_of 1024 (length out))) out ≡ out
+  pub small_keeps : a.number ≡ 10 → bytes_after (step standard (held words bytes) k (room_of most (length out))) out ≡ out
   small_keeps e = ap (λ (x : Result Stepped). bytes_after x out) tried_is ∙ sym (bytes_refused tried (omega (arith, its_number, e)) out)

@@ -23,6 +23,17 @@ pub const TWICE: usize = 2 * SHORT;
 
 pub const SHORT_BYTES: usize = 2 * SHORT;
 
+// The words of a configuration of middle length, its bytes, and the notes and words of a result in the middle scratch. An eighth more than the longest of
+// the small cabinet, so that those of about 2,000 words are among them; notes twice as many, as for every scratch; a third more for the result, since what
+// a step adds to a long configuration is small beside it, and each word of room is a word to zero.
+const MIDDLE: usize = 2304;
+
+const MIDDLE_BYTES: usize = 2 * MIDDLE;
+
+const MIDDLE_NOTES: usize = 2 * MIDDLE;
+
+const MIDDLE_RESULT: usize = 3072;
+
 // The bytes of the words, over the output.
 #[tactic(auto, using(crate::proofs::Spreading::spread_none, crate::proofs::Spreading::spread_turn, crate::proofs::Spreading::spread_end))]
 pub fn spread(words: &[u16], out: &mut [u8])
@@ -62,7 +73,9 @@ pub fn written<const NOTES: usize>(
     Ok(a)
 }
 
-// The step with scratch for so many words of a configuration, so many notes and so many words of a result.
+// The step with scratch for so many words of a configuration, so many notes and so many words of a result. The scratch is left when it returns,
+// so it is not inlined: a second try would begin below it.
+#[inline(never)]
 pub fn step_in<const WORDS: usize, const NOTES: usize, const RESULT: usize>(
     k: Numbers,
     m: Modest,
@@ -86,18 +99,32 @@ fn large(k: Numbers, config: &[u8], out: &mut [u8]) -> u64
     pack(step_in::<LONGEST, MANY, LONGEST>(k, STANDARD, config, out))
 }
 
-// Step: from the top, the number, kind and fault in 8 bits each, 8 zero, serial and length in 16 each. A refusal changes no byte.
-// A long scratch would take most of a short configuration's time, so that is first tried with a short one; `OutputShort` may then be for that
-// alone.
-pub fn step(k: Numbers, config: &[u8], out: &mut [u8]) -> u64
+// First with scratch for a configuration and a result of so many words; `OutputShort` may then be for that alone. The two frames are never both on the stack.
+fn tried<const WORDS: usize, const NOTES: usize, const RESULT: usize>(
+    k: Numbers,
+    config: &[u8],
+    out: &mut [u8],
+) -> u64
+    requires { (WORDS < 2 ^ 32) × (NOTES < 2 ^ 32) × (RESULT < 2 ^ 32) × (length config.now ≤ WORDS * 2) }
     ensures { (result ≡ byte_answer standard config.now (numbers_as k) out.old) × (out.new ≡ byte_output standard config.now (numbers_as k) out.old) }
 {
-    if SHORT_BYTES < config.len() {
-        return large(k, config, out);
-    }
-    let given = step_in::<SHORT, FEW, TWICE>(k, STANDARD, config, out);
+    let given = step_in::<WORDS, NOTES, RESULT>(k, STANDARD, config, out);
     if output_short(given) {
         return large(k, config, out);
     }
     pack(given)
+}
+
+// Step: from the top, the number, kind and fault in 8 bits each, 8 zero, serial and length in 16 each. A refusal changes no byte.
+// A long scratch would take most of a short configuration's time, so that is first tried with a short one, and one of middle length with a middle one.
+pub fn step(k: Numbers, config: &[u8], out: &mut [u8]) -> u64
+    ensures { (result ≡ byte_answer standard config.now (numbers_as k) out.old) × (out.new ≡ byte_output standard config.now (numbers_as k) out.old) }
+{
+    if config.len() <= SHORT_BYTES {
+        return tried::<SHORT, FEW, TWICE>(k, config, out);
+    }
+    if config.len() <= MIDDLE_BYTES {
+        return tried::<MIDDLE, MIDDLE_NOTES, MIDDLE_RESULT>(k, config, out);
+    }
+    large(k, config, out)
 }
