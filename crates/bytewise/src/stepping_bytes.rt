@@ -23,16 +23,16 @@ pub const TWICE: usize = 2 * SHORT;
 
 pub const SHORT_BYTES: usize = 2 * SHORT;
 
-// The words of a configuration of middle length, its bytes, and the notes and words of a result in the middle scratch. An eighth more than the longest of
-// the small cabinet, so that those of about 2,000 words are among them; notes twice as many, as for every scratch; a third more for the result, since what
-// a step adds to a long configuration is small beside it, and each word of room is a word to zero.
+// The middle scratch: words of a configuration, the bytes of these, notes and words of a result. An eighth more words than the small cabinet's longest has,
+// so that those of about 2,000 words are among them; notes twice as many, as in every scratch; for the result only a third more, since each word of
+// room is zeroed and most steps add little to a configuration so long.
 const MIDDLE: usize = 2304;
 
 const MIDDLE_BYTES: usize = 2 * MIDDLE;
 
 const MIDDLE_NOTES: usize = 2 * MIDDLE;
 
-const MIDDLE_RESULT: usize = 3072;
+const MIDDLE_RESULT: usize = 4 * MIDDLE / 3;
 
 // The bytes of the words, over the output.
 #[tactic(auto, using(crate::proofs::Spreading::spread_none, crate::proofs::Spreading::spread_turn, crate::proofs::Spreading::spread_end))]
@@ -73,8 +73,8 @@ pub fn written<const NOTES: usize>(
     Ok(a)
 }
 
-// The step with scratch for so many words of a configuration, so many notes and so many words of a result. The scratch is left when it returns,
-// so it is not inlined: a second try would begin below it.
+// The step with scratch for so many words of a configuration, so many notes and so many words of a result. Not inlined, so that a first try's scratch is
+// off the stack when the second begins.
 #[inline(never)]
 pub fn step_in<const WORDS: usize, const NOTES: usize, const RESULT: usize>(
     k: Numbers,
@@ -99,7 +99,7 @@ fn large(k: Numbers, config: &[u8], out: &mut [u8]) -> u64
     pack(step_in::<LONGEST, MANY, LONGEST>(k, STANDARD, config, out))
 }
 
-// First with scratch for a configuration and a result of so many words; `OutputShort` may then be for that alone. The two frames are never both on the stack.
+// First with scratch for so many words of a configuration, which it has at most, and of a result; `OutputShort` may then be for that alone.
 fn tried<const WORDS: usize, const NOTES: usize, const RESULT: usize>(
     k: Numbers,
     config: &[u8],

@@ -1,6 +1,7 @@
 //! The edges of a step: depth 64 and 65, 8,192 and 8,193 words, of the configuration and of the
 //! result, issued 65,534 and 65,535, each with every length of output. In the small cabinet 32 and 33,
-//! 2,048 and 2,049.
+//! 2,048 and 2,049. Also the edges of the shorter scratches that `sock_step` first tries: no answer
+//! depends on them.
 
 use library::cabinet::Cabinet;
 use library::compare::Comparison;
@@ -11,7 +12,9 @@ use library::outputs::{around, huge, Output, LONGEST};
 use library::walk::result_length;
 use reference::bytes::from_words;
 use reference::configuration::Configuration;
-use reference::generate::edges::{acting_deep, long, result_deep, result_long, serials, WAYS};
+use reference::generate::edges::{
+    acting_deep, installing, long, result_deep, result_long, serials, WAYS,
+};
 use reference::generate::steps::fitting;
 use reference::{write, Limits, Numbers};
 
@@ -83,6 +86,61 @@ fn edges(cabinet: Cabinet) {
             kinds: &[5, 10, 14],
             outputs: &["2L - 1", "2L", "2L + 1", "huge"],
             processes: &["found", "empty"],
+            ..Wanted::default()
+        },
+    );
+}
+
+/// The words of a configuration, and of a result, that a shorter scratch of the step has room for.
+const SCRATCHES: [(usize, usize); 2] = [(512, 1_024), (2_304, 3_072)];
+
+/// Lengths of results that fit and that do not, for a configuration so long; most are near what fits.
+fn results(words: usize, most: usize) -> [usize; 7] {
+    [words + 10, words + 100, most - 1, most, most + 1, most + 2, 2 * most]
+}
+
+/// The first step with every length of output near the result, the scratch's result and the
+/// configuration; and on one byte less and one more, which are unreadable.
+fn in_scratch(comparison: &mut Comparison<Plain>, words: usize, result: usize, most: usize) {
+    let before = installing(words, result).expect("long enough");
+    let numbers = fitting(&before)[0].0;
+    let limits = comparison.cabinet.limits();
+    assert_eq!(result_length(&limits, &before, numbers), Some(result), "{words}");
+    let config = from_words(&write::configuration(&before));
+    assert_eq!(config.len(), 2 * words, "{result}");
+    let source = Source { class: "edge of a scratch", seed: words as u64, step: result };
+    let input = Input { source, config: &config };
+    let outputs = [result, most, words].map(around);
+    for output in outputs.into_iter().flatten().chain(huge()) {
+        let answer = comparison.step(&input, numbers, output).answer;
+        let fits = 2 * result <= output.length;
+        assert_eq!(answer.number, if fits { 0 } else { 10 }, "{words} to {result}: {output:?}");
+    }
+    for length in [2 * words - 1, 2 * words + 1] {
+        let mut odd = config.clone();
+        odd.resize(length, 0);
+        let input = Input { source, config: &odd };
+        let enough = Output { length: LONGEST, name: "longest" };
+        assert_eq!(comparison.step(&input, numbers, enough).answer.number, 1, "{length} bytes");
+    }
+}
+
+#[test]
+fn the_edges_of_shorter_scratches_are_answered_alike() {
+    let mut comparison = Comparison::new(Cabinet::Large, Plain::default());
+    for (longest, most) in SCRATCHES {
+        for words in longest - 1..=longest + 1 {
+            for result in results(words, most) {
+                in_scratch(&mut comparison, words, result, most);
+            }
+        }
+    }
+    comparison.report(
+        "edges of shorter scratches",
+        Wanted {
+            calls: 1_000,
+            step: &[0, 1, 10],
+            outputs: &["2L - 1", "2L", "2L + 1", "huge"],
             ..Wanted::default()
         },
     );

@@ -3,7 +3,8 @@
 use crate::build;
 use crate::configuration::Configuration;
 use crate::expression::Operator;
-use crate::process::{Key, Part};
+use crate::process::{Key, Mark, Part};
+use crate::write;
 
 /// Ways to nest a process or an expression in a process of code.
 #[derive(Clone, Copy, Debug, PartialEq, Eq)]
@@ -153,4 +154,28 @@ pub fn result_long(words: usize) -> Option<Configuration> {
     // n, issued, values; scope 3, par 1, while 5; the step adds 2.
     let rest = filler(words.checked_sub(2 + 64 + 3 + 1 + 5 + 2)?)?;
     Some(build::configuration(0, vec![build::scope(1, build::par(repeats, rest))]))
+}
+
+/// So many cH side by side, a power of two.
+fn current(count: usize) -> Part {
+    match count {
+        1 => build::current_handler(),
+        _ => build::par(current(count / 2), current(count / 2)),
+    }
+}
+
+/// A readable configuration of exactly this many words whose first step, an inst, gives a result of
+/// exactly so many; None where it has no room for what that takes.
+pub fn installing(words: usize, result: usize) -> Option<Configuration> {
+    // The new handlers have cH eight times and twice, so the step adds the first old one seven times and
+    // the second once, and 8 pars; the inst, 22 words, becomes nil, a word.
+    let added = (result + 13).checked_sub(words)?;
+    let (first, second) = ((added - 1) / 7, (added - 1) % 7 + 1);
+    let list = |one, two| build::list([(Key::Fault(1), one), (Key::Fault(2), two)]);
+    let old = list(filler(first)?, filler(second)?);
+    let installs = build::inst(list(current(8), current(2)));
+    let inner = build::scope_with(1, Mark::None, false, old, installs);
+    // n, issued, values; scope 3, par 1.
+    let rest = words.checked_sub(2 + 64 + 3 + 1 + write::process(&inner).len())?;
+    Some(build::configuration(0, vec![build::scope(1, build::par(inner, filler(rest)?))]))
 }
