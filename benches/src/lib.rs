@@ -3,3 +3,4 @@
 pub mod clock;
 pub mod rules;
 pub mod shapes;
+pub mod walker;

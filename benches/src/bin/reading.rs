@@ -1,7 +1,7 @@
 //! Times the readable check: the proved one on words, and the second implementation's, which builds a tree. Both read the same
 //! configurations; a row says how many words one has and the nanoseconds that each takes a word.
 
-use benches::{clock, shapes};
+use benches::{clock, shapes, walker};
 use reference::generate::random::Random;
 use reference::process::Part;
 use reference::{build, check_readable, write, STANDARD};
@@ -27,9 +27,10 @@ fn row(name: &str, configurations: &[Vec<u16>]) {
         clock::nanoseconds(pass) / words
     };
     let ours = a_word(&proved);
+    let rival = a_word(&walker::check_readable);
     let tree = a_word(&|c| check_readable(&STANDARD, c));
     let each = words / configurations.len() as f64;
-    println!("| {name} | {each:.0} | {ours:.2} | {tree:.2} | {:.1} |", tree / ours);
+    println!("| {name} | {each:.0} | {ours:.2} | {rival:.2} | {:.2} | {tree:.2} | {:.1} |", ours / rival, tree / ours);
 }
 
 /// A configuration of one engine, whose root is a scope around the process.
@@ -45,8 +46,8 @@ fn mixed(seed: u64, words: usize) -> Vec<u16> {
 }
 
 fn main() {
-    println!("| configuration | words | proved, ns a word | tree, ns a word | times faster |");
-    println!("|---|---|---|---|---|");
+    println!("| configuration | words | proved, ns a word | plain walk, ns a word | proved / plain walk | tree, ns a word | times faster |");
+    println!("|---|---|---|---|---|---|---|");
     for words in [200, 2_000, 8_192] {
         row("all kinds, one configuration", &[mixed(3, words)]);
         row(
