@@ -25,9 +25,6 @@ fresh_root = 3
 abbrev pub root : ℕ
 root = 11
 
--- no process stands from here on, and the first is the reader's number for an expression
+-- no process stands from here on
 abbrev pub contexts : ℕ
 contexts = 12
-
-abbrev pub expression : ℕ
-expression = 12

@@ -1,6 +1,6 @@
 // Where a process stands, as one number: 4 times the stratum (0 code, 1 code that may hold cH, 2 what runs) plus the place (0 anywhere,
-// 1 not nil, 2 the receiver of a branch, 3 a root). Numbers, since the reader packs them with a depth, masks them and looks tables up by them,
-// and a survey takes any; among themselves its functions hand on a type for those below 12.
+// 1 not nil, 2 the receiver of a branch, 3 a root). Numbers, since a survey takes any; the
+// reader has a type of its own for those that it hands on (`reading::context`).
 pub const CODE: usize = 0;
 
 pub const HANDLERS: usize = 4;
@@ -20,7 +20,5 @@ pub const FRESH_ROOT: usize = 3;
 
 pub const ROOT: usize = 11;
 
-// No process stands from here on, and the first is the reader's number for an expression.
+// No process stands from here on.
 pub const CONTEXTS: usize = 12;
-
-pub const EXPRESSION: usize = 12;

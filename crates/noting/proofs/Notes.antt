@@ -3,24 +3,28 @@
 use Prim.Native.Nat.{ℕ, zero, suc, ◌+◌, ◌-◌, ◌*◌, ◌/◌, ◌%◌, ◌≤◌, ◌<◌}
 use native.Mathlib.Omega.{arith}
 use native.Mathlib.Numerals.{sub-one}
-use mathlib.Core.Path.{◌≡◌, refl, sym, ap, ◌∙◌}
-use mathlib.Core.Bool.{Bool, true, false, true≢false, ◌&&◌, cond}
+use mathlib.Core.Path.{◌≡◌, refl, sym, subst, ap, ◌∙◌}
+use mathlib.Core.Bool.{Bool, true, false, true≢false, not, ◌&&◌, cond, and-false}
 use mathlib.Core.List.{List}
-use borrow.Author.Tests.{le-ltb, eqb-true, eqb-false, leb-false, lt-ltb, ne_eqb}
-use lib.Bits.{bit_and, and_mask}
-use lib.Dec.{leb, ltb, eqb}
+use borrow.Author.Tests.{le-ltb, eqb-true, eqb-false, lt-ltb, ne_eqb}
+use lib.Bits.{bit_and}
+use lib.Dec.{T, ltb, eqb}
 use lib.ListN.{length}
-use Rattle.std.specs.Prelude.{Option as Maybe, Some}
-use Rattle.sock.specs.Kind.{rows, row_of}
-use Rattle.sock.specs.Reading.{allowed, placed}
-use Rattle.reading.specs.Tables.{spare_of, head_mask}
-use Rattle.reading.proofs.Given.{as_some}
-use Rattle.reading.specs.Walk.{end_as, rest_of, scope_end, when, at, expr_end, process_end, two_end, entries_end, list_end, marked_end, node_end}
-use Rattle.reading.proofs.Walks.{process_node}
-use Rattle.noting.specs.declared.enabled.Place.{Place}
-use Rattle.noting.specs.declared.enabled.Place.TheVariants.{Anywhere, NotNil, Root}
-use Rattle.noting.specs.Places.{as_context}
-use Rattle.noting.specs.Noting.{plain_par, plain_leaf, par_notes, node_notes, enabled_notes, notes_w, engines_notes, seq_notes, scope_notes}
+use Rattle.std.specs.Prelude.{Option as Maybe, Some, None}
+use Rattle.sock.specs.Reading.{running, anywhere, root, allowed, placed}
+use Rattle.reading.specs.Tables.{head_mask}
+use Rattle.reading.proofs.Given.{as_some, as_none}
+use Rattle.reading.specs.Walk.{end_as, rest_of, scope_end, executor_end, when, at, expr_end, process_end, two_end, entries_end, list_end, marked_end, node_end, stands_at, one_word, rests, headed_end}
+use Rattle.layout.specs.Kinds.{kind_named, number_of as kind_number}
+use Rattle.layout.specs.declared.kind.Kind.{Kind}
+use Rattle.reading.specs.Sets.{context_in, head_stands}
+use Rattle.reading.proofs.Combining.{Words}
+use Rattle.reading.proofs.Contexts.{number_of, head_masked}
+use Rattle.reading.proofs.Heads.{head_law}
+use Rattle.reading.proofs.Placed.{place_end, placed_named}
+use Rattle.reading.proofs.Sets.{Known, below}
+use Rattle.reading.proofs.Turning.{Found, head_found, head_missing, word_ends}
+use Rattle.noting.specs.Noting.{par_notes, node_notes, noting, enabled_notes, notes_w, engines_notes, seq_notes, scope_notes, executor_notes}
 
 -- no mark, no fault and no entries
 pub bare_list :
@@ -35,11 +39,6 @@ bare_list end ws h i v w inside first second none =
 
 -- ---- by kind
 
-pub runs : (p : Place) → (8 ≤ as_context p) × (as_context p < 12)
-runs Anywhere = (omega arith, omega arith)
-runs NotNil = (omega arith, omega arith)
-runs Root = (omega arith, omega arith)
-
 enabled_step :
     (d : ℕ) (ws : List ℕ) (bound c i : ℕ) (m : List ℕ) → (d ≡ 0 → ⊥) →
     enabled_notes d ws bound c i m
@@ -49,41 +48,59 @@ unfolding enabled_notes
 enabled_step zero ws bound c i m h = absurd (h refl)
 enabled_step (suc d) ws bound c i m h = rw (sub-one (suc d))
 
--- an enabled process may stand where it does: h is its head, and x has the bits that have to be 0
-pub record Headed (d : ℕ) (ws : List ℕ) (c i h x : ℕ) : Type 0 where
-  pub deep : d ≡ 0 → ⊥
-  pub inside : i < length ws
-  pub word : h ≡ at ws i
-  pub mask : x ≡ head_mask c (h / 2048)
-  pub clear : bit_and (h + 65536) x ≡ 0
-  pub low : 8 ≤ c
-  pub high : c < 12
+-- a scope that runs uses more bits of its head
+rests_over : (c h : ℕ) → 8 ≤ c → rests c h ≡ true
+unfolding rests
+rests_over c h low = rw (le-ltb c 8 low, and-false) refl
 
-module _ (d : ℕ) (ws : List ℕ) (bound c i h x : ℕ) (m : List ℕ) (head : Headed d ws c i h x) where
+-- an enabled process, in one of the contexts of what runs
+pub record Headed (d : ℕ) (ws : List ℕ) (kinds i h : ℕ) : Type 0 where
+  pub ok : Words ws
+  pub known : Known kinds
+  pub low : 8 ≤ context_in kinds
+  pub stands : stands_at d ws kinds i ≡ true
+  pub word : h ≡ at ws i
+
+head_stood : (ws : List ℕ) (kinds d i : ℕ) → stands_at d ws kinds i ≡ true → head_stands kinds (at ws i) ≡ true
+unfolding stands_at
+head_stood ws kinds d i e = by (not (eqb d 0)) (ltb i (length ws)) (head_stands kinds (at ws i)) e
+  where
+    by : (a b c : Bool) → (a && b && c) ≡ true → c ≡ true
+    by true true c e = e
+    by true false c e = absurd (true≢false (sym e))
+    by false b c e = absurd (true≢false (sym e))
+
+module _ (d : ℕ) (ws : List ℕ) (bound kinds i h : ℕ) (m : List ℕ) (head : Headed d ws kinds i h) where
+  abbrev c : ℕ
+  c = context_in kinds
+
+  found : Found ws bound d c i
+  found = head_found ws bound head.ok kinds head.known d i head.stands
+
   ended : process_end d ws bound c i ≡ node_end (expr_end (d - 1) ws) (process_end (d - 1) ws bound) ws c bound h i
-  ended = process_node d ws bound c i h x head.deep head.inside head.word head.mask head.clear
+  unfolding headed_end when
+  ended = found.ends ∙ rw (rests_over c (at ws i) head.low, ← head.word) refl
 
   noted : enabled_notes d ws bound c i m ≡ node_notes (process_end (d - 1) ws bound) (notes_w (d - 1) ws bound) ws bound h i m
   noted =
-      enabled_step d ws bound c i m head.deep
-      ∙ simp (← head.word, ← head.mask, head.clear, lt-ltb i (length ws) head.inside)
+      enabled_step d ws bound c i m found.deep
+      ∙ rw (head_law kinds head.known (at ws i) (head.ok i), head_stood ws kinds d i head.stands, rests_over c (at ws i) head.low, lt-ltb i (length ws) found.inside, ← head.word) refl
 
   -- contexts of what is enabled
   over : c / 4 * 4 ≡ 8
-  over = let low = head.low in let high = head.high in omega arith
+  over = let low = head.low in let high = below kinds head.known in omega arith
 
   pub others :
       (k : ℕ) → h / 2048 ≡ k → (k ≡ 2 → ⊥) → (k ≡ 3 → ⊥) → (k ≡ 11 → ⊥) → (k ≡ 16 → ⊥) → m ≡ enabled_notes d ws bound c i m
   unfolding node_notes
   others k e k2 k3 k11 k16 = sym (noted ∙ simp (e, ne_eqb k 2 k2, ne_eqb k 3 k3, ne_eqb k 11 k11, ne_eqb k 16 k16))
 
-  -- a kind of one word
-  pub one_word :
-      (k : ℕ) → h / 2048 ≡ k →
-      ((h : ℕ) → h / 2048 ≡ k → node_end (expr_end (d - 1) ws) (process_end (d - 1) ws bound) ws c bound h i ≡ i + 1) →
-      (k ≡ 2 → ⊥) → (k ≡ 3 → ⊥) → (k ≡ 11 → ⊥) → (k ≡ 16 → ⊥) →
-      (Some (i + 1) ≡ end_as (process_end d ws bound c i)) × (m ≡ enabled_notes d ws bound c i m)
-  one_word k e q k2 k3 k11 k16 = (as_some _ _ (sym (ended ∙ q h e)) (λ z. absurd (omega arith)), others k e k2 k3 k11 k16)
+  -- a process of one word
+  pub one_word_ends : T (one_word (h / 2048)) → Some (i + 1) ≡ end_as (process_end d ws bound c i)
+  one_word_ends t = word_ends ws bound d c i found (subst (λ w. T (one_word (w / 2048))) head.word t)
+
+  pub one_word_notes : T (one_word (h / 2048)) → m ≡ enabled_notes d ws bound c i m
+  one_word_notes t = others (h / 2048) refl (λ z. subst T (ap one_word z) t) (λ z. subst T (ap one_word z) t) (λ z. subst T (ap one_word z) t) (λ z. subst T (ap one_word z) t)
 
   pub a_seq :
       (e : Maybe ℕ) (y : List ℕ) → h / 2048 ≡ 2 → e ≡ end_as (two_end (process_end (d - 1) ws bound) 9 0 (i + 1)) →
@@ -106,100 +123,91 @@ module _ (d : ℕ) (ws : List ℕ) (bound c i h x : ℕ) (m : List ℕ) (head : 
   unfolding node_end node_notes scope_end
   a_scope e y k q n = (q ∙ sym (ap end_as (ended ∙ rw (k, le-ltb c 8 head.low))), n ∙ sym (noted ∙ rw k))
 
--- ---- a par, without a look at the table
+  pub a_executor :
+      (e : Maybe ℕ) (y : List ℕ) → h / 2048 ≡ 16 → e ≡ end_as (executor_end (process_end (d - 1) ws bound) ws bound i) →
+      y ≡ executor_notes (notes_w (d - 1) ws bound) ws bound i m →
+      (e ≡ end_as (process_end d ws bound c i)) × (y ≡ enabled_notes d ws bound c i m)
+  unfolding node_end node_notes
+  a_executor e y k q n = (q ∙ sym (ap end_as (ended ∙ rw k)), n ∙ sym (noted ∙ rw k))
 
--- its head has no bit that has to be 0
-par_clear : (c : ℕ) → 8 ≤ c → c < 10 → bit_and (6144 + 65536) (head_mask c 3) ≡ 0
-unfolding head_mask spare_of allowed placed row_of rows
-par_clear c low high = by (eqb c 8) refl
-  where
-    by : (b : Bool) → eqb c 8 ≡ b → bit_and (6144 + 65536) (head_mask c 3) ≡ 0
-    by true e = rw (eqb-true c 8 e)
-    by false e = let nine : c ≡ 9 = omega (arith, eqb-false c 8 e) in rw nine
+-- ---- what does not stand there notes nothing
 
-plain_is : (h c : ℕ) → plain_par h c ≡ true → (c < 10) × (h ≡ 6144)
-unfolding plain_par
-plain_is h c e = by (leb 10 c) refl e
-  where
-    by : (b : Bool) → leb 10 c ≡ b → cond b false (eqb h 6144) ≡ true → (c < 10) × (h ≡ 6144)
-    by true x e = absurd (true≢false (sym e))
-    by false x e = (leb-false 10 c x, eqb-true h 6144 e)
+module _ (d : ℕ) (ws : List ℕ) (bound kinds i : ℕ) (m : List ℕ) (ok : Words ws) (known : Known kinds) where
+  notes_none : (d ≡ 0 → ⊥) → (ltb i (length ws) && head_stands kinds (at ws i)) ≡ false → enabled_notes d ws bound (context_in kinds) i m ≡ m
+  notes_none deep e =
+      enabled_step d ws bound (context_in kinds) i m deep
+      ∙ rw (head_law kinds known (at ws i) (ok i)) (by (ltb i (length ws)) (head_stands kinds (at ws i)) (rests (context_in kinds) (at ws i)) e)
+    where
+      by : (l s r : Bool) → (l && s) ≡ false → cond (l && (s && r)) (node_notes (process_end (d - 1) ws bound) (notes_w (d - 1) ws bound) ws bound (at ws i) i m) m ≡ m
+      by true true r e = absurd (true≢false e)
+      by true false r e = refl
+      by false s r e = refl
 
-pub par_ends :
-    (d : ℕ) (ws : List ℕ) (bound c i h : ℕ) (m : List ℕ) → (d ≡ 0 → ⊥) → i < length ws → h ≡ at ws i → 8 ≤ c → c < 12 → plain_par h c ≡ true →
-    (e : Maybe ℕ) (y : List ℕ) → e ≡ end_as (two_end (process_end (d - 1) ws bound) 9 9 (i + 1)) →
-    y ≡ par_notes (process_end (d - 1) ws bound) (notes_w (d - 1) ws bound) (i + 1) m →
-    (e ≡ end_as (process_end d ws bound c i)) × (y ≡ enabled_notes d ws bound c i m)
-par_ends d ws bound c i h m some inside same low high is e y q n =
-    let p = plain_is h c is in
-    let three : h / 2048 ≡ 3 = rw p.1 in
-    let clear : bit_and (h + 65536) (head_mask c (h / 2048)) ≡ 0 = rw p.1 (par_clear c low p.0) in
-    let head : Headed d ws c i h (head_mask c (h / 2048)) =
-    record { deep = some; inside = inside; word = same; mask = refl; clear = clear; low = low; high = high } in
-    a_par d ws bound c i h (head_mask c (h / 2048)) m head e y three q n
+  pub missing : stands_at d ws kinds i ≡ false → (None ≡ end_as (process_end d ws bound (context_in kinds) i)) × (m ≡ enabled_notes d ws bound (context_in kinds) i m)
+  unfolding stands_at enabled_notes
+  missing e = (as_none _ (sym (head_missing ws bound ok kinds known d i e)), by (eqb d 0) refl e)
+    where
+      zero_left : d ≡ 0 → m ≡ enabled_notes d ws bound (context_in kinds) i m
+      zero_left z = rw z refl
 
--- ---- a throw, a comp or a body's nil, without a look at the table
+      by : (b : Bool) → eqb d 0 ≡ b → (not b && ltb i (length ws) && head_stands kinds (at ws i)) ≡ false → m ≡ enabled_notes d ws bound (context_in kinds) i m
+      by true z e = zero_left (eqb-true d 0 z)
+      by false z e = sym (notes_none (eqb-false d 0 z) e)
 
--- nor has its head: the bits below the name are all that have to be 0
-leaf_clear : (c k h : ℕ) → 8 ≤ c → c < 10 → 13 ≤ k → k < 15 → h % 32 ≡ 0 → bit_and (h + 65536) (head_mask c k) ≡ 0
-unfolding head_mask spare_of allowed placed row_of rows
-leaf_clear c k h low high above below none = rw (mask (eqb c 8) (eqb k 13) refl refl) (and_mask (h + 65536) 5 ∙ spare)
-  where
-    spare : (h + 65536) % 32 ≡ 0
-    spare = omega arith
+-- ---- what an engine runs
 
-    mask : (a b : Bool) → eqb c 8 ≡ a → eqb k 13 ≡ b → head_mask c k ≡ 31
-    mask true true p q = rw (eqb-true c 8 p, eqb-true k 13 q)
-    mask true false p q = let next : k ≡ 14 = omega (arith, eqb-false k 13 q) in rw (eqb-true c 8 p, next)
-    mask false true p q = let nine : c ≡ 9 = omega (arith, eqb-false c 8 p) in rw (nine, eqb-true k 13 q)
-    mask false false p q =
-        let nine : c ≡ 9 = omega (arith, eqb-false c 8 p) in
-        let next : k ≡ 14 = omega (arith, eqb-false k 13 q) in
-        rw (nine, next)
+module _ (ws : List ℕ) (ok : Words ws) (bound d i : ℕ) (m : List ℕ) where
+  abbrev tested : ℕ → Bool
+  tested c = eqb (bit_and (at ws i + 65536) (head_mask c (at ws i / 2048))) 0
 
-nil_clear : bit_and (0 + 65536) (head_mask 8 0) ≡ 0
-unfolding head_mask spare_of allowed placed row_of rows
-nil_clear = refl
+  same_test : placed root (at ws i / 2048) ≡ true → tested 11 ≡ tested 8
+  unfolding number_of placed
+  same_test e = let r = head_masked (running 0 0) root (at ws i) (ok i) in let a = head_masked (running 0 0) anywhere (at ws i) (ok i) in r ∙ rw e (sym a)
 
--- what is a leaf is a throw or a comp with clear bits, or a nil where any process that runs may stand
-leaf_is :
-    {P : Type 0} (h c : ℕ) → plain_leaf h c ≡ true →
-    (c < 10 → h % 32 ≡ 0 → h / 2048 ≡ 13 → P) → (c < 10 → h % 32 ≡ 0 → h / 2048 ≡ 14 → P) → (c ≡ 8 → h ≡ 0 → P) → P
-unfolding plain_leaf
-leaf_is {P = P} h c e throw comp nil =
-    by (leb 10 c) (eqb (h % 32) 0) (eqb (h / 2048) 13) (eqb (h / 2048) 14) (eqb c 8) (eqb h 0) refl refl refl refl refl refl e
-  where
-    by :
-        (a b x y u v : Bool) → leb 10 c ≡ a → eqb (h % 32) 0 ≡ b → eqb (h / 2048) 13 ≡ x → eqb (h / 2048) 14 ≡ y → eqb c 8 ≡ u → eqb h 0 ≡ v →
-        cond a false (cond b (cond x true (cond y true (cond u v false))) false) ≡ true → P
-    by true b x y u v p q r s t w e = absurd (true≢false (sym e))
-    by false false x y u v p q r s t w e = absurd (true≢false (sym e))
-    by false true true y u v p q r s t w e = throw (leb-false 10 c p) (eqb-true (h % 32) 0 q) (eqb-true (h / 2048) 13 r)
-    by false true false true u v p q r s t w e = comp (leb-false 10 c p) (eqb-true (h % 32) 0 q) (eqb-true (h / 2048) 14 s)
-    by false true false false true true p q r s t w e = nil (eqb-true c 8 t) (eqb-true h 0 w)
-    by false true false false true false p q r s t w e = absurd (true≢false (sym e))
-    by false true false false false v p q r s t w e = absurd (true≢false (sym e))
+  no_test : placed root (at ws i / 2048) ≡ false → tested 11 ≡ false
+  unfolding number_of
+  no_test e = head_masked (running 0 0) root (at ws i) (ok i) ∙ rw e (by (allowed (running 0 0) (at ws i / 2048)) _)
+    where
+      by : (a b : Bool) → (a && false && b) ≡ false
+      by true b = refl
+      by false b = refl
 
-pub leaf_ends :
-    (d : ℕ) (ws : List ℕ) (bound c i h : ℕ) (m : List ℕ) → (d ≡ 0 → ⊥) → i < length ws → h ≡ at ws i → 8 ≤ c → c < 12 → plain_leaf h c ≡ true →
-    (Some (i + 1) ≡ end_as (process_end d ws bound c i)) × (m ≡ enabled_notes d ws bound c i m)
-unfolding node_end
-leaf_ends d ws bound c i h m some inside same low high is =
-    leaf_is h c is
-    (leaf 13 (omega arith) (omega arith) (λ h e. rw e refl))
-    (leaf 14 (omega arith) (omega arith) (λ h e. rw e refl))
-    (λ body zero. one_word d ws bound c i h (head_mask c (h / 2048)) m (head (rw (body, zero) nil_clear)) 0 (omega (arith, zero)) (λ h e. rw e refl) (λ z. omega arith) (λ z. omega arith) (λ z. omega arith) (λ z. omega arith))
-  where
-    head : bit_and (h + 65536) (head_mask c (h / 2048)) ≡ 0 → Headed d ws c i h (head_mask c (h / 2048))
-    head clear = record { deep = some; inside = inside; word = same; mask = refl; clear = clear; low = low; high = high }
+  root_inner : placed root (at ws i / 2048) ≡ true → enabled_notes d ws bound 11 i m ≡ enabled_notes d ws bound 8 i m
+  unfolding enabled_notes
+  root_inner e = by d
+    where
+      by : (d : ℕ) → enabled_notes d ws bound 11 i m ≡ enabled_notes d ws bound 8 i m
+      by zero = refl
+      by (suc d) = rw (same_test e) refl
 
-    leaf :
-        (k : ℕ) → 13 ≤ k → k < 15 →
-        ((h : ℕ) → h / 2048 ≡ k → node_end (expr_end (d - 1) ws) (process_end (d - 1) ws bound) ws c bound h i ≡ i + 1) →
-        c < 10 → h % 32 ≡ 0 → h / 2048 ≡ k →
-        (Some (i + 1) ≡ end_as (process_end d ws bound c i)) × (m ≡ enabled_notes d ws bound c i m)
-    leaf k above under ends below clear e =
-        one_word d ws bound c i h (head_mask c (h / 2048)) m (head (rw e (leaf_clear c k h low below above under clear))) k e ends (λ z. omega arith) (λ z. omega arith) (λ z. omega arith) (λ z. omega arith)
+  root_nothing : placed root (at ws i / 2048) ≡ false → enabled_notes d ws bound 11 i m ≡ m
+  unfolding enabled_notes
+  root_nothing e = by d
+    where
+      by : (d : ℕ) → enabled_notes d ws bound 11 i m ≡ m
+      by zero = refl
+      by (suc d) = rw (no_test e, and-false) refl
+
+  root_end : process_end d ws bound 11 i ≡ when (placed root (at ws i / 2048)) (process_end d ws bound 8 i)
+  root_end = place_end ws ok bound i d 11 (omega arith)
+
+  module _ (k : Kind) (named : k ≡ kind_named (at ws i / 2048)) where
+    asks : placed root (kind_number k) ≡ placed root (at ws i / 2048)
+    asks = ap (λ (k : Kind). placed root (kind_number k)) named ∙ placed_named root (at ws i / 2048)
+
+    pub root_none : placed root (kind_number k) ≡ false → (None ≡ end_as (process_end d ws bound 11 i)) × (m ≡ notes_w d ws bound 11 i m)
+    unfolding when noting
+    root_none e =
+        let no = sym asks ∙ e in
+        let end : process_end d ws bound 11 i ≡ 0 = root_end ∙ rw no refl in
+        (as_none _ (sym end), rw (end, root_nothing no) refl)
+
+    pub root_some : placed root (kind_number k) ≡ true → (process_end d ws bound 8 i ≡ process_end d ws bound 11 i) × (notes_w d ws bound 8 i m ≡ notes_w d ws bound 11 i m)
+    unfolding when noting
+    root_some e =
+        let yes = sym asks ∙ e in
+        let end : process_end d ws bound 11 i ≡ process_end d ws bound 8 i = root_end ∙ rw yes refl in
+        (sym end, rw (end, root_inner yes) refl)
 
 -- ---- engines
 

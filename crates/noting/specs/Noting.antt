@@ -1,12 +1,12 @@
 -- The notes that reading leaves, as the code goes: `end` tells where a process in a context ends, `sub` notes one level down. The notes of
 -- the word at i stand at i * 2, for the process that begins there, and behind it, for the list. The proofs show that each is where the
 -- layout ends; no contract of a call names it.
-use Rattle.std.specs.Prelude.{ℕ, zero, suc, ◌+◌, ◌-◌, ◌*◌, ◌%◌, Bool, true, false, ◌&&◌, cond, List, leb, ltb, eqb, length, set}
+use Rattle.std.specs.Prelude.{ℕ, zero, suc, ◌+◌, ◌-◌, ◌*◌, ◌%◌, ◌&&◌, cond, List, leb, ltb, eqb, length, set}
 use Rattle.std.specs.Int.Bits.{bit_and}
 use Rattle.sock.specs.Kind
-use Rattle.sock.specs.Words.{kind_of, second_of, head_of}
+use Rattle.sock.specs.Words.{kind_of}
 use Rattle.sock.specs.Configuration.{Limits}
-use Rattle.layout.specs.Contexts.{code, running, not_nil, receiver, root}
+use Rattle.layout.specs.Contexts.{code, running, not_nil, root}
 use Rattle.reading.specs.Survey.{opens}
 use Rattle.reading.specs.Tables.{head_mask}
 use Rattle.reading.specs.Walk.{at, process_end, marked_end, executor_own}
@@ -20,18 +20,6 @@ note_w m i e = noted_w 0 m i e
 
 unfoldable pub note_list_w : List ℕ → ℕ → ℕ → List ℕ
 note_list_w m i e = noted_w 1 m i e
-
--- the head of a par, in a context where one may stand
-unfoldable pub plain_par : ℕ → ℕ → Bool
-plain_par h c = cond (leb (running + receiver) c) false (eqb h (head_of Kind.par 0))
-
--- the head of a throw or a comp with no bit that it does not use, in a context where one may stand, or of a body that is nil
-unfoldable pub plain_leaf : ℕ → ℕ → Bool
-plain_leaf h c =
-    cond (leb (running + receiver) c) false
-    (cond (eqb (second_of h) 0)
-    (cond (eqb (kind_of h) Kind.throw) true (cond (eqb (kind_of h) Kind.comp) true (cond (eqb c running) (eqb h (head_of Kind.nil 0)) false)))
-    false)
 
 -- noting in a context, at a position, into notes
 abbrev pub Noting : Type 0

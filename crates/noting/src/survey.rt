@@ -7,10 +7,11 @@ ghost use Rattle.reading.specs.Survey.{engines_from, surveyed};
 ghost use Rattle.reading.specs.Walk.{process_end};
 ghost use Rattle.noting.specs.Noting.{engines_notes, survey_notes};
 
-use crate::enabled::{Place, noted};
+use crate::enabled::root;
 use layout::limit::{HEADER, Limits, VALUES};
 use layout::number::wide;
 use layout::unit::WORD;
+use reading::reader::Reader;
 use reading::starts::Starts;
 use reading::survey::opened;
 
@@ -34,6 +35,7 @@ fn engines(ws: &[u16], deepest: usize, n: usize, bound: usize, notes: &mut [u16]
     ensures answered { starts_in result ≡ engines_from (process_end deepest ws.now bound root) ws.now n n 0 2 (replicate 9 0) }
     ensures written { notes.new ≡ engines_notes deepest ws.now bound n 2 notes.old }
 {
+    let reader = Reader { ws, bound };
     let mut starts = [0usize; 9];
     let mut at = HEADER;
     for e in 0..n {
@@ -41,7 +43,7 @@ fn engines(ws: &[u16], deepest: usize, n: usize, bound: usize, notes: &mut [u16]
             return None;
         }
         starts[e] = at + VALUES;
-        at = noted(ws, at + VALUES, deepest, Place::Root, bound, notes)?;
+        at = root(&reader, at + VALUES, deepest, notes)?;
     }
     if at != ws.len() {
         return None;

@@ -8,11 +8,15 @@ use mathlib.Core.List.{List}
 use lib.Bits.{bit_and, and_mask}
 use lib.Dec.{ltb, eqb}
 use lib.ListN.{length, get_or-eq_default}
-use borrow.Author.Tests.{eqb-true, ltb-true, ltb-false}
+use borrow.Author.Tests.{le-ltb, eqb-true, ltb-true, ltb-false}
 use Rattle.reading.specs.Walk.{at, when, expr_end, process_end, node_end}
 use Rattle.reading.proofs.Combining.{Words}
-use Rattle.reading.proofs.Masks.{no_context}
+use Rattle.reading.specs.Tables.{head_mask}
 use Rattle.reading.proofs.Surveys.{process_inside}
+
+no_context : (x k : ℕ) → 12 ≤ x → 131071 ≡ head_mask x k
+unfolding head_mask
+no_context x k h = simp (le-ltb x 12 h)
 
 -- a number from 65,536 on has no kind
 node_beyond : (ex : ℕ → ℕ) (sub : ℕ → ℕ → ℕ) (ws : List ℕ) (c bound h i : ℕ) → 65536 ≤ h → node_end ex sub ws c bound h i ≡ 0

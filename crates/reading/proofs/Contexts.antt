@@ -18,7 +18,7 @@ use Rattle.sock.proofs.Reading.{tests}
 use Rattle.reading.specs.Tables.{stratum_of, place_of, spare_of, head_mask}
 use Rattle.reading.specs.Walk.{context_of, rest_of}
 
-abbrev stratum_number : Stratum → ℕ
+abbrev pub stratum_number : Stratum → ℕ
 stratum_number (code false) = 0
 stratum_number (code true) = 1
 stratum_number (running n issued) = 2
@@ -137,6 +137,12 @@ masked m h (j, r, e, q) =
     let under : bit_and (h + 65536) (2 ^ j - 1) ≡ (h + 65536) % 2 ^ j = and_mask (h + 65536) j in
     let above : (h + 2 ^ j * r) % 2 ^ j ≡ h % 2 ^ j = add-mul-mod_self_left _ _ _ in
     rw (e, under, ← q, above)
+
+pub unused_clear : (k h : ℕ) → k < 19 → eqb (bit_and h ((row_of k).spare - 1)) 0 ≡ clear (row_of k).spare h
+unused_clear k h small = by (fact_at rows_masked k (omega arith) small)
+  where
+    by : Masked (row_of k).spare → eqb (bit_and h ((row_of k).spare - 1)) 0 ≡ clear (row_of k).spare h
+    by (j, r, e, q) = let under : bit_and h (2 ^ j - 1) ≡ h % 2 ^ j = and_mask h j in rw (e, under) refl
 
 -- a mask of all bits and the one above lets nothing pass
 barred : (h : ℕ) → h < 65536 → eqb (bit_and (h + 65536) 131071) 0 ≡ false

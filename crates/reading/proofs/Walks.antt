@@ -4,7 +4,7 @@ use Prim.Native.Nat.{ℕ, zero, suc, ◌+◌, ◌-◌, ◌/◌, ◌<◌, ◌≤�
 use native.Mathlib.Omega.{arith}
 use native.Mathlib.Numerals.{sub-one}
 use mathlib.Core.Path.{◌≡◌, refl, sym, ap, ◌∙◌}
-use borrow.Author.Tests.{ne_eqb, lt-ltb, ltb-true}
+use borrow.Author.Tests.{ne_eqb, lt-ltb, le-leb, ltb-true}
 use mathlib.Core.Bool.{Bool, true, false, ◌||◌, cond}
 use mathlib.Core.List.{List, [], ◌∷◌}
 use lib.Bits.{bit_and}
@@ -13,9 +13,9 @@ use lib.ListN.{length, get_or}
 use Rattle.sock.specs.Words.{clear, tag_of}
 use Rattle.layout.specs.Units
 use Rattle.reading.specs.Tables.{head_mask}
-use Rattle.std.specs.Prelude.{Some}
-use Rattle.reading.proofs.Given.{some_key, some_end}
-use Rattle.reading.specs.Walk.{end_as, key_as, when, on, at, constant_end, operation_end, expr_at, expr_end, two_end, branches_end, key_at, entry_context, entries_end, node_end, process_end}
+use Rattle.std.specs.Prelude.{Some, None}
+use Rattle.reading.proofs.Given.{some_key, some_end, none_end}
+use Rattle.reading.specs.Walk.{end_as, key_as, when, on, at, constant_end, operation_end, expr_at, expr_end, two_end, branches_end, choice_end, rest_of, key_at, entry_context, entries_end, node_end, process_end}
 
 pub expr_step : (d : ℕ) (ws : List ℕ) (i : ℕ) → (d ≡ 0 → ⊥) → expr_end d ws i ≡ when (ltb i (length ws)) (expr_at (expr_end (d - 1) ws) ws i (at ws i))
 unfolding expr_end
@@ -75,6 +75,31 @@ branches_turn sub c n i a h = let e : n - i ≡ suc (n - (i + 1)) = omega arith 
 pub branches_done : (sub : ℕ → ℕ → ℕ) (c n i a : ℕ) → n ≤ i → branches_end sub c (n - i) a ≡ a
 unfolding branches_end
 branches_done sub c n i a h = let e : n - i ≡ 0 = omega arith in rw e
+
+-- a branch read, on to the next; and one that does not fit
+module _ (sub : ℕ → ℕ → ℕ) (c n i a g : ℕ) (left : i < n) (guarded : g ≡ c + 2) where
+  pub branch_next : (x y : ℕ) → Some x ≡ end_as (sub g a) → Some y ≡ end_as (sub c x) → branches_end sub c (n - (i + 1)) y ≡ branches_end sub c (n - i) a
+  unfolding on two_end
+  branch_next x y p q =
+      let s = some_end x _ p in
+      let e = some_end y _ q in
+      sym (branches_turn sub c n i a left ∙ rw (← guarded, ← s.0, ne_eqb x 0 s.1, ← e.0, ne_eqb y 0 e.1) refl)
+
+  pub guard_fails : None ≡ end_as (sub g a) → branches_end sub c (n - i) a ≡ 0
+  unfolding on two_end
+  guard_fails p = branches_turn sub c n i a left ∙ rw (← guarded, none_end _ p) refl
+
+  pub branch_fails : (x : ℕ) → Some x ≡ end_as (sub g a) → None ≡ end_as (sub c x) → branches_end sub c (n - i) a ≡ 0
+  unfolding on two_end
+  branch_fails x p q =
+      let s = some_end x _ p in
+      branches_turn sub c n i a left ∙ rw (← guarded, ← s.0, ne_eqb x 0 s.1, none_end _ q) refl
+
+pub choice_is :
+    (d : ℕ) (ws : List ℕ) (bound c y n i : ℕ) → y ≡ rest_of c → (n ≡ 0 → ⊥) → n ≤ 8 →
+    choice_end (process_end d ws bound) (rest_of c) n i ≡ branches_end (process_end d ws bound) y n i
+unfolding choice_end when
+choice_is d ws bound c y n i e p q = rw (e, lt-ltb 0 n (omega (arith, p)), le-leb n 8 q) refl
 
 pub entries_turn :
     (sub : ℕ → ℕ → ℕ) (ws : List ℕ) (c wanted n i least : ℕ) (met : Bool) (a : ℕ) →

@@ -1,4 +1,6 @@
 pub mod Answers
+pub mod Rests
+pub mod Sets
 pub mod Survey
 pub mod Tables
 pub mod Tally

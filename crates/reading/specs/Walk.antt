@@ -2,11 +2,13 @@
 -- the definitions' reader; no contract of a call names it.
 use Rattle.std.specs.Prelude.{ℕ, zero, suc, Option, Some, None, ◌+◌, ◌-◌, ◌*◌, ◌/◌, ◌%◌, Bool, true, false, not, ◌&&◌, ◌||◌, cond, List, [], ◌∷◌, leb, ltb, eqb, length, get_or}
 use Rattle.std.specs.Int.Bits.{bit_and}
+use Rattle.sock.specs.Kind
 use Rattle.sock.specs.Words.{clear, kind_of, count_of, second_of, mark_of, zombie_of, first_variable, next_variable, first_name, key_of, tag_of}
-use Rattle.layout.specs.Contexts.{code, handlers, running, not_nil, receiver, expression}
+use Rattle.layout.specs.Contexts.{code, handlers, running, not_nil, receiver}
 use Rattle.layout.specs.Keys.{no_key, scope_keys}
 use Rattle.layout.specs.Units
-use Rattle.reading.specs.Tables.{head_mask, bit_of}
+use Rattle.reading.specs.Tables.{head_mask}
+use Rattle.reading.specs.Sets.{head_stands}
 
 -- where something ends, by the code: none where it does not fit
 abbrev pub end_as : ℕ → Option ℕ
@@ -212,29 +214,55 @@ process_end (suc d) ws bound c i =
     when (ltb i (length ws))
     (when (eqb (bit_and (at ws i + 65536) (head_mask c (kind_of (at ws i)))) 0) (node_end (expr_end d ws) (process_end d ws bound) ws c bound (at ws i) i))
 
--- ---- the same, node by node, with what is left to read kept for later; an expression has a context of its own
+-- ---- the same by sets of kinds, where a node's last process is read in the next turn
 
-unfoldable pub slot_of : ℕ → ℕ → ℕ
-slot_of c h = cond (eqb c expression) (19 + tag_of h) (kind_of h)
+unfoldable pub stands_at : ℕ → List ℕ → ℕ → ℕ → Bool
+stands_at depth ws kinds i = not (eqb depth 0) && ltb i (length ws) && head_stands kinds (at ws i)
 
--- whether a node whose shape is t stands at i in a context, with no other words than its parts' and those the shape tells
-unfoldable pub fits_at : List ℕ → ℕ → ℕ → ℕ → Bool
-fits_at ws i c t =
-    leb (t % 4) (length ws - i)
-    && eqb
-    (bit_and (at ws i + 65536) (t / 1048576 % 8192) + bit_and (at ws (i + t % 4 / 2)) (t / 8589934592 % 65536)
-    + bit_and (at ws (i + t % 4 - 1)) (t / 562949953421312 % 2 * 65535))
-    0
-    && not (eqb (bit_and (t / 1125899906842624) (bit_of c)) 0)
+-- a process of this kind is one word
+abbrev pub one_word : ℕ → Bool
+one_word k = eqb k Kind.nil || eqb k Kind.throw || eqb k Kind.comp || eqb k Kind.cH
 
--- a part's context
-unfoldable pub part_of : ℕ → ℕ → ℕ
-part_of c how = bit_and c (how % 16) + how / 16 % 16
+-- a scope that is code uses fewer bits of its head than one that runs
+unfoldable pub rests : ℕ → ℕ → Bool
+rests c h = not (eqb (kind_of h) Kind.scope && ltb c running) || clear 32 h
 
-unfoldable pub item_end : List ℕ → ℕ → ℕ → ℕ → ℕ → ℕ
-item_end ws bound d c i = cond (eqb c expression) (expr_end d ws i) (process_end d ws bound c i)
+-- a node whose head stands there
+unfoldable pub headed_end : (ℕ → ℕ) → (ℕ → ℕ → ℕ) → List ℕ → ℕ → ℕ → ℕ → ℕ → ℕ
+headed_end ex sub ws c bound h i = when (rests c h) (node_end ex sub ws c bound h i)
 
--- the last n of those kept, each as 16 times its depth plus its context, from 1 on
-unfoldable pub later_end : List ℕ → ℕ → List ℕ → ℕ → ℕ → ℕ
-later_end ws bound later zero i = i
-later_end ws bound later (suc n) i = on (item_end ws bound (at later (suc n) / 16) (at later (suc n) % 16) i) (later_end ws bound later n)
+-- by kind, if it ends with no other process
+unfoldable pub last_end : (ℕ → ℕ) → (ℕ → ℕ → ℕ) → List ℕ → ℕ → ℕ → ℕ → ℕ → ℕ
+last_end ex sub ws c bound h i =
+    get_or
+    ((i + 1)
+    ∷ ex (i + 1)
+    ∷ 0 ∷ 0 ∷ 0 ∷ 0
+    ∷ choice_end sub (rest_of c) (count_of h) (i + 1)
+    ∷ one_way_end ws h i
+    ∷ 0
+    ∷ notify_end ws i
+    ∷ solicit_end sub ws i
+    ∷ 0
+    ∷ list_end sub ws handlers no_key (i + 1)
+    ∷ (i + 1)
+    ∷ (i + 1)
+    ∷ (i + 1)
+    ∷ 0
+    ∷ waiter_end sub ws h bound i
+    ∷ notice_end ws bound i
+    ∷ [])
+    (kind_of h) 0
+
+-- where the process behind a request begins
+unfoldable pub request_at : List ℕ → ℕ → ℕ → ℕ
+request_at ws h i =
+    when (fixed_after ws i Units.first_variable) (on (receiving_end ws (second_of h) (i + 2)) (variables_end ws))
+
+-- where the body of a scope begins
+unfoldable pub body_at : (ℕ → ℕ → ℕ) → List ℕ → ℕ → ℕ → ℕ → ℕ
+body_at sub ws c h i =
+    when (leb 3 (length ws - i))
+    (cond (leb running c)
+    (marked_end sub ws h (at ws (i + 1)) (i + 2))
+    (when (eqb (at ws (i + 1)) 0 && eqb (at ws (i + 2)) 0 && clear 32 h) (i + 3)))

@@ -7,11 +7,10 @@ ghost use Rattle.reading.specs.Walk.{executor_own, process_end};
 ghost use Rattle.reading.specs.Answers.{counts_in};
 ghost use Rattle.reading.specs.Tally.{serial_at, seq_tally, par_tally, scope_tally, executor_tally, tally_at, total_from};
 
-use crate::context::{CODE, RUNNING};
-use crate::reader::{executor_own, list, process};
+use crate::reader::{executor_own, list_of, read};
 use crate::starts::Starts;
 use crate::survey::survey;
-use layout::context::ROOT;
+use layout::context::{CODE, ROOT, RUNNING};
 use layout::kind::Kind;
 use layout::limit::{DEEPEST, STANDARD};
 use layout::number::{wide, word, word_of};
@@ -72,17 +71,17 @@ impl<'a> Tally<'a> {
             Kind::Scope => self.scope(at + 2, d),
             Kind::Executor => self.executor(at, d),
             Kind::Waiter => Some(Counted {
-                end: process(self.ws, at, depth, RUNNING, self.bound)?,
+                end: read(self.ws, at, depth, RUNNING, self.bound)?,
                 waiters: serial_at(self.ws, at, self.serial),
                 workers: 0,
             }),
             Kind::Notice => Some(Counted {
-                end: process(self.ws, at, depth, RUNNING, self.bound)?,
+                end: read(self.ws, at, depth, RUNNING, self.bound)?,
                 waiters: 0,
                 workers: serial_at(self.ws, at, self.serial),
             }),
             _ => Some(Counted {
-                end: process(self.ws, at, depth, RUNNING, self.bound)?,
+                end: read(self.ws, at, depth, RUNNING, self.bound)?,
                 waiters: 0,
                 workers: 0,
             }),
@@ -97,7 +96,7 @@ impl<'a> Tally<'a> {
     {
         let p = self.tally(at, depth)?;
         Some(Counted {
-            end: process(self.ws, p.end, depth, CODE, self.bound)?,
+            end: read(self.ws, p.end, depth, CODE, self.bound)?,
             ..p
         })
     }
@@ -122,7 +121,7 @@ impl<'a> Tally<'a> {
     fn scope(&self, at: usize, depth: usize) -> Option<Counted>
         ensures { result ≡ scope_tally (tally_at depth self.now.ws.now self.now.serial self.now.bound) (process_end depth self.now.ws.now self.now.bound) self.now.ws.now at }
     {
-        let body = list(self.ws, at, depth, CODE, None, self.bound)?;
+        let body = list_of(self.ws, at, depth, self.bound)?;
         self.tally(body, depth)
     }
 

@@ -2,9 +2,8 @@
 #![tactic(auto)]
 
 pub mod calls;
-mod context;
+pub mod context;
 pub mod ends;
 pub mod reader;
 pub mod starts;
 pub mod survey;
-pub mod tables;

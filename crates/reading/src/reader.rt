@@ -1,30 +1,32 @@
 // The reader: where the process, list or expression that begins at a position ends, none if it does not fit. One pass over the words;
-// depth falls with every level. A context (`layout::context`) is where a process stands. `bound` is n times 65,536 plus issued.
-ghost use Rattle.std.specs.Prelude.{◌≡◌, ◌+◌, ◌%◌, ◌<◌, ◌&&◌, ◌||◌, ◌∷◌, ◌==◌, leb, eqb, length, unwrap_or, IfSome};
+// depth falls with every level. Functions with one caller are inlined, which the compiler leaves undone where they call each other.
+ghost use Rattle.std.specs.Prelude.{ℕ, ◌≡◌, ◌+◌, ◌-◌, ◌%◌, ◌<◌, ◌&&◌, ◌||◌, ◌∷◌, ◌==◌, leb, eqb, length, get_or, unwrap_or, IfSome};
 ghost use Rattle.std.specs.List.{list_all, list_any};
 ghost use Rattle.sock.specs.Words.{first_variable};
 ghost use Rattle.sock.specs.Variables.{further_of, distinct};
-ghost use Rattle.layout.specs.Contexts.{running, not_nil};
+ghost use Rattle.layout.specs.Contexts.{code, handlers, receiver};
+ghost use Rattle.layout.specs.Kinds.{number_of};
 ghost use Rattle.layout.specs.Keys.{no_key};
-ghost use Rattle.reading.specs.Walk.{end_as, expr_end, constant_end, operation_end, context_of, rest_of, process_end, two_end, branch_end, repeat_end};
-ghost use Rattle.reading.specs.Walk.{variables_end, receiving_end, one_way_end};
-ghost use Rattle.reading.specs.Walk.{choice_end, fixed_after, request_end, notify_end, solicit_end, list_end, key_as, key_at, entry_context};
-ghost use Rattle.reading.specs.Walk.{scope_end, resting_end, marked_end, end_after, executor_own, executor_end, waiter_end, notice_end};
-ghost use Rattle.reading.specs.Walk.{slot_of, fits_at, part_of, item_end};
+ghost use Rattle.reading.specs.Sets.{context_in, unused};
+ghost use Rattle.reading.specs.Walk.{stands_at, headed_end, last_end, body_at, request_at, one_way_end, one_word, on, context_of, rest_of};
+ghost use Rattle.reading.specs.Rests.{RestOf};
+ghost use Rattle.reading.specs.Tables.{place_of};
+ghost use Rattle.sock.specs.Reading.{placed, guard};
+ghost use Rattle.reading.specs.Walk.{end_as, expr_end, constant_end, operation_end, process_end};
+ghost use Rattle.reading.specs.Walk.{variables_end, receiving_end, notify_end, solicit_end, choice_end, list_end};
+ghost use Rattle.reading.specs.Walk.{fixed_after, key_as, key_at, entry_context, marked_end, end_after, executor_own, waiter_end, notice_end};
 
 use crate::context::{CODE, Context, HANDLERS, RUNNING};
-use crate::tables;
-use crate::tables::{bit, head_mask, shape};
-use layout::context::{CONTEXTS, EXPRESSION, NOT_NIL, RECEIVER, STRATUM};
-use layout::field::{first_variable, next_variable};
+use layout::context::{CODE as ANYWHERE, CONTEXTS, NOT_NIL, RECEIVER, STRATUM};
+use layout::field::{count_of, first_variable, next_variable, second_of};
 use layout::key::{NO_KEY, SCOPE_KEYS};
 use layout::kind::Kind;
 use layout::limit::{BRANCHES, ENGINES, MESSAGE};
 use layout::mark::Mark;
 use layout::number::{wide, word};
 use layout::tag::Tag;
+use layout::unit;
 use layout::unit::WORD;
-use layout::{context, unit};
 
 // An expression of at most `depth` levels.
 #[cycle(expression_operation)]
@@ -71,287 +73,6 @@ fn operation(ws: &[u16], at: usize, depth: usize, w: usize) -> Option<usize>
     }
     let e = expression(ws, at + 1, depth)?;
     expression(ws, e, depth)
-}
-
-// The contexts of a part that runs where its node does, of one that may not be nil there, and of one that is code in any case.
-fn same_context(context: Context) -> Context
-    ensures { result.number ≡ context_of context.number }
-{
-    Context {
-        number: context.number / STRATUM * STRATUM,
-    }
-}
-
-fn full_context(context: Context) -> Context
-    ensures { result.number ≡ context_of context.number + not_nil }
-{
-    Context {
-        number: context.number / STRATUM * STRATUM + NOT_NIL,
-    }
-}
-
-#[tactic(auto, unfolding(crate::specs::Walk::rest_of))]
-fn rest_context(context: Context) -> Context
-    ensures { (result.number ≡ rest_of context.number) × (result.number < running) }
-{
-    if context.number < context::RUNNING {
-        same_context(context)
-    } else {
-        CODE
-    }
-}
-
-// Where a node's shape stands: its kind, or behind all kinds by the first three bits of an expression.
-#[tactic(auto, unfolding(crate::specs::Walk::slot_of))]
-fn slot(context: usize, h: usize) -> usize
-    ensures { result ≡ slot_of context h }
-{
-    if context == EXPRESSION {
-        tables::EXPRESSIONS + h / unit::TAG
-    } else {
-        h / unit::KIND
-    }
-}
-
-// Whether a node whose shape is `t` stands here, with no other words than its parts' and those the shape tells.
-#[tactic(auto, unfolding(crate::specs::Walk::fits_at))]
-fn fits(ws: &[u16], at: usize, context: usize, t: usize) -> bool
-    requires { (at < length ws.now) × (0 < t % 4) }
-    ensures { result ≡ fits_at ws.now at context t }
-{
-    if ws.len() - at < t % tables::WIDTHS {
-        return false;
-    }
-    let head = (wide(ws[at]) + WORD) & (t / tables::HEAD % tables::HEADS);
-    let middle = wide(ws[at + t % tables::WIDTHS / 2]) & (t / tables::MIDDLE % WORD);
-    let last = wide(ws[at + t % tables::WIDTHS - 1]) & (t / tables::LAST % 2 * tables::WHOLE);
-    if head + middle + last != 0 {
-        return false;
-    }
-    t / tables::STANDS & bit(context) != 0
-}
-
-// What is left to read is kept in a row of `ROW` places, of which the first is not used. A part is kept as its depth times `KEPT` plus its
-// context, both in one number: it is put by and taken by one word of the row, and the lemmas of `Later` are of numbers. A node's parts are kept
-// if it stands no deeper than `DEEP`, and no more than `FULL` are kept already.
-// Fixed memory, as everywhere, so a row with a count beside it: a `Vec` needs the heap, and a slice that gave places back can't take them again.
-// Both places of a node's other parts are written however many it has, which a push for each would have to ask.
-const ROW: usize = 16;
-
-const KEPT: usize = 16;
-
-const DEEP: usize = 4095;
-
-const FULL: usize = 13;
-
-// The same as `fits`, if there is room to keep the node's parts for later.
-fn ready(ws: &[u16], at: usize, depth: usize, context: usize, n: usize, t: usize) -> bool
-    requires { (at < length ws.now) × (0 < t % 4) }
-    ensures { result ≡ (leb depth 4095 && leb n 13 && fits_at ws.now at context t) }
-{
-    if DEEP < depth {
-        return false;
-    }
-    if FULL < n {
-        return false;
-    }
-    fits(ws, at, context, t)
-}
-
-// The context of a node's part.
-#[tactic(auto, unfolding(crate::specs::Walk::part_of))]
-fn part(context: usize, how: usize) -> usize
-    requires { context < 13 }
-    ensures { result ≡ part_of context how }
-{
-    (context & (how % tables::ADDED)) + how / tables::ADDED % tables::ADDED
-}
-
-// A process in a context, node by node: the parts of a node that its shape tells are kept for later, the first is read next. Any other
-// node is read whole. The loop goes by the words that are left to read, and no counter or iterator has these. The next part is taken in two
-// places, since in one the readable check takes 4 per cent longer.
-#[cycle(branch_choice_executor_list_marked_node_process_repeat_request_resting_scope_solicit_two_waiter_whole)]
-pub(crate) fn process(
-    ws: &[u16],
-    at: usize,
-    depth: usize,
-    context: Context,
-    bound: usize,
-) -> Option<usize>
-    ensures { result ≡ end_as (process_end depth ws.now bound context.number at) }
-{
-    let mut later = [0usize; ROW];
-    let mut n = 0;
-    let mut a = at;
-    let mut d = depth;
-    let mut c = context.number;
-    while a < ws.len() {
-        if d == 0 {
-            return None;
-        }
-        let t = shape(slot(c, wide(ws[a])));
-        if ready(ws, a, d, c, n, t) {
-            let p = t / tables::PARTS % tables::COUNTS;
-            a = a + t % tables::WIDTHS;
-            if p == 0 {
-                if n == 0 {
-                    return Some(a);
-                }
-                d = later[n] / KEPT;
-                c = later[n] % KEPT;
-                n = n - 1;
-            } else {
-                d = d - 1;
-                let last = d * KEPT + part(c, t / tables::OTHERS);
-                later[n + 1] = last;
-                later[n + 2] = last;
-                c = part(c, t / tables::FIRST);
-                n = n + p - 1;
-            }
-        } else {
-            a = whole(ws, a, d, c, bound)?;
-            if n == 0 {
-                return Some(a);
-            }
-            d = later[n] / KEPT;
-            c = later[n] % KEPT;
-            n = n - 1;
-        }
-    }
-    None
-}
-
-// The same for whoever does not know that there is such a context: nothing stands in one from `CONTEXTS` on.
-#[tactic(auto, using(crate::proofs::Beyond::read_beyond, crate::proofs::Given::as_none))]
-pub fn read(ws: &[u16], at: usize, depth: usize, context: usize, bound: usize) -> Option<usize>
-    ensures { result ≡ end_as (process_end depth ws.now bound context at) }
-{
-    if CONTEXTS <= context {
-        return None;
-    }
-    process(ws, at, depth, Context { number: context }, bound)
-}
-
-// A process or an expression.
-#[cycle(branch_choice_executor_list_marked_node_process_repeat_request_resting_scope_solicit_two_waiter_whole)]
-#[tactic(auto, unfolding(crate::specs::Walk::item_end))]
-fn whole(ws: &[u16], at: usize, depth: usize, context: usize, bound: usize) -> Option<usize>
-    requires { context < 13 }
-    ensures { result ≡ end_as (item_end ws.now bound depth context at) }
-{
-    if context == EXPRESSION {
-        expression(ws, at, depth)
-    } else {
-        node(ws, at, depth, Context { number: context }, bound)
-    }
-}
-
-// A process in a context, by its kind.
-#[cycle(branch_choice_executor_list_marked_node_process_repeat_request_resting_scope_solicit_two_waiter_whole)]
-#[tactic(auto, unfolding(crate::specs::Walk::when, crate::specs::Walk::process_end, crate::specs::Walk::node_end))]
-fn node(ws: &[u16], at: usize, depth: usize, context: Context, bound: usize) -> Option<usize>
-    ensures { result ≡ end_as (process_end depth ws.now bound context.number at) }
-{
-    if depth == 0 {
-        return None;
-    }
-    if ws.len() <= at {
-        return None;
-    }
-    let head = ws[at];
-    let h = wide(head);
-    if (h + WORD) & head_mask(context.number, h / unit::KIND) != 0 {
-        return None;
-    }
-    let d = depth - 1;
-    let c = rest_context(context);
-    match Kind::of(head) {
-        Kind::Nil => Some(at + 1),
-        Kind::Assign => expression(ws, at + 1, d),
-        Kind::Seq => two(ws, at + 1, d, full_context(context), c, bound),
-        Kind::Par => {
-            let side = full_context(context);
-            two(ws, at + 1, d, side, side, bound)
-        }
-        Kind::If => branch(ws, at + 1, d, c, bound),
-        Kind::While => repeat(ws, at + 1, d, c, bound),
-        Kind::Choice => choice(ws, at + 1, d, context, h % unit::KIND, bound),
-        Kind::OneWay => one_way(ws, at, h),
-        Kind::Request => request(ws, at, d, c, h, bound),
-        Kind::Notify => notify(ws, at),
-        Kind::Solicit => solicit(ws, at, d, bound),
-        Kind::Scope => scope(ws, at, d, context, h, bound),
-        Kind::Inst => list(ws, at + 1, d, HANDLERS, None, bound),
-        Kind::Throw | Kind::Comp | Kind::Ch => Some(at + 1),
-        Kind::Executor => executor(ws, at, d, bound),
-        Kind::Waiter => waiter(ws, at, d, h, bound),
-        Kind::Notice => notice(ws, at, bound),
-        Kind::Unused => None,
-    }
-}
-
-// Two processes, one after the other.
-#[cycle(branch_choice_executor_list_marked_node_process_repeat_request_resting_scope_solicit_two_waiter_whole)]
-#[tactic(auto, unfolding(crate::specs::Walk::on, crate::specs::Walk::two_end))]
-fn two(
-    ws: &[u16],
-    at: usize,
-    depth: usize,
-    first: Context,
-    second: Context,
-    bound: usize,
-) -> Option<usize>
-    ensures { result ≡ end_as (two_end (process_end depth ws.now bound) first.number second.number at) }
-{
-    let a = process(ws, at, depth, first, bound)?;
-    process(ws, a, depth, second, bound)
-}
-
-// What follows the head of an if, and of a while.
-#[cycle(branch_choice_executor_list_marked_node_process_repeat_request_resting_scope_solicit_two_waiter_whole)]
-#[tactic(auto, unfolding(crate::specs::Walk::on, crate::specs::Walk::branch_end))]
-fn branch(ws: &[u16], at: usize, depth: usize, context: Context, bound: usize) -> Option<usize>
-    ensures { result ≡ end_as (branch_end (expr_end depth ws.now) (process_end depth ws.now bound) context.number at) }
-{
-    let e = expression(ws, at, depth)?;
-    two(ws, e, depth, context, context, bound)
-}
-
-#[cycle(branch_choice_executor_list_marked_node_process_repeat_request_resting_scope_solicit_two_waiter_whole)]
-#[tactic(auto, unfolding(crate::specs::Walk::on, crate::specs::Walk::repeat_end))]
-fn repeat(ws: &[u16], at: usize, depth: usize, context: Context, bound: usize) -> Option<usize>
-    ensures { result ≡ end_as (repeat_end (expr_end depth ws.now) (process_end depth ws.now bound) context.number at) }
-{
-    let e = expression(ws, at, depth)?;
-    process(ws, e, depth, context, bound)
-}
-
-// The branches of a choice, 1 to 8.
-#[cycle(branch_choice_executor_list_marked_node_process_repeat_request_resting_scope_solicit_two_waiter_whole)]
-#[tactic(auto, using(crate::proofs::Walks::branches_turn, crate::proofs::Walks::branches_done), unfolding(crate::specs::Walk::on, crate::specs::Walk::when, crate::specs::Walk::choice_end))]
-fn choice(
-    ws: &[u16],
-    at: usize,
-    depth: usize,
-    context: Context,
-    count: usize,
-    bound: usize,
-) -> Option<usize>
-    requires { 0 < at }
-    ensures { result ≡ end_as (choice_end (process_end depth ws.now bound) (rest_of context.number) count at) }
-{
-    if count == 0 || BRANCHES < count {
-        return None;
-    }
-    let c = rest_context(context);
-    let receiver = Context {
-        number: c.number + RECEIVER,
-    };
-    let mut a = at;
-    for _ in 0..count {
-        a = two(ws, a, depth, receiver, c, bound)?;
-    }
-    Some(a)
 }
 
 // Whether a fixed word follows the head, with its bits below `spare` 0.
@@ -420,93 +141,6 @@ fn receiving(ws: &[u16], at: usize, first: usize) -> Option<usize>
     distinct(first, &ws[at + 1..end]).then_some(end)
 }
 
-// A one-way whose head is `h`.
-#[tactic(auto, unfolding(crate::specs::Walk::one_way_end))]
-fn one_way(ws: &[u16], at: usize, h: usize) -> Option<usize>
-    requires { at < length ws.now }
-    ensures { result ≡ end_as (one_way_end ws.now h at) }
-{
-    receiving(ws, at + 1, h % unit::SECOND)
-}
-
-// A request whose head is `h`: x, y, and P.
-#[cycle(branch_choice_executor_list_marked_node_process_repeat_request_resting_scope_solicit_two_waiter_whole)]
-#[tactic(auto, unfolding(crate::specs::Walk::on, crate::specs::Walk::when, crate::specs::Walk::request_end))]
-fn request(
-    ws: &[u16],
-    at: usize,
-    depth: usize,
-    context: Context,
-    h: usize,
-    bound: usize,
-) -> Option<usize>
-    requires { at < length ws.now }
-    ensures { result ≡ end_as (request_end (process_end depth ws.now bound) ws.now context.number h at) }
-{
-    if !fixed(ws, at, unit::FIRST_VARIABLE) {
-        return None;
-    }
-    let x = receiving(ws, at + 2, h % unit::SECOND)?;
-    let y = variables(ws, x)?;
-    process(ws, y, depth, context, bound)
-}
-
-#[tactic(auto, unfolding(crate::specs::Walk::when, crate::specs::Walk::notify_end))]
-fn notify(ws: &[u16], at: usize) -> Option<usize>
-    requires { at < length ws.now }
-    ensures { result ≡ end_as (notify_end ws.now at) }
-{
-    if !fixed(ws, at, unit::FIRST_VARIABLE) {
-        return None;
-    }
-    variables(ws, at + 2)
-}
-
-// A solicit: y, x, and its list.
-#[cycle(branch_choice_executor_list_marked_node_process_repeat_request_resting_scope_solicit_two_waiter_whole)]
-#[tactic(auto, unfolding(crate::specs::Walk::on, crate::specs::Walk::when, crate::specs::Walk::solicit_end))]
-fn solicit(ws: &[u16], at: usize, depth: usize, bound: usize) -> Option<usize>
-    requires { at < length ws.now }
-    ensures { result ≡ end_as (solicit_end (process_end depth ws.now bound) ws.now at) }
-{
-    if !fixed(ws, at, unit::NEXT_VARIABLE) {
-        return None;
-    }
-    let y = variables(ws, at + 2)?;
-    let x = receiving(ws, y, next_variable(word(ws, at + 1)))?;
-    list(ws, x, depth, HANDLERS, None, bound)
-}
-
-// A list whose entries stand in a context; if a key is wanted, it has to be there.
-#[cycle(branch_choice_executor_list_marked_node_process_repeat_request_resting_scope_solicit_two_waiter_whole)]
-#[tactic(auto, using(crate::proofs::Walks::entries_turn, crate::proofs::Walks::entries_done, crate::proofs::Walks::key_inside), unfolding(crate::specs::Walk::on, crate::specs::Walk::when, crate::specs::Walk::list_end))]
-pub(crate) fn list(
-    ws: &[u16],
-    at: usize,
-    depth: usize,
-    context: Context,
-    wanted: Option<usize>,
-    bound: usize,
-) -> Option<usize>
-    ensures { result ≡ end_as (list_end (process_end depth ws.now bound) ws.now context.number (unwrap_or wanted no_key) at) }
-{
-    if ws.len() <= at {
-        return None;
-    }
-    let count = wide(ws[at]);
-    let mut a = at + 1;
-    let mut least = 0;
-    let wanted = wanted.unwrap_or(NO_KEY);
-    let mut met = NO_KEY <= wanted;
-    for _ in 0..count {
-        let key = key_at(ws, a, least)?;
-        a = process(ws, a + 1, depth, entry_context(context, key), bound)?;
-        met = met_by(met, key, wanted);
-        least = key + 1;
-    }
-    met.then_some(a)
-}
-
 // The key at a position, at least `least`.
 #[tactic(auto, unfolding(crate::specs::Walk::key_at))]
 fn key_at(ws: &[u16], at: usize, least: usize) -> Option<usize>
@@ -529,154 +163,448 @@ pub fn met_by(met: bool, key: usize, wanted: usize) -> bool
     met || key == wanted
 }
 
-// Under a scope's key in a scope's list nil may not stand.
-#[tactic(auto, unfolding(crate::specs::Walk::entry_context))]
-fn entry_context(context: Context, key: usize) -> Context
-    ensures { result.number ≡ entry_context context.number key }
+// A one-way.
+#[inline(always)]
+#[tactic(auto, unfolding(crate::specs::Walk::one_way_end))]
+fn one_way(ws: &[u16], at: usize, head: u16) -> Option<usize>
+    requires { at < length ws.now }
+    ensures { result ≡ end_as (one_way_end ws.now head at) }
 {
-    if context.number != context::CODE || key < SCOPE_KEYS {
+    receiving(ws, at + 1, second_of(head))
+}
+
+// Where the process behind a request begins: x, then y. A call, since the loop that reads nodes is faster so.
+#[inline(never)]
+#[tactic(auto, unfolding(crate::specs::Walk::on, crate::specs::Walk::when, crate::specs::Walk::request_at))]
+fn request(ws: &[u16], at: usize, head: u16) -> Option<usize>
+    requires { at < length ws.now }
+    ensures { result ≡ end_as (request_at ws.now head at) }
+{
+    if !fixed(ws, at, unit::FIRST_VARIABLE) {
+        return None;
+    }
+    let x = receiving(ws, at + 2, second_of(head))?;
+    variables(ws, x)
+}
+
+#[inline(always)]
+#[tactic(auto, unfolding(crate::specs::Walk::when, crate::specs::Walk::notify_end))]
+fn notify(ws: &[u16], at: usize) -> Option<usize>
+    requires { at < length ws.now }
+    ensures { result ≡ end_as (notify_end ws.now at) }
+{
+    if !fixed(ws, at, unit::FIRST_VARIABLE) {
+        return None;
+    }
+    variables(ws, at + 2)
+}
+
+// Under a scope's key in a scope's list nil may not stand.
+#[tactic(auto, using(crate::proofs::Sets::entry_stays, crate::proofs::Sets::entry_below, crate::proofs::Sets::entry_full))]
+fn entry_context(context: Context, key: usize) -> Context
+    ensures { context_in result.kinds ≡ entry_context (context_in context.kinds) key }
+{
+    if context.kinds != CODE.kinds {
         return context;
     }
-    Context { number: NOT_NIL }
+    if key < SCOPE_KEYS {
+        return context;
+    }
+    context.not_nil()
 }
 
-// A scope whose head is `h`.
-#[cycle(branch_choice_executor_list_marked_node_process_repeat_request_resting_scope_solicit_two_waiter_whole)]
-#[tactic(auto, unfolding(crate::specs::Walk::on, crate::specs::Walk::when, crate::specs::Walk::scope_end))]
-fn scope(
-    ws: &[u16],
-    at: usize,
-    depth: usize,
-    context: Context,
-    h: usize,
-    bound: usize,
-) -> Option<usize>
-    requires { at < length ws.now }
-    ensures { result ≡ end_as (scope_end (process_end depth ws.now bound) ws.now context.number h at) }
+// The bits of a head that its kind does not use. A scope's are told with its words, since one that is code uses fewer.
+#[tactic(auto, unfolding(crate::specs::Sets::unused, sock::specs::Kind::row_of, sock::specs::Kind::rows))]
+fn unused(kind: Kind) -> u16
+    ensures { result ≡ unused (number_of kind) }
 {
-    if ws.len() - at < 3 {
+    match kind {
+        Kind::Nil | Kind::Seq | Kind::Par | Kind::If | Kind::While | Kind::Inst | Kind::Ch => 2047,
+        Kind::Assign => 63,
+        Kind::Scope => 3,
+        Kind::Throw | Kind::Comp | Kind::Notice => 31,
+        _ => 0,
+    }
+}
+
+// Whether a process of this kind is one word.
+pub fn is_word(kind: Kind) -> bool
+    ensures { result ≡ one_word (number_of kind) }
+{
+    matches!(kind, Kind::Nil | Kind::Throw | Kind::Comp | Kind::Ch)
+}
+
+// Whether a process of this kind may begin a branch.
+#[tactic(auto, unfolding(sock::specs::Reading::placed))]
+fn hears(kind: Kind) -> bool
+    ensures { result ≡ placed guard (number_of kind) }
+{
+    matches!(kind, Kind::OneWay | Kind::Request)
+}
+
+// What is left of a node that was read up to its last process: nothing if it has none, or that process and its context.
+#[derive(Clone, Copy)]
+enum Rest {
+    Nothing(usize),
+    Process(usize, Context),
+}
+
+// What stays the same all through: the words, and what ends are tested by, n times 65,536 plus issued.
+#[derive(Clone, Copy)]
+pub struct Reader<'a> {
+    pub ws: &'a [u16],
+    pub bound: usize,
+    pub ghost words: { (i : ℕ) → get_or ws.now i 0 < 65536 },
+}
+
+impl<'a> Reader<'a> {
+    // Whether a process's kind may stand in the context, and its head has no bit that the kind does not use.
+    #[inline(always)]
+    #[tactic(auto, unfolding(crate::specs::Walk::stands_at, crate::specs::Sets::head_stands), using(crate::proofs::Sets::unused_named))]
+    pub fn stands(&self, at: usize, depth: usize, context: Context) -> bool
+        ensures { result ≡ stands_at depth self.now.ws.now context.kinds at }
+    {
+        if depth == 0 {
+            return false;
+        }
+        if self.ws.len() <= at {
+            return false;
+        }
+        let head = self.ws[at];
+        if head & unused(Kind::of(head)) != 0 {
+            return false;
+        }
+        context.has(wide(head) / unit::KIND)
+    }
+
+    // A process in a context. One of a single word is told here, since all others keep more in hand.
+    #[cycle(body_choice_guarded_last_list_marked_node_process_rest_solicit_waiter)]
+    pub fn process(&self, at: usize, depth: usize, context: Context) -> Option<usize>
+        ensures { result ≡ end_as (process_end depth self.now.ws.now self.now.bound (context_in context.kinds) at) }
+    {
+        if !self.stands(at, depth, context) {
+            return None;
+        }
+        if is_word(Kind::of(self.ws[at])) {
+            return Some(at + 1);
+        }
+        self.node(at, depth - 1, context)
+    }
+
+    // A process whose head was tested. The last process of a node is read in the next turn, the others by calls.
+    #[cycle(body_choice_guarded_last_list_marked_node_process_rest_solicit_waiter)]
+    #[inline(always)]
+    fn node(&self, at: usize, depth: usize, context: Context) -> Option<usize>
+        requires { at < length self.now.ws.now }
+        ensures { result ≡ end_as (headed_end (expr_end depth self.now.ws.now) (process_end depth self.now.ws.now self.now.bound) self.now.ws.now (context_in context.kinds) self.now.bound (get_or self.now.ws.now at 0) at) }
+    {
+        let mut a = at;
+        let mut d = depth;
+        let mut c = context;
+        let mut head = self.ws[at];
+        loop {
+            match self.rest(a, d, c, head)? {
+                Rest::Nothing(end) => return Some(end),
+                Rest::Process(next, context) => {
+                    if !self.stands(next, d, context) {
+                        return None;
+                    }
+                    a = next;
+                    c = context;
+                    d -= 1;
+                    head = self.ws[next];
+                }
+            }
+        }
+    }
+
+    // Reads a node up to its last process.
+    #[cycle(body_choice_guarded_last_list_marked_node_process_rest_solicit_waiter)]
+    #[inline(always)]
+    #[tactic(auto, unfolding(crate::specs::Walk::on, crate::specs::Walk::two_end, crate::specs::Walk::branch_end, crate::specs::Walk::repeat_end, crate::specs::Walk::executor_end))]
+    fn rest(&self, at: usize, depth: usize, context: Context, head: u16) -> Option<Rest>
+        requires { at < length self.now.ws.now }
+        ensures { RestOf self.now.ws.now self.now.bound depth (context_in context.kinds) head at result }
+    {
+        match Kind::of(head) {
+            Kind::Seq => {
+                let a = self.process(at + 1, depth, context.not_nil())?;
+                Some(Rest::Process(a, context.code()))
+            }
+            Kind::Par => {
+                let side = context.not_nil();
+                Some(Rest::Process(self.process(at + 1, depth, side)?, side))
+            }
+            Kind::If => {
+                let chosen = context.code();
+                let e = expression(self.ws, at + 1, depth)?;
+                Some(Rest::Process(self.process(e, depth, chosen)?, chosen))
+            }
+            Kind::While => {
+                let a = expression(self.ws, at + 1, depth)?;
+                Some(Rest::Process(a, context.code()))
+            }
+            Kind::Request => Some(Rest::Process(request(self.ws, at, head)?, context.code())),
+            Kind::Scope => {
+                let a = self.body(at, depth, context, head)?;
+                Some(Rest::Process(a, context.anywhere()))
+            }
+            Kind::Executor => Some(Rest::Process(self.executor_own(at)?, RUNNING)),
+            _ => Some(Rest::Nothing(self.last(at, depth, context, head)?)),
+        }
+    }
+
+    // A process that ends with no other.
+    #[cycle(body_choice_guarded_last_list_marked_node_process_rest_solicit_waiter)]
+    #[inline(always)]
+    #[tactic(auto, unfolding(crate::specs::Walk::last_end), using(crate::proofs::Sets::handlers_is, crate::proofs::Sets::handlers_context))]
+    fn last(&self, at: usize, depth: usize, context: Context, head: u16) -> Option<usize>
+        requires { at < length self.now.ws.now }
+        ensures { result ≡ end_as (last_end (expr_end depth self.now.ws.now) (process_end depth self.now.ws.now self.now.bound) self.now.ws.now (context_in context.kinds) self.now.bound head at) }
+    {
+        match Kind::of(head) {
+            Kind::Nil | Kind::Throw | Kind::Comp | Kind::Ch => Some(at + 1),
+            Kind::Assign => expression(self.ws, at + 1, depth),
+            Kind::Choice => self.choice(at + 1, depth, context, count_of(head)),
+            Kind::OneWay => one_way(self.ws, at, head),
+            Kind::Notify => notify(self.ws, at),
+            Kind::Solicit => self.solicit(at, depth),
+            Kind::Inst => self.list(at + 1, depth, HANDLERS, None),
+            Kind::Waiter => self.waiter(at, depth, head),
+            Kind::Notice => self.notice(at),
+            _ => None,
+        }
+    }
+
+    // What begins a branch: a one-way or a request.
+    #[cycle(body_choice_guarded_last_list_marked_node_process_rest_solicit_waiter)]
+    fn guarded(&self, at: usize, depth: usize, context: Context) -> Option<usize>
+        ensures { result ≡ end_as (process_end depth self.now.ws.now self.now.bound (context_of (context_in context.kinds) + receiver) at) }
+    {
+        if !hears(Kind::of(word(self.ws, at))) {
+            return None;
+        }
+        self.process(at, depth, context.anywhere())
+    }
+
+    // The branches of a choice, 1 to 8.
+    #[cycle(body_choice_guarded_last_list_marked_node_process_rest_solicit_waiter)]
+    #[tactic(auto, using(crate::proofs::Walks::branches_turn, crate::proofs::Walks::branches_done), unfolding(crate::specs::Walk::on, crate::specs::Walk::when, crate::specs::Walk::two_end, crate::specs::Walk::choice_end))]
+    fn choice(&self, at: usize, depth: usize, context: Context, count: usize) -> Option<usize>
+        requires { 0 < at }
+        ensures { result ≡ end_as (choice_end (process_end depth self.now.ws.now self.now.bound) (rest_of (context_in context.kinds)) count at) }
+    {
+        if count == 0 || BRANCHES < count {
+            return None;
+        }
+        let c = context.code();
+        let mut a = at;
+        for _ in 0..count {
+            a = self.guarded(a, depth, c)?;
+            a = self.process(a, depth, c)?;
+        }
+        Some(a)
+    }
+
+    // A solicit: y, x, and its list.
+    #[cycle(body_choice_guarded_last_list_marked_node_process_rest_solicit_waiter)]
+    #[inline(always)]
+    #[tactic(auto, unfolding(crate::specs::Walk::on, crate::specs::Walk::when, crate::specs::Walk::solicit_end), using(crate::proofs::Sets::handlers_is, crate::proofs::Sets::handlers_context))]
+    fn solicit(&self, at: usize, depth: usize) -> Option<usize>
+        requires { at < length self.now.ws.now }
+        ensures { result ≡ end_as (solicit_end (process_end depth self.now.ws.now self.now.bound) self.now.ws.now at) }
+    {
+        if !fixed(self.ws, at, unit::NEXT_VARIABLE) {
+            return None;
+        }
+        let y = variables(self.ws, at + 2)?;
+        let x = receiving(self.ws, y, next_variable(word(self.ws, at + 1)))?;
+        self.list(x, depth, HANDLERS, None)
+    }
+
+    // A list whose entries stand in a context; if a key is wanted, it has to be there.
+    #[cycle(body_choice_guarded_last_list_marked_node_process_rest_solicit_waiter)]
+    #[tactic(auto, using(crate::proofs::Walks::entries_turn, crate::proofs::Walks::entries_done, crate::proofs::Walks::key_inside), unfolding(crate::specs::Walk::on, crate::specs::Walk::when, crate::specs::Walk::list_end))]
+    pub fn list(
+        &self,
+        at: usize,
+        depth: usize,
+        context: Context,
+        wanted: Option<usize>,
+    ) -> Option<usize>
+        ensures { result ≡ end_as (list_end (process_end depth self.now.ws.now self.now.bound) self.now.ws.now (context_in context.kinds) (unwrap_or wanted no_key) at) }
+    {
+        let ws = self.ws;
+        if ws.len() <= at {
+            return None;
+        }
+        let count = wide(ws[at]);
+        let mut a = at + 1;
+        let mut least = 0;
+        let wanted = wanted.unwrap_or(NO_KEY);
+        let mut met = NO_KEY <= wanted;
+        for _ in 0..count {
+            let key = key_at(ws, a, least)?;
+            a = self.process(a + 1, depth, entry_context(context, key))?;
+            met = met_by(met, key, wanted);
+            least = key + 1;
+        }
+        met.then_some(a)
+    }
+
+    // Where the body of the scope at `at` begins. One that is code has no mark, no marked fault, an empty list and is no zombie.
+    #[cycle(body_choice_guarded_last_list_marked_node_process_rest_solicit_waiter)]
+    #[inline(always)]
+    #[tactic(auto, unfolding(crate::specs::Walk::when, crate::specs::Walk::body_at))]
+    fn body(&self, at: usize, depth: usize, context: Context, head: u16) -> Option<usize>
+        requires { at < length self.now.ws.now }
+        ensures { result ≡ end_as (body_at (process_end depth self.now.ws.now self.now.bound) self.now.ws.now (context_in context.kinds) head at) }
+    {
+        let ws = self.ws;
+        if ws.len() - at < 3 {
+            return None;
+        }
+        let fault = wide(ws[at + 1]);
+        if context.runs() {
+            return self.marked(at + 2, depth, wide(head), fault);
+        }
+        (fault == 0 && ws[at + 2] == 0 && second_of(head) == 0).then_some(at + 3)
+    }
+
+    // The list of a scope that runs, by its mark.
+    #[cycle(body_choice_guarded_last_list_marked_node_process_rest_solicit_waiter)]
+    #[tactic(auto, unfolding(crate::specs::Walk::when, crate::specs::Walk::marked_end), using(crate::proofs::Sets::code_is, crate::proofs::Sets::code_context))]
+    pub fn marked(&self, at: usize, depth: usize, h: usize, fault: usize) -> Option<usize>
+        ensures { result ≡ end_as (marked_end (process_end depth self.now.ws.now self.now.bound) self.now.ws.now h fault at) }
+    {
+        match Mark::numbered(h / unit::MARK % unit::MARKS) {
+            Mark::Unmarked if fault == 0 => self.list(at, depth, CODE, None),
+            Mark::Faulted if fault % unit::FIRST_NAME == 0 => {
+                self.list(at, depth, CODE, Some(fault / unit::FIRST_NAME))
+            }
+            Mark::OwnName if fault == 0 && h / unit::ZOMBIE % 2 == 1 => {
+                self.list(at, depth, CODE, None)
+            }
+            _ => None,
+        }
+    }
+
+    // The fixed words of an end: the first clear below `spare` and from there up an engine below n, then a serial of 1 to issued.
+    #[tactic(auto, unfolding(crate::specs::Walk::end_after))]
+    fn end(&self, at: usize, spare: usize) -> bool
+        requires { (at < length self.now.ws.now) × (0 < spare) }
+        ensures { result ≡ end_after self.now.ws.now at spare self.now.bound }
+    {
+        let ws = self.ws;
+        if ws.len() - at < 3 {
+            return false;
+        }
+        let w = wide(ws[at + 1]);
+        let serial = wide(ws[at + 2]);
+        if w % spare != 0 {
+            return false;
+        }
+        if self.bound / WORD <= w / spare % ENGINES {
+            return false;
+        }
+        if serial == 0 {
+            return false;
+        }
+        if self.bound % WORD < serial {
+            return false;
+        }
+        true
+    }
+
+    // The own words of the executor at `at`, wherever that is: where its body begins.
+    #[inline(always)]
+    #[tactic(auto, unfolding(crate::specs::Walk::when, crate::specs::Walk::executor_own))]
+    pub fn executor_own(&self, at: usize) -> Option<usize>
+        ensures { result ≡ end_as (executor_own self.now.ws.now self.now.bound at) }
+    {
+        if self.ws.len() <= at {
+            return None;
+        }
+        if !self.end(at, unit::EXECUTORS_CLIENT) {
+            return None;
+        }
+        variables(self.ws, at + 3)
+    }
+
+    // A waiter.
+    #[cycle(body_choice_guarded_last_list_marked_node_process_rest_solicit_waiter)]
+    #[inline(always)]
+    #[tactic(auto, unfolding(crate::specs::Walk::on, crate::specs::Walk::when, crate::specs::Walk::waiter_end), using(crate::proofs::Sets::handlers_is, crate::proofs::Sets::handlers_context))]
+    fn waiter(&self, at: usize, depth: usize, head: u16) -> Option<usize>
+        requires { at < length self.now.ws.now }
+        ensures { result ≡ end_as (waiter_end (process_end depth self.now.ws.now self.now.bound) self.now.ws.now head self.now.bound at) }
+    {
+        if !self.end(at, unit::WAITERS_SERVER) {
+            return None;
+        }
+        let x = receiving(self.ws, at + 3, second_of(head))?;
+        self.list(x, depth, HANDLERS, None)
+    }
+
+    #[tactic(auto, unfolding(crate::specs::Walk::notice_end, crate::specs::Walk::when))]
+    fn notice(&self, at: usize) -> Option<usize>
+        requires { at < length self.now.ws.now }
+        ensures { result ≡ end_as (notice_end self.now.ws.now self.now.bound at) }
+    {
+        self.end(at, unit::NOTICES_CLIENT).then_some(at + 3)
+    }
+}
+
+// Whether a kind may stand at a place (`layout::context`).
+#[tactic(auto, unfolding(sock::specs::Reading::placed))]
+fn may_stand(place: usize, kind: Kind) -> bool
+    ensures { result ≡ placed (place_of place) (number_of kind) }
+{
+    match place {
+        ANYWHERE => true,
+        NOT_NIL => kind != Kind::Nil,
+        RECEIVER => hears(kind),
+        _ => matches!(kind, Kind::Nil | Kind::Scope),
+    }
+}
+
+// The context of what may stand anywhere in a stratum (`layout::context`).
+#[tactic(auto, using(crate::proofs::Sets::code_is, crate::proofs::Sets::handlers_is, crate::proofs::Sets::running_is, crate::proofs::Sets::code_context, crate::proofs::Sets::handlers_context, crate::proofs::Sets::running_context))]
+fn stratum(number: usize) -> Context
+    requires { number < 12 }
+    ensures { context_in result.kinds ≡ context_of number }
+{
+    match number / STRATUM {
+        0 => CODE,
+        1 => HANDLERS,
+        _ => RUNNING,
+    }
+}
+
+// A process in a context by its number (`layout::context`); nothing stands in one from `CONTEXTS` on.
+#[tactic(auto, using(crate::proofs::Beyond::read_beyond, crate::proofs::Given::as_none))]
+pub fn read(ws: &[u16], at: usize, depth: usize, context: usize, bound: usize) -> Option<usize>
+    ensures { result ≡ end_as (process_end depth ws.now bound context at) }
+{
+    if CONTEXTS <= context {
         return None;
     }
-    let fault = wide(ws[at + 1]);
-    if context.number < context::RUNNING {
-        return resting(ws, at, depth, context, fault, bound);
-    }
-    let e = marked(ws, at + 2, depth, h, fault, bound)?;
-    process(ws, e, depth, RUNNING, bound)
-}
-
-// A scope that is code: no marked fault and an empty list.
-#[cycle(branch_choice_executor_list_marked_node_process_repeat_request_resting_scope_solicit_two_waiter_whole)]
-#[tactic(auto, unfolding(crate::specs::Walk::when, crate::specs::Walk::resting_end))]
-fn resting(
-    ws: &[u16],
-    at: usize,
-    depth: usize,
-    context: Context,
-    fault: usize,
-    bound: usize,
-) -> Option<usize>
-    requires { at + 2 < length ws.now }
-    ensures { result ≡ end_as (resting_end (process_end depth ws.now bound) ws.now context.number fault at) }
-{
-    if fault != 0 || ws[at + 2] != 0 {
+    if !may_stand(context % STRATUM, Kind::of(word(ws, at))) {
         return None;
     }
-    process(ws, at + 3, depth, same_context(context), bound)
+    Reader { ws, bound }.process(at, depth, stratum(context))
 }
 
-// The list of a scope that runs, by its mark.
-#[cycle(branch_choice_executor_list_marked_node_process_repeat_request_resting_scope_solicit_two_waiter_whole)]
-#[tactic(auto, unfolding(crate::specs::Walk::when, crate::specs::Walk::marked_end))]
-pub fn marked(
-    ws: &[u16],
-    at: usize,
-    depth: usize,
-    h: usize,
-    fault: usize,
-    bound: usize,
-) -> Option<usize>
-    ensures { result ≡ end_as (marked_end (process_end depth ws.now bound) ws.now h fault at) }
+// The same for who has no reader: a list of a scope, and the own words of an executor.
+#[tactic(auto, using(crate::proofs::Sets::code_is, crate::proofs::Sets::code_context))]
+pub fn list_of(ws: &[u16], at: usize, depth: usize, bound: usize) -> Option<usize>
+    ensures { result ≡ end_as (list_end (process_end depth ws.now bound) ws.now code no_key at) }
 {
-    match Mark::numbered(h / unit::MARK % unit::MARKS) {
-        Mark::Unmarked if fault == 0 => list(ws, at, depth, CODE, None, bound),
-        Mark::Faulted if fault % unit::FIRST_NAME == 0 => {
-            list(ws, at, depth, CODE, Some(fault / unit::FIRST_NAME), bound)
-        }
-        Mark::OwnName if fault == 0 && h / unit::ZOMBIE % 2 == 1 => {
-            list(ws, at, depth, CODE, None, bound)
-        }
-        _ => None,
-    }
+    Reader { ws, bound }.list(at, depth, CODE, None)
 }
 
-// The fixed words of an end: the first clear below `spare` and from there up an engine below n, then a serial of 1 to issued.
-#[tactic(auto, unfolding(crate::specs::Walk::end_after))]
-fn end(ws: &[u16], at: usize, spare: usize, bound: usize) -> bool
-    requires { (at < length ws.now) × (0 < spare) }
-    ensures { result ≡ end_after ws.now at spare bound }
-{
-    if ws.len() - at < 3 {
-        return false;
-    }
-    let w = wide(ws[at + 1]);
-    let serial = wide(ws[at + 2]);
-    if w % spare != 0 {
-        return false;
-    }
-    if bound / WORD <= w / spare % ENGINES {
-        return false;
-    }
-    if serial == 0 {
-        return false;
-    }
-    if bound % WORD < serial {
-        return false;
-    }
-    true
-}
-
-// The own words of the executor at `at`, wherever that is: where its body begins.
-#[tactic(auto, unfolding(crate::specs::Walk::when, crate::specs::Walk::executor_own))]
 pub fn executor_own(ws: &[u16], at: usize, bound: usize) -> Option<usize>
     ensures { result ≡ end_as (executor_own ws.now bound at) }
 {
-    if ws.len() <= at {
-        return None;
-    }
-    if !end(ws, at, unit::EXECUTORS_CLIENT, bound) {
-        return None;
-    }
-    variables(ws, at + 3)
-}
-
-#[cycle(branch_choice_executor_list_marked_node_process_repeat_request_resting_scope_solicit_two_waiter_whole)]
-#[tactic(auto, unfolding(crate::specs::Walk::on, crate::specs::Walk::executor_end))]
-fn executor(ws: &[u16], at: usize, depth: usize, bound: usize) -> Option<usize>
-    ensures { result ≡ end_as (executor_end (process_end depth ws.now bound) ws.now bound at) }
-{
-    let body = executor_own(ws, at, bound)?;
-    process(ws, body, depth, RUNNING, bound)
-}
-
-// A waiter whose head is `h`.
-#[cycle(branch_choice_executor_list_marked_node_process_repeat_request_resting_scope_solicit_two_waiter_whole)]
-#[tactic(auto, unfolding(crate::specs::Walk::on, crate::specs::Walk::when, crate::specs::Walk::waiter_end))]
-fn waiter(ws: &[u16], at: usize, depth: usize, h: usize, bound: usize) -> Option<usize>
-    requires { at < length ws.now }
-    ensures { result ≡ end_as (waiter_end (process_end depth ws.now bound) ws.now h bound at) }
-{
-    if !end(ws, at, unit::WAITERS_SERVER, bound) {
-        return None;
-    }
-    let x = receiving(ws, at + 3, h % unit::SECOND)?;
-    list(ws, x, depth, HANDLERS, None, bound)
-}
-
-#[tactic(auto, unfolding(crate::specs::Walk::notice_end, crate::specs::Walk::when))]
-fn notice(ws: &[u16], at: usize, bound: usize) -> Option<usize>
-    requires { at < length ws.now }
-    ensures { result ≡ end_as (notice_end ws.now bound at) }
-{
-    end(ws, at, unit::NOTICES_CLIENT, bound).then_some(at + 3)
+    Reader { ws, bound }.executor_own(at)
 }

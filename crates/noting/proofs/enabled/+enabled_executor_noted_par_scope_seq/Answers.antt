@@ -2,48 +2,87 @@
 -- the depth that is left, and for the same depth who calls whom.
 use Prim.Native.Nat.{ℕ, ◌/◌}
 use native.Mathlib.Omega.{arith}
-use mathlib.Core.Path.{refl, sym, ap, ◌∙◌}
-use Rattle.reading.specs.Tables.{head_mask}
-use Rattle.reading.specs.Walk.{end_as, process_end}
-use Rattle.noting.specs.Places.{as_context}
-use Rattle.noting.proofs.Notes.{runs, Headed, others, a_seq, a_par, a_scope, par_ends, leaf_ends}
+use mathlib.Core.Path.{refl, sym, subst, ap, ◌∙◌}
+use lib.Dec.{T}
+use lib.ListN.{get_or}
+use Rattle.layout.specs.Kinds.{number_of}
 use Rattle.layout.specs.declared.kind.Kind.TheVariants as kinds
-use Rattle.layout.proofs.Named.{head_kind, head_not}
+use Rattle.layout.proofs.Named.{at_kind, not_kind}
+use Rattle.reading.specs.Sets.{context_in}
+use Rattle.reading.specs.Walk.{one_word}
+use Rattle.reading.proofs.Turning.{Found, head_found, word_named}
+use Rattle.noting.proofs.Notes.{Headed, others, one_word_ends, one_word_notes, a_seq, a_par, a_scope, a_executor, missing}
 use Rattle.noting.proofs.enabled.+enabled_executor_noted_par_scope_seq.Goals as goal
-use Rattle.noting.proofs.enabled.+enabled_executor_noted_par_scope_seq.Goals.{enabled-Else-h-head_mask-ne0}
+use Rattle.noting.proofs.enabled.+enabled_executor_noted_par_scope_seq.Goals.{enabled-Else-not-stands}
 
-as_ended_written : {A B : Type 0} → A × B → record { ended : A; written : B }
-as_ended_written p = record { ended = p.0; written = p.1 }
-
--- what is known where a process is read by its kind
+-- what is known where the head was tested
 enabled_head :
-    (t : ℕ) (k : enabled-Else-h-head_mask-ne0 t) →
-    let a = k.args in
-    Headed a.depth a.ws.now (as_context a.place) a.at k.wide-h.result k.head_mask.result
-enabled_head t k = record {
-  deep = k.if-depth-eq0.false;
-  inside = k.if-ws-at.false;
-  word = k.wide-h.ensures.0;
-  mask = k.head_mask.ensures ∙ ap (λ c. head_mask c (k.wide-h.result / 2048)) k.from-context.ensures;
-  clear = k.if-h-head_mask-ne0.false;
-  low = (runs k.args.place).0;
-  high = (runs k.args.place).1;
-}
+    (t : ℕ) (c : enabled-Else-not-stands t) →
+    Headed c.args.depth c.args.reader.now.ws.now c.args.context.kinds c.args.at (get_or c.args.reader.now.ws.now c.args.at 0)
+enabled_head t c = record { ok = c.args.reader.now.words; known = c.args.context.known; low = c.requires; stands = sym c.stands.ensures ∙ c.if-not-stands.false; word = refl }
 
-pub enabled-returns-then-plain_par : goal.enabled-returns-then-plain_par
-enabled-returns-then-plain_par t c = as_ended_written (par_ends _ _ _ _ _ _ _ (c.if-depth-eq0.false) (c.if-ws-at.false) refl (runs c.args.place).0 (runs c.args.place).1 (sym (c.plain_par.ensures) ∙ c.if-plain_par.true) _ _ (c.par.ensures.ended) (c.par.ensures.written))
+enabled_found : (t : ℕ) (c : enabled-Else-not-stands t) → Found c.args.reader.now.ws.now c.args.reader.now.bound c.args.depth (context_in c.args.context.kinds) c.args.at
+enabled_found t c = head_found c.args.reader.now.ws.now c.args.reader.now.bound c.args.reader.now.words c.args.context.kinds c.args.context.known c.args.depth c.args.at (sym c.stands.ensures ∙ c.if-not-stands.false)
 
-pub enabled-returns-then-plain_leaf : goal.enabled-returns-then-plain_leaf
-enabled-returns-then-plain_leaf t c = as_ended_written (leaf_ends _ _ _ _ _ _ _ (c.if-depth-eq0.false) (c.if-ws-at.false) refl (runs c.args.place).0 (runs c.args.place).1 (sym (c.plain_leaf.ensures) ∙ c.if-plain_leaf.true))
+pub enabled-returns-then-not-stands-clause-ended : goal.enabled-returns-then-not-stands-clause-ended
+enabled-returns-then-not-stands-clause-ended t c = (missing _ _ _ _ _ c.args.notes.now c.args.reader.now.words c.args.context.known (sym c.stands.ensures ∙ c.if-not-stands.true)).0
 
-pub enabled-returns-in-Seq : goal.enabled-returns-in-Seq
-enabled-returns-in-Seq t c = as_ended_written (a_seq _ _ _ _ _ _ _ _ (enabled_head t (goal.at.enabled-returns-in-Seq t c).Else-h-head_mask-ne0) _ _ (head_kind kinds.Seq c.wide-h.ensures.0 c.in-Seq.ensures (omega arith)) (c.seq.ensures.ended) (c.seq.ensures.written))
+pub enabled-returns-then-not-stands-clause-written : goal.enabled-returns-then-not-stands-clause-written
+enabled-returns-then-not-stands-clause-written t c = (missing _ _ _ _ _ c.args.notes.now c.args.reader.now.words c.args.context.known (sym c.stands.ensures ∙ c.if-not-stands.true)).1
 
-pub enabled-returns-in-Par : goal.enabled-returns-in-Par
-enabled-returns-in-Par t c = as_ended_written (a_par _ _ _ _ _ _ _ _ (enabled_head t (goal.at.enabled-returns-in-Par t c).Else-h-head_mask-ne0) _ _ (head_kind kinds.Par c.wide-h.ensures.0 c.in-Par.ensures (omega arith)) (c.par-in-Par.ensures.ended) (c.par-in-Par.ensures.written))
+pub enabled-offset_bounds-reader-at : goal.enabled-offset_bounds-reader-at
+enabled-offset_bounds-reader-at t c = let inside = (enabled_found t c).inside in omega arith
 
-pub enabled-returns-in-Scope : goal.enabled-returns-in-Scope
-enabled-returns-in-Scope t c = as_ended_written (a_scope _ _ _ _ _ _ _ _ (enabled_head t (goal.at.enabled-returns-in-Scope t c).Else-h-head_mask-ne0) _ _ (head_kind kinds.Scope c.wide-h.ensures.0 c.in-Scope.ensures (omega arith)) (c.scope.ensures.ended) (c.scope.ensures.written))
+pub enabled-bounds-reader-at : goal.enabled-bounds-reader-at
+enabled-bounds-reader-at t c = (enabled_found t c).inside
+
+pub enabled-overflow_add-result : goal.enabled-overflow_add-result
+enabled-overflow_add-result t c = let inside = (enabled_found t (goal.at.enabled-overflow_add-result t c).Else-not-stands).inside in omega arith
+
+pub enabled-returns-then-is_word-clause-ended : goal.enabled-returns-then-is_word-clause-ended
+enabled-returns-then-is_word-clause-ended t c = one_word_ends _ _ _ _ _ _ c.args.notes.now (enabled_head t (goal.at.enabled-returns-then-is_word-clause-ended t c).Else-not-stands) (subst T (sym (sym (word_named (get_or c.args.reader.now.ws.now c.args.at 0 / 2048)) ∙ ap (λ k. one_word (number_of k)) (sym c.of-kind.ensures) ∙ sym c.is_word.ensures ∙ c.if-is_word.true)) tt)
+
+pub enabled-returns-then-is_word-clause-written : goal.enabled-returns-then-is_word-clause-written
+enabled-returns-then-is_word-clause-written t c = one_word_notes _ _ _ _ _ _ _ (enabled_head t (goal.at.enabled-returns-then-is_word-clause-written t c).Else-not-stands) (subst T (sym (sym (word_named (get_or c.args.reader.now.ws.now c.args.at 0 / 2048)) ∙ ap (λ k. one_word (number_of k)) (sym c.of-kind.ensures) ∙ sym c.is_word.ensures ∙ c.if-is_word.true)) tt)
+
+pub enabled-overflow_sub-d : goal.enabled-overflow_sub-d
+enabled-overflow_sub-d t c = let deep = (enabled_found t (goal.at.enabled-overflow_sub-d t c).Else-not-stands).deep in omega (arith, deep)
+
+pub enabled-par-requires : goal.enabled-par-requires
+enabled-par-requires t c = let f = (enabled_found t (goal.at.enabled-par-requires t c).Else-not-stands) in let deep = f.deep in (omega (arith, deep), tt)
+
+pub enabled-seq-requires : goal.enabled-seq-requires
+enabled-seq-requires t c = let f = (enabled_found t (goal.at.enabled-seq-requires t c).Else-not-stands) in let deep = f.deep in (omega (arith, deep), tt)
+
+pub enabled-scope-requires : goal.enabled-scope-requires
+enabled-scope-requires t c = let f = (enabled_found t (goal.at.enabled-scope-requires t c).Else-not-stands) in let deep = f.deep in (omega (arith, deep), f.inside)
+
+pub enabled-executor-requires : goal.enabled-executor-requires
+enabled-executor-requires t c = let f = (enabled_found t (goal.at.enabled-executor-requires t c).Else-not-stands) in let deep = f.deep in (omega (arith, deep), tt)
+
+pub enabled-returns-in-Par-clause-ended : goal.enabled-returns-in-Par-clause-ended
+enabled-returns-in-Par-clause-ended t c = (a_par _ _ _ _ _ _ _ (enabled_head t (goal.at.enabled-returns-in-Par-clause-ended t c).Else-not-stands) _ _ (at_kind kinds.Par c.in-Par.ensures (omega arith)) c.par.ensures.ended c.par.ensures.written).0
+
+pub enabled-returns-in-Par-clause-written : goal.enabled-returns-in-Par-clause-written
+enabled-returns-in-Par-clause-written t c = (a_par _ _ _ _ _ _ _ (enabled_head t (goal.at.enabled-returns-in-Par-clause-written t c).Else-not-stands) _ _ (at_kind kinds.Par c.in-Par.ensures (omega arith)) c.par.ensures.ended c.par.ensures.written).1
+
+pub enabled-returns-in-Seq-clause-ended : goal.enabled-returns-in-Seq-clause-ended
+enabled-returns-in-Seq-clause-ended t c = (a_seq _ _ _ _ _ _ _ (enabled_head t (goal.at.enabled-returns-in-Seq-clause-ended t c).Else-not-stands) _ _ (at_kind kinds.Seq c.in-Seq.ensures (omega arith)) c.seq.ensures.ended c.seq.ensures.written).0
+
+pub enabled-returns-in-Seq-clause-written : goal.enabled-returns-in-Seq-clause-written
+enabled-returns-in-Seq-clause-written t c = (a_seq _ _ _ _ _ _ _ (enabled_head t (goal.at.enabled-returns-in-Seq-clause-written t c).Else-not-stands) _ _ (at_kind kinds.Seq c.in-Seq.ensures (omega arith)) c.seq.ensures.ended c.seq.ensures.written).1
+
+pub enabled-returns-in-Scope-clause-ended : goal.enabled-returns-in-Scope-clause-ended
+enabled-returns-in-Scope-clause-ended t c = (a_scope _ _ _ _ _ _ _ (enabled_head t (goal.at.enabled-returns-in-Scope-clause-ended t c).Else-not-stands) _ _ (at_kind kinds.Scope c.in-Scope.ensures (omega arith)) c.scope.ensures.ended c.scope.ensures.written).0
+
+pub enabled-returns-in-Scope-clause-written : goal.enabled-returns-in-Scope-clause-written
+enabled-returns-in-Scope-clause-written t c = (a_scope _ _ _ _ _ _ _ (enabled_head t (goal.at.enabled-returns-in-Scope-clause-written t c).Else-not-stands) _ _ (at_kind kinds.Scope c.in-Scope.ensures (omega arith)) c.scope.ensures.ended c.scope.ensures.written).1
+
+pub enabled-returns-in-Executor-clause-ended : goal.enabled-returns-in-Executor-clause-ended
+enabled-returns-in-Executor-clause-ended t c = (a_executor _ _ _ _ _ _ _ (enabled_head t (goal.at.enabled-returns-in-Executor-clause-ended t c).Else-not-stands) _ _ (at_kind kinds.Executor c.in-Executor.ensures (omega arith)) c.executor.ensures.ended c.executor.ensures.written).0
+
+pub enabled-returns-in-Executor-clause-written : goal.enabled-returns-in-Executor-clause-written
+enabled-returns-in-Executor-clause-written t c = (a_executor _ _ _ _ _ _ _ (enabled_head t (goal.at.enabled-returns-in-Executor-clause-written t c).Else-not-stands) _ _ (at_kind kinds.Executor c.in-Executor.ensures (omega arith)) c.executor.ensures.ended c.executor.ensures.written).1
 
 pub enabled-returns-in_default : goal.enabled-returns-in_default
-enabled-returns-in_default t c = record { ended = c.read.ensures ∙ ap (λ k. end_as (process_end c.args.depth c.args.ws.now c.args.bound k c.args.at)) c.from-context.ensures; written = others _ _ _ _ _ _ _ _ (enabled_head t (goal.at.enabled-returns-in_default t c).Else-h-head_mask-ne0) _ refl (head_not kinds.Seq c.wide-h.ensures.0 c.of.ensures c.in_default.not-Seq refl) (head_not kinds.Par c.wide-h.ensures.0 c.of.ensures c.in_default.not-Par refl) (head_not kinds.Scope c.wide-h.ensures.0 c.of.ensures c.in_default.not-Scope refl) (head_not kinds.Executor c.wide-h.ensures.0 c.of.ensures c.in_default.not-Executor refl) }
+enabled-returns-in_default t c = record { ended = c.process.ensures; written = others _ _ _ _ _ _ _ (enabled_head t (goal.at.enabled-returns-in_default t c).Else-not-stands) _ refl (not_kind kinds.Seq c.of-kind.ensures c.in_default.not-Seq refl) (not_kind kinds.Par c.of-kind.ensures c.in_default.not-Par refl) (not_kind kinds.Scope c.of-kind.ensures c.in_default.not-Scope refl) (not_kind kinds.Executor c.of-kind.ensures c.in_default.not-Executor refl) }

@@ -14,12 +14,12 @@ use Rattle.reading.specs.Tally.{counted, node_tally, tally_at}
 use Rattle.sock.proofs.Tests.{tests}
 use Rattle.reading.proofs.ends.Tally.+executor_par_scope_seq_tally.Goals as goal
 
-pub tally-returns-in_ok-process-in_default : goal.tally-returns-in_ok-process-in_default
+pub tally-returns-in_ok-read-in_default : goal.tally-returns-in_ok-read-in_default
 unfolding node_tally counted
-tally-returns-in_ok-process-in_default t c =
+tally-returns-in_ok-read-in_default t c =
     let a = c.args in
     let w = get_or a.self.now.ws.now a.at 0 in
-    let e = some_end _ _ c.in_ok-process-in_default.ensures in
+    let e = some_end _ _ c.in_ok-read-in_default.ensures in
     let same : tally_at a.depth a.self.now.ws.now a.self.now.serial a.self.now.bound a.at ≡ counted (process_end a.depth a.self.now.ws.now a.self.now.bound running a.at) 0 0 =
     tally_node a.depth a.self.now.ws.now a.self.now.serial a.self.now.bound a.at (get_or a.self.now.ws.now a.at 0) c.if-depth-eq0.false (omega arith) refl
     ∙ simp (tests, head_not kinds.Seq {h = w} {w = w} refl c.of.ensures c.in_default.not-Seq refl, head_not kinds.Par {h = w} {w = w} refl c.of.ensures c.in_default.not-Par refl, head_not kinds.Scope {h = w} {w = w} refl c.of.ensures c.in_default.not-Scope refl, head_not kinds.Executor {h = w} {w = w} refl c.of.ensures c.in_default.not-Executor refl, head_not kinds.Waiter {h = w} {w = w} refl c.of.ensures c.in_default.not-Waiter refl, head_not kinds.Notice {h = w} {w = w} refl c.of.ensures c.in_default.not-Notice refl) in

@@ -1,0 +1,38 @@
+-- What an engine runs is told by its kind, and is read and noted as what may stand anywhere.
+use Prim.Native.Nat.{◌/◌}
+use native.Mathlib.Omega.{arith}
+use mathlib.Core.Path.{sym, ap, ◌∙◌}
+use Rattle.layout.specs.Kinds.{kind_named}
+use Rattle.reading.specs.Walk.{end_as, process_end}
+use Rattle.reading.proofs.Sets.{running_is, running_context}
+use Rattle.noting.specs.Noting.{notes_w}
+use Rattle.noting.proofs.Notes.{root_none, root_some}
+use Rattle.noting.proofs.enabled.root.Goals as goal
+
+pub returns-then-not-may_begin-clause-ended : goal.returns-then-not-may_begin-clause-ended
+returns-then-not-may_begin-clause-ended c =
+    let a = c.args in
+    (root_none a.reader.now.ws.now a.reader.now.words a.reader.now.bound a.depth a.at a.notes.now _ (c.of.ensures ∙ ap (λ w. kind_named (w / 2048)) c.word.ensures) (sym c.may_begin.ensures ∙ c.if-not-may_begin.true)).0
+
+pub returns-then-not-may_begin-clause-written : goal.returns-then-not-may_begin-clause-written
+returns-then-not-may_begin-clause-written c =
+    let a = c.args in
+    (root_none a.reader.now.ws.now a.reader.now.words a.reader.now.bound a.depth a.at a.notes.now _ (c.of.ensures ∙ ap (λ w. kind_named (w / 2048)) c.word.ensures) (sym c.may_begin.ensures ∙ c.if-not-may_begin.true)).1
+
+pub invariant_of-noted : goal.invariant_of-noted
+invariant_of-noted c = record { known = running_is }
+
+pub noted-requires : goal.noted-requires
+noted-requires c = let e = running_context in omega (arith, e)
+
+pub returns-clause-ended : goal.returns-clause-ended
+returns-clause-ended c =
+    let a = c.args in
+    let same = root_some a.reader.now.ws.now a.reader.now.words a.reader.now.bound a.depth a.at a.notes.now _ (c.of.ensures ∙ ap (λ w. kind_named (w / 2048)) c.word.ensures) (sym c.may_begin.ensures ∙ c.if-not-may_begin.false) in
+    c.noted.ensures.ended ∙ ap end_as (ap (λ n. process_end a.depth a.reader.now.ws.now a.reader.now.bound n a.at) running_context ∙ same.0)
+
+pub returns-clause-written : goal.returns-clause-written
+returns-clause-written c =
+    let a = c.args in
+    let same = root_some a.reader.now.ws.now a.reader.now.words a.reader.now.bound a.depth a.at a.notes.now _ (c.of.ensures ∙ ap (λ w. kind_named (w / 2048)) c.word.ensures) (sym c.may_begin.ensures ∙ c.if-not-may_begin.false) in
+    c.noted.ensures.written ∙ ap (λ n. notes_w a.depth a.reader.now.ws.now a.reader.now.bound n a.at a.notes.now) running_context ∙ same.1
