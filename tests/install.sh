@@ -78,6 +78,9 @@ fi
 make -s install DESTDIR="$scratch/package" PREFIX=/usr >/dev/null 2>&1
 [ -e "$scratch/package/usr/lib/libcabinet.a" ] || wrong "DESTDIR is not heeded"
 grep -q '^prefix=/usr$' "$scratch/package/usr/lib/pkgconfig/sock.pc" || wrong "DESTDIR is in the pkg-config file"
+# What `tools/build-library` sets: all functions of the archive begin at multiples of 64.
+places=$(objdump -h "$scratch/package/usr/lib/libcabinet.a" | awk '$2 ~ /^\.text/ { print $NF }' | sort -u)
+[ "$places" = '2**6' ] || wrong "functions of the archive begin at multiples of" $places
 make -s uninstall PREFIX="$prefix"
 [ -z "$(find "$prefix" -type f)" ] && [ ! -e "$prefix/share/doc/sock" ] || wrong "left behind: $(find "$prefix" -type f)"
 make -s uninstall PREFIX="$prefix" || wrong "nothing can be taken away twice"

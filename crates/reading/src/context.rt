@@ -26,7 +26,7 @@ const CODES: usize = 65536;
 
 impl Context {
     // Whether a kind may stand here.
-    pub fn has(self, kind: usize) -> bool
+    pub(crate) fn has(self, kind: usize) -> bool
         requires { kind < 32 }
         ensures { result ≡ eqb (self.kinds / 2 ^ kind % 2) 1 }
     {
