@@ -42,8 +42,8 @@ extern "C" {
 /* This header's version. The first number rises when a call, an answer or the format changes, the second when something is added. */
 #define SOCK_VERSION_MAJOR 4
 #define SOCK_VERSION_MINOR 8
-#define SOCK_VERSION_PATCH 0
-#define SOCK_VERSION "4.8.0"
+#define SOCK_VERSION_PATCH 1
+#define SOCK_VERSION "4.8.1"
 
 /* The most words and bytes that a configuration has. */
 #define SOCK_WORDS 8192
@@ -89,7 +89,7 @@ enum sock_number {
     SOCK_DEEP = 8,            /* the result would be deeper than 64, in the swing bridge cabinet than 32 */
     SOCK_LONG = 9,            /* the result would be longer than 8,192 words, in the swing bridge cabinet than 2,048 */
     SOCK_SHORT_PAPER = 10,    /* the output is shorter than the result */
-    SOCK_NOT_FRESH = 11,      /* start check: readable, but not a start; joining: the newcomer is not readable and fresh */
+    SOCK_NOT_FRESH = 11,      /* start check, translating, beginning an index: readable, but not a start; joining: the newcomer is not readable and fresh */
     SOCK_UNKNOWN_SERIAL = 12, /* ends: the serial is 0 or above issued */
     SOCK_NOT_DECIMAL = 13,    /* assign, if or while: an operand of a decimal operator has a digit above 9; after 5 and before 6 */
     SOCK_FIXED_CH = 14,       /* translating: cH stands free in one of a fixed scope's own handlers; after 1 and before 11 */
@@ -322,7 +322,7 @@ static inline struct sock_back_answer sock_go_back(const uint8_t *config, size_t
  *
  * `newcomer` is SOCK_VALUE_WORDS words of values and a process: a scope that has not begun, with no end in it and nothing behind it. Accepted: `out`
  * holds the configuration with one engine more, the newcomer's words at its end. SOCK_UNREADABLE, SOCK_HOUSE_FULL, SOCK_NOT_FRESH (also
- * for an odd length), SOCK_LONG, SOCK_SHORT_PAPER. A newcomer of more than SOCK_NEWCOMER_WORDS words is not read, and SOCK_LONG.
+ * for an odd length), SOCK_LONG, SOCK_SHORT_PAPER. A newcomer of more than 2 * SOCK_NEWCOMER_WORDS bytes is not read, and SOCK_LONG.
  *
  * The last engine may leave once its process is nil: `out` then holds the configuration without it. SOCK_UNREADABLE, SOCK_STILL_AT_WORK,
  * SOCK_SHORT_PAPER. In a run from a start the two ends of a request name each other, so nothing names an engine whose process is nil; in
@@ -411,7 +411,7 @@ static inline struct sock_plan_answer sock_lay_out(const uint8_t *config, size_t
  * SOCK_UNREADABLE, SOCK_UNKNOWN_SERIAL (0 or above issued), SOCK_TOO_MANY_MOVES, SOCK_SHORT_PAPER (scratch), in this order.
  *
  * Time. The worst case grows as the number of moves to the power k, and one configuration may have millions of moves: such a call does not end
- * in a time that anyone waits for. Games of some 650 words with 7 to 13 moves took less than 6 ms each for k 6 (docs/changes/m.md). Where there are more
+ * in a time that anyone waits for. Games of some 650 words with 7 to 13 moves took at most 0.3 ms each for k 6 (docs/changes/m.md). Where there are more
  * moves, ask for a small k first and for one more while the answer is no.
  */
 #define SOCK_KEEPER_MOVES 6
@@ -729,10 +729,13 @@ static inline struct sock_bill_answer sock_charge(const uint8_t *rates, const ui
     struct sock_bill_answer bill = {SOCK_LIST_UNFIT, {0, 0, 0, 0, 0, 0, 0, 0}};
     uint8_t totals[SOCK_TOTAL_BYTES];
     size_t engine, byte;
-    if (count > SOCK_REPLIES)
+    /* The rates are looked at first also where there are too many replies, of which then none is read. */
+    size_t read = count > SOCK_REPLIES ? 0 : count;
+    enum sock_number number = (enum sock_number)sock_bill(rates, SOCK_RATE_BYTES, replies, SOCK_REPLY_BYTES * read, totals, sizeof totals);
+    if (number == SOCK_ACCEPTED && read < count)
         return bill;
-    bill.number = (enum sock_number)sock_bill(rates, SOCK_RATE_BYTES, replies, SOCK_REPLY_BYTES * count, totals, sizeof totals);
-    if (bill.number != SOCK_ACCEPTED)
+    bill.number = number;
+    if (number != SOCK_ACCEPTED)
         return bill;
     for (engine = 0; engine < SOCK_ENGINES; engine++)
         for (byte = 0; byte < 8; byte++)

@@ -295,6 +295,8 @@ static void bills(void)
     check(bill.number == SOCK_LIST_UNFIT && bill.totals[5] == 0, "an engine that is none");
     sock_put_value(rates, 0, 1000001);
     check(sock_charge(rates, reply, 1).number == SOCK_RATE_TOO_HIGH, "a rate too high, before all else");
+    check(sock_charge(rates, reply, SOCK_REPLIES + 1).number == SOCK_RATE_TOO_HIGH, "the same, with more replies than a bill takes");
+    check(sock_charge(rates, reply, SIZE_MAX).number == SOCK_RATE_TOO_HIGH, "the same, with as many as there are numbers");
     check(strcmp(sock_word(19), "rate too high") == 0 && *sock_word(24) == 0, "the words of numbers");
 }
 
