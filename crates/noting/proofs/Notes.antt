@@ -21,7 +21,7 @@ use Rattle.reading.specs.Sets.{context_in, head_stands}
 use Rattle.reading.proofs.Combining.{Words}
 use Rattle.reading.proofs.Contexts.{number_of, head_masked}
 use Rattle.reading.proofs.Heads.{head_law}
-use Rattle.reading.proofs.Placed.{place_end, placed_named}
+use Rattle.reading.proofs.Placed.{place_end, place_some, placed_named}
 use Rattle.reading.proofs.Sets.{Known, below}
 use Rattle.reading.proofs.Turning.{Found, head_found, head_missing, word_ends}
 use Rattle.noting.specs.Noting.{par_notes, node_notes, noting, enabled_notes, notes_w, engines_notes, seq_notes, scope_notes, executor_notes}
@@ -188,26 +188,20 @@ module _ (ws : List ℕ) (ok : Words ws) (bound d i : ℕ) (m : List ℕ) where
       by zero = refl
       by (suc d) = rw (no_test e, and-false) refl
 
-  root_end : process_end d ws bound 11 i ≡ when (placed root (at ws i / 2048)) (process_end d ws bound 8 i)
-  root_end = place_end ws ok bound i d 11 (omega arith)
-
   module _ (k : Kind) (named : k ≡ kind_named (at ws i / 2048)) where
     asks : placed root (kind_number k) ≡ placed root (at ws i / 2048)
     asks = ap (λ (k : Kind). placed root (kind_number k)) named ∙ placed_named root (at ws i / 2048)
 
-    pub root_none : placed root (kind_number k) ≡ false → (None ≡ end_as (process_end d ws bound 11 i)) × (m ≡ notes_w d ws bound 11 i m)
+    pub no_root_notes : placed root (kind_number k) ≡ false → m ≡ notes_w d ws bound 11 i m
     unfolding when noting
-    root_none e =
+    no_root_notes e =
         let no = sym asks ∙ e in
-        let end : process_end d ws bound 11 i ≡ 0 = root_end ∙ rw no refl in
-        (as_none _ (sym end), rw (end, root_nothing no) refl)
+        let end : process_end d ws bound 11 i ≡ 0 = place_end ws ok bound i d 11 (omega arith) ∙ rw no refl in
+        rw (end, root_nothing no) refl
 
-    pub root_some : placed root (kind_number k) ≡ true → (process_end d ws bound 8 i ≡ process_end d ws bound 11 i) × (notes_w d ws bound 8 i m ≡ notes_w d ws bound 11 i m)
-    unfolding when noting
-    root_some e =
-        let yes = sym asks ∙ e in
-        let end : process_end d ws bound 11 i ≡ process_end d ws bound 8 i = root_end ∙ rw yes refl in
-        (sym end, rw (end, root_inner yes) refl)
+    pub root_notes : placed root (kind_number k) ≡ true → notes_w d ws bound 8 i m ≡ notes_w d ws bound 11 i m
+    unfolding noting
+    root_notes e = rw (place_some ws ok bound d i 11 (omega arith) k named e, root_inner (sym asks ∙ e)) refl
 
 -- ---- engines
 

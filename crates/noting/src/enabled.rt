@@ -2,31 +2,21 @@
 // enabled scope. The notes of a word are told in `skipping::pass`. What is not enabled is read by the reader alone.
 ghost use Rattle.std.specs.Prelude.{◌≡◌, ◌+◌, ◌*◌, ◌≤◌, ◌<◌, length, get_or};
 ghost use Rattle.layout.specs.Contexts.{code, running, root};
-ghost use Rattle.layout.specs.Kinds.{number_of};
-ghost use Rattle.sock.specs.Reading as places;
-ghost use Rattle.sock.specs.Reading.{placed};
 ghost use Rattle.reading.specs.Sets.{context_in};
 ghost use Rattle.reading.specs.Walk.{end_as, process_end, two_end, marked_end, scope_end, executor_end};
 ghost use Rattle.noting.specs.Noting.{enabled, noted_w, notes_w, enabled_notes, seq_notes, par_notes, scope_notes, executor_notes};
 
+use layout::context::{ROOT, STRATUM};
 use layout::kind::Kind;
 use layout::number::{wide, word, word_of};
 use layout::unit;
 use reading::context::{CODE, Context, ENABLED, RUNNING};
-use reading::reader::{Reader, is_word};
+use reading::reader::{Reader, is_word, may_stand};
 
 // Which of a word's two notes: that of the process that begins there, or that of the list.
 const PROCESS: usize = 0;
 
 const LIST: usize = 1;
-
-// Whether an engine may run a process of this kind.
-#[tactic(auto, unfolding(sock::specs::Reading::placed))]
-fn may_begin(kind: Kind) -> bool
-    ensures { result ≡ placed places.root (number_of kind) }
-{
-    matches!(kind, Kind::Nil | Kind::Scope)
-}
 
 // What begins at `at` ends at `end`.
 fn note<const WHICH: usize>(notes: &mut [u16], at: usize, end: usize)
@@ -164,7 +154,7 @@ pub(crate) fn root(reader: &Reader, at: usize, depth: usize, notes: &mut [u16]) 
     ensures ended { result ≡ end_as (process_end depth reader.now.ws.now reader.now.bound root at) }
     ensures written { notes.new ≡ notes_w depth reader.now.ws.now reader.now.bound root at notes.old }
 {
-    if !may_begin(Kind::of(word(reader.ws, at))) {
+    if !may_stand(ROOT % STRATUM, Kind::of(word(reader.ws, at))) {
         return None;
     }
     noted(reader, at, depth, RUNNING, notes)

@@ -7,10 +7,11 @@ ghost use Rattle.reading.specs.Walk.{executor_own, process_end};
 ghost use Rattle.reading.specs.Answers.{counts_in};
 ghost use Rattle.reading.specs.Tally.{serial_at, seq_tally, par_tally, scope_tally, executor_tally, tally_at, total_from};
 
-use crate::reader::{executor_own, list_of, read};
+use crate::context::{CODE, RUNNING};
+use crate::reader::Reader;
 use crate::starts::Starts;
 use crate::survey::survey;
-use layout::context::{CODE, ROOT, RUNNING};
+use layout::context::ROOT;
 use layout::kind::Kind;
 use layout::limit::{DEEPEST, STANDARD};
 use layout::number::{wide, word, word_of};
@@ -41,47 +42,45 @@ fn serial_at(ws: &[u16], at: usize, serial: usize) -> usize
     usize::from(ws.get(at + 2).is_some_and(|w| serial == wide(*w)))
 }
 
-// What stays the same all through a tally: the words, the serial, and the bound that the reader takes.
+// What stays the same all through a tally: the reader, and the serial.
 #[derive(Clone, Copy)]
 struct Tally<'a> {
-    ws: &'a [u16],
+    reader: Reader<'a>,
     serial: usize,
-    bound: usize,
-    ghost words: { (i : ℕ) → get_or ws.now i 0 < 65536 },
-    ghost short: { length ws.now ≤ 65536 },
+    ghost short: { length reader.ws.now ≤ 65536 },
 }
 
 impl<'a> Tally<'a> {
     // The ends of the serial in the process at `at`.
     #[cycle(executor_par_scope_seq_tally)]
-    #[tactic(auto, unfolding(crate::specs::Tally::tally_at, crate::specs::Tally::node_tally, crate::specs::Tally::counted))]
+    #[tactic(auto, unfolding(crate::specs::Tally::tally_at, crate::specs::Tally::node_tally, crate::specs::Tally::counted), using(crate::proofs::Sets::running_is, crate::proofs::Sets::running_context))]
     fn tally(&self, at: usize, depth: usize) -> Option<Counted>
-        ensures { result ≡ tally_at depth self.now.ws.now self.now.serial self.now.bound at }
+        ensures { result ≡ tally_at depth self.now.reader.ws.now self.now.serial self.now.reader.bound at }
     {
         if depth == 0 {
             return None;
         }
-        if self.ws.len() <= at {
+        if self.reader.ws.len() <= at {
             return None;
         }
         let d = depth - 1;
-        match Kind::of(self.ws[at]) {
+        match Kind::of(self.reader.ws[at]) {
             Kind::Seq => self.seq(at + 1, d),
             Kind::Par => self.par(at + 1, d),
             Kind::Scope => self.scope(at + 2, d),
             Kind::Executor => self.executor(at, d),
             Kind::Waiter => Some(Counted {
-                end: read(self.ws, at, depth, RUNNING, self.bound)?,
-                waiters: serial_at(self.ws, at, self.serial),
+                end: self.reader.process(at, depth, RUNNING)?,
+                waiters: serial_at(self.reader.ws, at, self.serial),
                 workers: 0,
             }),
             Kind::Notice => Some(Counted {
-                end: read(self.ws, at, depth, RUNNING, self.bound)?,
+                end: self.reader.process(at, depth, RUNNING)?,
                 waiters: 0,
-                workers: serial_at(self.ws, at, self.serial),
+                workers: serial_at(self.reader.ws, at, self.serial),
             }),
             _ => Some(Counted {
-                end: read(self.ws, at, depth, RUNNING, self.bound)?,
+                end: self.reader.process(at, depth, RUNNING)?,
                 waiters: 0,
                 workers: 0,
             }),
@@ -90,13 +89,13 @@ impl<'a> Tally<'a> {
 
     // Of a seq only the first part is enabled.
     #[cycle(executor_par_scope_seq_tally)]
-    #[tactic(auto, unfolding(crate::specs::Tally::seq_tally, crate::specs::Tally::counted, crate::specs::Tally::after))]
+    #[tactic(auto, unfolding(crate::specs::Tally::seq_tally, crate::specs::Tally::counted, crate::specs::Tally::after), using(crate::proofs::Sets::code_is, crate::proofs::Sets::code_context))]
     fn seq(&self, at: usize, depth: usize) -> Option<Counted>
-        ensures { result ≡ seq_tally (tally_at depth self.now.ws.now self.now.serial self.now.bound) (process_end depth self.now.ws.now self.now.bound) at }
+        ensures { result ≡ seq_tally (tally_at depth self.now.reader.ws.now self.now.serial self.now.reader.bound) (process_end depth self.now.reader.ws.now self.now.reader.bound) at }
     {
         let p = self.tally(at, depth)?;
         Some(Counted {
-            end: read(self.ws, p.end, depth, CODE, self.bound)?,
+            end: self.reader.process(p.end, depth, CODE)?,
             ..p
         })
     }
@@ -104,7 +103,7 @@ impl<'a> Tally<'a> {
     #[cycle(executor_par_scope_seq_tally)]
     #[tactic(auto, unfolding(crate::specs::Tally::par_tally, crate::specs::Tally::after), using(crate::proofs::Counting::par_below))]
     fn par(&self, at: usize, depth: usize) -> Option<Counted>
-        ensures { result ≡ par_tally (tally_at depth self.now.ws.now self.now.serial self.now.bound) at }
+        ensures { result ≡ par_tally (tally_at depth self.now.reader.ws.now self.now.serial self.now.reader.bound) at }
     {
         let p = self.tally(at, depth)?;
         let q = self.tally(p.end, depth)?;
@@ -117,24 +116,24 @@ impl<'a> Tally<'a> {
 
     // A scope's list, and its body.
     #[cycle(executor_par_scope_seq_tally)]
-    #[tactic(auto, unfolding(crate::specs::Tally::scope_tally))]
+    #[tactic(auto, unfolding(crate::specs::Tally::scope_tally), using(crate::proofs::Sets::code_is, crate::proofs::Sets::code_context))]
     fn scope(&self, at: usize, depth: usize) -> Option<Counted>
-        ensures { result ≡ scope_tally (tally_at depth self.now.ws.now self.now.serial self.now.bound) (process_end depth self.now.ws.now self.now.bound) self.now.ws.now at }
+        ensures { result ≡ scope_tally (tally_at depth self.now.reader.ws.now self.now.serial self.now.reader.bound) (process_end depth self.now.reader.ws.now self.now.reader.bound) self.now.reader.ws.now at }
     {
-        let body = list_of(self.ws, at, depth, self.bound)?;
+        let body = self.reader.list(at, depth, CODE, None)?;
         self.tally(body, depth)
     }
 
     #[cycle(executor_par_scope_seq_tally)]
     #[tactic(auto, unfolding(crate::specs::Tally::executor_tally, crate::specs::Tally::after), using(crate::proofs::Counting::executor_below))]
     fn executor(&self, at: usize, depth: usize) -> Option<Counted>
-        requires { at < length self.now.ws.now }
-        ensures { result ≡ executor_tally (tally_at depth self.now.ws.now self.now.serial self.now.bound) self.now.ws.now self.now.serial at (executor_own self.now.ws.now self.now.bound at) }
+        requires { at < length self.now.reader.ws.now }
+        ensures { result ≡ executor_tally (tally_at depth self.now.reader.ws.now self.now.serial self.now.reader.bound) self.now.reader.ws.now self.now.serial at (executor_own self.now.reader.ws.now self.now.reader.bound at) }
     {
-        let body = executor_own(self.ws, at, self.bound)?;
+        let body = self.reader.executor_own(at)?;
         let p = self.tally(body, depth)?;
         Some(Counted {
-            workers: p.workers + serial_at(self.ws, at, self.serial),
+            workers: p.workers + serial_at(self.reader.ws, at, self.serial),
             ..p
         })
     }
@@ -142,7 +141,7 @@ impl<'a> Tally<'a> {
     // The waiters and the workers of the serial in all engines.
     #[tactic(auto, unfolding(crate::specs::Tally::waiters_in, crate::specs::Tally::workers_in), using(crate::proofs::Counting::tally_below, crate::proofs::Counting::total_turn, crate::proofs::Counting::total_end, crate::proofs::Counting::front_length, crate::proofs::Counting::front_at))]
     fn total(&self, s: Starts, depth: usize) -> (usize, usize)
-        ensures { result ≡ total_from (tally_at depth self.now.ws.now self.now.serial self.now.bound) s.starts s.engines 0 0 0 }
+        ensures { result ≡ total_from (tally_at depth self.now.reader.ws.now self.now.serial self.now.reader.bound) s.starts s.engines 0 0 0 }
     {
         let mut waiters = 0;
         let mut workers = 0;
@@ -167,9 +166,11 @@ pub fn ends(ws: &[u16], serial: u16) -> Result<EndCounts, Refusal>
         return Err(Refusal::NoSerial);
     }
     let tally = Tally {
-        ws,
+        reader: Reader {
+            ws,
+            bound: s.engines * WORD + wide(issued),
+        },
         serial: wide(serial),
-        bound: s.engines * WORD + wide(issued),
     };
     let (waiters, workers) = tally.total(s, DEEPEST);
     // There are no more ends than words, so neither count is cut.

@@ -557,7 +557,7 @@ impl<'a> Reader<'a> {
 
 // Whether a kind may stand at a place (`layout::context`).
 #[tactic(auto, unfolding(sock::specs::Reading::placed))]
-fn may_stand(place: usize, kind: Kind) -> bool
+pub fn may_stand(place: usize, kind: Kind) -> bool
     ensures { result ≡ placed (place_of place) (number_of kind) }
 {
     match place {
@@ -593,18 +593,4 @@ pub fn read(ws: &[u16], at: usize, depth: usize, context: usize, bound: usize) -
         return None;
     }
     Reader { ws, bound }.process(at, depth, stratum(context))
-}
-
-// The same for who has no reader: a list of a scope, and the own words of an executor.
-#[tactic(auto, using(crate::proofs::Sets::code_is, crate::proofs::Sets::code_context))]
-pub fn list_of(ws: &[u16], at: usize, depth: usize, bound: usize) -> Option<usize>
-    ensures { result ≡ end_as (list_end (process_end depth ws.now bound) ws.now code no_key at) }
-{
-    Reader { ws, bound }.list(at, depth, CODE, None)
-}
-
-pub fn executor_own(ws: &[u16], at: usize, bound: usize) -> Option<usize>
-    ensures { result ≡ end_as (executor_own ws.now bound at) }
-{
-    Reader { ws, bound }.executor_own(at)
 }

@@ -17,11 +17,10 @@ returns-then-not-contains c =
     let b : leb 1 c.args.serial && leb c.args.serial c.word-issued.result ≡ false = search rules in
     ends_unissued standard _ (λ i. (c.type_inv.ws i).fits) c.args.serial c.in_ok-s.s e _ c.word-issued.ensures b
 
-pub invariant_of-tally : goal.invariant_of-tally
-invariant_of-tally c =
+pub invariant_of-tally-2 : goal.invariant_of-tally-2
+invariant_of-tally-2 c =
     let e : starts_of c.in_ok-s.s ≡ surveyed standard 11 c.args.ws.now = search rules in
     record {
-      words = λ i. (c.type_inv.ws i).fits;
       short = omega (arith, (known_length (found_known standard _ (λ i. (c.type_inv.ws i).fits) c.in_ok-s.s e)).1);
     }
 
