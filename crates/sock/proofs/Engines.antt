@@ -13,18 +13,19 @@ use lib.ListN.{length, get_or, take, length-append}
 use lib.Seq.{take-suc, take-length, length-take-le}
 use borrow.Author.Tests.{eq-eqb, ne_eqb}
 use Rattle.sock.specs.Words.{bit}
-use Rattle.sock.specs.Reading.{Got, end_fits}
+use Rattle.sock.specs.Reading.{Got, got, running, end_fits}
 use Rattle.sock.specs.Running.{Run, nil, run_depth}
-use Rattle.sock.specs.Configuration.{Limits, Engine, Config, engine_words, engines_words, encode, engines_depth, read_config, fresh_run, is_scope}
+use Rattle.sock.specs.Configuration.{Limits, Engine, Config, engine_words, engines_words, encode, engines_depth, read_engine, read_config, fresh_run, is_scope}
 use Rattle.sock.specs.Frames.{is_done}
+use Rattle.sock.specs.Rules.{also}
 use Rattle.sock.specs.Calls.{unreadable, long, short, not_fresh, house_full, still_at_work, engine_at, End, waiting, working, tally, tally_all}
 use Rattle.sock.specs.Engines.{nothing_behind, newcomer, with_next, admitting, join, last_of, without_last, engine_of, points_to, may_leave, leave}
-use Rattle.sock.proofs.Logic.{and_left, and_right, All, all_none, all_some, all_also, all_guarded}
+use Rattle.sock.proofs.Logic.{and_left, and_right, and_both, All, all_none, all_some, all_also, all_guarded}
 use Rattle.sock.proofs.Fits.{Sound, nil_sound, seq_sound, par_sound, scope_sound, executor_sound, waiter_sound, notice_sound, act_sound, FitsEngine, FitsEngines, no_engines, one_engine, FitsConfig, Readable}
 use Rattle.sock.proofs.Fields.{end_tests, end_fits_lem}
 use Rattle.sock.proofs.Reading.{Holds, nothing, something}
 use Rattle.sock.proofs.Located.{all_equal, engines_append}
-use Rattle.sock.proofs.Configuration.{EngineFound, engine_found, config_found}
+use Rattle.sock.proofs.Configuration.{EngineFound, engine_found, engine_finds, passed, config_found}
 use Rattle.sock.proofs.Steps.{Sure, sure_done, sure_then, sure_given, sure_unless, engine_later, engines_later}
 use Rattle.sock.proofs.Turns.{no_engine, ends_in, ends_at}
 use Rattle.sock.proofs.Ledger.{Ledger}
@@ -135,6 +136,14 @@ newcomer_new limits n ws =
       scoped = and_left (is_scope e.process) (fresh_run e.process) t;
       fresh = and_right (is_scope e.process) (fresh_run e.process) t;
     })
+
+-- and such an engine is found there
+pub newcomer_finds : (limits : Limits) (n : ℕ) (ws : List ℕ) {e : Engine} → n ≤ 8 → New limits n ws e → newcomer limits n ws ≡ some e
+unfolding newcomer also nothing_behind
+newcomer_finds limits n ws {e} few x =
+    let read : read_engine limits.deepest (running n 0) (engine_words e ++ []) ≡ got e [] = engine_finds limits.deepest few (omega arith) x.fitting x.shallow [] in
+    let in_words : read_engine limits.deepest (running n 0) ws ≡ got e [] = rw (append-nil, x.words) at read in
+    rw in_words (passed (is_scope e.process && fresh_run e.process) (and_both (is_scope e.process) (fresh_run e.process) x.scoped x.fresh))
 
 module _ {limits : Limits} {c : Config} {e : Engine} {ws : List ℕ} (r : Readable limits c) (x : New limits (suc (length c.engines)) ws e) where
   next_config : length c.engines < 8 → FitsConfig (with_next c e)
@@ -296,10 +305,13 @@ module _ {limits : Limits} {c : Config} (r : Readable limits c) (x : Leaves c) w
 
 -- ---- the two calls
 
-pub record Joins (limits : Limits) (ws engine : List ℕ) (out : List ℕ) : Type 0 where
+pub record Joins (limits : Limits) (ws engine : List ℕ) (room : ℕ) (out : List ℕ) : Type 0 where
   pub before : Config
   pub comer : Engine
   pub reads : read_config limits ws ≡ some before
+  pub few : length before.engines < 8
+  pub new : New limits (suc (length before.engines)) engine comer
+  pub enough : length (encode (with_next before comer)) ≤ room
   pub calm : Calm limits before (with_next before comer)
   pub words : out ≡ encode (with_next before comer)
 
@@ -308,7 +320,7 @@ unfolding admitting
 admits limits ws =
     sure_then (sure_given unreadable (all_equal (read_config limits ws))) λ c r. sure_unless house_full (ltb (length c.engines) 8) λ few. sure_done (r, few)
 
-pub join_joins : (limits : Limits) (ws engine : List ℕ) (room : ℕ) → Sure (Joins limits ws engine) (join limits ws engine room)
+pub join_joins : (limits : Limits) (ws engine : List ℕ) (room : ℕ) → Sure (Joins limits ws engine room) (join limits ws engine room)
 unfolding join
 join_joins limits ws engine room =
     sure_then (admits limits ws) λ c a.
@@ -316,27 +328,34 @@ join_joins limits ws engine room =
     sure_then (sure_given not_fresh (newcomer_new limits (suc (length c.engines)) engine)) λ e x.
     sure_unless long (leb (length (encode (with_next c e))) limits.longest) λ fits.
     sure_unless short (leb (length (encode (with_next c e))) room) λ enough.
+    let few : length c.engines < 8 = ltb→lt (length c.engines) 8 a.1 in
     sure_done
     (record {
       before = c;
       comer = e;
       reads = r;
-      calm = next_calm (config_found limits ws c r).1 x (ltb→lt (length c.engines) 8 a.1) (leb→le (length (encode (with_next c e))) limits.longest fits);
+      few = few;
+      new = x;
+      enough = leb→le (length (encode (with_next c e))) room enough;
+      calm = next_calm (config_found limits ws c r).1 x few (leb→le (length (encode (with_next c e))) limits.longest fits);
       words = refl;
     })
 
-pub record Left (limits : Limits) (ws out : List ℕ) : Type 0 where
+pub record Left (limits : Limits) (ws : List ℕ) (room : ℕ) (out : List ℕ) : Type 0 where
   pub before : Config
   pub reads : read_config limits ws ≡ some before
+  pub may : T (may_leave before)
+  pub enough : length (encode (without_last before)) ≤ room
   pub leaves : Leaves before
   pub calm : Calm limits before (without_last before)
   pub words : out ≡ encode (without_last before)
 
-pub leave_left : (limits : Limits) (ws : List ℕ) (room : ℕ) → Sure (Left limits ws) (leave limits ws room)
+pub leave_left : (limits : Limits) (ws : List ℕ) (room : ℕ) → Sure (Left limits ws room) (leave limits ws room)
 unfolding leave
 leave_left limits ws room =
     sure_then (sure_given unreadable (all_equal (read_config limits ws))) λ c r.
     sure_unless still_at_work (may_leave c) λ t.
     sure_unless short (leb (length (encode (without_last c))) room) λ enough.
     let x : Leaves c = may_leave_lem c t in
-    sure_done (record { before = c; reads = r; leaves = x; calm = left_calm (config_found limits ws c r).1 x; words = refl })
+    sure_done
+    (record { before = c; reads = r; may = t; enough = leb→le (length (encode (without_last c))) room enough; leaves = x; calm = left_calm (config_found limits ws c r).1 x; words = refl })

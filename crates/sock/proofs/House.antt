@@ -1,5 +1,6 @@
 -- The house over time: every act keeps a ledger of the configuration read, a joining and a leaving the very same one. What no end said at a
--- leaving of the number given up is not said later by an end of a serial issued before. What stands after takings back is a chain of accepted acts.
+-- leaving of the number given up is not said later by an end of a serial issued before. What stands after takings back is a chain of accepted acts,
+-- accepted at the largest figures too where events are made at figures of their own.
 -- Assumes nothing.
 use Prim.Native.Nat.{ℕ, zero, suc, ◌-◌, ◌≤◌, ◌<◌}
 use native.Mathlib.Omega.{arith}
@@ -21,7 +22,8 @@ use Rattle.sock.specs.Engines.{with_next, join, join_answer, join_output, leave,
 use Rattle.sock.specs.Rules.{also}
 use Rattle.sock.specs.Runs.{of_spot, same, names, end_at, Course}
 use Rattle.sock.specs.Events.{takes, words_before}
-use Rattle.sock.specs.House.{Act, stepping, joining, leaving, accepts, words_after, further, throughout, from, EveryRequestHasOneReplyInTheHouse, NoneNamesWhoLeft, NoneNamesWhoIsDone, Event, acting, taking_back, Standing, State, begun, all_but_last, next, after, struck_out, UndoesLast, Undoes, Proper, AllProper, EveryStandingRequestHasOneReplyInTheHouse}
+use Rattle.sock.specs.Cabinets.{◌inside◌, DeliverableAt}
+use Rattle.sock.specs.House.{Act, stepping, joining, leaving, accepts, words_after, further, throughout, from, EveryRequestHasOneReplyInTheHouse, NoneNamesWhoLeft, NoneNamesWhoIsDone, Event, acting, taking_back, Standing, State, begun, all_but_last, next, after, struck_out, UndoesLast, Undoes, Proper, AllProper, EveryStandingRequestHasOneReplyInTheHouse, At, after_all, AllInside, ProperAt, AllProperAt, AllAccepted, EveryRequestHasOneReplyInAnyHouse}
 use Rattle.sock.proofs.Logic.{true_test, test_true}
 use Rattle.sock.proofs.Fits.{Readable}
 use Rattle.sock.proofs.Configuration.{config_found, config_finds}
@@ -32,9 +34,10 @@ use Rattle.sock.proofs.Accounts.{stands, all_none, by_waiting, by_working, clien
 use Rattle.sock.proofs.Agreement.{fresh_agreed}
 use Rattle.sock.proofs.Placed.{end_only, named_somewhere, everywhere_all}
 use Rattle.sock.proofs.Replies.{nil_when, same_end, named_stands}
-use Rattle.sock.proofs.Requests.{Changed, stays, turns, one_call, started, Led, matched}
+use Rattle.sock.proofs.Requests.{delivered_at, Changed, stays, turns, one_call, started, Led, matched}
 use Rattle.sock.proofs.Events.{taken_number, taken_words, went_back}
 use Rattle.sock.proofs.Engines.{Calm, calm_ledger, join_joins, Leaves, leave_left, last_behind, next_tally}
+use Rattle.sock.proofs.InsideActs.{accepts_larger, words_larger}
 
 -- ---- a number given up
 
@@ -321,43 +324,65 @@ module _ (limits : Limits) where
   Chain base ws [] = ws ≡ base
   Chain base ws (x ∷ xs) = (ws ≡ words_after limits x.read x.by) × T (accepts limits x.read x.by) × Chain base x.read xs
 
-  chain_acts : (base : List ℕ) (s : State) (a : Act) → Chain base s.words s.standing → Chain base (next limits s (acting a)).words (next limits s (acting a)).standing
-  unfolding next Chain
-  chain_acts base s a h = by (accepts limits s.words a) refl
-    where
-      by :
-          (b : Bool) → accepts limits s.words a ≡ b →
-          let n : State = cond b (record { words = words_after limits s.words a; standing = record { read = s.words; by = a } ∷ s.standing }) s in
-          Chain base n.words n.standing
-      by true e = (refl, true_test e, h)
-      by false e = h
+  -- events at figures of their own: what is accepted there is accepted at the larger ones
+  module _ (figures : Limits) (smaller : figures inside limits) where
+    chain_acts :
+        (base : List ℕ) (s : State) (a : Act) → Chain base s.words s.standing → Chain base (next figures s (acting a)).words (next figures s (acting a)).standing
+    unfolding next Chain
+    chain_acts base s a h = by (accepts figures s.words a) refl
+      where
+        by :
+            (b : Bool) → accepts figures s.words a ≡ b →
+            let n : State = cond b (record { words = words_after figures s.words a; standing = record { read = s.words; by = a } ∷ s.standing }) s in
+            Chain base n.words n.standing
+        by true e =
+            (words_larger figures limits smaller s.words a (true_test e), accepts_larger figures limits smaller s.words a (true_test e), h)
+        by false e = h
 
-  -- a taking back by the last step's own journal goes back along it by one
-  chain_takes :
-      (base ws : List ℕ) (xs : List Standing) (journal out : List ℕ) → Chain base ws xs → Undoes limits xs journal →
-      takes limits ws journal out ≡ true → Chain base (words_before limits ws journal out) (all_but_last xs)
-  unfolding Chain Undoes UndoesLast words_after all_but_last
-  chain_takes base ws [] journal out h u t = absurd u
-  chain_takes base ws (x ∷ xs) journal out h u t = subst (λ us. Chain base us xs) (sym (by x.by h.0 u)) h.2
-    where
-      by : (a : Act) → ws ≡ words_after limits x.read a → UndoesLast limits x.read a journal → words_before limits ws journal out ≡ x.read
-      by (stepping k) e u = went_back limits limits (record { read = x.read; by = k }) ws journal out u.0 e u.1 t
-      by (joining engine out) e u = absurd u
-      by (leaving out) e u = absurd u
+    -- a taking back by the last step's own journal goes back along it by one
+    chain_takes :
+        (base ws : List ℕ) (xs : List Standing) (journal out : List ℕ) → Chain base ws xs → Undoes limits xs journal →
+        takes figures ws journal out ≡ true → Chain base (words_before figures ws journal out) (all_but_last xs)
+    unfolding Chain Undoes UndoesLast words_after all_but_last
+    chain_takes base ws [] journal out h u t = absurd u
+    chain_takes base ws (x ∷ xs) journal out h u t = subst (λ us. Chain base us xs) (sym (by x.by h.0 u)) h.2
+      where
+        by : (a : Act) → ws ≡ words_after limits x.read a → UndoesLast limits x.read a journal → words_before figures ws journal out ≡ x.read
+        by (stepping k) e u = went_back limits figures (record { read = x.read; by = k }) ws journal out u.0 e u.1 t
+        by (joining engine out) e u = absurd u
+        by (leaving out) e u = absurd u
 
+    chain_at :
+        (base : List ℕ) (s : State) (e : Event) → Chain base s.words s.standing → ProperAt limits s figures e →
+        Chain base (next figures s e).words (next figures s e).standing
+    unfolding next ProperAt
+    chain_at base s (acting a) h p = chain_acts base s a h
+    chain_at base s (taking_back journal out) h p = by (takes figures s.words journal out) refl
+      where
+        by :
+            (b : Bool) → takes figures s.words journal out ≡ b →
+            let n : State = cond b (record { words = words_before figures s.words journal out; standing = all_but_last s.standing }) s in
+            Chain base n.words n.standing
+        by true e = chain_takes base s.words s.standing journal out h (p (true_test e)) e
+        by false e = h
+
+  chain_all :
+      (es : List At) (base : List ℕ) (s : State) → Chain base s.words s.standing → AllInside limits es → AllProperAt limits s es →
+      Chain base (after_all s es).words (after_all s es).standing
+  unfolding after_all AllInside AllProperAt
+  chain_all [] base s h i p = h
+  chain_all (e ∷ es) base s h i p = chain_all es base (next e.figures s e.event) (chain_at e.figures i.0 base s e.event h p.0) i.1 p.1
+
+  proper_here : (s : State) (e : Event) → Proper limits s e → ProperAt limits s limits e
+  unfolding Proper ProperAt
+  proper_here s (acting a) p = p
+  proper_here s (taking_back journal out) p = p
+
+  -- events at the chain's own limits
   pub chain_next :
       (base : List ℕ) (s : State) (e : Event) → Chain base s.words s.standing → Proper limits s e →
       Chain base (next limits s e).words (next limits s e).standing
-  unfolding next Proper
-  chain_next base s (acting a) h p = chain_acts base s a h
-  chain_next base s (taking_back journal out) h p = by (takes limits s.words journal out) refl
-    where
-      by :
-          (b : Bool) → takes limits s.words journal out ≡ b →
-          let n : State = cond b (record { words = words_before limits s.words journal out; standing = all_but_last s.standing }) s in
-          Chain base n.words n.standing
-      by true e = chain_takes base s.words s.standing journal out h (p (true_test e)) e
-      by false e = h
+  chain_next base s e h p = chain_at limits (le_refl limits.deepest, le_refl limits.longest) base s e h (proper_here s e p)
 
   chain_after : (es : List Event) (base : List ℕ) (s : State) → Chain base s.words s.standing → AllProper limits s es → Chain base (after limits s es).words (after limits s es).standing
   unfolding after AllProper
@@ -389,6 +414,31 @@ module _ (limits : Limits) where
       ∙ ap (λ us. words_after limits us x.by) (chain_leads xs base x.read h.2)
       ∙ sym h.0
 
+  -- and each of them is accepted
+  accepted_last :
+      (acts : List Act) (a : Act) (r : Course) → AllAccepted limits r.words acts → T (accepts limits (throughout limits r acts).words a) →
+      AllAccepted limits r.words (acts ++ a ∷ [])
+  unfolding AllAccepted throughout
+  accepted_last [] a r h t = (t, tt)
+  accepted_last (b ∷ acts) a r h t =
+      let here = further_words r b in (
+        h.0,
+        subst (λ ws. AllAccepted limits ws (acts ++ a ∷ [])) here
+            (accepted_last acts a (further limits r b) (subst (λ ws. AllAccepted limits ws acts) (sym here) h.1) t),
+      )
+
+  chain_accepted : (xs : List Standing) (base ws : List ℕ) → Chain base ws xs → AllAccepted limits base (map (λ x. x.by) (reverse xs))
+  unfolding Chain AllAccepted
+  chain_accepted [] base ws h = tt
+  chain_accepted (x ∷ xs) base ws h =
+      rw struck_cons
+      (accepted_last (map (λ y. y.by) (reverse xs)) x.by (from base) (chain_accepted xs base x.read h.2)
+      (subst (λ us. T (accepts limits us x.by)) (sym (chain_leads xs base x.read h.2)) h.1))
+
+  pub struck_accepted : (base : List ℕ) (s : State) → Chain base s.words s.standing → AllAccepted limits base (struck_out s)
+  unfolding struck_out
+  struck_accepted base s h = chain_accepted s.standing base s.words h
+
   pub struck_leads : (base : List ℕ) (s : State) → Chain base s.words s.standing → (throughout limits (from base) (struck_out s)).words ≡ s.words
   unfolding struck_out
   struck_leads base s h = chain_leads s.standing base s.words h
@@ -397,3 +447,12 @@ pub every_standing_request_in_the_house : EveryStandingRequestHasOneReplyInTheHo
 every_standing_request_in_the_house limits start h events p =
     let s = after limits (begun start) events in
     (struck_leads limits start s (chain_after limits events start (begun start) (chain_begun limits start) p), every_request_in_the_house limits start h (struck_out s))
+
+pub every_request_in_any_house : EveryRequestHasOneReplyInAnyHouse
+every_request_in_any_house l start h events i p =
+    let now : State = after_all (begun start) events in
+    let chain = chain_all l events start (begun start) (chain_begun l start) i p in
+    let same = struck_leads l start now chain in
+    let r : Course = throughout l (from start) (struck_out now) in
+    let x = led_acts l start h (struck_out now) in
+    (struck_accepted l start now chain, same, (x.config, matched l r x, λ s. subst (λ ws. DeliverableAt s ws x.config) same (delivered_at s r.words x.ledger x.agreed)))

@@ -27,6 +27,7 @@ pub mod Handlers
 pub mod Heads
 pub mod House
 pub mod Inside
+pub mod InsideActs
 pub mod InsideSteps
 pub mod Index
 pub mod IndexFollows

@@ -36,7 +36,7 @@ use Rattle.sock.proofs.Replies.{end_placed, named_paired, ready_awaited, ready_d
 
 -- ---- delivery, at any limits that read a configuration with a ledger
 
-delivered_at : (limits : Limits) (ws : List ℕ) {c : Config} {d : ℕ → ℕ} → Ledger c d → Agreed c → DeliverableAt limits ws c
+pub delivered_at : (limits : Limits) (ws : List ℕ) {c : Config} {d : ℕ → ℕ} → Ledger c d → Agreed c → DeliverableAt limits ws c
 delivered_at limits ws {c} l w reads s e p e' p' out journal n n' room enough =
     let (words, good) = config_found limits ws c reads in
     let (st, d, q) =

@@ -1,5 +1,5 @@
--- Joining and leaving on bytes (document 02, k): an odd configuration is 1, an odd newcomer is 11, an odd last byte of the output keeps its
--- content. The answer is packed as that of taking back: number 8, zero 40, length 16.
+-- Joining and leaving on bytes (document 02, k): an odd configuration is 1, an odd newcomer of at most 16,384 words is 11, an odd last byte of the
+-- output keeps its content. The answer is packed as that of taking back: number 8, zero 40, length 16.
 use Rattle.std.specs.Prelude.{ℕ, ◌/◌, List, leb, length}
 use Rattle.sock.specs.Configuration.{standard}
 use Rattle.sock.specs.Calls.{unreadable, long, Result, ◌>>=◌, ◌>>◌, ◌!◌, ◌unless◌}

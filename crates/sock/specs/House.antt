@@ -1,5 +1,5 @@
 -- The house over time (document 02, k): lists of steps, joinings and leavings, refused ones included, and of takings back among them. Demand 3
--- over these, and that no open serial names an engine that has left since it was issued.
+-- over these, in one cabinet and in several (i), and that no open serial names an engine that has left since it was issued.
 use Rattle.std.specs.Prelude.{ℕ, ◌+◌, ◌-◌, ◌<◌, ◌≡◌, Bool, ◌&&◌, cond, List, [], ◌∷◌, ◌++◌, map, reverse, T, eqb, get_or, take}
 use Rattle.std.proofs.Math.Option.{some}
 use Rattle.sock.specs.Configuration.{Limits, Config, read_config}
@@ -9,6 +9,7 @@ use Rattle.sock.specs.Everywhere.{everywhere}
 use Rattle.sock.specs.Engines.{join_answer, join_output, leave_answer, leave_output, last_of, without_last, serial_of, engine_of, points_to}
 use Rattle.sock.specs.Runs.{Call, call_answer, accepted, next_words, named, of_spot, is_solicit, carries, counts, same, Course, MatchedBy}
 use Rattle.sock.specs.Events.{takes, words_before, own_journal}
+use Rattle.sock.specs.Cabinets.{◌inside◌, DeliverableAt}
 
 -- ---- steps, joinings and leavings
 
@@ -171,3 +172,48 @@ EveryStandingRequestHasOneReplyInTheHouse =
     let acts = struck_out (after limits (begun start) events) in
     ((throughout limits (from start) acts).words ≡ (after limits (begun start) events).words)
     × ((c : Config) × MatchedBy limits (throughout limits (from start) acts) c)
+
+-- ---- in cabinets of different figures
+
+-- an event, at the figures of the cabinet that makes it
+pub record At : Type 0 where
+  pub figures : Limits
+  pub event : Event
+
+unfoldable pub after_all : State → List At → State
+after_all s [] = s
+after_all s (e ∷ es) = after_all (next e.figures s e.event) es
+
+-- of any event, a joining and a leaving too, though the swing bridge cabinet has neither
+unfoldable pub AllInside : Limits → List At → Type 0
+AllInside l [] = Unit
+AllInside l (e ∷ es) = (e.figures inside l) × AllInside l es
+
+-- The condition on a taking back, as above: what stands last is a step, and the journal lent begins with that step's own
+unfoldable pub ProperAt : Limits → State → Limits → Event → Type 0
+ProperAt l s figures (acting a) = Unit
+ProperAt l s figures (taking_back journal out) = T (takes figures s.words journal out) → Undoes l s.standing journal
+
+unfoldable pub AllProperAt : Limits → State → List At → Type 0
+AllProperAt l s [] = Unit
+AllProperAt l s (e ∷ es) = ProperAt l s e.figures e.event × AllProperAt l (next e.figures s e.event) es
+
+-- acts that are each accepted, one after the other
+unfoldable pub AllAccepted : Limits → List ℕ → List Act → Type 0
+AllAccepted limits ws [] = Unit
+AllAccepted limits ws (a ∷ acts) = T (accepts limits ws a) × AllAccepted limits (words_after limits ws a) acts
+
+-- Demand 3 over all events, each at the figures of its cabinet: the words now are those that the acts that stand give at the largest figures, these
+-- acts are matched there, and every cabinet delivers what is finished and what it can read
+abbrev pub EveryRequestHasOneReplyInAnyHouse : Type 0
+EveryRequestHasOneReplyInAnyHouse =
+    (l : Limits) (start : List ℕ) →
+    check_start l start ≡ 0 →
+    (events : List At) →
+    AllInside l events →
+    AllProperAt l (begun start) events →
+    let now = after_all (begun start) events in
+    let acts = struck_out now in
+    AllAccepted l start acts
+    × ((throughout l (from start) acts).words ≡ now.words)
+    × ((c : Config) × MatchedBy l (throughout l (from start) acts) c × ((s : Limits) → DeliverableAt s now.words c))

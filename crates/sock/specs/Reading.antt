@@ -88,7 +88,7 @@ unfoldable pub repeated : ℕ → List Part → List Part
 repeated zero ps = []
 repeated (suc n) ps = ps ++ repeated n ps
 
--- The parts of a process by its head, as many as `processes_of` says (Parts.parts_many)
+-- The parts of a process by its head, as many as `processes_of` says (PartsTable.parts_many)
 unfoldable pub parts_of : ℕ → List Part
 parts_of h = repeated (cond (eqb (kind_of h) Kind.choice) (count_of h) 1) (get_or parts_rows (kind_of h) [])
 

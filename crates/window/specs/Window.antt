@@ -55,7 +55,7 @@ same [] (n ∷ ns) = false
 same (m ∷ ms) [] = false
 same (m ∷ ms) (n ∷ ns) = eqb m n && same ms ns
 
--- A window that a run of width w gives (shown in proofs/Exact): at most w entries, each at most 64, zeros behind, and counts that are
+-- A window that a run of width w gives (shown in proofs/Theorems): at most w entries, each at most 64, zeros behind, and counts that are
 -- their recount. Words past the 1,089 are not its own.
 unfoldable pub given : ℕ → List ℕ → Bool
 given w window =
