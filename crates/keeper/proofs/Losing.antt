@@ -2,17 +2,19 @@
 -- Assumes nothing.
 use Prim.Native.Nat.{ℕ, suc, ◌<◌}
 use native.Mathlib.Omega.{arith}
+use native.Mathlib.Decide.{ℕ_discrete}
 use mathlib.Core.Path.{◌≡◌, refl, sym, subst, ap, ◌∙◌}
 use mathlib.Core.Bool.{Bool, true, false, not}
 use mathlib.Core.List.{List}
+use borrow.Author.Tests.{eq-eqb, ne_eqb}
 use lib.Dec.{T, T_not, not_T, eqb, eqb→eq}
 use lib.ListN.{length}
 use Rattle.sock.specs.Calls.{Numbers, done, Stepped}
 use Rattle.sock.specs.Configuration.{encode}
 use Rattle.sock.proofs.Logic.{cond-case}
 use Rattle.keeper.specs.Game.{Side, keeper, river, moved, any, fails, some_move, every_move, has_move, delivers, won, forces}
-use Rattle.keeper.specs.Hopes.{ready_at, Hope}
-use Rattle.keeper.proofs.Some.{move_here, move_there}
+use Rattle.keeper.specs.Hopes.{ready_at, ready_w, lost_w, Hope}
+use Rattle.keeper.proofs.Some.{found_none, move_here, move_there}
 use Rattle.keeper.proofs.Forcing.{some_move_lem, move_of}
 use Rattle.keeper.proofs.Replying.{reply_ready, was_read}
 
@@ -80,10 +82,27 @@ never_left : (engines serial left : ℕ) (side : Side) (ws : List ℕ) → left 
 unfolding forces
 never_left engines serial left side ws e = ap (λ (n : ℕ). forces engines serial n side ws) e
 
-pub hope_end : (serial left : ℕ) (ws : List ℕ) → left ≡ 0 → Hope serial left ws true
+hope_end : (serial left : ℕ) (ws : List ℕ) → left ≡ 0 → Hope serial left ws true
 hope_end serial left ws e = record { some = λ q. absurd (subst T q tt); none = λ q engines side. never_left engines serial left side ws e }
 
-pub hope_last : (serial left : ℕ) (ws : List ℕ) (r : Bool) → left ≡ 1 → (r ≡ false → (i : ℕ) → i < length ws → ready_at serial ws i ≡ false) → Hope serial left ws (not r)
+hope_last : (serial left : ℕ) (ws : List ℕ) (r : Bool) → left ≡ 1 → (r ≡ false → (i : ℕ) → i < length ws → ready_at serial ws i ≡ false) → Hope serial left ws (not r)
 hope_last serial left ws true e f = record { some = λ q z. omega (arith, e, z); none = λ q. absurd (subst T (sym q) tt) }
 hope_last serial left ws false e f =
     record { some = λ q. absurd (subst T q tt); none = λ q engines side. ap (λ (n : ℕ). forces engines serial n side ws) e ∙ lost_last serial ws (f refl) engines side }
+
+hope_more : (serial left : ℕ) (ws : List ℕ) → (left ≡ 0 → ⊥) → Hope serial left ws false
+hope_more serial left ws n = record { some = λ q z. n z; none = λ q. absurd (subst T (sym q) tt) }
+
+unready : (serial : ℕ) (ws : List ℕ) → ready_w serial ws ≡ false → (i : ℕ) → i < length ws → ready_at serial ws i ≡ false
+unfolding ready_w
+unready serial ws e = found_none (length ws) (ready_at serial ws) e
+
+-- What `lost_w` tells is so
+pub lost_hope : (serial left : ℕ) (ws : List ℕ) → Hope serial left ws (lost_w serial left ws)
+unfolding lost_w
+lost_hope serial left ws = by (ℕ_discrete left 0) (ℕ_discrete left 1)
+  where
+    by : Dec (left ≡ 0) → Dec (left ≡ 1) → Hope serial left ws (lost_w serial left ws)
+    by (yes z) d = rw (eq-eqb left 0 z) (hope_end serial left ws z)
+    by (no n) (yes z) = rw (ne_eqb left 0 n, eq-eqb left 1 z) (hope_last serial left ws (ready_w serial ws) z (unready serial ws))
+    by (no n) (no m) = rw (ne_eqb left 0 n, ne_eqb left 1 m) (hope_more serial left ws n)

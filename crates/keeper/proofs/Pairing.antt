@@ -2,14 +2,15 @@
 -- Assumes nothing.
 use Prim.Native.Nat.{ℕ, ◌+◌, ◌*◌, ◌-◌, ◌≤◌, ◌<◌}
 use native.Mathlib.Omega.{arith}
-use native.Mathlib.Decide.{dec_lt}
+use native.Mathlib.Decide.{ℕ_discrete, dec_lt}
 use mathlib.Core.Path.{◌≡◌, refl, sym, subst, ap, ◌∙◌}
-use mathlib.Core.Bool.{Bool, true, false}
+use mathlib.Core.Bool.{Bool, true, false, not}
 use mathlib.Core.Option.{none, some}
 use mathlib.Core.List.{List, [], ◌∷◌, ◌++◌}
 use borrow.Author.Tests.{eq-eqb, ne_eqb, lt-ltb, le-leb, lt-leb}
 use lib.Dec.{T}
 use lib.ListN.{length, get_or, drop}
+use Rattle.std.proofs.lemmas.Bool.{not-true}
 use Rattle.std.proofs.lemmas.List.{get_or_past}
 use Rattle.sock.specs.Words.{kind_of, name_of, head_of, name_fields, executors_client, notices_client, waiters_server, bit}
 use Rattle.sock.specs.Variables.{first_of, variable_words}
@@ -28,16 +29,17 @@ use Rattle.sock.proofs.Positions.{at_head}
 use Rattle.sock.proofs.Steps.{enabled_fits}
 use Rattle.sock.proofs.Turns.{ends_at}
 use Rattle.sock.proofs.Replies.{is_same}
-use Rattle.reading.specs.Survey.{Starts, surveyed}
+use Rattle.reading.specs.Survey.{Starts, no_starts, surveyed}
 use Rattle.reading.specs.Answers.{starts_of}
 use Rattle.reading.specs.declared.starts.Starts.{Starts as Found}
 use Rattle.reading.proofs.Combining.{Words}
-use Rattle.reading.proofs.Known.{Known, known_length, found_known}
+use Rattle.reading.proofs.Known.{Known, known_length, survey_known}
 use Rattle.reading.proofs.Standing.{start_inside, start_next}
 use Rattle.layout.specs.Positions.{onward}
 use Rattle.rules.specs.Rewriting.{at}
-use Rattle.keeper.specs.Game.{Side, forces}
-use Rattle.keeper.specs.Pairs.{working_at, waiting_at, client_at, within_w, names_w, pair_w}
+use Rattle.keeper.specs.Game.{Side, some_below, forces}
+use Rattle.keeper.specs.Pairs.{working_at, waiting_at, client_at, within_w, names_w, pair_w, awaited_w, apart_w}
+use Rattle.keeper.proofs.Some.{found_none}
 use Rattle.keeper.proofs.Gone.{Apart, apart_lost, Counted, counted_at}
 
 -- ---- an end that stands
@@ -229,13 +231,39 @@ module _ (ws : List ℕ) (s : Starts) (known : Known standard ws s) (serial : �
           rw (v.waits, w.names, v.names, eq-eqb o o refl, w.named, within_there q, v.named, within_there p) refl in
           subst T (sym yes ∙ h (place_of p) (inside_there p) w.works (place_of q) (inside_there q)) tt
 
--- Where no two places make a pair the serial is lost
-pub apart_by_words :
-    (ws : List ℕ) (ok : Words ws) (found : Found) (serial : ℕ) → starts_of found ≡ surveyed standard 11 ws →
-    ((i : ℕ) → i < length ws → working_at serial ws i ≡ true → (j : ℕ) → j < length ws → pair_w (starts_of found) serial ws i j ≡ false) →
-    (ends standard ws serial).number ≡ 0 → (engines k : ℕ) (side : Side) → forces engines serial k side ws ≡ false
-apart_by_words ws ok found serial e h z engines k side =
-    let n : Known standard ws (starts_of found) = found_known standard ws ok found e in
-    let x : Counted serial ws = counted_at serial ws z in
-    let same : x.config ≡ n.config = cc in
-    apart_lost serial engines k side ws n.config n.reads (never_paired ws (starts_of found) n serial h (subst (λ (c : Config). serial ≤ c.issued) same x.issued))
+-- ---- what the code says of a configuration
+
+-- by its survey: nothing of words that cannot be read; of others whether some working end has its waiter
+pub apart_unread : (serial : ℕ) (ws : List ℕ) → no_starts ≡ surveyed standard 11 ws → false ≡ apart_w serial ws
+unfolding apart_w no_starts
+apart_unread serial ws e = rw (← e)
+
+pub apart_read : (serial : ℕ) (ws : List ℕ) (found : Found) → starts_of found ≡ surveyed standard 11 ws → (b : Bool) → b ≡ some_below (length ws) (awaited_w (starts_of found) serial ws) → not b ≡ apart_w serial ws
+unfolding apart_w
+apart_read serial ws found e b q = rw (← e, ne_eqb found.engines 0 (λ z. omega (arith, z, found.some)), ← q)
+
+module _ (serial : ℕ) (ws : List ℕ) where
+  abbrev s : Starts
+  s = surveyed standard 11 ws
+
+  -- what it tells of the places
+  unawaited : (i : ℕ) → awaited_w s serial ws i ≡ false → working_at serial ws i ≡ true → (j : ℕ) → j < length ws → pair_w s serial ws i j ≡ false
+  unfolding awaited_w
+  unawaited i e w = found_none (length ws) (pair_w s serial ws i) (rw w at e)
+
+  apart_places : apart_w serial ws ≡ true → (s.engines ≡ 0 → ⊥) × ((i : ℕ) → i < length ws → awaited_w s serial ws i ≡ false)
+  unfolding apart_w
+  apart_places e = by (ℕ_discrete s.engines 0)
+    where
+      by : Dec (s.engines ≡ 0) → (s.engines ≡ 0 → ⊥) × ((i : ℕ) → i < length ws → awaited_w s serial ws i ≡ false)
+      by (yes z) = let f : apart_w serial ws ≡ false = rw (eq-eqb s.engines 0 z) in absurd (subst T (sym e ∙ f) tt)
+      by (no n) = (n, found_none (length ws) (awaited_w s serial ws) (not-true _ (rw (ne_eqb s.engines 0 n) at e)))
+
+  -- Where no working end has its waiter the serial is lost
+  pub apart_by_words : Words ws → apart_w serial ws ≡ true → (ends standard ws serial).number ≡ 0 → (engines k : ℕ) (side : Side) → forces engines serial k side ws ≡ false
+  apart_by_words ok e z engines k side =
+      let (more, nowhere) = apart_places e in
+      let n : Known standard ws s = survey_known standard ws ok s refl more in
+      let x : Counted serial ws = counted_at serial ws z in
+      let same : x.config ≡ n.config = cc in
+      apart_lost serial engines k side ws n.config n.reads (never_paired ws s n serial (λ i l. unawaited i (nowhere i l)) (subst (λ (c : Config). serial ≤ c.issued) same x.issued))

@@ -5,11 +5,12 @@ use native.Mathlib.Omega.{arith}
 use native.Mathlib.Decide.{ℕ_discrete}
 use mathlib.Core.Path.{◌≡◌, refl, sym, subst}
 use mathlib.Core.Logic.{⊎_elim}
-use mathlib.Core.Bool.{Bool, ◌||◌}
+use mathlib.Core.Bool.{Bool, true, false, ◌||◌}
 use mathlib.Core.List.{List}
 use lib.Dec.{T}
 use Rattle.sock.specs.Calls.{Numbers, Result, refused, done, Stepped}
-use Rattle.sock.proofs.Logic.{and_left, and_right, and_both, or_left, or_right, or_case}
+use Rattle.sock.proofs.Logic.{and_left, and_right, and_both, or_left, or_right, or_case, test_true, true_test}
+use Rattle.std.proofs.lemmas.Bool.{false_from_ne_true}
 use Rattle.keeper.specs.Game.{Side, of_side, moved, accepts, some_below, some_numbers, moves}
 
 some_step : (test : ℕ → Bool) (n i : ℕ) → T (test i) → (i < n → T (some_below n test)) → i < suc n → T (test n || some_below n test)
@@ -28,6 +29,18 @@ pub some_there : (n : ℕ) (test : ℕ → Bool) → T (some_below n test) → (
 unfolding some_below
 some_there zero test t = absurd t
 some_there (suc n) test t = ⊎_elim (λ u. (n, u)) (λ u. some_there n test u) (or_case (test n) (some_below n test) t)
+
+-- a test that passes at a number below, or at none
+pub some_found : (n : ℕ) (test : ℕ → Bool) (i : ℕ) → i < n → true ≡ test i → true ≡ some_below n test
+some_found n test i h e = sym (test_true (some_below n test) (some_here n test i h (true_test (sym e))))
+
+pub none_found : (n : ℕ) (test : ℕ → Bool) → ((i : ℕ) → i < n → test i ≡ false) → false ≡ some_below n test
+unfolding some_below
+none_found zero test h = refl
+none_found (suc n) test h = rw (h n (omega arith)) (none_found n test λ i l. h i (omega (arith, l)))
+
+pub found_none : (n : ℕ) (test : ℕ → Bool) → some_below n test ≡ false → (i : ℕ) → i < n → test i ≡ false
+found_none n test e i h = false_from_ne_true (test i) λ q. subst T e (some_here n test i h (true_test q))
 
 -- each of the five has 16 bits
 pub record Words (k : Numbers) : Type 0 where

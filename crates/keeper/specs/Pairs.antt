@@ -1,10 +1,12 @@
--- Two ends of a serial that name each other, told from the words. No contract of a call names it.
-use Rattle.std.specs.Prelude.{ℕ, ◌+◌, ◌-◌, Bool, true, false, cond, List, leb, ltb, eqb, get_or}
+-- Two ends of a serial that name each other, and whether there are such, told from the words. No contract of a call names it.
+use Rattle.std.specs.Prelude.{ℕ, ◌+◌, ◌-◌, Bool, true, false, not, cond, List, leb, ltb, eqb, length, get_or}
 use Rattle.sock.specs.Kind
 use Rattle.sock.specs.Words.{kind_of, name_of, executors_client, notices_client, waiters_server}
-use Rattle.reading.specs.Survey.{Starts}
+use Rattle.sock.specs.Configuration.{standard}
+use Rattle.reading.specs.Survey.{Starts, surveyed}
 use Rattle.layout.specs.Positions.{onward}
 use Rattle.rules.specs.Rewriting.{at}
+use Rattle.keeper.specs.Game.{some_below}
 
 -- a working end of the serial may stand at a place: an executor's or a notice's head, and the serial; or a waiter
 unfoldable pub working_at : ℕ → List ℕ → ℕ → Bool
@@ -33,3 +35,13 @@ names_w s ws i j =
 -- the two are a pair, if the first is a working end
 unfoldable pub pair_w : Starts → ℕ → List ℕ → ℕ → ℕ → Bool
 pair_w s serial ws i j = cond (waiting_at serial ws j) (names_w s ws i j) false
+
+-- a working end that may stand at a place may have its waiter
+unfoldable pub awaited_w : Starts → ℕ → List ℕ → ℕ → Bool
+awaited_w s serial ws i = cond (working_at serial ws i) (some_below (length ws) (pair_w s serial ws i)) false
+
+-- in words that can be read, no working end of the serial has its waiter
+unfoldable pub apart_w : ℕ → List ℕ → Bool
+apart_w serial ws =
+    let s = surveyed standard 11 ws in
+    cond (eqb s.engines 0) false (not (some_below (length ws) (awaited_w s serial ws)))

@@ -39,7 +39,7 @@ pub record Spied (engines serial : ℕ) (side : Side) (ws : List ℕ) (i : ℕ) 
   pub no : (j : ℕ) → (i < j) → j < next → T (of_side engines side (move_at j).engine) → Quiet serial ws j
   pub not_here : ready ≡ false → T (of_side engines side (move_at i).engine) → Quiet serial ws i
 
--- the first reply of a side, if it has one
+-- a reply of the side's that is ready, if it has one
 pub record Replied (engines serial : ℕ) (side : Side) (ws : List ℕ) (o : Option ℕ) : Type 0 where
   pub within : (i : ℕ) → o ≡ Some i → i < 68719476736
   pub mine : (i : ℕ) → o ≡ Some i → T (of_side engines side (move_at i).engine)

@@ -1,11 +1,8 @@
 // Ends of the serial that stand but do not name each other: no step brings them together, since every end keeps its engine and what it names. So a
 // configuration without a pair is lost, and that is told from the words before the game begins.
-ghost use Rattle.std.specs.Prelude.{◌≡◌, ℕ, ◌<◌, true, false, length};
-ghost use Rattle.sock.specs.Configuration.{standard};
-ghost use Rattle.sock.specs.Calls.{ends};
+ghost use Rattle.std.specs.Prelude.{◌≡◌};
 ghost use Rattle.reading.specs.Answers.{starts_of};
-ghost use Rattle.keeper.specs.Game.{Side, forces};
-ghost use Rattle.keeper.specs.Pairs.{working_at, waiting_at, client_at, within_w, names_w, pair_w};
+ghost use Rattle.keeper.specs.Pairs.{working_at, waiting_at, client_at, within_w, names_w, pair_w, awaited_w, apart_w};
 
 use layout::context::ROOT;
 use layout::field::{executors_client, name_of, notices_client, waiters_server};
@@ -76,7 +73,7 @@ fn pair(ws: &[u16], s: &Starts, serial: u16, at: usize, to: usize) -> bool
 
 // Whether a working end that may stand at a place may have its waiter.
 fn awaited(ws: &[u16], s: &Starts, serial: u16, at: usize) -> bool
-    ensures { result ≡ false → working_at serial ws.now at ≡ true → (j : ℕ) → j < length ws.now → pair_w (starts_of s.now) serial ws.now at j ≡ false }
+    ensures { result ≡ awaited_w (starts_of s.now) serial ws.now at }
 {
     if !working_at(ws, serial, at) {
         return false;
@@ -91,7 +88,7 @@ fn awaited(ws: &[u16], s: &Starts, serial: u16, at: usize) -> bool
 
 // Whether no working end of the serial has its waiter, so that it is never delivered.
 pub fn apart(ws: &[u16], serial: u16) -> bool
-    ensures { result ≡ true → (ends standard ws.now serial).number ≡ 0 → (engines k : ℕ) → (side : Side) → forces engines serial k side ws.now ≡ false }
+    ensures { result ≡ apart_w serial ws.now }
 {
     let Some(s) = survey(ws, STANDARD, ROOT) else {
         return false;

@@ -1,6 +1,6 @@
 // Positions that are lost whoever moves: with no move left, and with one left where no reply of the serial is ready.
-ghost use Rattle.std.specs.Prelude.{◌≡◌, ℕ, ◌<◌, false, length};
-ghost use Rattle.keeper.specs.Hopes.{ready_at, Hope};
+ghost use Rattle.std.specs.Prelude.{◌≡◌};
+ghost use Rattle.keeper.specs.Hopes.{ready_at, ready_w, lost_w};
 
 use layout::kind::Kind;
 use layout::number::{further, word};
@@ -19,7 +19,7 @@ pub fn ready_at(ws: &[u16], serial: u16, at: usize) -> bool
 
 // Whether one may be ready anywhere.
 fn ready(ws: &[u16], serial: u16) -> bool
-    ensures { result ≡ false → (i : ℕ) → i < length ws.now → ready_at serial ws.now i ≡ false }
+    ensures { result ≡ ready_w serial ws.now }
 {
     for at in 0..ws.len() {
         if ready_at(ws, serial, at) {
@@ -30,8 +30,9 @@ fn ready(ws: &[u16], serial: u16) -> bool
 }
 
 // Whether the keeper cannot force it with so many moves left, whoever is to move.
+#[tactic(auto, unfolding(crate::specs::Hopes::lost_w))]
 pub fn lost(ws: &[u16], serial: u16, left: usize) -> bool
-    ensures { Hope serial left ws.now result }
+    ensures { result ≡ lost_w serial left ws.now }
 {
     match left {
         0 => true,

@@ -114,7 +114,7 @@ impl<'a> Search<'a> {
         self.sight_in(serial, k, i)
     }
 
-    // The side's first reply that is ready.
+    // A reply of the side's that is ready, if it has one.
     pub fn reply(&self, mover: Mover, serial: u16) -> Option<usize>
         requires { Surveyed self.now.noted.ws.now self.now.noted.notes.now (engines_of self.now.engines) }
         ensures { Replied mover.engines serial (side_of (is_river mover.side)) self.now.noted.ws.now result }

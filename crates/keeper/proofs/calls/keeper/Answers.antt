@@ -8,6 +8,8 @@ use Rattle.layout.proofs.Refusing.{some_number}
 use Rattle.keeper.specs.Answers.{refusal_number, number_in, outcome_in}
 use Prim.Native.Nat.{ℕ}
 use Rattle.keeper.specs.Game.{keeper, forces}
+use Rattle.keeper.proofs.Losing.{lost_hope}
+use Rattle.keeper.proofs.Pairing.{apart_by_words}
 use Rattle.keeper.proofs.Answering.{lost_at_once, number_first, number_moves, number_short, number_none, outcome_none, outcome_played, given_up}
 use Rattle.keeper.proofs.calls.keeper.Goals as goal
 
@@ -57,7 +59,7 @@ returns-then-lost-clause-numbered c =
 pub returns-then-lost-clause-decided : goal.returns-then-lost-clause-decided
 returns-then-lost-clause-decided c =
     lost_at_once c.args.ws.now c.args.engines c.args.serial c.args.k (length c.args.scratch.now) (ap (λ (y : Ends). y.number) c.in_ok-e.ensures) c.if-k-gt-MOVES.false c.if-scratch-lt-SCRATCH.false
-    (ap (λ (n : ℕ). forces c.args.engines c.args.serial n keeper c.args.ws.now) (sym c.wide.ensures.0) ∙ c.lost.ensures.none c.if-lost.true c.args.engines keeper)
+    (ap (λ (n : ℕ). forces c.args.engines c.args.serial n keeper c.args.ws.now) (sym c.wide.ensures.0) ∙ (lost_hope c.args.serial _ c.args.ws.now).none (sym c.lost.ensures ∙ c.if-lost.true) c.args.engines keeper)
 
 pub returns-then-apart-clause-numbered : goal.returns-then-apart-clause-numbered
 returns-then-apart-clause-numbered c =
@@ -66,7 +68,7 @@ returns-then-apart-clause-numbered c =
 pub returns-then-apart-clause-decided : goal.returns-then-apart-clause-decided
 returns-then-apart-clause-decided c =
     lost_at_once c.args.ws.now c.args.engines c.args.serial c.args.k (length c.args.scratch.now) (ap (λ (y : Ends). y.number) c.in_ok-e.ensures) c.if-k-gt-MOVES.false c.if-scratch-lt-SCRATCH.false
-    (c.apart.ensures c.if-apart.true (sym (ap (λ (y : Ends). y.number) c.in_ok-e.ensures)) c.args.engines c.args.k keeper)
+    (apart_by_words c.args.serial c.args.ws.now (λ i. (c.type_inv.ws i).fits) (sym c.apart.ensures ∙ c.if-apart.true) (sym (ap (λ (y : Ends). y.number) c.in_ok-e.ensures)) c.args.engines c.args.k keeper)
 
 pub returns-clause-numbered : goal.returns-clause-numbered
 returns-clause-numbered c =

@@ -9,6 +9,7 @@ use Rattle.keeper.specs.Seeking.{side_of}
 use Rattle.keeper.specs.Game.{forces}
 use Rattle.keeper.specs.Playing.{won_by, Forced}
 use Rattle.keeper.proofs.Deciding.{judged_now, judged_later, judged_other, judged_unread, judged_end, judged_last, judged_pass, judged_lost, front_words, forced_here, forced_none, none_at_all, going_on, short, turned_is}
+use Rattle.keeper.proofs.Losing.{lost_hope}
 use denote.Enum.Bare.{sameb}
 use Rattle.keeper.specs.contracts.moves.Side.{the_type as side_type}
 use Rattle.keeper.specs.declared.moves.Side.{Side}
@@ -36,7 +37,7 @@ judged-returns-then-lost t c =
     let m = c.split_at_mut-here.ensures in
     judged_lost c.args.self.serial _ _ _ _ (sym c.delivers.ensures ∙ c.if-delivers.false)
     (front_words c.args.a.length _ c.args.scratch.now _ _ m.value c.wide.ensures.0 (omega (arith, m.front_len, c.requires.0)))
-    (c.lost.ensures.none c.if-lost.true c.args.self.engines (side_of (is_river c.args.side)))
+    ((lost_hope c.args.self.serial c.args.left _).none (sym c.lost.ensures ∙ c.if-lost.true) c.args.self.engines (side_of (is_river c.args.side)))
 
 pub judged-returns : goal.judged-returns
 judged-returns t c =
