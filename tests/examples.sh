@@ -52,7 +52,7 @@ for compiler in 'gcc -std=c99' 'gcc -O2 -std=c11' 'g++ -x c++' 'g++ -O2 -x c++ -
     ! $compiler $strict -fsyntax-only "$scratch/mistaken.c" 2>/dev/null || wrong "$compiler takes one answer for another"
 done
 
-# What the header says of the library: two functions from outside, no variables, no address that is fixed.
+# What the header says of the library: three functions from outside, no variables, no address that is fixed.
 [ "$(nm -u "$library" | awk '/ U / { print $2 }' | sort | tr '\n' ' ')" = 'memcpy memmove memset ' ] || wrong "the library needs $(nm -u "$library")"
 size "$library" | awk 'NR > 1 && $2 + $3 > 0 { exit 1 }' || wrong "the library has variables"
 gcc -shared -nostdlib -Wl,--whole-archive "$library" -o "$scratch/library.so"

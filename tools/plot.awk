@@ -2,7 +2,7 @@
 # word from left to right, logarithmic. The colour says whose time it is, the shape of the mark how long the configurations were.
 BEGIN {
     FS = "[ \t]*[|][ \t]*"
-    left = 285; right = 895; top = 74; height = 18
+    left = 285; right = 895; top = 74; height = 18; column = 225
     least = 0.01; most = 1000
     split("library,tree,copy", names, ",")
     split("the library,trees (second implementation),a bare copy", what, ",")
@@ -60,13 +60,13 @@ function axis(bottom,    time, x) {
 
 function legend(    k) {
     for (k = 1; k <= 3; k++) {
-        mark(left + 200 * (k - 1), 20, 1, colours[k], what[k])
-        labels = labels text(left + 200 * (k - 1) + 10, 24, "start", "axis", what[k])
-        mark(left + 200 * (k - 1), 44, k, "#444", "length")
+        mark(left + column * (k - 1), 20, 1, colours[k], what[k])
+        labels = labels text(left + column * (k - 1) + 10, 24, "start", "axis", what[k])
+        mark(left + column * (k - 1), 44, k, "#444", "length")
     }
     labels = labels text(left + 10, 48, "start", "axis", "about 200 words")
-    labels = labels text(left + 210, 48, "start", "axis", "about 2,000, or the shorter")
-    labels = labels text(left + 410, 48, "start", "axis", "up to 8,192, the longest")
+    labels = labels text(left + column + 10, 48, "start", "axis", "about 2,000, or the shorter")
+    labels = labels text(left + 2 * column + 10, 48, "start", "axis", "up to 8,192, the longest")
 }
 
 END {

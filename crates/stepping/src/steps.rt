@@ -1,4 +1,4 @@
-// From words and numbers to the answer: who moves, alone or with whom. The refusals come in the order of their numbers.
+// From words and numbers to the answer: who moves, alone or with whom. The refusals come in the order of their numbers, but for 13, which stands after 5.
 ghost use Rattle.std.specs.Prelude.{◌≡◌, ◌<◌, ◌^◌};
 ghost use Rattle.sock.specs.Configuration.{standard};
 ghost use Rattle.sock.specs.Calls.{step_answer, step_output};
