@@ -730,9 +730,9 @@ static inline struct sock_bill_answer sock_charge(const uint8_t *rates, const ui
     uint8_t totals[SOCK_TOTAL_BYTES];
     size_t engine, byte;
     /* The rates are looked at first also where there are too many replies, of which then none is read. */
-    size_t read = count > SOCK_REPLIES ? 0 : count;
-    enum sock_number number = (enum sock_number)sock_bill(rates, SOCK_RATE_BYTES, replies, SOCK_REPLY_BYTES * read, totals, sizeof totals);
-    if (number == SOCK_ACCEPTED && read < count)
+    size_t lent = count > SOCK_REPLIES ? 0 : count;
+    enum sock_number number = (enum sock_number)sock_bill(rates, SOCK_RATE_BYTES, replies, SOCK_REPLY_BYTES * lent, totals, sizeof totals);
+    if (number == SOCK_ACCEPTED && lent < count)
         return bill;
     bill.number = number;
     if (number != SOCK_ACCEPTED)
