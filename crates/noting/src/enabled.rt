@@ -65,11 +65,7 @@ fn enabled(
     ensures ended { result ≡ end_as (process_end depth reader.now.ws.now reader.now.bound (context_in context.kinds) at) }
     ensures written { notes.new ≡ enabled_notes depth reader.now.ws.now reader.now.bound (context_in context.kinds) at notes.old }
 {
-    if !reader.stands(at, depth, context) {
-        return None;
-    }
-    let head = reader.ws[at];
-    let kind = Kind::of(head);
+    let kind = reader.kind(at, depth, context)?;
     if is_word(kind) {
         return Some(at + 1);
     }
@@ -77,9 +73,9 @@ fn enabled(
     match kind {
         Kind::Par => par(reader, at + 1, d, notes),
         Kind::Seq => seq(reader, at + 1, d, notes),
-        Kind::Scope => scope(reader, at, d, head, notes),
+        Kind::Scope => scope(reader, at, d, reader.ws[at], notes),
         Kind::Executor => executor(reader, at, d, notes),
-        _ => reader.process(at, depth, context),
+        _ => reader.node(at, d, context, kind),
     }
 }
 

@@ -5,19 +5,25 @@ use native.Mathlib.Omega.{arith}
 use mathlib.Core.Path.{◌≡◌, refl, sym, subst, ap, ◌∙◌}
 use mathlib.Core.Bool.{Bool, true, false, not, ◌&&◌, ◌||◌, cond}
 use mathlib.Core.List.{List}
+use mathlib.Core.Logic.{◌⊎◌, inl, inr}
 use Rattle.sock.proofs.Fields.{From, end, ◌then◌, fact_at}
 use borrow.Author.Tests.{lt-leb, le-leb, ltb-true, ltb-false, ne_eqb, eqb-true, eqb-false}
 use lib.Dec.{T, leb, ltb, eqb}
 use lib.ListN.{length, get_or-eq_default}
 use Rattle.std.specs.Prelude.{Some, None}
-use Rattle.sock.specs.Words.{kind_of, clear}
+use Rattle.std.proofs.lemmas.Option.{none-some, same_Some}
+use Rattle.sock.specs.Words.{kind_of, clear, count_of}
+use Rattle.layout.specs.Contexts.{handlers}
+use Rattle.layout.specs.Keys.{no_key}
 use Rattle.layout.specs.Kinds.{kind_named, number_of as kind_number}
+use Rattle.layout.specs.declared.kind.Kind.{Kind}
+use Rattle.layout.specs.declared.kind.Kind.TheVariants as kinds
 use Rattle.layout.proofs.Named.{Named, as_is, beyond, numbered}
 use Rattle.reading.specs.declared.reader.Rest.TheVariants as rests
 use Rattle.reading.specs.declared.context.Context.{Context}
 use Rattle.reading.specs.Rests.{rest_end, RestOf}
 use Rattle.reading.specs.Sets.{context_in, head_stands}
-use Rattle.reading.specs.Walk.{end_as, at, on, when, context_of, rest_of, expr_end, two_end, branch_end, repeat_end, executor_own, executor_end, request_end, scope_end, resting_end, marked_end, node_end, process_end, stands_at, one_word, rests as rests_at, headed_end, last_end, request_at, body_at}
+use Rattle.reading.specs.Walk.{end_as, at, on, when, context_of, rest_of, expr_end, two_end, branch_end, repeat_end, executor_own, executor_end, request_end, scope_end, resting_end, marked_end, node_end, process_end, stands_at, kind_at, one_word, rests as rests_at, headed_end, request_at, body_at, choice_end, one_way_end, notify_end, solicit_end, list_end, waiter_end, notice_end}
 use Rattle.reading.proofs.Combining.{Words}
 use Rattle.reading.proofs.Given.{none_end, some_end, as_none, as_some}
 use Rattle.reading.proofs.Heads.{head_law}
@@ -78,14 +84,32 @@ swap false true true false i k = refl
 swap false true false y i k = refl
 swap false false x y i k = refl
 
+-- ---- a kind, if it may stand there
+
+pub kind_none : (d : ℕ) (ws : List ℕ) (kinds i : ℕ) → None ≡ kind_at d ws kinds i → stands_at d ws kinds i ≡ false
+unfolding kind_at
+kind_none d ws kinds i e = by (stands_at d ws kinds i) e
+  where
+    by : (b : Bool) → None ≡ cond b (Some (kind_named (kind_of (at ws i)))) None → b ≡ false
+    by true e = absurd (none-some _ e)
+    by false e = refl
+
+pub kind_some : (d : ℕ) (ws : List ℕ) (kinds i : ℕ) (k : Kind) → Some k ≡ kind_at d ws kinds i → (stands_at d ws kinds i ≡ true) × (k ≡ kind_named (kind_of (at ws i)))
+unfolding kind_at
+kind_some d ws kinds i k e = by (stands_at d ws kinds i) e
+  where
+    by : (b : Bool) → Some k ≡ cond b (Some (kind_named (kind_of (at ws i)))) None → (b ≡ true) × (k ≡ kind_named (kind_of (at ws i)))
+    by true e = (refl, same_Some _ _ e)
+    by false e = absurd (none-some _ (sym e))
+
 module _ (ws : List ℕ) (bound : ℕ) where
   abbrev pub headed : ℕ → ℕ → ℕ → ℕ → ℕ
   headed d c h i = headed_end (expr_end d ws) (process_end d ws bound) ws c bound h i
 
-  -- what the loop keeps: `all` ends where the node at a does, whose head is h, with d levels left below
-  pub record Going (all depth a d c h : ℕ) : Type 0 where
-    pub ends : headed d c h a ≡ all
-    pub word : h ≡ at ws a
+  -- what the loop keeps: `all` ends where the node at a does, whose kind is k, with d levels left below
+  pub record Going (all depth a d c : ℕ) (k : Kind) : Type 0 where
+    pub ends : headed d c (at ws a) a ≡ all
+    pub kind : k ≡ kind_named (kind_of (at ws a))
     pub inside : a < length ws
     pub low : d ≤ depth
 
@@ -129,6 +153,12 @@ module _ (ws : List ℕ) (bound : ℕ) where
         by : (x y z : Bool) → eqb d 0 ≡ x → ltb i (length ws) ≡ y → head_stands kinds (at ws i) ≡ z → (not x && y && z) ≡ false → process_end d ws bound c i ≡ 0
         by true y z p q r e = none_left (eqb-true d 0 p)
         by false y z p q r e = process_tested (eqb-false d 0 p) ∙ rw (q, r) (never y z _ e)
+
+    pub kind_missing : None ≡ kind_at d ws kinds i → process_end d ws bound c i ≡ 0
+    kind_missing e = head_missing (kind_none d ws kinds i e)
+
+    pub kind_found : (k : Kind) → Some k ≡ kind_at d ws kinds i → Found d c i
+    kind_found k e = head_found (kind_some d ws kinds i k e).0
 
   -- ---- a node by its kind, up to its last process
 
@@ -182,79 +212,96 @@ module _ (ws : List ℕ) (bound : ℕ) where
     unfolding headed_end rests_at node_end executor_end when
     executor_headed y p e = rw (e, p) refl
 
-    nothing : 19 ≤ kind_of h → headed d c h i ≡ last_end ex sub ws c bound h i
-    unfolding headed_end node_end last_end
-    nothing far = simp get_or-eq_default (when_zero (rests_at c h))
+    -- those with no other process at their end
 
-    -- a node with no other process at its end
-    pub last_headed :
-        (kind_of h ≡ 2 → ⊥) → (kind_of h ≡ 3 → ⊥) → (kind_of h ≡ 4 → ⊥) → (kind_of h ≡ 5 → ⊥) → (kind_of h ≡ 8 → ⊥) → (kind_of h ≡ 11 → ⊥) →
-        (kind_of h ≡ 16 → ⊥) → headed d c h i ≡ last_end ex sub ws c bound h i
-    unfolding headed_end rests_at node_end last_end when
-    last_headed a b e f g j k = by (ltb (kind_of h) 19) refl
-      where
-        Same : ℕ → Type 0
-        Same n = kind_of h ≡ n → headed d c h i ≡ last_end ex sub ws c bound h i
+    pub assign_headed : kind_of h ≡ 1 → headed d c h i ≡ ex (i + 1)
+    unfolding headed_end rests_at node_end when
+    assign_headed e = rw e refl
 
-        by_kind : From Same 19 0
-        by_kind =
-            (λ q. rw q refl) then (λ q. rw q refl) then (λ q. absurd (a q)) then (λ q. absurd (b q)) then (λ q. absurd (e q)) then (λ q. absurd (f q))
-            then (λ q. rw q refl) then (λ q. rw q refl) then (λ q. absurd (g q)) then (λ q. rw q refl) then (λ q. rw q refl) then (λ q. absurd (j q))
-            then (λ q. rw q refl) then (λ q. rw q refl) then (λ q. rw q refl) then (λ q. rw q refl) then (λ q. absurd (k q)) then (λ q. rw q refl)
-            then (λ q. rw q refl) then end
+    pub choice_headed : (n : ℕ) → n ≡ count_of h → kind_of h ≡ 6 → headed d c h i ≡ choice_end sub (rest_of c) n (i + 1)
+    unfolding headed_end rests_at node_end when
+    choice_headed n q e = rw (e, q) refl
 
-        by : (t : Bool) → ltb (kind_of h) 19 ≡ t → headed d c h i ≡ last_end ex sub ws c bound h i
-        by true q = fact_at by_kind (kind_of h) (omega arith) (ltb-true (kind_of h) 19 q) refl
-        by false q = nothing (ltb-false (kind_of h) 19 q)
+    pub one_way_headed : kind_of h ≡ 7 → headed d c h i ≡ one_way_end ws h i
+    unfolding headed_end rests_at node_end when
+    one_way_headed e = rw e refl
 
-    -- what was read before the last process; it does not fit; or there is none
-    pub goes : (n x : ℕ) (last : Context) → headed d c h i ≡ on n (sub (context_in last.kinds)) → Some x ≡ end_as n → RestOf ws bound d c h i (Some (rests.Process x last))
+    pub notify_headed : kind_of h ≡ 9 → headed d c h i ≡ notify_end ws i
+    unfolding headed_end rests_at node_end when
+    notify_headed e = rw e refl
+
+    pub solicit_headed : kind_of h ≡ 10 → headed d c h i ≡ solicit_end sub ws i
+    unfolding headed_end rests_at node_end when
+    solicit_headed e = rw e refl
+
+    pub inst_headed : (l : ℕ) → l ≡ handlers → kind_of h ≡ 12 → headed d c h i ≡ list_end sub ws l no_key (i + 1)
+    unfolding headed_end rests_at node_end when
+    inst_headed l q e = rw (e, q) refl
+
+    pub waiter_headed : kind_of h ≡ 17 → headed d c h i ≡ waiter_end sub ws h bound i
+    unfolding headed_end rests_at node_end when
+    waiter_headed e = rw e refl
+
+    pub notice_headed : kind_of h ≡ 18 → headed d c h i ≡ notice_end ws bound i
+    unfolding headed_end rests_at node_end when
+    notice_headed e = rw e refl
+
+    pub unused_headed : 19 ≤ kind_of h → headed d c h i ≡ 0
+    unfolding headed_end node_end
+    unused_headed far = simp get_or-eq_default (when_zero (rests_at c h))
+
+  -- what was read before the last process; it does not fit; or there is none
+  module _ (d c i : ℕ) where
+    abbrev here : ℕ
+    here = headed d c (at ws i) i
+
+    pub goes : (n x : ℕ) (last : Context) → here ≡ on n (process_end d ws bound (context_in last.kinds)) → Some x ≡ end_as n → RestOf ws bound d c i (Some (rests.Process x last))
     unfolding rest_end
-    goes n x last by_kind e = record { ends = by_kind ∙ after n x (sub (context_in last.kinds)) e; stands = tt }
+    goes n x last by_kind e = record { ends = by_kind ∙ after n x (process_end d ws bound (context_in last.kinds)) e; stands = tt }
 
-    pub breaks : (n : ℕ) (k : ℕ → ℕ) → headed d c h i ≡ on n k → None ≡ end_as n → RestOf ws bound d c h i None
+    pub breaks : (n : ℕ) (k : ℕ → ℕ) → here ≡ on n k → None ≡ end_as n → RestOf ws bound d c i None
     unfolding rest_end
     breaks n k by_kind e = record { ends = by_kind ∙ nowhere n k e; stands = tt }
 
-    pub ended : (n x : ℕ) → headed d c h i ≡ n → Some x ≡ end_as n → RestOf ws bound d c h i (Some (rests.Nothing x))
+    pub ended : (n x : ℕ) → here ≡ n → Some x ≡ end_as n → RestOf ws bound d c i (Some (rests.Nothing x))
     unfolding rest_end
     ended n x by_kind e = let s = some_end x n e in record { ends = by_kind ∙ sym s.0; stands = s.1 }
 
-    pub never_ends : (n : ℕ) → headed d c h i ≡ n → None ≡ end_as n → RestOf ws bound d c h i None
+    pub never_ends : (n : ℕ) → here ≡ n → None ≡ end_as n → RestOf ws bound d c i None
     unfolding rest_end
     never_ends n by_kind e = record { ends = by_kind ∙ none_end n e; stands = tt }
 
   -- ---- the turns of the loop
 
-  module _ (all depth a d c h : ℕ) (g : Going all depth a d c h) where
-    pub stops : RestOf ws bound d c h a None → None ≡ end_as all
+  module _ (all depth a d c : ℕ) (k : Kind) (g : Going all depth a d c k) where
+    pub stops : RestOf ws bound d c a None → None ≡ end_as all
     unfolding rest_end
     stops r = as_none all (sym r.ends ∙ g.ends)
 
-    pub comes_to : (x : ℕ) → RestOf ws bound d c h a (Some (rests.Nothing x)) → Some x ≡ end_as all
+    pub comes_to : (x : ℕ) → RestOf ws bound d c a (Some (rests.Nothing x)) → Some x ≡ end_as all
     unfolding rest_end
     comes_to x r = as_some x all (sym r.ends ∙ g.ends) r.stands
 
-    module _ (ok : Words ws) (x : ℕ) (last : Context) (r : RestOf ws bound d c h a (Some (rests.Process x last))) where
+    module _ (ok : Words ws) (x : ℕ) (last : Context) (r : RestOf ws bound d c a (Some (rests.Process x last))) where
       next_is : process_end d ws bound (context_in last.kinds) x ≡ all
       unfolding rest_end
       next_is = sym r.ends ∙ g.ends
 
-      pub none_stands : stands_at d ws last.kinds x ≡ false → None ≡ end_as all
-      none_stands e = as_none all (sym (head_missing ok last.kinds last.known d x e) ∙ next_is)
+      pub none_stands : None ≡ kind_at d ws last.kinds x → None ≡ end_as all
+      none_stands e = as_none all (sym (kind_missing ok last.kinds last.known d x e) ∙ next_is)
 
-      pub turn : stands_at d ws last.kinds x ≡ true → Going all depth x (d - 1) (context_in last.kinds) (at ws x)
-      turn e =
-          let f = head_found ok last.kinds last.known d x e in
+      pub turn : (n : Kind) → Some n ≡ kind_at d ws last.kinds x → Going all depth x (d - 1) (context_in last.kinds) n
+      turn n e =
+          let f = kind_found ok last.kinds last.known d x n e in
           let low = g.low in
-          record { ends = sym f.ends ∙ next_is; word = refl; inside = f.inside; low = omega (arith, low) }
+          record { ends = sym f.ends ∙ next_is; kind = (kind_some d ws last.kinds x n e).1; inside = f.inside; low = omega (arith, low) }
 
-      pub falls : stands_at d ws last.kinds x ≡ true → 1 ≤ d
-      falls e = let deep = (head_found ok last.kinds last.known d x e).deep in omega (arith, deep)
+      pub falls : (n : Kind) → Some n ≡ kind_at d ws last.kinds x → 1 ≤ d
+      falls n e = let deep = (kind_found ok last.kinds last.known d x n e).deep in omega (arith, deep)
 
   -- ---- a process of one word
 
-  word_headed : (d c h i : ℕ) → T (one_word (kind_of h)) → headed d c h i ≡ i + 1
+  pub word_headed : (d c h i : ℕ) → T (one_word (kind_of h)) → headed d c h i ≡ i + 1
   unfolding headed_end rests_at node_end when
   word_headed d c h i t = by (eqb (kind_of h) 0) (eqb (kind_of h) 13) (eqb (kind_of h) 14) (eqb (kind_of h) 15) refl refl refl refl t
     where
@@ -278,3 +325,19 @@ word_named k = by (numbered k)
     by : Named 19 k (kind_number (kind_named k)) → one_word (kind_number (kind_named k)) ≡ one_word k
     by (as_is q) = ap one_word q
     by (beyond q far) = rw (q, ne_eqb k 0 (λ z. omega arith), ne_eqb k 13 (λ z. omega arith), ne_eqb k 14 (λ z. omega arith), ne_eqb k 15 (λ z. omega arith)) refl
+
+pub word_by_name : {r : Kind} (k : ℕ) → r ≡ kind_named k → (r ≡ kinds.Nil) ⊎ ((r ≡ kinds.Throw) ⊎ ((r ≡ kinds.Comp) ⊎ (r ≡ kinds.Ch))) → T (one_word k)
+word_by_name {r} k e is = subst T (ap (λ x. one_word (kind_number x)) e ∙ word_named k) (by is)
+  where
+    by : (r ≡ kinds.Nil) ⊎ ((r ≡ kinds.Throw) ⊎ ((r ≡ kinds.Comp) ⊎ (r ≡ kinds.Ch))) → T (one_word (kind_number r))
+    by (inl q) = rw q tt
+    by (inr (inl q)) = rw q tt
+    by (inr (inr (inl q))) = rw q tt
+    by (inr (inr (inr q))) = rw q tt
+
+pub unused_far : (k : ℕ) → kinds.Unused ≡ kind_named k → 19 ≤ k
+unused_far k e = by (numbered k)
+  where
+    by : Named 19 k (kind_number (kind_named k)) → 19 ≤ k
+    by (as_is q) = omega (arith, q, ap kind_number e)
+    by (beyond q far) = far

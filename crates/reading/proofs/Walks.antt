@@ -4,23 +4,42 @@ use Prim.Native.Nat.{ℕ, zero, suc, ◌+◌, ◌-◌, ◌/◌, ◌<◌, ◌≤�
 use native.Mathlib.Omega.{arith}
 use native.Mathlib.Numerals.{sub-one}
 use mathlib.Core.Path.{◌≡◌, refl, sym, ap, ◌∙◌}
-use borrow.Author.Tests.{ne_eqb, lt-ltb, le-leb, ltb-true}
+use borrow.Author.Tests.{ne_eqb, lt-ltb, le-ltb, le-leb, ltb-true}
 use mathlib.Core.Bool.{Bool, true, false, ◌||◌, cond}
 use mathlib.Core.List.{List, [], ◌∷◌}
+use mathlib.Core.Logic.{◌⊎◌, inl, inr}
 use lib.Bits.{bit_and}
 use lib.Dec.{ltb, eqb}
 use lib.ListN.{length, get_or}
 use Rattle.sock.specs.Words.{clear, tag_of}
 use Rattle.layout.specs.Units
+use Rattle.layout.specs.Kinds.{tag_named, tag_number}
+use Rattle.layout.specs.declared.tag.Tag.{Tag}
+use Rattle.layout.specs.declared.tag.Tag.TheVariants as tags
+use Rattle.layout.proofs.Named.{head_tag}
 use Rattle.reading.specs.Tables.{head_mask}
 use Rattle.std.specs.Prelude.{Some, None}
 use Rattle.reading.proofs.Given.{some_key, some_end, none_end}
-use Rattle.reading.specs.Walk.{end_as, key_as, when, on, at, constant_end, operation_end, expr_at, expr_end, two_end, branches_end, choice_end, rest_of, key_at, entry_context, entries_end, node_end, process_end}
+use Rattle.reading.specs.Walk.{end_as, key_as, when, on, at, constant_end, leaf_end, operation_end, expr_at, expr_end, two_end, branches_end, choice_end, rest_of, key_at, entry_context, entries_end, node_end, process_end}
 
 pub expr_step : (d : ℕ) (ws : List ℕ) (i : ℕ) → (d ≡ 0 → ⊥) → expr_end d ws i ≡ when (ltb i (length ws)) (expr_at (expr_end (d - 1) ws) ws i (at ws i))
 unfolding expr_end
 expr_step zero ws i h = absurd (h refl)
 expr_step (suc d) ws i h = rw (sub-one (suc d))
+
+-- what is a constant or a variable, of which nobody tells apart which
+pub leaf_at :
+    (sub : ℕ → ℕ) (ws : List ℕ) (i : ℕ) {w v : ℕ} {r : Tag} → w ≡ v → r ≡ tag_named (tag_of v) → (r ≡ tags.Constant) ⊎ (r ≡ tags.Variable) →
+    expr_at sub ws i w ≡ leaf_end ws i w
+unfolding expr_at leaf_end
+leaf_at sub ws i {w} {v} {r} e n is = by is
+  where
+    tag_is : (x : Tag) → r ≡ x → tag_number x < 7 → w / 8192 ≡ tag_number x
+    tag_is x q h = head_tag x e (sym q ∙ n) h
+
+    by : (r ≡ tags.Constant) ⊎ (r ≡ tags.Variable) → expr_at sub ws i w ≡ leaf_end ws i w
+    by (inl q) = let z : w / 8192 ≡ 0 = tag_is tags.Constant q (omega arith) in rw (z, lt-ltb w 8192 (omega arith)) refl
+    by (inr q) = let z : w / 8192 ≡ 1 = tag_is tags.Variable q (omega arith) in rw (z, le-ltb w 8192 (omega arith)) refl
 
 -- what is neither a constant nor a variable is an operation
 pub operation_at :

@@ -5,6 +5,8 @@ use Rattle.std.specs.Int.Bits.{bit_and}
 use Rattle.sock.specs.Kind
 use Rattle.sock.specs.Words.{clear, kind_of, count_of, second_of, mark_of, zombie_of, first_variable, next_variable, first_name, key_of, tag_of}
 use Rattle.layout.specs.Contexts.{code, handlers, running, not_nil, receiver}
+use Rattle.layout.specs.Kinds.{kind_named}
+use Rattle.layout.specs.declared.kind.Kind.{Kind}
 use Rattle.layout.specs.Keys.{no_key, scope_keys}
 use Rattle.layout.specs.Units
 use Rattle.reading.specs.Tables.{head_mask}
@@ -32,6 +34,10 @@ at ws i = get_or ws i 0
 
 unfoldable pub constant_end : List ℕ → ℕ → ℕ → ℕ
 constant_end ws i w = when (eqb w 0 && ltb 2 (length ws - i)) (i + 3)
+
+-- a constant or a variable
+unfoldable pub leaf_end : List ℕ → ℕ → ℕ → ℕ
+leaf_end ws i w = cond (ltb w Units.tag) (constant_end ws i w) (when (clear Units.read_variable w) (i + 1))
 
 unfoldable pub operation_end : (ℕ → ℕ) → ℕ → ℕ → ℕ
 operation_end sub i w = when (clear Units.tag w) (on (sub (i + 1)) sub)
@@ -219,6 +225,10 @@ process_end (suc d) ws bound c i =
 unfoldable pub stands_at : ℕ → List ℕ → ℕ → ℕ → Bool
 stands_at depth ws kinds i = not (eqb depth 0) && ltb i (length ws) && head_stands kinds (at ws i)
 
+-- the kind of the process that stands there, by the code
+unfoldable pub kind_at : ℕ → List ℕ → ℕ → ℕ → Option Kind
+kind_at depth ws kinds i = cond (stands_at depth ws kinds i) (Some (kind_named (kind_of (at ws i)))) None
+
 -- a process of this kind is one word
 abbrev pub one_word : ℕ → Bool
 one_word k = eqb k Kind.nil || eqb k Kind.throw || eqb k Kind.comp || eqb k Kind.cH
@@ -230,29 +240,6 @@ rests c h = not (eqb (kind_of h) Kind.scope && ltb c running) || clear 32 h
 -- a node whose head stands there
 unfoldable pub headed_end : (ℕ → ℕ) → (ℕ → ℕ → ℕ) → List ℕ → ℕ → ℕ → ℕ → ℕ → ℕ
 headed_end ex sub ws c bound h i = when (rests c h) (node_end ex sub ws c bound h i)
-
--- by kind, if it ends with no other process
-unfoldable pub last_end : (ℕ → ℕ) → (ℕ → ℕ → ℕ) → List ℕ → ℕ → ℕ → ℕ → ℕ → ℕ
-last_end ex sub ws c bound h i =
-    get_or
-    ((i + 1)
-    ∷ ex (i + 1)
-    ∷ 0 ∷ 0 ∷ 0 ∷ 0
-    ∷ choice_end sub (rest_of c) (count_of h) (i + 1)
-    ∷ one_way_end ws h i
-    ∷ 0
-    ∷ notify_end ws i
-    ∷ solicit_end sub ws i
-    ∷ 0
-    ∷ list_end sub ws handlers no_key (i + 1)
-    ∷ (i + 1)
-    ∷ (i + 1)
-    ∷ (i + 1)
-    ∷ 0
-    ∷ waiter_end sub ws h bound i
-    ∷ notice_end ws bound i
-    ∷ [])
-    (kind_of h) 0
 
 -- where the process behind a request begins
 unfoldable pub request_at : List ℕ → ℕ → ℕ → ℕ

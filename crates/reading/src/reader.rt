@@ -2,17 +2,17 @@
 // depth falls with every level. Hints on inlining stand where a build with them was measured faster (decision 7); no proof knows of them.
 ghost use Rattle.std.specs.Prelude.{ℕ, ◌≡◌, ◌+◌, ◌-◌, ◌%◌, ◌<◌, ◌&&◌, ◌||◌, ◌∷◌, ◌==◌, leb, eqb, length, get_or, unwrap_or, IfSome};
 ghost use Rattle.std.specs.List.{list_all, list_any};
-ghost use Rattle.sock.specs.Words.{first_variable};
+ghost use Rattle.sock.specs.Words.{kind_of, first_variable};
 ghost use Rattle.sock.specs.Variables.{further_of, distinct};
 ghost use Rattle.layout.specs.Contexts.{code, handlers, receiver};
-ghost use Rattle.layout.specs.Kinds.{number_of};
+ghost use Rattle.layout.specs.Kinds.{kind_named, number_of};
 ghost use Rattle.layout.specs.Keys.{no_key};
 ghost use Rattle.reading.specs.Sets.{context_in, unused};
-ghost use Rattle.reading.specs.Walk.{stands_at, headed_end, last_end, body_at, request_at, one_way_end, one_word, on, context_of, rest_of};
+ghost use Rattle.reading.specs.Walk.{kind_at, headed_end, body_at, request_at, one_way_end, one_word, on, context_of, rest_of};
 ghost use Rattle.reading.specs.Rests.{RestOf};
 ghost use Rattle.reading.specs.Tables.{place_of};
 ghost use Rattle.sock.specs.Reading.{placed, guard};
-ghost use Rattle.reading.specs.Walk.{end_as, expr_end, constant_end, operation_end, process_end};
+ghost use Rattle.reading.specs.Walk.{end_as, expr_end, leaf_end, operation_end, process_end};
 ghost use Rattle.reading.specs.Walk.{variables_end, receiving_end, notify_end, solicit_end, choice_end, list_end};
 ghost use Rattle.reading.specs.Walk.{fixed_after, key_as, key_at, entry_context, marked_end, end_after, executor_own, waiter_end, notice_end};
 
@@ -30,6 +30,7 @@ use layout::unit::WORD;
 
 // An expression of at most `depth` levels.
 #[cycle(expression_operation)]
+#[inline(always)]
 #[tactic(auto, unfolding(crate::specs::Walk::expr_end, crate::specs::Walk::expr_at, crate::specs::Walk::operation_end, crate::specs::Walk::on, crate::specs::Walk::when))]
 pub fn expression(ws: &[u16], at: usize, depth: usize) -> Option<usize>
     ensures { result ≡ end_as (expr_end depth ws.now at) }
@@ -43,26 +44,26 @@ pub fn expression(ws: &[u16], at: usize, depth: usize) -> Option<usize>
     let head = ws[at];
     let w = wide(head);
     match Tag::of(head) {
-        Tag::Constant => constant(ws, at, w),
-        Tag::Variable => (w % unit::READ_VARIABLE == 0).then_some(at + 1),
+        Tag::Constant | Tag::Variable => leaf(ws, at, w),
         _ => operation(ws, at, depth - 1, w),
     }
 }
 
-// A constant: two words follow.
-#[tactic(auto, unfolding(crate::specs::Walk::constant_end, crate::specs::Walk::when))]
-fn constant(ws: &[u16], at: usize, w: usize) -> Option<usize>
+// A constant, which two words follow, or a variable. Which of them takes no jump, since nobody foresees it.
+#[tactic(auto, unfolding(crate::specs::Walk::leaf_end, crate::specs::Walk::constant_end, crate::specs::Walk::when))]
+fn leaf(ws: &[u16], at: usize, w: usize) -> Option<usize>
     requires { at < length ws.now }
-    ensures { result ≡ end_as (constant_end ws.now at w) }
+    ensures { result ≡ end_as (leaf_end ws.now at w) }
 {
-    if w != 0 {
-        return None;
-    }
-    (2 < ws.len() - at).then_some(at + 3)
+    let constant = w < unit::TAG;
+    let spare = if constant { w } else { w % unit::READ_VARIABLE };
+    let more = if constant { 2 } else { 0 };
+    (spare == 0 && more < ws.len() - at).then_some(at + more + 1)
 }
 
 // Two operands.
 #[cycle(expression_operation)]
+#[inline(never)]
 #[tactic(auto, unfolding(crate::specs::Walk::expr_end, crate::specs::Walk::expr_at, crate::specs::Walk::operation_end, crate::specs::Walk::on, crate::specs::Walk::when))]
 fn operation(ws: &[u16], at: usize, depth: usize, w: usize) -> Option<usize>
     requires { at < length ws.now }
@@ -173,8 +174,7 @@ fn one_way(ws: &[u16], at: usize, head: u16) -> Option<usize>
     receiving(ws, at + 1, second_of(head))
 }
 
-// Where the process behind a request begins: x, then y. A call, since the loop that reads nodes is faster so.
-#[inline(never)]
+// Where the process behind a request begins: x, then y.
 #[tactic(auto, unfolding(crate::specs::Walk::on, crate::specs::Walk::when, crate::specs::Walk::request_at))]
 fn request(ws: &[u16], at: usize, head: u16) -> Option<usize>
     requires { at < length ws.now }
@@ -214,6 +214,7 @@ fn entry_context(context: Context, key: usize) -> Context
 }
 
 // The bits of a head that its kind does not use. A scope's are told with its words, since one that is code uses fewer.
+#[inline(always)]
 #[tactic(auto, unfolding(crate::specs::Sets::unused, sock::specs::Kind::row_of, sock::specs::Kind::rows))]
 fn unused(kind: Kind) -> u16
     ensures { result ≡ unused (number_of kind) }
@@ -258,126 +259,105 @@ pub struct Reader<'a> {
 }
 
 impl<'a> Reader<'a> {
-    // Whether a process's kind may stand in the context, and its head has no bit that the kind does not use.
+    // The kind of the process that begins at `at`, if it may stand in the context and the head has no bit that the kind does not use.
     #[inline(always)]
-    #[tactic(auto, unfolding(crate::specs::Walk::stands_at, crate::specs::Sets::head_stands), using(crate::proofs::Sets::unused_named))]
-    pub fn stands(&self, at: usize, depth: usize, context: Context) -> bool
-        ensures { result ≡ stands_at depth self.now.ws.now context.kinds at }
+    #[tactic(auto, unfolding(crate::specs::Walk::kind_at, crate::specs::Walk::stands_at, crate::specs::Sets::head_stands), using(crate::proofs::Sets::unused_named))]
+    pub fn kind(&self, at: usize, depth: usize, context: Context) -> Option<Kind>
+        ensures { result ≡ kind_at depth self.now.ws.now context.kinds at }
     {
         if depth == 0 {
-            return false;
+            return None;
         }
         if self.ws.len() <= at {
-            return false;
+            return None;
         }
         let head = self.ws[at];
-        if head & unused(Kind::of(head)) != 0 {
-            return false;
+        let kind = Kind::of(head);
+        if head & unused(kind) != 0 {
+            return None;
         }
-        context.has(wide(head) / unit::KIND)
+        context.has(wide(head) / unit::KIND).then_some(kind)
     }
 
-    // A process in a context. One of a single word is told here, since all others keep more in hand.
-    #[cycle(body_choice_guarded_last_list_marked_node_process_rest_solicit_waiter)]
+    // A process in a context. One of a single word is told here, where its node is read, so that it takes no call.
+    #[cycle(body_choice_guarded_list_marked_node_process_rest_solicit_waiter)]
+    #[inline(always)]
     pub fn process(&self, at: usize, depth: usize, context: Context) -> Option<usize>
         ensures { result ≡ end_as (process_end depth self.now.ws.now self.now.bound (context_in context.kinds) at) }
     {
-        if !self.stands(at, depth, context) {
-            return None;
-        }
-        if is_word(Kind::of(self.ws[at])) {
+        let kind = self.kind(at, depth, context)?;
+        if is_word(kind) {
             return Some(at + 1);
         }
-        self.node(at, depth - 1, context)
+        self.node(at, depth - 1, context, kind)
     }
 
     // A process whose head was tested. The last process of a node is read in the next turn, the others by calls.
-    #[cycle(body_choice_guarded_last_list_marked_node_process_rest_solicit_waiter)]
-    #[inline(always)]
-    fn node(&self, at: usize, depth: usize, context: Context) -> Option<usize>
-        requires { at < length self.now.ws.now }
+    #[cycle(body_choice_guarded_list_marked_node_process_rest_solicit_waiter)]
+    #[inline(never)]
+    pub fn node(&self, at: usize, depth: usize, context: Context, kind: Kind) -> Option<usize>
+        requires { (at < length self.now.ws.now) × (kind ≡ kind_named (kind_of (get_or self.now.ws.now at 0))) }
         ensures { result ≡ end_as (headed_end (expr_end depth self.now.ws.now) (process_end depth self.now.ws.now self.now.bound) self.now.ws.now (context_in context.kinds) self.now.bound (get_or self.now.ws.now at 0) at) }
     {
         let mut a = at;
         let mut d = depth;
         let mut c = context;
-        let mut head = self.ws[at];
+        let mut k = kind;
         loop {
-            match self.rest(a, d, c, head)? {
+            match self.rest(a, d, c, k)? {
                 Rest::Nothing(end) => return Some(end),
                 Rest::Process(next, context) => {
-                    if !self.stands(next, d, context) {
-                        return None;
-                    }
+                    k = self.kind(next, d, context)?;
                     a = next;
                     c = context;
                     d -= 1;
-                    head = self.ws[next];
                 }
             }
         }
     }
 
-    // Reads a node up to its last process.
-    #[cycle(body_choice_guarded_last_list_marked_node_process_rest_solicit_waiter)]
+    // Reads a node up to its last process. One match for all kinds, so that a node takes one jump.
+    #[cycle(body_choice_guarded_list_marked_node_process_rest_solicit_waiter)]
     #[inline(always)]
-    #[tactic(auto, unfolding(crate::specs::Walk::on, crate::specs::Walk::two_end, crate::specs::Walk::branch_end, crate::specs::Walk::repeat_end, crate::specs::Walk::executor_end))]
-    fn rest(&self, at: usize, depth: usize, context: Context, head: u16) -> Option<Rest>
-        requires { at < length self.now.ws.now }
-        ensures { RestOf self.now.ws.now self.now.bound depth (context_in context.kinds) head at result }
+    fn rest(&self, at: usize, depth: usize, context: Context, kind: Kind) -> Option<Rest>
+        requires { (at < length self.now.ws.now) × (kind ≡ kind_named (kind_of (get_or self.now.ws.now at 0))) }
+        ensures { RestOf self.now.ws.now self.now.bound depth (context_in context.kinds) at result }
     {
-        match Kind::of(head) {
+        let ws = self.ws;
+        let head = ws[at];
+        Some(match kind {
+            Kind::Nil | Kind::Throw | Kind::Comp | Kind::Ch => Rest::Nothing(at + 1),
+            Kind::Assign => Rest::Nothing(expression(ws, at + 1, depth)?),
             Kind::Seq => {
                 let a = self.process(at + 1, depth, context.not_nil())?;
-                Some(Rest::Process(a, context.code()))
+                Rest::Process(a, context.code())
             }
             Kind::Par => {
                 let side = context.not_nil();
-                Some(Rest::Process(self.process(at + 1, depth, side)?, side))
+                Rest::Process(self.process(at + 1, depth, side)?, side)
             }
             Kind::If => {
                 let chosen = context.code();
-                let e = expression(self.ws, at + 1, depth)?;
-                Some(Rest::Process(self.process(e, depth, chosen)?, chosen))
+                let e = expression(ws, at + 1, depth)?;
+                Rest::Process(self.process(e, depth, chosen)?, chosen)
             }
-            Kind::While => {
-                let a = expression(self.ws, at + 1, depth)?;
-                Some(Rest::Process(a, context.code()))
-            }
-            Kind::Request => Some(Rest::Process(request(self.ws, at, head)?, context.code())),
-            Kind::Scope => {
-                let a = self.body(at, depth, context, head)?;
-                Some(Rest::Process(a, context.anywhere()))
-            }
-            Kind::Executor => Some(Rest::Process(self.executor_own(at)?, RUNNING)),
-            _ => Some(Rest::Nothing(self.last(at, depth, context, head)?)),
-        }
-    }
-
-    // A process that ends with no other.
-    #[cycle(body_choice_guarded_last_list_marked_node_process_rest_solicit_waiter)]
-    #[inline(always)]
-    #[tactic(auto, unfolding(crate::specs::Walk::last_end), using(crate::proofs::Sets::handlers_is, crate::proofs::Sets::handlers_context))]
-    fn last(&self, at: usize, depth: usize, context: Context, head: u16) -> Option<usize>
-        requires { at < length self.now.ws.now }
-        ensures { result ≡ end_as (last_end (expr_end depth self.now.ws.now) (process_end depth self.now.ws.now self.now.bound) self.now.ws.now (context_in context.kinds) self.now.bound head at) }
-    {
-        match Kind::of(head) {
-            Kind::Nil | Kind::Throw | Kind::Comp | Kind::Ch => Some(at + 1),
-            Kind::Assign => expression(self.ws, at + 1, depth),
-            Kind::Choice => self.choice(at + 1, depth, context, count_of(head)),
-            Kind::OneWay => one_way(self.ws, at, head),
-            Kind::Notify => notify(self.ws, at),
-            Kind::Solicit => self.solicit(at, depth),
-            Kind::Inst => self.list(at + 1, depth, HANDLERS, None),
-            Kind::Waiter => self.waiter(at, depth, head),
-            Kind::Notice => self.notice(at),
-            _ => None,
-        }
+            Kind::While => Rest::Process(expression(ws, at + 1, depth)?, context.code()),
+            Kind::Choice => Rest::Nothing(self.choice(at + 1, depth, context, count_of(head))?),
+            Kind::OneWay => Rest::Nothing(one_way(ws, at, head)?),
+            Kind::Request => Rest::Process(request(ws, at, head)?, context.code()),
+            Kind::Notify => Rest::Nothing(notify(ws, at)?),
+            Kind::Solicit => Rest::Nothing(self.solicit(at, depth)?),
+            Kind::Scope => Rest::Process(self.body(at, depth, context, head)?, context.anywhere()),
+            Kind::Inst => Rest::Nothing(self.list(at + 1, depth, HANDLERS, None)?),
+            Kind::Executor => Rest::Process(self.executor_own(at)?, RUNNING),
+            Kind::Waiter => Rest::Nothing(self.waiter(at, depth, head)?),
+            Kind::Notice => Rest::Nothing(self.notice(at)?),
+            Kind::Unused => return None,
+        })
     }
 
     // What begins a branch: a one-way or a request.
-    #[cycle(body_choice_guarded_last_list_marked_node_process_rest_solicit_waiter)]
+    #[cycle(body_choice_guarded_list_marked_node_process_rest_solicit_waiter)]
     fn guarded(&self, at: usize, depth: usize, context: Context) -> Option<usize>
         ensures { result ≡ end_as (process_end depth self.now.ws.now self.now.bound (context_of (context_in context.kinds) + receiver) at) }
     {
@@ -388,7 +368,7 @@ impl<'a> Reader<'a> {
     }
 
     // The branches of a choice, 1 to 8.
-    #[cycle(body_choice_guarded_last_list_marked_node_process_rest_solicit_waiter)]
+    #[cycle(body_choice_guarded_list_marked_node_process_rest_solicit_waiter)]
     #[tactic(auto, using(crate::proofs::Walks::branches_turn, crate::proofs::Walks::branches_done), unfolding(crate::specs::Walk::on, crate::specs::Walk::when, crate::specs::Walk::two_end, crate::specs::Walk::choice_end))]
     fn choice(&self, at: usize, depth: usize, context: Context, count: usize) -> Option<usize>
         requires { 0 < at }
@@ -407,7 +387,7 @@ impl<'a> Reader<'a> {
     }
 
     // A solicit: y, x, and its list.
-    #[cycle(body_choice_guarded_last_list_marked_node_process_rest_solicit_waiter)]
+    #[cycle(body_choice_guarded_list_marked_node_process_rest_solicit_waiter)]
     #[inline(always)]
     #[tactic(auto, unfolding(crate::specs::Walk::on, crate::specs::Walk::when, crate::specs::Walk::solicit_end), using(crate::proofs::Sets::handlers_is, crate::proofs::Sets::handlers_context))]
     fn solicit(&self, at: usize, depth: usize) -> Option<usize>
@@ -423,7 +403,7 @@ impl<'a> Reader<'a> {
     }
 
     // A list whose entries stand in a context; if a key is wanted, it has to be there.
-    #[cycle(body_choice_guarded_last_list_marked_node_process_rest_solicit_waiter)]
+    #[cycle(body_choice_guarded_list_marked_node_process_rest_solicit_waiter)]
     #[tactic(auto, using(crate::proofs::Walks::entries_turn, crate::proofs::Walks::entries_done, crate::proofs::Walks::key_inside), unfolding(crate::specs::Walk::on, crate::specs::Walk::when, crate::specs::Walk::list_end))]
     pub fn list(
         &self,
@@ -453,7 +433,7 @@ impl<'a> Reader<'a> {
     }
 
     // Where the body of the scope at `at` begins. One that is code has no mark, no marked fault, an empty list and is no zombie.
-    #[cycle(body_choice_guarded_last_list_marked_node_process_rest_solicit_waiter)]
+    #[cycle(body_choice_guarded_list_marked_node_process_rest_solicit_waiter)]
     #[inline(always)]
     #[tactic(auto, unfolding(crate::specs::Walk::when, crate::specs::Walk::body_at))]
     fn body(&self, at: usize, depth: usize, context: Context, head: u16) -> Option<usize>
@@ -472,7 +452,7 @@ impl<'a> Reader<'a> {
     }
 
     // The list of a scope that runs, by its mark.
-    #[cycle(body_choice_guarded_last_list_marked_node_process_rest_solicit_waiter)]
+    #[cycle(body_choice_guarded_list_marked_node_process_rest_solicit_waiter)]
     #[tactic(auto, unfolding(crate::specs::Walk::when, crate::specs::Walk::marked_end), using(crate::proofs::Sets::code_is, crate::proofs::Sets::code_context))]
     pub fn marked(&self, at: usize, depth: usize, h: usize, fault: usize) -> Option<usize>
         ensures { result ≡ end_as (marked_end (process_end depth self.now.ws.now self.now.bound) self.now.ws.now h fault at) }
@@ -532,7 +512,7 @@ impl<'a> Reader<'a> {
     }
 
     // A waiter.
-    #[cycle(body_choice_guarded_last_list_marked_node_process_rest_solicit_waiter)]
+    #[cycle(body_choice_guarded_list_marked_node_process_rest_solicit_waiter)]
     #[inline(always)]
     #[tactic(auto, unfolding(crate::specs::Walk::on, crate::specs::Walk::when, crate::specs::Walk::waiter_end), using(crate::proofs::Sets::handlers_is, crate::proofs::Sets::handlers_context))]
     fn waiter(&self, at: usize, depth: usize, head: u16) -> Option<usize>

@@ -1,5 +1,5 @@
 -- The functions of `Reader` that call each other meet their contracts. The measure is 8 times the depth, and for the same depth up to 7 for who
--- calls whom: node, then rest, then last and body, then solicit, waiter, marked and choice, then list, then those that call `process` alone. Invariants: in
+-- calls whom: node, then rest, then body, then solicit, waiter, marked and choice, then list, then those that call `process` alone. Invariants: in
 -- `node`, the node that is reached ends where the whole does (`Turning.Going`); in `list` and `choice`, the entries or branches that are left end where
 -- all of them do. The measure of the loop in `node` is the levels left.
 use Prim.Native.Nat.{◌+◌, ◌*◌, ◌-◌, ◌<◌}
@@ -8,7 +8,7 @@ use lib.ListN.{get_or}
 use Rattle.reading.proofs.Turning.{headed, Going}
 use Rattle.reading.specs.Sets.{context_in}
 use Rattle.reading.specs.Walk.{process_end, branches_end, entries_end}
-use Rattle.reading.proofs.reader.Reader.+body_choice_guarded_last_list_marked_node_process_rest_solicit_waiter.Given as goal
+use Rattle.reading.proofs.reader.Reader.+body_choice_guarded_list_marked_node_process_rest_solicit_waiter.Given as goal
 
 abbrev pub decreases-body : goal.decreases-body
 decreases-body l = l.depth * 8 + 5
@@ -18,9 +18,6 @@ decreases-choice l = l.depth * 8 + 4
 
 abbrev pub decreases-guarded : goal.decreases-guarded
 decreases-guarded l = l.depth * 8 + 1
-
-abbrev pub decreases-last : goal.decreases-last
-decreases-last l = l.depth * 8 + 5
 
 abbrev pub decreases-list : goal.decreases-list
 decreases-list l = l.depth * 8 + 3
@@ -57,7 +54,7 @@ invariant-list-loop l =
 
 abbrev pub invariant-node-loop-end : goal.invariant-node-loop-end
 invariant-node-loop-end l =
-    Going l.self.ws.now l.self.bound (headed l.self.ws.now l.self.bound l.depth (context_in l.fn.context.kinds) (get_or l.self.ws.now l.at 0) l.at) l.depth l.a l.d (context_in l.c.kinds) l.head
+    Going l.self.ws.now l.self.bound (headed l.self.ws.now l.self.bound l.depth (context_in l.fn.context.kinds) (get_or l.self.ws.now l.at 0) l.at) l.depth l.a l.d (context_in l.c.kinds) l.k
 
 abbrev pub decreases-node-loop-end : goal.decreases-node-loop-end
 decreases-node-loop-end l = l.d
