@@ -30,6 +30,7 @@ use Rattle.sock.proofs.Taken.{Taken, taken_alone, taken_between, Accepts, step_a
 use Rattle.reading.specs.Survey.{Starts, surveyed}
 use Rattle.reading.proofs.Known.{Known, survey_known, known_length}
 use Rattle.skipping.proofs.Notes.{Right}
+use Rattle.noting.specs.declared.survey.Named.TheVariants as named
 use Rattle.noting.proofs.Noted.{blank_right, survey_right}
 use Rattle.layout.specs.Own.{own_end}
 use Rattle.layout.specs.Positions.{onward}
@@ -191,7 +192,7 @@ module _ (ws notes : List ℕ) (g : Engines) (sv : Surveyed ws notes g) where
   c = known.config
 
   right : Right ws notes
-  right = subst (Right ws) (sym sv.noted) (survey_right standard (omega arith) ws sv.words blank (blank_right ws 16384))
+  right = subst (Right ws) (sym sv.noted) (survey_right standard (omega arith) named.All ws sv.words blank (blank_right ws 16384))
 
   pub engines_are : g.count ≡ length c.engines
   engines_are = sv.count ∙ known.engines

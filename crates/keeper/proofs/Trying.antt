@@ -3,7 +3,7 @@
 use Prim.Native.Nat.{ℕ, suc, ◌≤◌, ◌<◌}
 use native.Mathlib.Omega.{arith}
 use native.Mathlib.Decide.{ℕ_discrete}
-use mathlib.Core.Path.{◌≡◌, refl, sym, ap, ◌∙◌}
+use mathlib.Core.Path.{◌≡◌, refl, sym, subst, ap, ◌∙◌}
 use mathlib.Core.Bool.{true, false}
 use mathlib.Core.List.{List}
 use borrow.Author.Tests.{eq-eqb, ne_eqb, le-leb, lt-leb, le-ltb}
@@ -15,7 +15,9 @@ use Rattle.sock.specs.Calls.{Refusal, number, Result, refused, done, Stepped, st
 use Rattle.sock.proofs.Accepted.{number_positive}
 use Rattle.reading.specs.Survey.{Starts, surveyed}
 use Rattle.reading.proofs.Combining.{Words}
-use Rattle.noting.proofs.Noted.{blank_right}
+use Rattle.skipping.proofs.Notes.{Right}
+use Rattle.noting.specs.declared.survey.Named.TheVariants as named
+use Rattle.noting.proofs.Noted.{blank_right, survey_right}
 use Rattle.layout.specs.Positions.{onward}
 use Rattle.finding.specs.declared.find.Site.{Site}
 use Rattle.finding.specs.declared.find.Found.{Found}
@@ -52,10 +54,13 @@ abbrev pub blank : List ℕ
 blank = replicate 16384 0
 
 module _ (ws notes : List ℕ) (g : Engines) (sv : Surveyed ws notes g) (k : Numbers) where
-  tries : (out : List ℕ) → step_w large ws blank k out ≡ try_w ws notes g k out
+  right : Right ws notes
+  right = subst (Right ws) (sym sv.noted) (survey_right standard (omega arith) named.All ws sv.words blank (blank_right ws 16384))
+
+  tries : (out : List ℕ) → step_w large ws notes k out ≡ try_w ws notes g k out
   unfolding step_w try_w enabled_w
   tries out =
-      rw (← sv.count, ← sv.starts, ← sv.issued, ← sv.noted, ne_eqb g.count 0 sv.more)
+      rw (← sv.count, ← sv.starts, ← sv.issued, ne_eqb g.count 0 sv.more)
 
 module _ (ws : List ℕ) (k : Numbers) (s : Starts) (e : s ≡ surveyed standard 11 ws) (out : List ℕ) where
   none_read : s.engines ≡ 0 → (step_w large ws blank k out).answer.number ≡ 1
@@ -65,7 +70,7 @@ module _ (ws : List ℕ) (k : Numbers) (s : Starts) (e : s ≡ surveyed standard
 module _ (ws notes : List ℕ) (ok : Words ws) (g : Engines) (sv : Surveyed ws notes g) (k : Numbers) (low : k.position < 65536) (low' : k.second_position < 65536) where
   try_law : (out : List ℕ) → length out ≡ 8192 → try_w ws notes g k out ≡ given (moved ws (numbers_as k)) out
   unfolding moved
-  try_law out e = sym (tries ws notes g sv k out) ∙ (step_law modest ws ok k low low' out blank (blank_right ws 16384) ∙ ap (λ (n : ℕ). given (step standard ws (numbers_as k) n) out) e)
+  try_law out e = sym (tries ws notes g sv k out) ∙ (step_law modest ws ok k low low' out notes (right ws notes g sv k) ∙ ap (λ (n : ℕ). given (step standard ws (numbers_as k) n) out) e)
 
   abbrev page : List ℕ
   page = replicate 8192 0

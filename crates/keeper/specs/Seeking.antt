@@ -4,6 +4,7 @@ use Rattle.sock.specs.Words.{kind_of}
 use Rattle.sock.specs.Configuration.{standard, encode}
 use Rattle.sock.specs.Calls.{Numbers as Asked, Answer, done, Stepped}
 use Rattle.reading.specs.Survey.{surveyed}
+use Rattle.noting.specs.declared.survey.Named.TheVariants as named
 use Rattle.noting.specs.Noting.{survey_notes}
 use Rattle.layout.specs.Positions.{onward}
 use Rattle.layout.specs.Kinds.{counted_as}
@@ -36,7 +37,7 @@ all = 68719476736
 
 -- what one survey of a readable configuration leaves
 pub record Surveyed (ws notes : List ℕ) (g : Engines) : Type 0 where
-  pub noted : notes ≡ survey_notes standard ws (replicate 16384 0)
+  pub noted : notes ≡ survey_notes standard named.All ws (replicate 16384 0)
   pub count : g.count ≡ (surveyed standard 11 ws).engines
   pub issued : g.issued ≡ get_or ws 1 0
   pub starts : g.starts ≡ (surveyed standard 11 ws).starts

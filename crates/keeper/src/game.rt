@@ -16,7 +16,7 @@ use crate::seek::Search;
 use layout::kind::Kind;
 use layout::limit::{LONGEST, STANDARD};
 use layout::number::{wide, word};
-use noting::survey::survey;
+use noting::survey::{Named, survey};
 use skipping::pass::Noted;
 use stepping::answer::Accepted;
 use stepping::bundles::Engines;
@@ -160,7 +160,7 @@ impl Game {
         ensures { Judged self.engines self.serial left (is_river side) ws.now result }
     {
         let mut notes = [0u16; MANY];
-        let Some(found) = survey(ws, STANDARD, &mut notes) else {
+        let Some(found) = survey(ws, STANDARD, Named::All, &mut notes) else {
             return no();
         };
         let search = Search {

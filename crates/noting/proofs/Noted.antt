@@ -30,7 +30,8 @@ use Rattle.reading.proofs.Lists as lists
 use Rattle.reading.proofs.Parts.{is_code}
 use Rattle.reading.proofs.Processes.{read_ends, process_read}
 use Rattle.reading.proofs.Surveys.{process_inside}
-use Rattle.noting.specs.Noting.{note_w, note_list_w, seq_notes, par_notes, body_notes, scope_notes, executor_notes, node_notes, noting, enabled_notes, notes_w, engines_notes, survey_notes}
+use Rattle.noting.specs.declared.survey.Named.{Named}
+use Rattle.noting.specs.Noting.{note_w, note_list_w, seq_notes, par_notes, body_notes, scope_notes, executor_notes, node_notes, noting, enabled_notes, notes_w, noted_in, engine_notes, engines_notes, survey_notes}
 
 -- ---- one note more
 
@@ -213,22 +214,22 @@ module _ (ws : List ℕ) (ok : Words ws) (short : length ws < 65536) (n issued :
   enabled_right (suc d) c i h m r =
       cond_right ws (ltb i (length ws) && eqb (bit_and (at ws i + 65536) (head_mask c (at ws i / 2048))) 0) _ _ (node_right d (noting_right d (enabled_right d)) (at ws i) i m r) r
 
-  engines_right : (d left i : ℕ) (m : List ℕ) → Right ws m → Right ws (engines_notes d ws bound left i m)
-  unfolding engines_notes
-  engines_right d zero i m r = r
-  engines_right d (suc left) i m r =
-      let one = noting_right d (enabled_right d) 11 (i + 64) (omega arith) m r in
+  engines_right : (d : ℕ) (named : Named) (left e i : ℕ) (m : List ℕ) → Right ws m → Right ws (engines_notes d ws bound named left e i m)
+  unfolding engines_notes engine_notes
+  engines_right d named zero e i m r = r
+  engines_right d named (suc left) e i m r =
+      let one = cond_right ws (noted_in named e) _ _ (noting_right d (enabled_right d) 11 (i + 64) (omega arith) m r) r in
       cond_right ws (ltb (length ws - i) 64) _ _ r
-      (cond_right ws (eqb (process_end d ws bound 11 (i + 64)) 0) _ _ one (engines_right d left (process_end d ws bound 11 (i + 64)) _ one))
+      (cond_right ws (eqb (process_end d ws bound 11 (i + 64)) 0) _ _ one (engines_right d named left (e + 1) (process_end d ws bound 11 (i + 64)) _ one))
 
 -- ---- the notes of a configuration
 
-pub survey_right : (limits : Limits) → limits.longest < 65536 → (ws : List ℕ) → Words ws → (m : List ℕ) → Right ws m → Right ws (survey_notes limits ws m)
+pub survey_right : (limits : Limits) → limits.longest < 65536 → (named : Named) (ws : List ℕ) → Words ws → (m : List ℕ) → Right ws m → Right ws (survey_notes limits named ws m)
 unfolding survey_notes
-survey_right limits low ws ok m r = by (opens limits ws) refl
+survey_right limits low named ws ok m r = by (opens limits ws) refl
   where
-    by : (b : Bool) → b ≡ opens limits ws → Right ws (cond b (engines_notes limits.deepest ws (at ws 0 * 65536 + at ws 1) (at ws 0) 2 m) m)
+    by : (b : Bool) → b ≡ opens limits ws → Right ws (cond b (engines_notes limits.deepest ws (at ws 0 * 65536 + at ws 1) named (at ws 0) 0 2 m) m)
     by false e = r
     by true e =
         let o = is_open limits ws true e refl in
-        engines_right ws ok (omega (arith, o.short)) (at ws 0) (at ws 1) (ok 1) limits.deepest (at ws 0) 2 m r
+        engines_right ws ok (omega (arith, o.short)) (at ws 0) (at ws 1) (ok 1) limits.deepest named (at ws 0) 0 2 m r

@@ -24,7 +24,8 @@ use Rattle.reading.proofs.Heads.{head_law}
 use Rattle.reading.proofs.Placed.{place_end, place_some, placed_named}
 use Rattle.reading.proofs.Sets.{Known, below}
 use Rattle.reading.proofs.Turning.{Found, head_found, head_missing, word_ends}
-use Rattle.noting.specs.Noting.{par_notes, node_notes, noting, enabled_notes, notes_w, engines_notes, seq_notes, scope_notes, executor_notes}
+use Rattle.noting.specs.declared.survey.Named.{Named}
+use Rattle.noting.specs.Noting.{par_notes, node_notes, noting, enabled_notes, notes_w, noted_in, engine_notes, engines_notes, seq_notes, scope_notes, executor_notes}
 
 -- no mark, no fault and no entries
 pub bare_list :
@@ -206,14 +207,14 @@ module _ (ws : List ℕ) (ok : Words ws) (bound d i : ℕ) (m : List ℕ) where
 -- ---- engines
 
 pub engines_turn :
-    (deepest : ℕ) (ws : List ℕ) (bound n e i : ℕ) (m : List ℕ) → e < n →
-    engines_notes deepest ws bound (n - e) i m
+    (deepest : ℕ) (ws : List ℕ) (bound : ℕ) (named : Named) (n e i : ℕ) (m : List ℕ) → e < n →
+    engines_notes deepest ws bound named (n - e) e i m
     ≡ cond (ltb (length ws - i) 64) m
-    (cond (eqb (process_end deepest ws bound 11 (i + 64)) 0) (notes_w deepest ws bound 11 (i + 64) m)
-    (engines_notes deepest ws bound (n - (e + 1)) (process_end deepest ws bound 11 (i + 64)) (notes_w deepest ws bound 11 (i + 64) m)))
+    (cond (eqb (process_end deepest ws bound 11 (i + 64)) 0) (engine_notes deepest ws bound (noted_in named e) (i + 64) m)
+    (engines_notes deepest ws bound named (n - (e + 1)) (e + 1) (process_end deepest ws bound 11 (i + 64)) (engine_notes deepest ws bound (noted_in named e) (i + 64) m)))
 unfolding engines_notes
-engines_turn deepest ws bound n e i m h = let f : n - e ≡ suc (n - (e + 1)) = omega arith in rw f
+engines_turn deepest ws bound named n e i m h = let f : n - e ≡ suc (n - (e + 1)) = omega arith in rw f
 
-pub engines_done : (deepest : ℕ) (ws : List ℕ) (bound n e i : ℕ) (m : List ℕ) → n ≤ e → engines_notes deepest ws bound (n - e) i m ≡ m
+pub engines_done : (deepest : ℕ) (ws : List ℕ) (bound : ℕ) (named : Named) (n e i : ℕ) (m : List ℕ) → n ≤ e → engines_notes deepest ws bound named (n - e) e i m ≡ m
 unfolding engines_notes
-engines_done deepest ws bound n e i m h = let f : n - e ≡ 0 = omega arith in rw f
+engines_done deepest ws bound named n e i m h = let f : n - e ≡ 0 = omega arith in rw f

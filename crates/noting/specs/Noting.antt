@@ -1,7 +1,7 @@
 -- The notes that reading leaves, as the code goes: `end` tells where a process in a context ends, `sub` notes one level down. The notes of
 -- the word at i stand at i * 2, for the process that begins there, and behind it, for the list. The proofs show that each is where the
 -- layout ends; no contract of a call names it.
-use Rattle.std.specs.Prelude.{ℕ, zero, suc, ◌+◌, ◌-◌, ◌*◌, ◌%◌, ◌&&◌, cond, List, leb, ltb, eqb, length, set}
+use Rattle.std.specs.Prelude.{ℕ, zero, suc, ◌+◌, ◌-◌, ◌*◌, ◌%◌, ◌&&◌, ◌||◌, Bool, true, cond, List, leb, ltb, eqb, length, set}
 use Rattle.std.specs.Int.Bits.{bit_and}
 use Rattle.sock.specs.Kind
 use Rattle.sock.specs.Words.{kind_of}
@@ -9,6 +9,8 @@ use Rattle.sock.specs.Configuration.{Limits}
 use Rattle.layout.specs.Contexts.{code, running, not_nil, root}
 use Rattle.reading.specs.Survey.{opens}
 use Rattle.reading.specs.Tables.{head_mask}
+use Rattle.noting.specs.declared.survey.Named.{Named}
+use Rattle.noting.specs.declared.survey.Named.TheVariants as named_as
 use Rattle.reading.specs.Walk.{at, process_end, marked_end, executor_own}
 
 -- the first or the second of a word's notes
@@ -74,13 +76,22 @@ notes_w d ws bound = noting (enabled_notes d ws bound) (process_end d ws bound)
 
 -- ---- of a configuration
 
--- `left` engines, the first one's values from i on
-unfoldable pub engines_notes : ℕ → List ℕ → ℕ → ℕ → ℕ → List ℕ → List ℕ
-engines_notes deepest ws bound zero i m = m
-engines_notes deepest ws bound (suc left) i m =
-    cond (ltb (length ws - i) 64) m
-    (cond (eqb (process_end deepest ws bound root (i + 64)) 0) (notes_w deepest ws bound root (i + 64) m)
-    (engines_notes deepest ws bound left (process_end deepest ws bound root (i + 64)) (notes_w deepest ws bound root (i + 64) m)))
+-- whether an engine is one of those named
+abbrev pub noted_in : Named → ℕ → Bool
+noted_in named_as.All e = true
+noted_in (named_as.Two a b) e = eqb e a || eqb e b
 
-unfoldable pub survey_notes : Limits → List ℕ → List ℕ → List ℕ
-survey_notes limits ws m = cond (opens limits ws) (engines_notes limits.deepest ws (at ws 0 * 65536 + at ws 1) (at ws 0) 2 m) m
+-- of one engine, whose process begins at i
+unfoldable pub engine_notes : ℕ → List ℕ → ℕ → Bool → ℕ → List ℕ → List ℕ
+engine_notes deepest ws bound noted i m = cond noted (notes_w deepest ws bound root i m) m
+
+-- `left` engines, from engine e on, whose values begin at i
+unfoldable pub engines_notes : ℕ → List ℕ → ℕ → Named → ℕ → ℕ → ℕ → List ℕ → List ℕ
+engines_notes deepest ws bound named zero e i m = m
+engines_notes deepest ws bound named (suc left) e i m =
+    cond (ltb (length ws - i) 64) m
+    (cond (eqb (process_end deepest ws bound root (i + 64)) 0) (engine_notes deepest ws bound (noted_in named e) (i + 64) m)
+    (engines_notes deepest ws bound named left (e + 1) (process_end deepest ws bound root (i + 64)) (engine_notes deepest ws bound (noted_in named e) (i + 64) m)))
+
+unfoldable pub survey_notes : Limits → Named → List ℕ → List ℕ → List ℕ
+survey_notes limits named ws m = cond (opens limits ws) (engines_notes limits.deepest ws (at ws 0 * 65536 + at ws 1) named (at ws 0) 0 2 m) m

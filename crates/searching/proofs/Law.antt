@@ -22,8 +22,6 @@ use Rattle.reading.specs.Survey.{Starts, surveyed}
 use Rattle.reading.proofs.Combining.{Words}
 use Rattle.reading.proofs.Known.{Known, survey_known, survey_unknown, known_length}
 use Rattle.skipping.proofs.Notes.{Right}
-use Rattle.noting.specs.Noting.{survey_notes}
-use Rattle.noting.proofs.Noted.{survey_right}
 use Rattle.layout.specs.Positions.{onward}
 use Rattle.layout.specs.Limits.{figures}
 use Rattle.layout.specs.declared.limit.Limits.{Limits}
@@ -42,30 +40,24 @@ use Rattle.searching.specs.Asking.{refusing, counted_w, searched_w, asked_w}
 
 -- no engine, nothing read; or the engine looked up
 refused_at :
-    (limits : Limits) (ws blank : List ℕ) (engine position : ℕ) (s : Starts) → s ≡ surveyed (figures limits) 11 ws → s.engines ≡ 0 →
-    asked_w limits ws blank engine position ≡ refusing 1
+    (limits : Limits) (ws notes : List ℕ) (engine position : ℕ) (s : Starts) → s ≡ surveyed (figures limits) 11 ws → s.engines ≡ 0 →
+    asked_w limits ws notes engine position ≡ refusing 1
 unfolding asked_w enabled_w searched_w
-refused_at limits ws blank engine position s q z = rw (← q, eq-eqb s.engines 0 z)
+refused_at limits ws notes engine position s q z = rw (← q, eq-eqb s.engines 0 z)
 
 looked_up :
-    (limits : Limits) (ws blank : List ℕ) (engine position : ℕ) (s : Starts) (n : ℕ) → s ≡ surveyed (figures limits) 11 ws →
+    (limits : Limits) (ws notes : List ℕ) (engine position : ℕ) (s : Starts) (n : ℕ) → s ≡ surveyed (figures limits) 11 ws →
     s.engines ≡ n → (n ≡ 0 → ⊥) →
-    asked_w limits ws blank engine position
-    ≡ searched_w ws (survey_notes (figures limits) ws blank)
+    asked_w limits ws notes engine position
+    ≡ searched_w ws notes
     (with_site (record { count = n; issued = at ws 1; starts = s.starts })
     (cond (leb n engine) None
-    (hit_w (find_w 64 ws (survey_notes (figures limits) ws blank) (onward (get_or s.starts engine 0) position) 1 (get_or s.starts engine 0)))))
+    (hit_w (find_w 64 ws notes (onward (get_or s.starts engine 0) position) 1 (get_or s.starts engine 0)))))
 unfolding asked_w enabled_w site_w
-looked_up limits ws blank engine position s n q z more = rw (← q, z, ne_eqb n 0 more)
+looked_up limits ws notes engine position s n q z more = rw (← q, z, ne_eqb n 0 more)
 
-module _ {limits : Limits} (modest : Modest limits) (ws : List ℕ) (ok : Words ws) (engine position : ℕ) (low : position < 65536) (blank : List ℕ)
-    (blank_right : Right ws blank) where
-  abbrev notes : List ℕ
-  notes = survey_notes (figures limits) ws blank
-
-  right : Right ws notes
-  right = survey_right (figures limits) (omega (arith, modest.few)) ws ok blank blank_right
-
+module _ {limits : Limits} (modest : Modest limits) (ws : List ℕ) (ok : Words ws) (engine position : ℕ) (low : position < 65536) (notes : List ℕ)
+    (right : Right ws notes) where
   -- ---- a configuration that is known
 
   module _ (s : Starts) (known : Known (figures limits) ws s) where
@@ -118,10 +110,10 @@ module _ {limits : Limits} (modest : Modest limits) (ws : List ℕ) (ok : Words 
 
     read_law :
         (s.engines ≡ 0 → ⊥) → s ≡ surveyed (figures limits) 11 ws →
-        asked_w limits ws blank engine position ≡ searched ((nobody_there ! enabled_at c engine position) >>= λ a. done a)
+        asked_w limits ws notes engine position ≡ searched ((nobody_there ! enabled_at c engine position) >>= λ a. done a)
     unfolding searched_w with_site ◌!◌ ◌>>=◌ searched
     read_law more q =
-        looked_up limits ws blank engine position s n q known.engines (λ z. more (known.engines ∙ z))
+        looked_up limits ws notes engine position s n q known.engines (λ z. more (known.engines ∙ z))
         ∙ by (leb n engine) refl
       where
         by :
@@ -137,15 +129,15 @@ module _ {limits : Limits} (modest : Modest limits) (ws : List ℕ) (ok : Words 
 
   -- ---- all words
 
-  pub asked_law : asked_w limits ws blank engine position ≡ pending_at (figures limits) ws engine position
+  pub asked_law : asked_w limits ws notes engine position ≡ pending_at (figures limits) ws engine position
   unfolding pending_at side_at ◌!◌ ◌>>=◌ searched
   asked_law = by (surveyed (figures limits) 11 ws) refl
     where
-      by : (s : Starts) → s ≡ surveyed (figures limits) 11 ws → asked_w limits ws blank engine position ≡ pending_at (figures limits) ws engine position
+      by : (s : Starts) → s ≡ surveyed (figures limits) 11 ws → asked_w limits ws notes engine position ≡ pending_at (figures limits) ws engine position
       by s q = decide (ℕ_discrete s.engines 0)
         where
-          decide : Dec (s.engines ≡ 0) → asked_w limits ws blank engine position ≡ pending_at (figures limits) ws engine position
-          decide (yes z) = refused_at limits ws blank engine position s q z ∙ rw (survey_unknown (figures limits) ws ok s q z)
+          decide : Dec (s.engines ≡ 0) → asked_w limits ws notes engine position ≡ pending_at (figures limits) ws engine position
+          decide (yes z) = refused_at limits ws notes engine position s q z ∙ rw (survey_unknown (figures limits) ws ok s q z)
           decide (no z) =
               let known = survey_known (figures limits) ws ok s q z in
               read_law s known z q

@@ -6,10 +6,11 @@ ghost use Rattle.sock.specs.Pending.{pending_at};
 ghost use Rattle.layout.specs.Limits.{figures};
 ghost use Rattle.noting.specs.Noting.{survey_notes};
 ghost use Rattle.searching.specs.Answers.{pending_as};
-ghost use Rattle.searching.specs.Asking.{counted_w, asked_w};
+ghost use Rattle.searching.specs.Asking.{named_by, counted_w, asked_w};
 
 use layout::limit::{Limits, STANDARD};
 use layout::refusal::Refusal;
+use noting::survey::Named;
 use pending::look::pending;
 use skipping::pass::Noted;
 use stepping::enabled::enabled_at;
@@ -46,10 +47,11 @@ fn asked(
     position: u16,
     limits: Limits,
 ) -> Result<Pending, Refusal>
-    ensures answered { pending_as result ≡ asked_w limits ws.now notes.old engine position }
-    ensures noted { notes.new ≡ survey_notes (figures limits) ws.now notes.old }
+    ensures answered { pending_as result ≡ asked_w limits ws.now (survey_notes (figures limits) (named_by engine) ws.now notes.old) engine position }
+    ensures noted { notes.new ≡ survey_notes (figures limits) (named_by engine) ws.now notes.old }
 {
-    let (_, site) = enabled_at(ws, notes, engine, position, limits)?;
+    let named = Named::Two(engine, engine);
+    let (_, site) = enabled_at(ws, notes, named, engine, position, limits)?;
     Ok(counted(&Noted { ws, notes }, site.at))
 }
 

@@ -23,8 +23,6 @@ use Rattle.reading.specs.Survey.{Starts, surveyed}
 use Rattle.reading.proofs.Combining.{Words}
 use Rattle.reading.proofs.Known.{Known, survey_known, survey_unknown, known_issued}
 use Rattle.skipping.proofs.Notes.{Right}
-use Rattle.noting.specs.Noting.{survey_notes}
-use Rattle.noting.proofs.Noted.{survey_right}
 use Rattle.layout.specs.Positions.{onward}
 use Rattle.finding.specs.declared.find.Site.{Site}
 use Rattle.finding.specs.declared.find.Found.{Found}
@@ -52,32 +50,26 @@ use Rattle.stepping.proofs.Partners as partners
 
 -- no engine, nothing read
 refused_at :
-    (limits : Limits) (ws blank : List ℕ) (k : Numbers) (out : List ℕ) (s : Starts) → s ≡ surveyed (figures limits) 11 ws → s.engines ≡ 0 →
-    step_w limits ws blank k out ≡ answered (refusing 1) out
+    (limits : Limits) (ws notes : List ℕ) (k : Numbers) (out : List ℕ) (s : Starts) → s ≡ surveyed (figures limits) 11 ws → s.engines ≡ 0 →
+    step_w limits ws notes k out ≡ answered (refusing 1) out
 unfolding step_w enabled_w moved_w
-refused_at limits ws blank k out s q z = rw (← q, eq-eqb s.engines 0 z)
+refused_at limits ws notes k out s q z = rw (← q, eq-eqb s.engines 0 z)
 
 -- the first engine looked up
 looked_up :
-    (limits : Limits) (ws blank : List ℕ) (k : Numbers) (out : List ℕ) (s : Starts) (n issued : ℕ) → s ≡ surveyed (figures limits) 11 ws →
+    (limits : Limits) (ws notes : List ℕ) (k : Numbers) (out : List ℕ) (s : Starts) (n issued : ℕ) → s ≡ surveyed (figures limits) 11 ws →
     s.engines ≡ n → (n ≡ 0 → ⊥) → at ws 1 ≡ issued →
-    step_w limits ws blank k out
-    ≡ moved_w limits ws (survey_notes (figures limits) ws blank) k out
+    step_w limits ws notes k out
+    ≡ moved_w limits ws notes k out
     (with_site (record { count = n; issued = issued; starts = s.starts })
     (cond (leb n k.engine) None
-    (hit_w (find_w 64 ws (survey_notes (figures limits) ws blank) (onward (get_or s.starts k.engine 0) k.position) 1 (get_or s.starts k.engine 0)))))
+    (hit_w (find_w 64 ws notes (onward (get_or s.starts k.engine 0) k.position) 1 (get_or s.starts k.engine 0)))))
 unfolding step_w enabled_w site_w
-looked_up limits ws blank k out s n issued q z more w = rw (← q, z, ne_eqb n 0 more, w)
+looked_up limits ws notes k out s n issued q z more w = rw (← q, z, ne_eqb n 0 more, w)
 
-module _ {limits : Limits} (modest : Modest limits) (ws : List ℕ) (ok : Words ws) (k : Numbers) (position-low : k.position < 65536) (place-low : k.second_position < 65536) (out : List ℕ) (blank : List ℕ) (blank_right : Right ws blank) where
+module _ {limits : Limits} (modest : Modest limits) (ws : List ℕ) (ok : Words ws) (k : Numbers) (position-low : k.position < 65536) (place-low : k.second_position < 65536) (out : List ℕ) (notes : List ℕ) (right : Right ws notes) where
   abbrev asked : Asked
   asked = numbers_as k
-
-  abbrev notes : List ℕ
-  notes = survey_notes (figures limits) ws blank
-
-  right : Right ws notes
-  right = survey_right (figures limits) (omega (arith, modest.few)) ws ok blank blank_right
 
   -- ---- a configuration that is known
 
@@ -185,11 +177,11 @@ module _ {limits : Limits} (modest : Modest limits) (ws : List ℕ) (ok : Words 
 
     read_law :
         (s.engines ≡ 0 → ⊥) → s ≡ surveyed (figures limits) 11 ws →
-        step_w limits ws blank k out
+        step_w limits ws notes k out
         ≡ given ((nobody_there ! enabled_at c k.engine k.position) >>= λ a. after limits c asked a (length out)) out
     unfolding moved_w with_site ◌!◌ ◌>>=◌
     read_law more q =
-        looked_up limits ws blank k out s n c.issued q known.engines (λ z. more (known.engines ∙ z))
+        looked_up limits ws notes k out s n c.issued q known.engines (λ z. more (known.engines ∙ z))
         (known_issued known)
         ∙ by (leb n k.engine) refl
       where
@@ -210,19 +202,19 @@ module _ {limits : Limits} (modest : Modest limits) (ws : List ℕ) (ok : Words 
   -- ---- all words
 
   pub step_law :
-      step_w limits ws blank k out ≡ given (step (figures limits) ws asked (length out)) out
+      step_w limits ws notes k out ≡ given (step (figures limits) ws asked (length out)) out
   unfolding ◌!◌ ◌>>=◌
   step_law = by (surveyed (figures limits) 11 ws) refl
     where
-      refuses : (s : Starts) → s ≡ surveyed (figures limits) 11 ws → s.engines ≡ 0 → step_w limits ws blank k out ≡ answered (refusing 1) out
-      refuses s q z = refused_at limits ws blank k out s q z
+      refuses : (s : Starts) → s ≡ surveyed (figures limits) 11 ws → s.engines ≡ 0 → step_w limits ws notes k out ≡ answered (refusing 1) out
+      refuses s q z = refused_at limits ws notes k out s q z
 
       by :
           (s : Starts) → s ≡ surveyed (figures limits) 11 ws →
-          step_w limits ws blank k out ≡ given (step (figures limits) ws asked (length out)) out
+          step_w limits ws notes k out ≡ given (step (figures limits) ws asked (length out)) out
       by s q = decide (ℕ_discrete s.engines 0)
         where
-          decide : Dec (s.engines ≡ 0) → step_w limits ws blank k out ≡ given (step (figures limits) ws asked (length out)) out
+          decide : Dec (s.engines ≡ 0) → step_w limits ws notes k out ≡ given (step (figures limits) ws asked (length out)) out
           decide (yes z) =
               refuses s q z
               ∙ (sym (given_refused unreadable out)
@@ -233,10 +225,10 @@ module _ {limits : Limits} (modest : Modest limits) (ws : List ℕ) (ok : Words 
               ∙ ap (λ r. given r out) (sym (step_read limits ws asked (length out) ∙ ap (λ o. (unreadable ! o) >>= λ c. (nobody_there ! enabled_at c k.engine k.position) >>= λ a. after limits c asked a (length out)) known.reads))
 
   -- the answer and the output
-  pub answer_law : (step_w limits ws blank k out).answer ≡ step_answer (figures limits) ws asked out
+  pub answer_law : (step_w limits ws notes k out).answer ≡ step_answer (figures limits) ws asked out
   unfolding step_answer
   answer_law = ap (λ (x : Answered). x.answer) step_law
 
-  pub output_law : (step_w limits ws blank k out).out ≡ step_output (figures limits) ws asked out
+  pub output_law : (step_w limits ws notes k out).out ≡ step_output (figures limits) ws asked out
   unfolding step_output
   output_law = ap (λ (x : Answered). x.out) step_law

@@ -3,6 +3,8 @@ use Rattle.std.specs.Prelude.{ℕ, List, ◌+◌, ◌-◌, ◌*◌, get_or}
 use Rattle.sock.specs.Calls as sock
 use Rattle.finding.specs.declared.find.Site.{Site}
 use Rattle.layout.specs.Kinds.{number_of}
+use Rattle.noting.specs.declared.survey.Named.{Named}
+use Rattle.noting.specs.declared.survey.Named.TheVariants.{Two}
 use Rattle.stepping.specs.declared.bundles.Encounter as code
 use Rattle.stepping.specs.declared.bundles.Engines.{Engines as Surveyed}
 use Rattle.stepping.specs.declared.bundles.Numbers.{Numbers}
@@ -11,6 +13,10 @@ use Rattle.rules.specs.declared.edit.Side.{Side}
 -- the code's numbers as those of the definitions
 abbrev pub numbers_as : Numbers → sock.Numbers
 numbers_as k = record { engine = k.engine; position = k.position; second = k.second; second_position = k.second_position; branch = k.branch }
+
+-- the engines that a step names
+abbrev pub named_by : Numbers → Named
+named_by k = Two k.engine k.second
 
 -- how many engines there are, the serials issued, and where each one's process begins
 pub record Engines : Type 0 where

@@ -1,7 +1,6 @@
 -- The enabled process at an engine and a position, as the code goes.
 use Rattle.std.specs.Prelude.{ℕ, List, cond, leb, eqb, Option, None, Some, Result, Ok, Err}
 use Rattle.reading.specs.Survey.{surveyed}
-use Rattle.noting.specs.Noting.{survey_notes}
 use Rattle.layout.specs.Positions.{onward}
 use Rattle.layout.specs.Limits.{figures}
 use Rattle.layout.specs.declared.limit.Limits.{Limits}
@@ -39,8 +38,8 @@ with_site g None = Err 2
 with_site g (Some a) = Ok (g, a)
 
 unfoldable pub enabled_w : Limits → List ℕ → List ℕ → ℕ → ℕ → Enabled
-enabled_w limits ws blank engine position =
+enabled_w limits ws notes engine position =
     let s = surveyed (figures limits) 11 ws in
     let n = s.engines in
     let g : Engines = record { count = n; issued = at ws 1; starts = s.starts } in
-    cond (eqb n 0) (Err 1) (with_site g (site_w ws (survey_notes (figures limits) ws blank) g engine position))
+    cond (eqb n 0) (Err 1) (with_site g (site_w ws notes g engine position))

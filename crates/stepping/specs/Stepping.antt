@@ -1,12 +1,10 @@
--- The whole step on words, as the code goes.
+-- The whole step on words, as the code goes, with the notes that a survey left.
 use Rattle.std.specs.Prelude.{ℕ, Option, Some, None, Ok, Err, Bool, false, cond, List, ltb, eqb}
 use Rattle.sock.specs.Kind
 use Rattle.sock.specs.Words.{kind_of}
 use Rattle.skipping.specs.Pass.{pass_list}
-use Rattle.noting.specs.Noting.{survey_notes}
 use Rattle.layout.specs.Own.{own_end}
 use Rattle.layout.specs.Positions.{onward}
-use Rattle.layout.specs.Limits.{figures}
 use Rattle.finding.specs.declared.find.Site.{Site}
 use Rattle.rules.specs.Rewriting.{at}
 use Rattle.layout.specs.declared.limit.Limits.{Limits}
@@ -67,4 +65,4 @@ moved_w limits ws notes k out (Err n) = answered (refusing n) out
 moved_w limits ws notes k out (Ok (g, a)) = moving_w limits ws notes g k a out
 
 unfoldable pub step_w : Limits → List ℕ → List ℕ → Numbers → List ℕ → Answered
-step_w limits ws blank k out = moved_w limits ws (survey_notes (figures limits) ws blank) k out (enabled_w limits ws blank k.engine k.position)
+step_w limits ws notes k out = moved_w limits ws notes k out (enabled_w limits ws notes k.engine k.position)

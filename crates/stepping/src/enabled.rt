@@ -10,7 +10,7 @@ use finding::find::{Found, Site, locate};
 use layout::limit::{FUEL, Limits};
 use layout::number::{further, wide, word};
 use layout::refusal::Refusal;
-use noting::survey::survey;
+use noting::survey::{Named, survey};
 use skipping::pass::Noted;
 
 // Where it stands, if there is one.
@@ -29,20 +29,21 @@ pub(crate) fn site_at(noted: &Noted, g: Engines, engine: u16, position: u16) -> 
     }
 }
 
-// The engines surveyed, and where it stands. The notes are all 0 before. An engine's number and a position stay two parameters, here and in
+// The engines surveyed, with notes of those named, and where it stands. The notes are all 0 before. An engine's number and a position stay two parameters, here and in
 // the calls that ask for them alone: C hands them in apart, and here they are taken apart again.
 #[tactic(auto, unfolding(crate::specs::Enabled::enabled_w, crate::specs::Enabled::with_site, reading::specs::Survey::no_starts))]
 pub fn enabled_at(
     ws: &[u16],
     notes: &mut [u16],
+    named: Named,
     engine: u16,
     position: u16,
     limits: Limits,
 ) -> Result<(Engines, Site), Refusal>
-    ensures found { enabled_in result ≡ enabled_w limits ws.now notes.old engine position }
-    ensures noted { notes.new ≡ survey_notes (figures limits) ws.now notes.old }
+    ensures found { enabled_in result ≡ enabled_w limits ws.now (survey_notes (figures limits) named ws.now notes.old) engine position }
+    ensures noted { notes.new ≡ survey_notes (figures limits) named ws.now notes.old }
 {
-    let found = survey(ws, limits, notes).ok_or(Refusal::Unreadable)?;
+    let found = survey(ws, limits, named, notes).ok_or(Refusal::Unreadable)?;
     let g = Engines {
         found,
         issued: word(ws, 1),

@@ -7,7 +7,7 @@ ghost use Rattle.layout.specs.Kinds.{number_of};
 ghost use Rattle.layout.specs.Limits.{figures};
 ghost use Rattle.stepping.specs.Answers.{told};
 ghost use Rattle.stepping.specs.Stepping.{body_nil, way_as, by_kind, moves_w, receiving_w, none_else, moving_w, step_w};
-ghost use Rattle.stepping.specs.Bundles.{engines_of, numbers_as};
+ghost use Rattle.stepping.specs.Bundles.{engines_of, named_by, numbers_as};
 
 use crate::alone::alone;
 use crate::answer::Accepted;
@@ -21,6 +21,7 @@ use layout::limit::{Bounds, FUEL, Limits};
 use layout::number::{further, word};
 use layout::own::own_end;
 use layout::refusal::Refusal;
+use noting::survey::Named;
 use skipping::pass::Noted;
 
 // Notes for every configuration, two words for each of its words; notes for a short one.
@@ -140,9 +141,10 @@ fn stepped(
     limits: Limits,
     out: &mut [u16],
 ) -> Result<Accepted, Refusal>
-    ensures { (told result ≡ (step_w limits ws.now notes.old k out.old).answer) × (out.new ≡ (step_w limits ws.now notes.old k out.old).out) × (notes.new ≡ survey_notes (figures limits) ws.now notes.old) }
+    ensures { (told result ≡ (step_w limits ws.now (survey_notes (figures limits) (named_by k) ws.now notes.old) k out.old).answer) × (out.new ≡ (step_w limits ws.now (survey_notes (figures limits) (named_by k) ws.now notes.old) k out.old).out) × (notes.new ≡ survey_notes (figures limits) (named_by k) ws.now notes.old) }
 {
-    let (g, a) = enabled_at(ws, notes, k.engine, k.position, limits)?;
+    let named = Named::Two(k.engine, k.second);
+    let (g, a) = enabled_at(ws, notes, named, k.engine, k.position, limits)?;
     moving(&Noted { ws, notes }, g, k, a, limits, out)
 }
 

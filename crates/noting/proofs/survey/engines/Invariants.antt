@@ -9,6 +9,6 @@ use Rattle.noting.proofs.survey.engines.Given as goal
 
 abbrev pub invariant-loop-e : goal.invariant-loop-e
 invariant-loop-e l =
-    (engines_from (process_end l.deepest l.ws l.bound 11) l.ws l.n (l.n - l.e) l.e l.at l.starts ≡ engines_from (process_end l.deepest l.ws l.bound 11) l.ws l.n l.n 0 2 (replicate 9 0))
-    × (engines_notes l.deepest l.ws l.bound (l.n - l.e) l.at l.notes ≡ engines_notes l.deepest l.ws l.bound l.n 2 l.initial.notes)
+    (engines_from (process_end l.deepest l.ws l.reader.bound 11) l.ws l.n (l.n - l.e) l.e l.at l.starts ≡ engines_from (process_end l.deepest l.ws l.reader.bound 11) l.ws l.n l.n 0 2 (replicate 9 0))
+    × (engines_notes l.deepest l.ws l.reader.bound l.named (l.n - l.e) l.e l.at l.notes ≡ engines_notes l.deepest l.ws l.reader.bound l.named l.n 0 2 l.initial.notes)
     × (l.at ≤ length l.ws)
