@@ -25,7 +25,7 @@ use Rattle.reading.proofs.Placed.{place_end, place_some, placed_named}
 use Rattle.reading.proofs.Sets.{Known, below}
 use Rattle.reading.proofs.Turning.{Found, head_found, head_missing, word_ends}
 use Rattle.noting.specs.declared.survey.Named.{Named}
-use Rattle.noting.specs.Noting.{par_notes, node_notes, noting, enabled_notes, notes_w, noted_in, engine_notes, engines_notes, seq_notes, scope_notes, executor_notes}
+use Rattle.noting.specs.Noting.{Noting, par_notes, node_notes, noting, enabled_notes, notes_w, noted_in, engine_notes, engines_notes, seq_notes, scope_notes, executor_notes}
 
 -- no mark, no fault and no entries
 pub bare_list :
@@ -71,6 +71,13 @@ head_stood ws kinds d i e = by (not (eqb d 0)) (ltb i (length ws)) (head_stands 
     by true false c e = absurd (true≢false (sym e))
     by false b c e = absurd (true≢false (sym e))
 
+-- kinds that note nothing
+others :
+    (end : ℕ → ℕ → ℕ) (sub : Noting) (ws : List ℕ) (bound h i : ℕ) (m : List ℕ) (k : ℕ) → h / 2048 ≡ k → (k ≡ 2 → ⊥) → (k ≡ 3 → ⊥) → (k ≡ 11 → ⊥) → (k ≡ 16 → ⊥) →
+    m ≡ node_notes end sub ws bound h i m
+unfolding node_notes
+others end sub ws bound h i m k e k2 k3 k11 k16 = sym (simp (e, ne_eqb k 2 k2, ne_eqb k 3 k3, ne_eqb k 11 k11, ne_eqb k 16 k16))
+
 module _ (d : ℕ) (ws : List ℕ) (bound kinds i h : ℕ) (m : List ℕ) (head : Headed d ws kinds i h) where
   abbrev c : ℕ
   c = context_in kinds
@@ -87,49 +94,65 @@ module _ (d : ℕ) (ws : List ℕ) (bound kinds i h : ℕ) (m : List ℕ) (head 
       enabled_step d ws bound c i m found.deep
       ∙ rw (head_law kinds head.known (at ws i) (head.ok i), head_stood ws kinds d i head.stands, rests_over c (at ws i) head.low, lt-ltb i (length ws) found.inside, ← head.word) refl
 
-  -- contexts of what is enabled
-  over : c / 4 * 4 ≡ 8
-  over = let low = head.low in let high = below kinds head.known in omega arith
-
-  pub others :
-      (k : ℕ) → h / 2048 ≡ k → (k ≡ 2 → ⊥) → (k ≡ 3 → ⊥) → (k ≡ 11 → ⊥) → (k ≡ 16 → ⊥) → m ≡ enabled_notes d ws bound c i m
-  unfolding node_notes
-  others k e k2 k3 k11 k16 = sym (noted ∙ simp (e, ne_eqb k 2 k2, ne_eqb k 3 k3, ne_eqb k 11 k11, ne_eqb k 16 k16))
-
   -- a process of one word
   pub one_word_ends : T (one_word (h / 2048)) → Some (i + 1) ≡ end_as (process_end d ws bound c i)
   one_word_ends t = word_ends ws bound d c i found (subst (λ w. T (one_word (w / 2048))) head.word t)
 
   pub one_word_notes : T (one_word (h / 2048)) → m ≡ enabled_notes d ws bound c i m
-  one_word_notes t = others (h / 2048) refl (λ z. subst T (ap one_word z) t) (λ z. subst T (ap one_word z) t) (λ z. subst T (ap one_word z) t) (λ z. subst T (ap one_word z) t)
+  one_word_notes t =
+      others (process_end (d - 1) ws bound) (notes_w (d - 1) ws bound) ws bound h i m (h / 2048) refl (λ z. subst T (ap one_word z) t) (λ z. subst T (ap one_word z) t)
+      (λ z. subst T (ap one_word z) t) (λ z. subst T (ap one_word z) t)
+      ∙ sym noted
+
+  -- a node
+  pub node_ended : (e : Maybe ℕ) → e ≡ end_as (node_end (expr_end (d - 1) ws) (process_end (d - 1) ws bound) ws c bound h i) → e ≡ end_as (process_end d ws bound c i)
+  node_ended e q = q ∙ ap end_as (sym ended)
+
+  pub node_noted : (y : List ℕ) → y ≡ node_notes (process_end (d - 1) ws bound) (notes_w (d - 1) ws bound) ws bound h i m → y ≡ enabled_notes d ws bound c i m
+  node_noted y q = q ∙ sym noted
+
+-- a node by its kind, in a context of what is enabled
+module _ (d : ℕ) (ws : List ℕ) (bound c i h : ℕ) (m : List ℕ) (low : 8 ≤ c) (high : c < 12) where
+  over : c / 4 * 4 ≡ 8
+  over = omega arith
+
+  abbrev ends : ℕ
+  ends = node_end (expr_end d ws) (process_end d ws bound) ws c bound h i
+
+  abbrev notes : List ℕ
+  notes = node_notes (process_end d ws bound) (notes_w d ws bound) ws bound h i m
 
   pub a_seq :
-      (e : Maybe ℕ) (y : List ℕ) → h / 2048 ≡ 2 → e ≡ end_as (two_end (process_end (d - 1) ws bound) 9 0 (i + 1)) →
-      y ≡ seq_notes (process_end (d - 1) ws bound) (notes_w (d - 1) ws bound) (i + 1) m →
-      (e ≡ end_as (process_end d ws bound c i)) × (y ≡ enabled_notes d ws bound c i m)
+      (e : Maybe ℕ) (y : List ℕ) → h / 2048 ≡ 2 → e ≡ end_as (two_end (process_end d ws bound) 9 0 (i + 1)) →
+      y ≡ seq_notes (process_end d ws bound) (notes_w d ws bound) (i + 1) m → (e ≡ end_as ends) × (y ≡ notes)
   unfolding node_end node_notes rest_of
-  a_seq e y k q n = (q ∙ sym (ap end_as (ended ∙ rw (k, over, le-ltb c 8 head.low))), n ∙ sym (noted ∙ rw k))
+  a_seq e y k q n = (q ∙ sym (ap end_as (rw (k, over, le-ltb c 8 low) refl)), n ∙ sym (rw k refl))
 
   pub a_par :
-      (e : Maybe ℕ) (y : List ℕ) → h / 2048 ≡ 3 → e ≡ end_as (two_end (process_end (d - 1) ws bound) 9 9 (i + 1)) →
-      y ≡ par_notes (process_end (d - 1) ws bound) (notes_w (d - 1) ws bound) (i + 1) m →
-      (e ≡ end_as (process_end d ws bound c i)) × (y ≡ enabled_notes d ws bound c i m)
+      (e : Maybe ℕ) (y : List ℕ) → h / 2048 ≡ 3 → e ≡ end_as (two_end (process_end d ws bound) 9 9 (i + 1)) →
+      y ≡ par_notes (process_end d ws bound) (notes_w d ws bound) (i + 1) m → (e ≡ end_as ends) × (y ≡ notes)
   unfolding node_end node_notes
-  a_par e y k q n = (q ∙ sym (ap end_as (ended ∙ rw (k, over))), n ∙ sym (noted ∙ rw k))
+  a_par e y k q n = (q ∙ sym (ap end_as (rw (k, over) refl)), n ∙ sym (rw k refl))
 
   pub a_scope :
-      (e : Maybe ℕ) (y : List ℕ) → h / 2048 ≡ 11 → e ≡ end_as (scope_end (process_end (d - 1) ws bound) ws 8 h i) →
-      y ≡ scope_notes (process_end (d - 1) ws bound) (notes_w (d - 1) ws bound) ws h i m →
-      (e ≡ end_as (process_end d ws bound c i)) × (y ≡ enabled_notes d ws bound c i m)
+      (e : Maybe ℕ) (y : List ℕ) → h / 2048 ≡ 11 → e ≡ end_as (scope_end (process_end d ws bound) ws 8 h i) →
+      y ≡ scope_notes (process_end d ws bound) (notes_w d ws bound) ws h i m → (e ≡ end_as ends) × (y ≡ notes)
   unfolding node_end node_notes scope_end
-  a_scope e y k q n = (q ∙ sym (ap end_as (ended ∙ rw (k, le-ltb c 8 head.low))), n ∙ sym (noted ∙ rw k))
+  a_scope e y k q n = (q ∙ sym (ap end_as (rw (k, le-ltb c 8 low) refl)), n ∙ sym (rw k refl))
 
   pub a_executor :
-      (e : Maybe ℕ) (y : List ℕ) → h / 2048 ≡ 16 → e ≡ end_as (executor_end (process_end (d - 1) ws bound) ws bound i) →
-      y ≡ executor_notes (notes_w (d - 1) ws bound) ws bound i m →
-      (e ≡ end_as (process_end d ws bound c i)) × (y ≡ enabled_notes d ws bound c i m)
+      (e : Maybe ℕ) (y : List ℕ) → h / 2048 ≡ 16 → e ≡ end_as (executor_end (process_end d ws bound) ws bound i) →
+      y ≡ executor_notes (notes_w d ws bound) ws bound i m → (e ≡ end_as ends) × (y ≡ notes)
   unfolding node_end node_notes
-  a_executor e y k q n = (q ∙ sym (ap end_as (ended ∙ rw k)), n ∙ sym (noted ∙ rw k))
+  a_executor e y k q n = (q ∙ sym (ap end_as (rw k refl)), n ∙ sym (rw k refl))
+
+  -- any other is read without notes
+  pub a_other :
+      (e : Maybe ℕ) → (h / 2048 ≡ 2 → ⊥) → (h / 2048 ≡ 3 → ⊥) → (h / 2048 ≡ 11 → ⊥) → (h / 2048 ≡ 16 → ⊥) →
+      e ≡ end_as (headed_end (expr_end d ws) (process_end d ws bound) ws c bound h i) → (e ≡ end_as ends) × (m ≡ notes)
+  unfolding headed_end when
+  a_other e k2 k3 k11 k16 q =
+      (q ∙ ap end_as (rw (rests_over c h low) refl), others (process_end d ws bound) (notes_w d ws bound) ws bound h i m (h / 2048) refl k2 k3 k11 k16)
 
 -- ---- what does not stand there notes nothing
 

@@ -1,10 +1,12 @@
 // The reader of what is enabled, which notes where it ends: an enabled process, what follows an enabled one in a seq, and the list of an
 // enabled scope. The notes of a word are told in `skipping::pass`. What is not enabled is read by the reader alone.
 ghost use Rattle.std.specs.Prelude.{◌≡◌, ◌+◌, ◌*◌, ◌≤◌, ◌<◌, length, get_or};
+ghost use Rattle.sock.specs.Words.{kind_of};
+ghost use Rattle.layout.specs.Kinds.{kind_named};
 ghost use Rattle.layout.specs.Contexts.{code, running, root};
 ghost use Rattle.reading.specs.Sets.{context_in};
-ghost use Rattle.reading.specs.Walk.{end_as, process_end, two_end, marked_end, scope_end, executor_end};
-ghost use Rattle.noting.specs.Noting.{enabled, noted_w, notes_w, enabled_notes, seq_notes, par_notes, scope_notes, executor_notes};
+ghost use Rattle.reading.specs.Walk.{end_as, expr_end, process_end, node_end, two_end, marked_end, scope_end, executor_end};
+ghost use Rattle.noting.specs.Noting.{enabled, noted_w, notes_w, enabled_notes, node_notes, seq_notes, par_notes, scope_notes, executor_notes};
 
 use layout::context::{ROOT, STRATUM};
 use layout::kind::Kind;
@@ -32,8 +34,9 @@ fn note<const WHICH: usize>(notes: &mut [u16], at: usize, end: usize)
     }
 }
 
-// An enabled process, in a context of what runs.
-#[cycle(enabled_executor_noted_par_scope_seq)]
+// An enabled process, in a context of what runs. One of a single word is told here, where its node is read, so that it takes no call.
+#[cycle(enabled_executor_node_noted_par_scope_seq)]
+#[inline(always)]
 #[tactic(auto, unfolding(crate::specs::Noting::noting, crate::specs::Noting::note_w), using(reading::proofs::Given::unwrap_end))]
 pub(crate) fn noted(
     reader: &Reader,
@@ -52,7 +55,7 @@ pub(crate) fn noted(
 }
 
 // The same, but for its own note.
-#[cycle(enabled_executor_noted_par_scope_seq)]
+#[cycle(enabled_executor_node_noted_par_scope_seq)]
 #[inline(always)]
 fn enabled(
     reader: &Reader,
@@ -69,18 +72,35 @@ fn enabled(
     if is_word(kind) {
         return Some(at + 1);
     }
-    let d = depth - 1;
+    node(reader, at, depth - 1, context, kind, notes)
+}
+
+// A process whose head was tested.
+#[cycle(enabled_executor_node_noted_par_scope_seq)]
+#[inline(never)]
+fn node(
+    reader: &Reader,
+    at: usize,
+    depth: usize,
+    context: Context,
+    kind: Kind,
+    notes: &mut [u16],
+) -> Option<usize>
+    requires { (at < length reader.now.ws.now) × (kind ≡ kind_named (kind_of (get_or reader.now.ws.now at 0))) × (running ≤ context_in context.kinds) }
+    ensures ended { result ≡ end_as (node_end (expr_end depth reader.now.ws.now) (process_end depth reader.now.ws.now reader.now.bound) reader.now.ws.now (context_in context.kinds) reader.now.bound (get_or reader.now.ws.now at 0) at) }
+    ensures written { notes.new ≡ node_notes (process_end depth reader.now.ws.now reader.now.bound) (notes_w depth reader.now.ws.now reader.now.bound) reader.now.ws.now reader.now.bound (get_or reader.now.ws.now at 0) at notes.old }
+{
     match kind {
-        Kind::Par => par(reader, at + 1, d, notes),
-        Kind::Seq => seq(reader, at + 1, d, notes),
-        Kind::Scope => scope(reader, at, d, reader.ws[at], notes),
-        Kind::Executor => executor(reader, at, d, notes),
-        _ => reader.node(at, d, context, kind),
+        Kind::Par => par(reader, at + 1, depth, notes),
+        Kind::Seq => seq(reader, at + 1, depth, notes),
+        Kind::Scope => scope(reader, at, depth, reader.ws[at], notes),
+        Kind::Executor => executor(reader, at, depth, notes),
+        _ => reader.node(at, depth, context, kind),
     }
 }
 
 // The parts of a seq: the first is enabled.
-#[cycle(enabled_executor_noted_par_scope_seq)]
+#[cycle(enabled_executor_node_noted_par_scope_seq)]
 #[tactic(auto, unfolding(reading::specs::Walk::on, reading::specs::Walk::two_end, crate::specs::Noting::note_w, crate::specs::Noting::seq_notes), using(reading::proofs::Given::unwrap_end, reading::proofs::Sets::enabled_is, reading::proofs::Sets::enabled_context, reading::proofs::Sets::code_is, reading::proofs::Sets::code_context))]
 fn seq(reader: &Reader, at: usize, depth: usize, notes: &mut [u16]) -> Option<usize>
     ensures ended { result ≡ end_as (two_end (process_end depth reader.now.ws.now reader.now.bound) enabled code at) }
@@ -93,7 +113,7 @@ fn seq(reader: &Reader, at: usize, depth: usize, notes: &mut [u16]) -> Option<us
 }
 
 // The sides of a par.
-#[cycle(enabled_executor_noted_par_scope_seq)]
+#[cycle(enabled_executor_node_noted_par_scope_seq)]
 #[inline(always)]
 #[tactic(auto, unfolding(reading::specs::Walk::on, reading::specs::Walk::two_end, crate::specs::Noting::par_notes), using(reading::proofs::Sets::enabled_is, reading::proofs::Sets::enabled_context))]
 fn par(reader: &Reader, at: usize, depth: usize, notes: &mut [u16]) -> Option<usize>
@@ -119,7 +139,7 @@ fn listed(reader: &Reader, at: usize, depth: usize, head: u16) -> Option<usize>
 }
 
 // A scope whose head is `head`.
-#[cycle(enabled_executor_noted_par_scope_seq)]
+#[cycle(enabled_executor_node_noted_par_scope_seq)]
 #[tactic(auto, unfolding(reading::specs::Walk::on, reading::specs::Walk::when, reading::specs::Walk::scope_end, crate::specs::Noting::note_list_w, crate::specs::Noting::body_notes, crate::specs::Noting::scope_notes), using(reading::proofs::Sets::running_is, reading::proofs::Sets::running_context))]
 fn scope(reader: &Reader, at: usize, depth: usize, head: u16, notes: &mut [u16]) -> Option<usize>
     requires { at < length reader.now.ws.now }
@@ -134,7 +154,7 @@ fn scope(reader: &Reader, at: usize, depth: usize, head: u16, notes: &mut [u16])
     noted(reader, e, depth, RUNNING, notes)
 }
 
-#[cycle(enabled_executor_noted_par_scope_seq)]
+#[cycle(enabled_executor_node_noted_par_scope_seq)]
 #[tactic(auto, unfolding(reading::specs::Walk::on, reading::specs::Walk::executor_end, crate::specs::Noting::executor_notes), using(reading::proofs::Sets::running_is, reading::proofs::Sets::running_context))]
 fn executor(reader: &Reader, at: usize, depth: usize, notes: &mut [u16]) -> Option<usize>
     ensures ended { result ≡ end_as (executor_end (process_end depth reader.now.ws.now reader.now.bound) reader.now.ws.now reader.now.bound at) }
