@@ -9,23 +9,24 @@ use mathlib.Core.Option.{Option, none, some}
 use mathlib.Core.List.{List, [], ◌∷◌, ◌++◌}
 use lib.Dec.{eqb}
 use lib.ListN.{length, set}
-use borrow.Author.Tests.{ne_eqb}
+use borrow.Author.Tests.{eq-eqb, ne_eqb, eqb-true, eqb-false}
 use Rattle.sock.specs.Term.{Node}
 use Rattle.sock.specs.Layout.{words}
 use Rattle.sock.specs.Running.{Run, nil, seq, par, run_words, size}
 use Rattle.sock.specs.Frames.{is_done, par_of}
 use Rattle.sock.specs.Rules.{also}
+use Rattle.sock.proofs.Located.{size_positive}
 use Rattle.sock.proofs.Measures.{words_par, size_seq, size_par}
 use Rattle.skipping.specs.Pass.{pass_end}
 use Rattle.layout.specs.Positions.{onward}
 use Rattle.writers.specs.Writing.{lowered}
-use Rattle.killing.specs.Killing.{Killed, Walk, made, goes, seq_on, seq_w, gone_w, right_on, right_w, left_on, par_w}
+use Rattle.killing.specs.Killing.{Killed, Walk, made, vanished, goes, seq_on, seq_w, gone_w, right_on, right_w, left_on, par_w}
 use Rattle.writers.proofs.Laid.{Near, onward_near, Laid, laid_put, laid_then, laid_again, laid_less, laid_down}
 
 -- r, which ends at e, is killed to s; twice the room of r is enough
 pub record Gave (r : Run) (out : List ℕ) (to e : ℕ) (k : Killed) (s : Run) : Type 0 where
   pub ends : k.moved.end ≡ e
-  pub done : eqb k.moved.nil 1 ≡ is_done s
+  pub done : eqb (size s) 1 ≡ is_done s
   pub reaches : k.moved.to ≡ to + size s
   pub laid : Laid out to (run_words s) k.out
   pub small : size s ≤ 2 * size r
@@ -41,6 +42,21 @@ Does sub at r o = (out : List ℕ) (to : ℕ) → to + 2 * size r ≤ length out
 -- where r is seen to become nil, it does, and notes pass over it
 abbrev pub Vanishes : ℕ → List ℕ → List ℕ → ℕ → Run → Option Run → Type 0
 Vanishes d ws notes at r o = gone_w ws at ≡ true → (o ≡ some nil) × (pass_end d ws notes at ≡ at + size r)
+
+-- what is killed to one word is nil, and nothing else is
+
+pub longer : (n : ℕ) → 1 < n → eqb n 1 ≡ false
+longer n h = ne_eqb n 1 (λ z. omega arith)
+
+one_more : (to n : ℕ) → eqb (to + n) (to + 1) ≡ eqb n 1
+one_more to n = by (eqb n 1) refl
+  where
+    by : (b : Bool) → eqb n 1 ≡ b → eqb (to + n) (to + 1) ≡ b
+    by true q = let z : n ≡ 1 = eqb-true n 1 q in eq-eqb (to + n) (to + 1) (omega arith)
+    by false q = let z = eqb-false n 1 q in ne_eqb (to + n) (to + 1) (λ w. z (omega arith))
+
+pub vanishes : {r : Run} {out : List ℕ} {to e : ℕ} {k : Killed} {s : Run} → Gave r out to e k s → (n : ℕ) → Near n → to + 1 ≤ n → vanished k.moved to ≡ is_done s
+vanishes {to = to} {s = s} g n near inside = rw (onward_near to 1 n near inside, g.reaches) (one_more to (size s) ∙ g.done)
 
 -- ---- on to what follows
 
@@ -68,7 +84,7 @@ seq_gives {a} {q} d sub ws notes at f c out to room near =
     by : {o : Option Run} {k : Killed} → Gives a out to (at + 1 + size a) k o → Gives (seq a q) out to (at + size (seq a q)) (seq_on d ws notes k) o
     by {k = k} (stops e) = stops (goes_stops k _ e)
     by {k = k} (gives {s} g) =
-        rw (goes_on k (made (pass_end d ws notes k.moved.end) k.moved.to k.moved.nil k.out) (at + 1 + size a) g.ends (omega arith))
+        rw (goes_on k (made (pass_end d ws notes k.moved.end) k.moved.to k.out) (at + 1 + size a) g.ends (omega arith))
         (gives (record {
           ends = ap (pass_end d ws notes) g.ends ∙ c ∙ (let z = size_seq a q in let e : at + 1 + size a + length (words q) ≡ at + size (seq a q) = omega arith in e);
           done = g.done;
@@ -108,7 +124,7 @@ module _
     (room : to + 2 * size (par a b) ≤ length out) (near : Near (length out))
   where
     -- the left side stands killed, with the par's head
-    module _ (a' : Run) {mid : List ℕ} (live : is_done a' ≡ false) (laid : Laid out to (6144 ∷ run_words a') mid) (small : size a' ≤ 2 * size a) where
+    module _ (a' : Run) {mid : List ℕ} (done : eqb (size a') 1 ≡ is_done a') (laid : Laid out to (6144 ∷ run_words a') mid) (small : size a' ≤ 2 * size a) where
       right_gives :
           {o : Option Run} {k : Killed} →
           Gives b mid (to + 1 + size a') (at + 1 + size a + size b) k o →
@@ -121,20 +137,21 @@ module _
           let place : to + length (6144 ∷ run_words a') ≡ to + 1 + size a' = omega arith in
           let all : Laid out to (6144 ∷ (run_words a' ++ run_words b')) k.out = laid_then laid (rw place g.laid) in
           let e : at + 1 + size a + size b ≡ at + size (par a b) = omega arith in
-          rw (goes_on k _ (at + 1 + size a + size b) g.ends (omega arith), g.done) (by (is_done b') refl y all e)
+          let l : length mid ≡ length out = laid.keeps in
+          rw (goes_on k _ (at + 1 + size a + size b) g.ends (omega arith), vanishes g (length out) near (omega arith)) (by (is_done b') refl y all e)
         where
           by :
               (x : Bool) → is_done b' ≡ x → size b' ≤ 2 * size b →
               Laid out to (6144 ∷ (run_words a' ++ run_words b')) k.out →
               at + 1 + size a + size b ≡ at + size (par a b) →
               Gives (par a b) out to (at + size (par a b))
-              (cond x (made k.moved.end (to + 1 + size a' - 1) 0 (lowered k.out (to + 1) (to + 1 + size a'))) (made k.moved.end k.moved.to 0 k.out))
+              (cond x (made k.moved.end (to + 1 + size a' - 1) (lowered k.out (to + 1) (to + 1 + size a'))) k)
               (some (cond x a' (par a' b')))
           by true w y all e =
               let z = size_par a b in
               gives (record {
                 ends = g.ends ∙ e;
-                done = sym live;
+                done = done;
                 reaches = less_one to (size a');
                 laid = laid_down (omega arith) (laid_less (6144 ∷ run_words a') (run_words b') (omega arith) all);
                 small = omega arith;
@@ -144,7 +161,7 @@ module _
               let s = size_par a' b' in
               gives (record {
                 ends = g.ends ∙ e;
-                done = refl;
+                done = let p = size_positive a' in let q = size_positive b' in longer (size (par a' b')) (omega arith);
                 reaches = g.reaches ∙ (let q : to + 1 + size a' + size b' ≡ to + size (par a' b') = omega arith in q);
                 laid = rw (words_par a' b') all;
                 small = omega arith;
@@ -163,7 +180,7 @@ module _
               (x : Bool) → gone_w ws (at + 1 + size a) ≡ x →
               Gives (par a b) out to (at + size (par a b))
               (cond x
-              (made (pass_end d ws notes (at + 1 + size a)) (to + 1 + size a' - 1) 0 (lowered mid (to + 1) (to + 1 + size a')))
+              (made (pass_end d ws notes (at + 1 + size a)) (to + 1 + size a' - 1) (lowered mid (to + 1) (to + 1 + size a')))
               (right_on (to + 1) (to + 1 + size a') (sub (at + 1 + size a) mid (to + 1 + size a'))))
               (also o λ b'. some (cond (is_done b') a' (par a' b')))
           by true g =
@@ -171,7 +188,7 @@ module _
               rw (v g).0
               (gives (record {
                 ends = (v g).1 ∙ (let e : at + 1 + size a + size b ≡ at + size (par a b) = omega arith in e);
-                done = sym live;
+                done = done;
                 reaches = less_one to (size a');
                 laid = laid_down (omega arith) laid;
                 small = omega arith;
@@ -195,7 +212,7 @@ module _
         let y : size a' ≤ 2 * size a = g.small in
         let all : Laid out to (6144 ∷ run_words a') k.out = laid_then first g.laid in
         let e : at + 1 + size a + size b ≡ at + size (par a b) = omega arith in
-        rw (goes_on k _ (at + 1 + size a) g.ends (omega arith), g.done, g.ends, g.reaches) (by (is_done a') refl y all e)
+        rw (goes_on k _ (at + 1 + size a) g.ends (omega arith), vanishes g (length out) near (omega arith), g.ends, g.reaches) (by (is_done a') refl y all e)
       where
         by :
             (x : Bool) → is_done a' ≡ x → size a' ≤ 2 * size a →
@@ -208,7 +225,7 @@ module _
             let z = size_par a b in
             let l : length k.out ≡ length out = all.keeps in
             rw (also_all ob, ← e) (gives_again (omega arith) all (omega arith) (fb k.out to (omega arith) (rw l near)))
-        by false w y all e = beside_gives a' w all y fb vb
+        by false w y all e = beside_gives a' g.done all y fb vb
 
     pub par_gives :
         {oa ob : Option Run} →

@@ -3,7 +3,7 @@
 use Prim.Native.Nat.{ℕ, zero, suc, ◌-◌, ◌<◌}
 use native.Mathlib.Numerals.{sub-one}
 use mathlib.Core.Path.{◌≡◌, refl}
-use mathlib.Core.Bool.{cond}
+use mathlib.Core.Bool.{true, cond}
 use mathlib.Core.List.{List}
 use lib.Dec.{leb}
 use lib.ListN.{length, get_or, set}
@@ -12,7 +12,7 @@ use Rattle.sock.specs.Kind
 use Rattle.sock.specs.Words.{kind_of, head_of}
 use Rattle.layout.specs.Own.{own_end}
 use Rattle.layout.specs.Positions.{onward}
-use Rattle.killing.specs.Killing.{Walk, stuck_w, goes, notice_w, executor_on, executor_w, gone_kind, gone_w, kind_w, kill_w}
+use Rattle.killing.specs.Killing.{Walk, vanished, stuck_w, goes, notice_w, executor_on, executor_w, gone_kind, gone_w, kind_w, kill_w}
 use Rattle.killing.specs.declared.kill.Moved.{Moved}
 
 pub kill_step :
@@ -34,7 +34,7 @@ pub executor_alone :
     (sub : Walk) (ws : List ℕ) (fault i : ℕ) (out : List ℕ) (to one body : ℕ) (start : List ℕ) (p : Moved) (next : List ℕ) (r : Moved) (last : List ℕ)
     (inside : i < length ws) (a : one ≡ onward to 1) (b : start ≡ set out to (head_of Kind.par 0)) (own : body ≡ own_end ws i)
     (c : p ≡ (sub body start one).moved) (d : next ≡ (sub body start one).out) (e : p.end ≡ 0 → ⊥) →
-    p.nil ≡ 1 →
+    vanished p one ≡ true →
     r ≡ (notice_w ws fault i p.end next to).moved →
     last ≡ (notice_w ws fault i p.end next to).out →
     record { moved = r; out = last } ≡ executor_w sub ws fault i out to

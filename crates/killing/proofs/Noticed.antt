@@ -8,6 +8,7 @@ use mathlib.Core.Option.{Option, some}
 use mathlib.Core.List.{List, [], ◌∷◌, ◌++◌}
 use lib.ListN.{length, get_or, set, drop, length-set}
 use borrow.Author.Tests.{le-ltb, lt-leb, ne_eqb}
+use lib.Dec.{eqb}
 use Rattle.sock.specs.Kind
 use Rattle.sock.specs.Words.{bit, head_of, name_fields}
 use Rattle.sock.specs.Variables.{first_of, variable_words}
@@ -26,7 +27,7 @@ use Rattle.writers.specs.Writing.{pasted}
 use Rattle.killing.specs.Killing.{Killed, Walk, made, dead_word, waiter_w, kept_w, vanished_w, notice_w, executor_on, executor_w}
 use Rattle.writers.proofs.Laid.{Near, onward_near, Laid, laid_put, laid_then, laid_again, laid_set, laid_copy, copy_end}
 use Rattle.sock.proofs.Positions.{stands_within, word_at}
-use Rattle.killing.proofs.Gives.{Gives, stops, gives, Does, goes_stops, goes_on}
+use Rattle.killing.proofs.Gives.{Gives, stops, gives, Does, longer, vanishes, goes_stops, goes_on}
 
 -- ---- what becomes nil
 
@@ -39,7 +40,7 @@ vanish_gives r d ws notes at out to e room near =
     let p = size_positive r in
     gives (record {
       ends = e;
-      done = refl;
+      done = ap (λ n. eqb n 1) size_nil;
       reaches = onward_near to 1 (length out) near (omega arith) ∙ ap (λ n. to + n) (sym size_nil);
       laid = rw words_nil (laid_put out to 0 (omega arith));
       small = let z = size_nil in omega arith;
@@ -60,7 +61,7 @@ module _ (ws rest : List ℕ) (at : ℕ) (out : List ℕ) (to : ℕ) (near : Nea
       rw (lt-leb (length ws) at (omega arith))
       (gives (record {
         ends = u;
-        done = refl;
+        done = longer (size r) (omega arith);
         reaches = copy_end ws (run_words r) rest at (at + 3) to (length out) e (omega arith) u near (omega arith);
         laid = laid_copy ws (run_words r) rest at (at + 3) out to e (omega arith) u (omega arith);
         small = omega arith;
@@ -100,7 +101,7 @@ module _ (ws rest : List ℕ) (at : ℕ) (out : List ℕ) (to : ℕ) (near : Nea
       )
       (gives (record {
         ends = refl;
-        done = refl;
+        done = longer (size s) (omega arith);
         reaches = copy_end ws (run_words r) rest at (at + size r) to (length out) e (omega arith) refl near (omega arith) ∙ ap (λ n. to + n) (z ∙ sym y);
         laid = rw new at (laid_set 1 (bit true * 32768 + server * 4096) (omega arith) (omega arith) all);
         small = omega arith;
@@ -123,7 +124,7 @@ module _
     notice_word_lem : notice_word f (client * 8192) ≡ f * 1024 + client * 128
     notice_word_lem = omega arith
 
-    notice_at : (end : ℕ) (out : List ℕ) (to : ℕ) → to + 3 ≤ length out → Near (length out) → notice_w ws f at end out to ≡ made end (to + 3) 0 (written out to)
+    notice_at : (end : ℕ) (out : List ℕ) (to : ℕ) → to + 3 ≤ length out → Near (length out) → notice_w ws f at end out to ≡ made end (to + 3) (written out to)
     unfolding notice_w size written
     notice_at end out to room near =
         let r : Run = executor o y client serial a in
@@ -176,7 +177,8 @@ module _
           let l : length k.out ≡ length out = all.keeps in
           rw (
             goes_on k _ (at + 3 + length (variable_words y) + size a) g.ends (omega arith),
-            g.done,
+            onward_near to 1 (length out) near (omega arith),
+            vanishes g (length out) near (omega arith),
             g.reaches,
             notice_at k.moved.end k.out to (omega arith) (rw l near),
             notice_at k.moved.end k.out (to + 1 + size a') (omega arith) (rw l near),
@@ -186,7 +188,7 @@ module _
           by :
               (x : Bool) → is_done a' ≡ x → size a' ≤ 2 * size a → Laid out to (6144 ∷ run_words a') k.out →
               Gives (executor o y client serial a) out to (at + size (executor o y client serial a))
-              (cond x (made k.moved.end (to + 3) 0 (written k.out to)) (made k.moved.end (to + 1 + size a' + 3) 0 (written k.out (to + 1 + size a'))))
+              (cond x (made k.moved.end (to + 3) (written k.out to)) (made k.moved.end (to + 1 + size a' + 3) (written k.out (to + 1 + size a'))))
               (some (cond x (notice o f client serial) (par a' (notice o f client serial))))
           by true d u all =
               let z = size_executor o y client serial a in
@@ -194,7 +196,7 @@ module _
               let l : length k.out ≡ length out = all.keeps in
               gives (record {
                 ends = g.ends ∙ (let q : at + 3 + length (variable_words y) + size a ≡ at + size (executor o y client serial a) = omega arith in q);
-                done = refl;
+                done = longer (size (notice o f client serial)) (omega arith);
                 reaches = ap (λ n. to + n) (sym v);
                 laid = laid_again (omega arith) all (notice_laid k.out to (omega arith));
                 small = omega arith;
@@ -207,7 +209,7 @@ module _
               let place : to + length (6144 ∷ run_words a') ≡ to + 1 + size a' = omega arith in
               gives (record {
                 ends = g.ends ∙ (let q : at + 3 + length (variable_words y) + size a ≡ at + size (executor o y client serial a) = omega arith in q);
-                done = refl;
+                done = longer (size (par a' (notice o f client serial))) (omega arith);
                 reaches = let q : to + 1 + size a' + 3 ≡ to + size (par a' (notice o f client serial)) = omega arith in q;
                 laid = rw (words_par a' (notice o f client serial)) (laid_then all (rw place (notice_laid k.out (to + 1 + size a') (omega arith))));
                 small = omega arith;

@@ -26,7 +26,7 @@ use Rattle.writers.proofs.Laid.{Near, onward_near, Laid, laid_put, laid_then, la
 use Rattle.sock.proofs.Positions.{stands_within, word_at, at_head}
 use Rattle.sock.proofs.Heads.{scope_parts}
 use Rattle.sock.proofs.Around.{mark_around}
-use Rattle.killing.proofs.Gives.{Gives, stops, gives, Does, Vanishes, goes_stops, goes_on}
+use Rattle.killing.proofs.Gives.{Gives, stops, gives, Does, Vanishes, longer, goes_stops, goes_on}
 
 -- the head that a live scope gets
 module _ (name : ℕ) (mark : Mark) (b : name < 64) where
@@ -90,7 +90,7 @@ zombie_gives ws rest name mark h a at b e out to room near {k = k} (gives {s = a
     rw (goes_on k _ (at + 3 + length (entries_words h) + size a) g.ends (omega arith))
     (gives (record {
       ends = u;
-      done = refl;
+      done = longer (size r) (omega arith);
       reaches = copy_end ws (run_words r) rest at k.moved.end to (length out) e (omega arith) u near (omega arith);
       laid = laid_again (omega arith) g.laid (laid_copy ws (run_words r) rest at k.moved.end k.out to e (omega arith) u (omega arith));
       small = omega arith;
@@ -143,7 +143,7 @@ module _
         rw (goes_on k _ ends g.ends (omega arith), g.ends, head_for_lem, onward_near to 1 (length out) near (omega arith))
         (gives (record {
           ends = let q : ends ≡ at + size r = omega arith in q;
-          done = refl;
+          done = longer (size (zombied a')) (omega arith);
           reaches = g.reaches ∙ (let q : to + (3 + length (entries_words h)) + size a' ≡ to + size (zombied a') = omega arith in q);
           laid = rw (words_scope name mk true h a', fault_for) marked;
           small = omega arith;
@@ -220,7 +220,7 @@ gone_gives d ws notes rest name mark h a hole at b e out to room near passes =
     rw (lt-leb (length ws) at (omega arith), passes, head_for_lem ws rest name mark h a hole at b e out to room near, one, two, reached, onward_near (to + 3 + n) 1 (length out) near (omega arith))
     (gives (record {
       ends = let q : at + 3 + n + size a ≡ at + size r = omega arith in q;
-      done = refl;
+      done = longer (size (scope name mk true h nil)) (omega arith);
       reaches = let q : to + 3 + n + 1 ≡ to + size (scope name mk true h nil) = omega arith in q;
       laid = rw (words_scope name mk true h nil, fault_for ws rest name mark h a hole at b e out to room near, words_nil) last;
       small = omega arith;

@@ -24,14 +24,18 @@ abbrev at : List ℕ → ℕ → ℕ
 at ws i = get_or ws i 0
 
 abbrev pub stopped : Moved
-stopped = record { end = 0; to = 0; nil = 0 }
+stopped = record { end = 0; to = 0 }
 
 -- something can't be killed
 abbrev pub stuck_w : List ℕ → Killed
 stuck_w out = record { moved = stopped; out = out }
 
-abbrev pub made : ℕ → ℕ → ℕ → List ℕ → Killed
-made end to nil out = record { moved = record { end = end; to = to; nil = nil }; out = out }
+abbrev pub made : ℕ → ℕ → List ℕ → Killed
+made end to out = record { moved = record { end = end; to = to }; out = out }
+
+-- only nil was written from a place on
+abbrev pub vanished : Moved → ℕ → Bool
+vanished p from = eqb p.to (onward from 1)
 
 -- on to what follows, unless it can't be killed
 unfoldable pub goes : Killed → Killed → Killed
@@ -57,19 +61,19 @@ waiter_w d ws notes i out to =
     cond (leb (length ws) i) (stuck_w out)
     (cond (ltb (length ws - i) 2) (stuck_w out)
     (cond (eqb (pass_end d ws notes i) 0) (stuck_w out)
-    (made (pass_end d ws notes i) (pasted_end ws i (pass_end d ws notes i) to) 0
+    (made (pass_end d ws notes i) (pasted_end ws i (pass_end d ws notes i) to)
     (set (pasted ws i (pass_end d ws notes i) out to) (onward to 1) (dead_word (at ws (i + 1)))))))
 
 unfoldable pub kept_w : List ℕ → Walk
-kept_w ws i out to = cond (leb (length ws) i) (stuck_w out) (made (i + 3) (pasted_end ws i (i + 3) to) 0 (pasted ws i (i + 3) out to))
+kept_w ws i out to = cond (leb (length ws) i) (stuck_w out) (made (i + 3) (pasted_end ws i (i + 3) to) (pasted ws i (i + 3) out to))
 
 unfoldable pub vanished_w : ℕ → List ℕ → List ℕ → Walk
-vanished_w d ws notes i out to = made (pass_end d ws notes i) (onward to 1) 1 (set out to 0)
+vanished_w d ws notes i out to = made (pass_end d ws notes i) (onward to 1) (set out to 0)
 
 -- ---- seq and par
 
 unfoldable pub seq_on : ℕ → List ℕ → List ℕ → Killed → Killed
-seq_on d ws notes k = goes k (made (pass_end d ws notes k.moved.end) k.moved.to k.moved.nil k.out)
+seq_on d ws notes k = goes k (made (pass_end d ws notes k.moved.end) k.moved.to k.out)
 
 unfoldable pub seq_w : ℕ → Walk → List ℕ → List ℕ → Walk
 seq_w d sub ws notes i out to = seq_on d ws notes (sub i out to)
@@ -92,19 +96,19 @@ gone_w ws i = cond (leb (length ws) i) false (gone_kind (kind_of (at ws i)))
 unfoldable pub right_on : ℕ → ℕ → Killed → Killed
 right_on one to k =
     goes k
-    (cond (eqb k.moved.nil 1)
-    (made k.moved.end (to - 1) 0 (lowered k.out one to))
-    (made k.moved.end k.moved.to 0 k.out))
+    (cond (vanished k.moved to)
+    (made k.moved.end (to - 1) (lowered k.out one to))
+    k)
 
 unfoldable pub right_w : ℕ → Walk → List ℕ → List ℕ → ℕ → List ℕ → ℕ → ℕ → Killed
 right_w d sub ws notes i out one to =
-    cond (gone_w ws i) (made (pass_end d ws notes i) (to - 1) 0 (lowered out one to)) (right_on one to (sub i out to))
+    cond (gone_w ws i) (made (pass_end d ws notes i) (to - 1) (lowered out one to)) (right_on one to (sub i out to))
 
 -- the left side is killed
 unfoldable pub left_on : ℕ → Walk → List ℕ → List ℕ → ℕ → ℕ → Killed → Killed
 left_on d sub ws notes one to k =
     goes k
-    (cond (eqb k.moved.nil 1)
+    (cond (vanished k.moved one)
     (sub k.moved.end k.out to)
     (right_w d sub ws notes k.moved.end k.out one k.moved.to))
 
@@ -122,14 +126,14 @@ head_for ws i hole end =
 
 -- the body of a zombie, and of a live scope, is killed
 unfoldable pub zombie_on : List ℕ → ℕ → ℕ → Killed → Killed
-zombie_on ws i to k = goes k (made k.moved.end (pasted_end ws i k.moved.end to) 0 (pasted ws i k.moved.end k.out to))
+zombie_on ws i to k = goes k (made k.moved.end (pasted_end ws i k.moved.end to) (pasted ws i k.moved.end k.out to))
 
 unfoldable pub zombie_w : Walk → List ℕ → ℕ → ℕ → List ℕ → ℕ → Killed
 zombie_w sub ws i body out to = zombie_on ws i to (sub body out to)
 
 unfoldable pub live_on : List ℕ → ℕ → ℕ → ℕ → Killed → Killed
 live_on ws hole i to k =
-    goes k (made k.moved.end k.moved.to 0 (set (set k.out to (head_for ws i hole k.moved.end)) (onward to 1) 0))
+    goes k (made k.moved.end k.moved.to (set (set k.out to (head_for ws i hole k.moved.end)) (onward to 1) 0))
 
 unfoldable pub live_w : Walk → List ℕ → ℕ → ℕ → ℕ → List ℕ → ℕ → Killed
 live_w sub ws hole i body out to = live_on ws hole i to (sub body (pasted ws i body out to) (pasted_end ws i body to))
@@ -150,7 +154,7 @@ unfoldable pub turned_on : List ℕ → ℕ → ℕ → ℕ → ℕ → List ℕ
 turned_on ws hole i body end out to =
     let two = onward (onward to 1) 1 in
     let behind = list_end_w ws (i + 2) body two in
-    made end (onward behind 1) 0 (set (list_w ws (i + 2) body (begun_w ws hole i end out to) two) behind 0)
+    made end (onward behind 1) (set (list_w ws (i + 2) body (begun_w ws hole i end out to) two) behind 0)
 
 unfoldable pub turned_w : ℕ → List ℕ → List ℕ → ℕ → ℕ → ℕ → List ℕ → ℕ → Killed
 turned_w d ws notes hole i body out to =
@@ -174,13 +178,13 @@ unfoldable pub notice_w : List ℕ → ℕ → ℕ → ℕ → List ℕ → ℕ 
 notice_w ws fault i end out to =
     cond (leb (length ws) i) (stuck_w out)
     (cond (ltb (length ws - i) 3) (stuck_w out)
-    (made end (onward (onward (onward to 1) 1) 1) 0
+    (made end (onward (onward (onward to 1) 1) 1)
     (set (set (set out to (notice_head (at ws i))) (onward to 1) (notice_word fault (at ws (i + 1)))) (onward (onward to 1) 1) (at ws (i + 2)))))
 
 -- the body is killed
 unfoldable pub executor_on : List ℕ → ℕ → ℕ → ℕ → Killed → Killed
 executor_on ws fault i to k =
-    goes k (cond (eqb k.moved.nil 1) (notice_w ws fault i k.moved.end k.out to) (notice_w ws fault i k.moved.end k.out k.moved.to))
+    goes k (cond (vanished k.moved (onward to 1)) (notice_w ws fault i k.moved.end k.out to) (notice_w ws fault i k.moved.end k.out k.moved.to))
 
 unfoldable pub executor_w : Walk → List ℕ → ℕ → Walk
 executor_w sub ws fault i out to =

@@ -3,7 +3,7 @@
 // word. Total: what does not fit can't be killed. An output and a place in it stay two parameters: words are written at places
 // before the one reached too, to which a value of both would have to be set back, and each method would say besides that the output is the same.
 ghost use Rattle.std.specs.Prelude.{◌≡◌};
-ghost use Rattle.killing.specs.Killing.{stopped, head_for, dead_word};
+ghost use Rattle.killing.specs.Killing.{stopped, vanished, head_for, dead_word};
 ghost use Rattle.killing.specs.Killing.{notice_w, waiter_w, kept_w, list_end_w, list_w, turned_w, vanished_w, kill_w, gone_w, seq_w, par_w, right_w, scope_w, zombie_w, live_w, executor_w};
 
 use layout::field::is_zombie;
@@ -15,23 +15,25 @@ use layout::{head, killed};
 use skipping::pass::Noted;
 use writers::write::{copy, down, put};
 
-// Where the source ends and where the writing has come to; `nil` is 1 if only nil was written, else 0, a number since the bytes behind a
-// bool would be copied with it. `end` is 0 where something can't be killed.
+// Where the source ends and where the writing has come to; `end` is 0 where something can't be killed.
 #[derive(Clone, Copy)]
 pub struct Moved {
     pub end: usize,
     pub to: usize,
-    pub nil: usize,
 }
 
 fn stuck() -> Moved
     ensures { result ≡ stopped }
 {
-    Moved {
-        end: 0,
-        to: 0,
-        nil: 0,
-    }
+    Moved { end: 0, to: 0 }
+}
+
+// Whether only nil was written from a place on: one word, where all else that is left of a killing has three and more. A third number in
+// what killing answers would go through memory.
+fn vanished(p: Moved, from: usize) -> bool
+    ensures { result ≡ vanished p from }
+{
+    p.to == further(from, 1)
 }
 
 // What stays the same all through a killing: the words, the fault, and the position from which it climbs, where a hole is left.
@@ -52,6 +54,7 @@ pub struct Scope {
 impl<'a> Killing<'a> {
     // What stands at `at`, killed, from the place `to` on.
     #[cycle(executor_kill_live_par_part_right_scope_seq_zombie)]
+    #[inline(always)]
     #[tactic(auto, unfolding(crate::specs::Killing::kill_w, crate::specs::Killing::kind_w))]
     pub fn kill(&self, at: usize, depth: usize, out: &mut [u16], to: usize) -> Moved
         ensures { let killed = kill_w depth self.now.noted.ws.now self.now.noted.notes.now self.now.fault self.now.hole at out.old to in (result ≡ killed.moved) × (out.new ≡ killed.out) }
@@ -117,7 +120,7 @@ impl<'a> Killing<'a> {
         if p.end == 0 {
             return stuck();
         }
-        if p.nil == 1 {
+        if vanished(p, one) {
             return self.part(p.end, depth, out, to);
         }
         self.right(p, depth, out, one)
@@ -136,26 +139,20 @@ impl<'a> Killing<'a> {
             return Moved {
                 end: self.noted.pass(at, depth),
                 to: to.saturating_sub(1),
-                nil: 0,
             };
         }
         let q = self.kill(at, depth, out, to);
         if q.end == 0 {
             return stuck();
         }
-        if q.nil == 1 {
+        if vanished(q, to) {
             down(out, one, to);
             return Moved {
                 end: q.end,
                 to: to.saturating_sub(1),
-                nil: 0,
             };
         }
-        Moved {
-            end: q.end,
-            to: q.to,
-            nil: 0,
-        }
+        q
     }
 
     #[cycle(executor_kill_live_par_part_right_scope_seq_zombie)]
@@ -199,7 +196,6 @@ impl<'a> Killing<'a> {
         Moved {
             end: p.end,
             to: copy(self.noted.ws, at, p.end, out, to),
-            nil: 0,
         }
     }
 
@@ -219,7 +215,6 @@ impl<'a> Killing<'a> {
         Moved {
             end,
             to: put(out, behind, head::NIL),
-            nil: 0,
         }
     }
 
@@ -241,7 +236,6 @@ impl<'a> Killing<'a> {
         Moved {
             end: p.end,
             to: p.to,
-            nil: 0,
         }
     }
 
@@ -275,7 +269,7 @@ impl<'a> Killing<'a> {
         if p.end == 0 {
             return stuck();
         }
-        if p.nil == 1 {
+        if vanished(p, one) {
             return self.notice(at, p.end, out, to);
         }
         self.notice(at, p.end, out, p.to)
@@ -301,7 +295,6 @@ impl<'a> Killing<'a> {
         Moved {
             end,
             to: put(out, b, self.noted.ws[at + 2]),
-            nil: 0,
         }
     }
 
@@ -322,11 +315,7 @@ impl<'a> Killing<'a> {
         }
         let n = copy(self.noted.ws, at, e, out, to);
         put(out, further(to, 1), dead_word(self.noted.ws[at + 1]));
-        Moved {
-            end: e,
-            to: n,
-            nil: 0,
-        }
+        Moved { end: e, to: n }
     }
 
     // All else becomes nil.
@@ -337,7 +326,6 @@ impl<'a> Killing<'a> {
         Moved {
             end: self.noted.pass(at, depth),
             to: put(out, to, head::NIL),
-            nil: 1,
         }
     }
 }
@@ -388,6 +376,5 @@ fn keep(ws: &[u16], at: usize, out: &mut [u16], to: usize) -> Moved
     Moved {
         end: at + 3,
         to: copy(ws, at, at + 3, out, to),
-        nil: 0,
     }
 }
