@@ -204,6 +204,27 @@ pub fn worst(words: usize) -> Vec<(&'static str, Case)> {
     ]
 }
 
+/// What stands in eight engines at work, made of a seed and a number of words.
+type Others = (&'static str, fn(u64, usize) -> Part);
+
+pub const EIGHT: [Others; 2] = [
+    ("eight engines, all kinds", |seed, words| mixed(&mut Random::new(seed), words)),
+    ("eight engines, leaves of one word", |_, words| leaves(words)),
+];
+
+/// An assign in the first of eight engines, about `words` words in all.
+pub fn in_eight(others: &Others, seed: u64, words: usize) -> Case {
+    let actor = build::assign(2, build::variable(1));
+    let room = words.min(8_170) / 8 - 64 - 3;
+    let code = |engine, words| others.1(seed * 8 + engine, words);
+    let first = build::scope(1, build::par(code(0, room - 1 - size(&actor)), actor.clone()));
+    let position = (size(&first) - size(&actor)) as u16;
+    let rest = (1..8).map(|engine| build::scope(1, code(engine, room)));
+    let engines = std::iter::once(first).chain(rest).collect();
+    let config = from_words(&write::configuration(&build::configuration(0, engines)));
+    Case { config, numbers: Numbers { position, ..Numbers::default() } }
+}
+
 /// An inst of 64 entries over handlers of 64 entries, which fill the room.
 fn long_inst(room: usize) -> Scene {
     let each = (room / 64).saturating_sub(8).max(1);

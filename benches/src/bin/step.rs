@@ -1,8 +1,8 @@
 //! Times `sock_step`: beside the second implementation, which builds trees, and beside a bare copy of the configuration. Every rule, at
-//! about 200, 2,000 and 8,192 words, and the worst shapes. Prints a table, which `tools/plot.awk` draws.
+//! about 200, 2,000 and 8,192 words, eight engines at work, and the worst shapes. Prints a table, which `tools/plot.awk` draws.
 
 use benches::clock;
-use benches::rules::{by_rule, worst, Case, RULES};
+use benches::rules::{by_rule, in_eight, worst, Case, EIGHT, RULES};
 use reference::Numbers;
 use std::hint::black_box;
 
@@ -111,6 +111,13 @@ fn rules() {
     }
 }
 
+fn eight_engines() {
+    for others in &EIGHT {
+        let cases = |words| (0..20).map(|seed| in_eight(others, seed, words)).collect::<Vec<_>>();
+        print(others.0, &[1_000, 2_000, 8_192].map(|words| measure(others.0, &cases(words), 0)));
+    }
+}
+
 fn worst_shapes() {
     for ((name, short), (_, long)) in worst(2_000).into_iter().zip(worst(8_192)) {
         let number = match name.strip_prefix("refused ") {
@@ -125,5 +132,6 @@ fn main() {
     println!("| step | words | proved, ns a word | tree, ns a word | times faster | bare copies |");
     println!("|---|---|---|---|---|---|");
     rules();
+    eight_engines();
     worst_shapes();
 }
