@@ -43,7 +43,7 @@ extern "C" {
 #define SOCK_VERSION_MAJOR 4
 #define SOCK_VERSION_MINOR 8
 #define SOCK_VERSION_PATCH 1
-#define SOCK_VERSION "4.8.1"
+#define SOCK_VERSION "4.8.2"
 
 /* The most words and bytes that a configuration has. */
 #define SOCK_WORDS 8192
