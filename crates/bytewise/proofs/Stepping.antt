@@ -90,6 +90,9 @@ module _ (limits : Limits) {ws us : List ℕ} (same-words : ws ≡ us) (k : Numb
   sized : step limits ws k m ≡ step limits us k room
   sized = ap (λ (v : List ℕ). step limits v k m) same-words ∙ ap (step limits us k) same-room
 
+  pub sized_answer : answer_of (step limits ws k m) ≡ answer_of (step limits us k room)
+  sized_answer = ap (λ (y : Result Stepped). answer_of y) sized
+
   pub sized_output : (out : List ℕ) → bytes_after (step limits ws k m) out ≡ bytes_after (step limits us k room) out
   sized_output out = ap (λ (y : Result Stepped). bytes_after y out) sized
 

@@ -92,7 +92,6 @@ pub fn step_in<const WORDS: usize, const NOTES: usize, const RESULT: usize>(
 }
 
 // With scratch for every configuration and every result.
-#[tactic(auto, using(crate::proofs::Stepping::large_answer, crate::proofs::Stepping::large_output))]
 fn large(k: Numbers, config: &[u8], out: &mut [u8]) -> u64
     ensures { (result ≡ byte_answer standard config.now (numbers_as k) out.old) × (out.new ≡ byte_output standard config.now (numbers_as k) out.old) }
 {
