@@ -30,8 +30,6 @@ use Rattle.sock.proofs.Taken.{Taken, taken_alone, taken_between, Accepts, step_a
 use Rattle.reading.specs.Survey.{Starts, surveyed}
 use Rattle.reading.proofs.Known.{Known, survey_known, known_length}
 use Rattle.skipping.proofs.Notes.{Right}
-use Rattle.noting.specs.declared.survey.Named.TheVariants as named
-use Rattle.noting.proofs.Noted.{blank_right, survey_right}
 use Rattle.layout.specs.Own.{own_end}
 use Rattle.layout.specs.Positions.{onward}
 use Rattle.finding.specs.declared.find.Site.{Site}
@@ -54,7 +52,7 @@ use Rattle.stepping.proofs.Partners as partners
 use Rattle.keeper.specs.Hopes.{ready_at}
 use Rattle.keeper.specs.Seeking.{Surveyed}
 use Rattle.keeper.specs.Replies.{answered_w}
-use Rattle.keeper.proofs.Trying.{modest, blank}
+use Rattle.keeper.proofs.Trying.{modest, surveyed_right}
 use Rattle.keeper.specs.Game.{moved, delivers}
 use Rattle.keeper.proofs.Gone.{taken_kind}
 use Rattle.keeper.proofs.Pairing.{word_2}
@@ -192,7 +190,7 @@ module _ (ws notes : List ℕ) (g : Engines) (sv : Surveyed ws notes g) where
   c = known.config
 
   right : Right ws notes
-  right = subst (Right ws) (sym sv.noted) (survey_right standard (omega arith) named.All ws sv.words blank (blank_right ws 16384))
+  right = surveyed_right ws notes g sv
 
   pub engines_are : g.count ≡ length c.engines
   engines_are = sv.count ∙ known.engines

@@ -53,10 +53,10 @@ modest = modest_standard refl
 abbrev pub blank : List ℕ
 blank = replicate 16384 0
 
-module _ (ws notes : List ℕ) (g : Engines) (sv : Surveyed ws notes g) (k : Numbers) where
-  right : Right ws notes
-  right = subst (Right ws) (sym sv.noted) (survey_right standard (omega arith) named.All ws sv.words blank (blank_right ws 16384))
+pub surveyed_right : (ws notes : List ℕ) (g : Engines) → Surveyed ws notes g → Right ws notes
+surveyed_right ws notes g sv = subst (Right ws) (sym sv.noted) (survey_right standard (omega arith) named.All ws sv.words blank (blank_right ws 16384))
 
+module _ (ws notes : List ℕ) (g : Engines) (sv : Surveyed ws notes g) (k : Numbers) where
   tries : (out : List ℕ) → step_w large ws notes k out ≡ try_w ws notes g k out
   unfolding step_w try_w enabled_w
   tries out =
@@ -70,7 +70,7 @@ module _ (ws : List ℕ) (k : Numbers) (s : Starts) (e : s ≡ surveyed standard
 module _ (ws notes : List ℕ) (ok : Words ws) (g : Engines) (sv : Surveyed ws notes g) (k : Numbers) (low : k.position < 65536) (low' : k.second_position < 65536) where
   try_law : (out : List ℕ) → length out ≡ 8192 → try_w ws notes g k out ≡ given (moved ws (numbers_as k)) out
   unfolding moved
-  try_law out e = sym (tries ws notes g sv k out) ∙ (step_law modest ws ok k low low' out notes (right ws notes g sv k) ∙ ap (λ (n : ℕ). given (step standard ws (numbers_as k) n) out) e)
+  try_law out e = sym (tries ws notes g sv k out) ∙ (step_law modest ws ok k low low' out notes (surveyed_right ws notes g sv) ∙ ap (λ (n : ℕ). given (step standard ws (numbers_as k) n) out) e)
 
   abbrev page : List ℕ
   page = replicate 8192 0
