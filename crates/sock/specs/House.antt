@@ -203,8 +203,8 @@ unfoldable pub AllAccepted : Limits → List ℕ → List Act → Type 0
 AllAccepted limits ws [] = Unit
 AllAccepted limits ws (a ∷ acts) = T (accepts limits ws a) × AllAccepted limits (words_after limits ws a) acts
 
--- Demand 3 over all events, each at the figures of its cabinet: the words now are those that the acts that stand give at the largest figures, these
--- acts are matched there, and every cabinet delivers what is finished and what it can read
+-- Demand 3 over all events, each at the figures of its cabinet: each act that stands is accepted at the largest figures too, the words now are those
+-- that they give there, they are matched there, and every cabinet delivers what is finished and what it can read
 abbrev pub EveryRequestHasOneReplyInAnyHouse : Type 0
 EveryRequestHasOneReplyInAnyHouse =
     (l : Limits) (start : List ℕ) →
