@@ -42,7 +42,7 @@ extern "C" {
 /* This header's version. The first number rises when a call, an answer or the format changes, the second when something is added. */
 #define SOCK_VERSION_MAJOR 4
 #define SOCK_VERSION_MINOR 8
-#define SOCK_VERSION_PATCH 1
+#define SOCK_VERSION_PATCH 2
 #define SOCK_VERSION "4.8.2"
 
 /* The most words and bytes that a configuration has. */
