@@ -246,7 +246,7 @@ ends 3 $none 'bin/handover --rewrite tests/reference/earlier/examples/worked.hex
 
 # ---- The README counts the edits that must fail, those of the crates that the gate lists
 
-edits=$(sed -n 's/^\([a-z_]*\)[ :].*/\1/p' crates.txt | while read -r name; do ls "crates/$name/must-fail" 2>/dev/null; done | wc -l)
+edits=$(sed -n 's/^\([a-z_]*\)[ :].*/\1/p' crates.txt | while read -r name; do ls "crates/$name/must-fail" 2>/dev/null || :; done | wc -l)
 grep -q "^$edits edits must fail" README.md || wrong "the README does not say that $edits edits must fail"
 
 # ---- The picture of the step's times: a row with a name for each row of the table, and a mark for each number
