@@ -98,7 +98,7 @@ held_short room bytes h = held_as room bytes false (le-ltb _ _ h)
 pub held_all : (room n : ℕ) (bytes : List ℕ) → length bytes ≡ n * 2 → n ≤ room → words_or_none (words_of bytes) ≡ held room bytes
 held_all room n bytes e h = sym (held_short room bytes (omega arith))
 
-none_laid : (us ws : List ℕ) → [] ≡ us → (0 ≡ length us) × (ws ≡ over us ws) × (0 ≤ length ws)
+pub none_laid : (us ws : List ℕ) → [] ≡ us → (0 ≡ length us) × (ws ≡ over us ws) × (0 ≤ length ws)
 none_laid us ws e = (ap length e, ap (λ (l : List ℕ). over l ws) e, omega arith)
 
 pub odd_laid :

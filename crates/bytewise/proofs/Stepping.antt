@@ -16,10 +16,10 @@ use Rattle.bytewise.proofs.Holding.{held_short, read_as}
 -- ---- the room
 
 -- either all that a result may have, or all that the output has
-room_either : (most bytes m : ℕ) → m ≤ most → m ≤ bytes / 2 → m ≤ room_of most bytes
+pub room_either : (most bytes m : ℕ) → m ≤ most → m ≤ bytes / 2 → m ≤ room_of most bytes
 room_either most bytes m h g = omega arith
 
-room_below : (most bytes : ℕ) → room_of most bytes ≤ bytes / 2
+pub room_below : (most bytes : ℕ) → room_of most bytes ≤ bytes / 2
 room_below most bytes = omega arith
 
 -- with scratch for every result

@@ -7,6 +7,7 @@ ghost use Rattle.sock.specs.Bytes.{bytes_of, bytes_after, byte_answer, byte_outp
 ghost use Rattle.layout.specs.Limits.{figures};
 ghost use Rattle.stepping.specs.Answers.{told};
 ghost use Rattle.stepping.specs.Bundles.{numbers_as};
+ghost use Rattle.stepping.specs.Lent.{Blank};
 ghost use Rattle.bytewise.specs.Held.{held, room_of};
 
 use crate::packing::pack;
@@ -53,22 +54,23 @@ pub fn room_of(bytes: usize, most: usize) -> usize
     most.min(half)
 }
 
-// The step on words at the limits given, its result written to `res` first, as far as the output has room for it.
+// The step on words at the limits given, its result written to `res` first, as far as the output has room for it. The notes are the step's, all 0.
 #[tactic(auto, unfolding(sock::specs::Calls::step_answer))]
-pub fn written<const NOTES: usize>(
+pub fn written(
     ws: &[u16],
     k: Numbers,
     m: Modest,
+    notes: &mut [u16],
     res: &mut [u16],
     out: &mut [u8],
 ) -> Result<Accepted, Refusal>
-    requires { NOTES < 2 ^ 32 }
+    requires { Blank notes.old }
     ensures answered { told result ≡ answer_of (calls.step (figures m.limits) ws.now (numbers_as k) (room_of (length res.old) (length out.old))) }
     ensures wrote { out.new ≡ bytes_after (calls.step (figures m.limits) ws.now (numbers_as k) (room_of (length res.old) (length out.old))) out.old }
 {
     let room = room_of(out.len(), res.len());
     let part = &mut res[..room];
-    let a = step_at::<NOTES>(ws, k, m, part)?;
+    let a = step_at(ws, k, m, notes, part)?;
     spread(&part[..usize::from(a.length)], out);
     Ok(a)
 }
@@ -87,8 +89,10 @@ pub fn step_in<const WORDS: usize, const NOTES: usize, const RESULT: usize>(
     ensures wrote { out.new ≡ bytes_after (calls.step (figures m.limits) (held WORDS config.now) (numbers_as k) (room_of RESULT (length out.old))) out.old }
 {
     let mut scratch = [0u16; WORDS];
+    let mut notes = [0u16; NOTES];
     let mut result = [0u16; RESULT];
-    written::<NOTES>(held(config, &mut scratch), k, m, &mut result, out)
+    let ws = held(config, &mut scratch);
+    written(ws, k, m, &mut notes, &mut result, out)
 }
 
 // With scratch for every configuration and every result.

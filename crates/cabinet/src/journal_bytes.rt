@@ -7,6 +7,7 @@ ghost use Rattle.sock.specs.Bytes.{bytes_after, journal_bytes_after, byte_journa
 ghost use Rattle.layout.specs.Limits.{figures};
 ghost use Rattle.stepping.specs.Answers.{told, numbers};
 ghost use Rattle.stepping.specs.Bundles.{numbers_as};
+ghost use Rattle.stepping.specs.Lent.{Blank};
 ghost use Rattle.journal.specs.Answers.{taken_as};
 ghost use Rattle.bytewise.specs.Held.{held, room_of};
 
@@ -31,18 +32,19 @@ const JOURNAL: usize = COUNTS + 2 * LONGEST;
 
 const SHORT_JOURNAL: usize = COUNTS + SHORT + TWICE;
 
-// The step on words at the limits given, with so many notes; its result and its journal are written to scratch first, as far as output and
-// journal have room for them.
-pub(crate) fn journaled<const NOTES: usize>(
+// The step on words at the limits given; its result and its journal are written to scratch first, as far as output and journal have room for
+// them. The notes are the step's, all 0.
+pub(crate) fn journaled(
     ws: &[u16],
     k: Numbers,
     m: Modest,
+    notes: &mut [u16],
     res: &mut [u16],
     words: &mut [u16],
     out: &mut [u8],
     journal: &mut [u8],
 ) -> Result<Accepted, Refusal>
-    requires { NOTES < 2 ^ 32 }
+    requires { Blank notes.old }
     ensures answered { told result ≡ answer_of (journal_step (figures m.limits) ws.now (numbers_as k) (room_of (length res.old) (length out.old)) (room_of (length words.old) (length journal.old))) }
     ensures wrote { out.new ≡ bytes_after (journal_step (figures m.limits) ws.now (numbers_as k) (room_of (length res.old) (length out.old)) (room_of (length words.old) (length journal.old))) out.old }
     ensures noted { journal.new ≡ journal_bytes_after ws.now (journal_step (figures m.limits) ws.now (numbers_as k) (room_of (length res.old) (length out.old)) (room_of (length words.old) (length journal.old))) journal.old }
@@ -51,7 +53,7 @@ pub(crate) fn journaled<const NOTES: usize>(
     let most = room_of(journal.len(), words.len());
     let part = &mut res[..room];
     let noted = &mut words[..most];
-    let c = compare::<NOTES>(ws, k, m, noted.len(), part)?;
+    let c = compare(ws, k, m, notes, noted.len(), part)?;
     let n = usize::from(c.accepted.length);
     spread(&part[..n], out);
     let end = lay(ws, &part[..n], c.alike, noted);
@@ -78,10 +80,11 @@ pub(crate) fn journal_in<
     ensures noted { journal.new ≡ journal_bytes_after (held WORDS config.now) (journal_step (figures m.limits) (held WORDS config.now) (numbers_as k) (room_of RESULT (length out.old)) (room_of JOURNAL (length journal.old))) journal.old }
 {
     let mut scratch = [0u16; WORDS];
+    let mut notes = [0u16; NOTES];
     let mut result = [0u16; RESULT];
     let mut words = [0u16; JOURNAL];
     let ws = held(config, &mut scratch);
-    journaled::<NOTES>(ws, k, m, &mut result, &mut words, out, journal)
+    journaled(ws, k, m, &mut notes, &mut result, &mut words, out, journal)
 }
 
 // With scratch for every configuration, every result and every journal.

@@ -19,19 +19,27 @@ use Rattle.sock.specs.Index.{rising, zeros, index_of, listed}
 use Rattle.index.specs.Form.{present, in_order, serials_in}
 use Rattle.sock.proofs.Index.{Lists, listed_lists, index_of_length}
 
+-- ---- the words from a place on, all of them or up to the word n
+
+module _ (ws : List ℕ) (i : ℕ) where
+  all_more : i < length ws → drop i ws ≡ get_or ws i 0 ∷ drop (i + 1) ws
+  all_more h = drop-cons ws i 0 h ∙ ap (λ k. get_or ws i 0 ∷ drop k ws) (sym (add-one i))
+
+  pub rest_more : (n : ℕ) → i ≤ n → n < length ws → take (n + 1 - i) (drop i ws) ≡ get_or ws i 0 ∷ take (n + 1 - (i + 1)) (drop (i + 1) ws)
+  rest_more n h l =
+      let one : n + 1 - i ≡ suc (n + 1 - (i + 1)) = omega arith in
+      ap (λ k. take k (drop i ws)) one ∙ ap (take (suc (n + 1 - (i + 1)))) (all_more (omega arith))
+
 -- ---- strictly rising
 
 module _ (ws : List ℕ) (i last : ℕ) where
-  rest_more : i < length ws → drop i ws ≡ get_or ws i 0 ∷ drop (i + 1) ws
-  rest_more h = drop-cons ws i 0 h ∙ ap (λ k. get_or ws i 0 ∷ drop k ws) (sym (add-one i))
-
   pub rise_passes : i < length ws → last < get_or ws i 0 → rising (get_or ws i 0) (drop (i + 1) ws) ≡ rising last (drop i ws)
   unfolding rising
-  rise_passes h b = sym (ap (rising last) (rest_more h) ∙ rw (lt-ltb last (get_or ws i 0) b))
+  rise_passes h b = sym (ap (rising last) (all_more ws i h) ∙ rw (lt-ltb last (get_or ws i 0) b))
 
   pub rise_stops : i < length ws → get_or ws i 0 ≤ last → false ≡ rising last (drop i ws)
   unfolding rising
-  rise_stops h b = sym (ap (rising last) (rest_more h) ∙ rw (le-ltb last (get_or ws i 0) b))
+  rise_stops h b = sym (ap (rising last) (all_more ws i h) ∙ rw (le-ltb last (get_or ws i 0) b))
 
   pub rise_ends : length ws ≤ i → true ≡ rising last (drop i ws)
   unfolding rising

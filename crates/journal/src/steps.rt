@@ -7,6 +7,7 @@ ghost use Rattle.sock.specs.Journal.{journal_step, journal_after, journal_answer
 ghost use Rattle.stepping.specs.Answers.{told};
 ghost use Rattle.layout.specs.Limits.{figures};
 ghost use Rattle.stepping.specs.Bundles.{numbers_as};
+ghost use Rattle.stepping.specs.Lent.{Blank};
 ghost use Rattle.journal.specs.Answers.{comparing};
 ghost use Rattle.journal.specs.Stepping.{compared_of, needed_of, room_in};
 
@@ -44,18 +45,20 @@ fn needed(old: usize, new: usize, alike: Alike) -> usize
 }
 
 // The step with its result in scratch; `JournalShort` if the journal that it would write has more than `room` words.
+// The notes are the step's, all 0.
 #[tactic(auto, using(crate::proofs::Stepping::compared_refused))]
-pub fn compare<const NOTES: usize>(
+pub fn compare(
     ws: &[u16],
     k: Numbers,
     m: Modest,
+    notes: &mut [u16],
     room: usize,
     res: &mut [u16],
 ) -> Result<Compared, Refusal>
-    requires { NOTES < 2 ^ 32 }
+    requires { Blank notes.old }
     ensures { (comparing result ≡ compared_of room ws.now (calls.step (figures m.limits) ws.now (numbers_as k) (length res.old))) × (res.new ≡ step_output (figures m.limits) ws.now (numbers_as k) res.old) }
 {
-    let accepted = step_at::<NOTES>(ws, k, m, res)?;
+    let accepted = step_at(ws, k, m, notes, res)?;
     let n = usize::from(accepted.length);
     let alike = both(ws, &res[..n]);
     if room < needed(ws.len(), n, alike) {
@@ -66,20 +69,21 @@ pub fn compare<const NOTES: usize>(
 
 // The step worked out in `res`, and then written to the output and the journal.
 #[tactic(auto, using(crate::proofs::Stepping::kept_answer))]
-pub fn written<const NOTES: usize>(
+pub fn written(
     ws: &[u16],
     k: Numbers,
     m: Modest,
+    notes: &mut [u16],
     res: &mut [u16],
     out: &mut [u16],
     journal: &mut [u16],
 ) -> Result<Accepted, Refusal>
-    requires { (NOTES < 2 ^ 32) × (length res.old ≤ length out.old) }
+    requires { Blank notes.old × (length res.old ≤ length out.old) }
     ensures answered { told result ≡ answer_of (journal_step (figures m.limits) ws.now (numbers_as k) (length res.old) (length journal.old)) }
     ensures wrote { out.new ≡ output_of (journal_step (figures m.limits) ws.now (numbers_as k) (length res.old) (length journal.old)) out.old }
     ensures noted { journal.new ≡ journal_after ws.now (journal_step (figures m.limits) ws.now (numbers_as k) (length res.old) (length journal.old)) journal.old }
 {
-    let c = compare::<NOTES>(ws, k, m, journal.len(), res)?;
+    let c = compare(ws, k, m, notes, journal.len(), res)?;
     let n = usize::from(c.accepted.length);
     copy(res, 0, n, out, 0);
     lay(ws, &res[..n], c.alike, journal);
@@ -107,9 +111,10 @@ pub fn step_in<const NOTES: usize, const RESULT: usize>(
     ensures wrote { out.new ≡ output_of (journal_step (figures m.limits) ws.now (numbers_as k) (room_in RESULT (length out.old)) (length journal.old)) out.old }
     ensures noted { journal.new ≡ journal_after ws.now (journal_step (figures m.limits) ws.now (numbers_as k) (room_in RESULT (length out.old)) (length journal.old)) journal.old }
 {
+    let mut notes = [0u16; NOTES];
     let mut result = [0u16; RESULT];
     let room = room_in(RESULT, out.len());
-    written::<NOTES>(ws, k, m, &mut result[..room], out, journal)
+    written(ws, k, m, &mut notes, &mut result[..room], out, journal)
 }
 
 // With scratch for every result.

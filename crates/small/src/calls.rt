@@ -38,7 +38,8 @@ pub fn step(ws: &[u16], k: Numbers, out: &mut [u16]) -> Result<Accepted, Refusal
     ensures answered { told result ≡ step_answer small ws.now (numbers_as k) out.old }
     ensures wrote { out.new ≡ step_output small ws.now (numbers_as k) out.old }
 {
-    step_at::<NOTES>(ws, k, SMALL, out)
+    let mut notes = [0u16; NOTES];
+    step_at(ws, k, SMALL, &mut notes, out)
 }
 
 // The step with a journal.

@@ -8,6 +8,7 @@ use Rattle.noting.specs.declared.survey.Named.TheVariants.{Two}
 use Rattle.stepping.specs.declared.bundles.Encounter as code
 use Rattle.stepping.specs.declared.bundles.Engines.{Engines as Surveyed}
 use Rattle.stepping.specs.declared.bundles.Numbers.{Numbers}
+use Rattle.stepping.specs.declared.bundles.Places.{Places}
 use Rattle.rules.specs.declared.edit.Side.{Side}
 
 -- the code's numbers as those of the definitions
@@ -24,9 +25,12 @@ pub record Engines : Type 0 where
   pub issued : ℕ
   pub starts : List ℕ
 
--- the code's as that
+-- the code's as that: those of a survey, and as plain numbers
 abbrev pub engines_of : Surveyed → Engines
 engines_of g = record { count = g.found.engines; issued = g.issued; starts = g.found.starts }
+
+abbrev pub placed : Places → Engines
+placed g = record { count = g.count; issued = g.issued; starts = g.starts }
 
 abbrev pub bound_of : Engines → ℕ
 bound_of g = g.count * 65536 + g.issued

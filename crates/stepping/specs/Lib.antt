@@ -4,6 +4,7 @@ pub mod Answers
 pub mod Bundles
 pub mod Enabled
 pub mod Exchanging
+pub mod Lent
 pub mod Meeting
 pub mod Serials
 pub mod Stepping

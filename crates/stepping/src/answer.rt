@@ -7,7 +7,7 @@ ghost use Rattle.rules.specs.Editing.{made};
 ghost use Rattle.stepping.specs.Answers.{told};
 ghost use Rattle.stepping.specs.Answering.{changing, telling, sized_w, write_one_w, length_of, one_w, write_two_w, two_w};
 
-use crate::bundles::Change;
+pub use crate::bundles::Change;
 use crate::writing::Output;
 use layout::kind::Kind;
 use layout::limit::Limits;

@@ -1,9 +1,9 @@
 // What the step hands on in one: the numbers of a call, the engines of a configuration, a process found in one of them, and what becomes of it.
-ghost use Rattle.std.specs.Prelude.{◌≡◌};
+ghost use Rattle.std.specs.Prelude.{◌≡◌, ◌≤◌};
 ghost use Rattle.layout.specs.Kinds.{number_of};
 ghost use Rattle.rules.specs.Editing.{made};
 ghost use Rattle.stepping.specs.Answering.{changing, changed};
-ghost use Rattle.stepping.specs.Bundles.{engines_of, bound_of, start_at, side_of, met, encounter_of};
+ghost use Rattle.stepping.specs.Bundles.{engines_of, placed, bound_of, start_at, side_of, met, encounter_of};
 
 use finding::find::Site;
 use layout::kind::Kind;
@@ -38,17 +38,46 @@ impl Engines {
     {
         self.found.starts.get(e).copied().unwrap_or(0)
     }
+
+    // As plain numbers.
+    pub fn places(self) -> Places
+        ensures { placed result ≡ engines_of self }
+    {
+        let starts = self.found.starts;
+        Places {
+            count: self.found.engines,
+            issued: self.issued,
+            starts,
+        }
+    }
+}
+
+// The same as plain numbers, of which nothing is known: they need not be a survey's.
+#[derive(Clone, Copy)]
+pub struct Places {
+    pub count: usize,
+    pub issued: u16,
+    pub starts: [usize; 9],
+}
+
+impl Places {
+    fn start(self, e: usize) -> usize
+        ensures { result ≡ start_at (placed self) e }
+    {
+        self.starts.get(e).copied().unwrap_or(0)
+    }
 }
 
 // The bound of engines and serials, as the reader takes it.
-pub fn bound(g: Engines) -> usize
-    ensures { result ≡ bound_of (engines_of g) }
+pub fn bound(g: Places) -> usize
+    requires { g.count ≤ 8 }
+    ensures { result ≡ bound_of (placed g) }
 {
-    g.found.engines * WORD + wide(g.issued)
+    g.count * WORD + wide(g.issued)
 }
 
-pub fn side_in(g: Engines, engine: u16, site: Site) -> Side
-    ensures { result ≡ side_of (engines_of g) engine site }
+pub fn side_in(g: Places, engine: u16, site: Site) -> Side
+    ensures { result ≡ side_of (placed g) engine site }
 {
     let e = wide(engine);
     Side {
@@ -91,8 +120,8 @@ pub struct Encounter {
     pub receiver: Side,
 }
 
-pub fn meeting_of(g: Engines, k: Numbers, kind: Kind, a: Site, b: Site) -> Encounter
-    ensures { met result ≡ encounter_of (engines_of g) k (number_of kind) a b }
+pub fn meeting_of(g: Places, k: Numbers, kind: Kind, a: Site, b: Site) -> Encounter
+    ensures { met result ≡ encounter_of (placed g) k (number_of kind) a b }
 {
     let sender = side_in(g, k.engine, a);
     let receiver = side_in(g, k.second, b);

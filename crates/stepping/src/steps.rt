@@ -8,6 +8,7 @@ ghost use Rattle.layout.specs.Limits.{figures};
 ghost use Rattle.stepping.specs.Answers.{told};
 ghost use Rattle.stepping.specs.Stepping.{body_nil, way_as, by_kind, moves_w, receiving_w, none_else, moving_w, step_w};
 ghost use Rattle.stepping.specs.Bundles.{engines_of, named_by, numbers_as};
+ghost use Rattle.stepping.specs.Lent.{Blank};
 
 use crate::alone::alone;
 use crate::answer::Accepted;
@@ -90,7 +91,7 @@ fn receiving(
     ensures written { out.new ≡ (receiving_w limits noted.now.ws.now noted.now.notes.now (engines_of g) k a (number_of kind) out.old).out }
 {
     let b = site_at(noted, g, k.second, k.second_position).ok_or(Refusal::NoPartner)?;
-    between(noted.ws, meeting_of(g, k, kind, a, b), limits, out)
+    between(noted.ws, meeting_of(g.places(), k, kind, a, b), limits, out)
 }
 
 // Whether a second engine, place and branch are all 0.
@@ -120,10 +121,11 @@ pub fn moving(
         Some(Way::Sending) => receiving(noted, g, k, a, kind, limits, out),
         Some(Way::Alone) => {
             if none_else(k.second, k.second_position, k.branch) {
-                let side = side_in(g, k.engine, a);
+                let places = g.places();
+                let side = side_in(places, k.engine, a);
                 let bounds = Bounds {
                     limits,
-                    ends: bound(g),
+                    ends: bound(places),
                 };
                 return alone(noted, side, kind, bounds, out);
             }
@@ -148,9 +150,24 @@ fn stepped(
     moving(&Noted { ws, notes }, g, k, a, limits, out)
 }
 
-// The step at any limits up to the standard ones, with so many notes: as many as there are serve, so that a cabinet has as many as its
+// The step at any limits up to the standard ones. The notes lent are all 0; as many as there are serve, so that a cabinet lends as many as its
 // configurations have use for.
-pub fn step_at<const NOTES: usize>(
+pub fn step_at(
+    ws: &[u16],
+    k: Numbers,
+    m: Modest,
+    notes: &mut [u16],
+    out: &mut [u16],
+) -> Result<Accepted, Refusal>
+    requires { Blank notes.old }
+    ensures answered { told result ≡ step_answer (figures m.limits) ws.now (numbers_as k) out.old }
+    ensures written { out.new ≡ step_output (figures m.limits) ws.now (numbers_as k) out.old }
+{
+    stepped(ws, notes, k, m.limits, out)
+}
+
+// With so many notes.
+fn with_notes<const NOTES: usize>(
     ws: &[u16],
     k: Numbers,
     m: Modest,
@@ -161,7 +178,7 @@ pub fn step_at<const NOTES: usize>(
     ensures written { out.new ≡ step_output (figures m.limits) ws.now (numbers_as k) out.old }
 {
     let mut notes = [0u16; NOTES];
-    stepped(ws, &mut notes, k, m.limits, out)
+    step_at(ws, k, m, &mut notes, out)
 }
 
 // The call step: from a configuration's words and the five numbers to the answer and, where it is accepted, the next configuration's
@@ -171,7 +188,7 @@ pub fn step(ws: &[u16], k: Numbers, out: &mut [u16]) -> Result<Accepted, Refusal
     ensures { (told result ≡ step_answer standard ws.now (numbers_as k) out.old) × (out.new ≡ step_output standard ws.now (numbers_as k) out.old) }
 {
     if SHORT < ws.len() {
-        return step_at::<MANY>(ws, k, STANDARD, out);
+        return with_notes::<MANY>(ws, k, STANDARD, out);
     }
-    step_at::<FEW>(ws, k, STANDARD, out)
+    with_notes::<FEW>(ws, k, STANDARD, out)
 }

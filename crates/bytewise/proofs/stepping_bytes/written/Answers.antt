@@ -11,18 +11,18 @@ use Rattle.stepping.proofs.Refused.{is_refused}
 use Rattle.bytewise.proofs.stepping_bytes.written.Goals as goal
 
 pub returns-in_err-a-clause-wrote : goal.returns-in_err-a-clause-wrote
-returns-in_err-a-clause-wrote g c =
+returns-in_err-a-clause-wrote c =
     let room = c.room_of-room.ensures in
     law_refused _ c.args.ws.now _ (take c.room_of-room.result c.args.res.now) c.args.out.now _ (c.in_err-a.ensures {u = tt}).answered (is_refused _)
     ∙ sized_output _ refl _ (length-take-le _ c.args.res.now room.1 ∙ room.0) _
 
 pub slice_bounds-spread-end : goal.slice_bounds-spread-end
-slice_bounds-spread-end g c =
+slice_bounds-spread-end c =
     let f = law_fits _ c.args.ws.now _ (take c.room_of-room.result c.args.res.now) c.args.out.now _ (c.in_ok-a.ensures {u = tt}).answered refl in
     sym (length-take-le _ _ (omega (arith, f, c.step_at.auto.out, c.from.ensures)))
 
 pub returns-clause-wrote : goal.returns-clause-wrote
-returns-clause-wrote g c =
+returns-clause-wrote c =
     let s = c.in_ok-a.ensures {u = tt} in
     let room = c.room_of-room.ensures in
     c.spread.ensures

@@ -8,7 +8,7 @@ use Rattle.cabinet.proofs.Journaling.{left_alone, fits_scratch, made_answer, mad
 use Rattle.cabinet.proofs.journal_bytes.journaled.Goals as goal
 
 pub returns-in_err-c : goal.returns-in_err-c
-returns-in_err-c g c =
+returns-in_err-c c =
     let r = c.room_of-room.ensures in
     let t = c.room_of-most.ensures in
     let room = length-take-le _ c.args.res.now r.1 ∙ r.0 in
@@ -22,27 +22,27 @@ returns-in_err-c g c =
     }
 
 pub slice_bounds-spread-end : goal.slice_bounds-spread-end
-slice_bounds-spread-end g c =
+slice_bounds-spread-end c =
     let e = c.in_ok-c.ensures {u = tt} in
     fits_scratch _ c.args.m.few _ _ (take c.room_of-room.result c.args.res.now) (take c.room_of-most.result c.args.words.now) _ e.0 c.args.out.now c.args.journal.now refl _ e.1 c.from-n.result c.from-n.ensures
 
 pub slice_bounds-spread-end-2 : goal.slice_bounds-spread-end-2
-slice_bounds-spread-end-2 g c =
+slice_bounds-spread-end-2 c =
     let e = c.in_ok-c.ensures {u = tt} in
     sym (length-take-le _ _ (fits_scratch _ c.args.m.few _ _ (take c.room_of-room.result c.args.res.now) (take c.room_of-most.result c.args.words.now) _ e.0 c.args.out.now c.args.journal.now refl _ e.1 c.from-n.result c.from-n.ensures))
 
 pub slice_bounds-lay-end : goal.slice_bounds-lay-end
-slice_bounds-lay-end g c =
+slice_bounds-lay-end c =
     let e = c.in_ok-c.ensures {u = tt} in
     sym (length-take-le _ _ (fits_scratch _ c.args.m.few _ _ (take c.room_of-room.result c.args.res.now) (take c.room_of-most.result c.args.words.now) _ e.0 c.args.out.now c.args.journal.now refl _ e.1 c.from-n.result c.from-n.ensures))
 
 pub slice_bounds-spread-end-3 : goal.slice_bounds-spread-end-3
-slice_bounds-spread-end-3 g c =
+slice_bounds-spread-end-3 c =
     let e = c.in_ok-c.ensures {u = tt} in
     sym (length-take-le _ _ (fits_words _ c.args.m.few _ _ (take c.room_of-room.result c.args.res.now) (take c.room_of-most.result c.args.words.now) _ e.0 c.args.out.now c.args.journal.now refl _ e.1 c.from-n.result c.from-n.ensures _ _ c.lay-end.ensures.0 c.lay-end.ensures.1))
 
 pub returns : goal.returns
-returns g c =
+returns c =
     let e = c.in_ok-c.ensures {u = tt} in
     let r = c.room_of-room.ensures in
     let t = c.room_of-most.ensures in

@@ -10,27 +10,27 @@ use Rattle.journal.proofs.Stepping.{kept_out, kept_journal, wrote, scratch_fits,
 use Rattle.journal.proofs.steps.written.Goals as goal
 
 pub returns-in_err-c-clause-wrote : goal.returns-in_err-c-clause-wrote
-returns-in_err-c-clause-wrote g c =
+returns-in_err-c-clause-wrote c =
     kept_out _ c.args.m.few c.args.ws.now _ c.args.res.now c.args.out.now c.args.journal.now _ (c.in_err-c.ensures {u = tt}).0
 
 pub returns-in_err-c-clause-noted : goal.returns-in_err-c-clause-noted
-returns-in_err-c-clause-noted g c =
+returns-in_err-c-clause-noted c =
     kept_journal _ c.args.m.few c.args.ws.now _ c.args.res.now c.args.out.now c.args.journal.now _ (c.in_err-c.ensures {u = tt}).0
 
 pub slice_bounds-lay-end : goal.slice_bounds-lay-end
-slice_bounds-lay-end g c =
+slice_bounds-lay-end c =
     let s = c.in_ok-c.ensures {u = tt} in
     let z = wrote _ c.args.m.few c.args.ws.now _ c.args.res.now c.args.out.now c.args.journal.now _ s.0 refl in
     omega (arith, c.from-n.ensures, scratch_fits _ c.args.m.few _ _ _ c.args.out.now _ _ _ z _ s.1, scratch_length _ c.args.m.few _ _ _ c.args.out.now _ _ _ z _ s.1)
 
 pub slice_bounds-lay-end-2 : goal.slice_bounds-lay-end-2
-slice_bounds-lay-end-2 g c =
+slice_bounds-lay-end-2 c =
     let s = c.in_ok-c.ensures {u = tt} in
     let z = wrote _ c.args.m.few c.args.ws.now _ c.args.res.now c.args.out.now c.args.journal.now _ s.0 refl in
     sym (length-take-le _ _ (omega (arith, c.from-n.ensures, scratch_fits _ c.args.m.few _ _ _ c.args.out.now _ _ _ z _ s.1, scratch_length _ c.args.m.few _ _ _ c.args.out.now _ _ _ z _ s.1)))
 
 pub returns : goal.returns
-returns g c =
+returns c =
     let s = c.in_ok-c.ensures {u = tt} in
     let z = wrote _ c.args.m.few c.args.ws.now _ c.args.res.now c.args.out.now c.args.journal.now _ s.0 refl in
     record {
