@@ -20,10 +20,10 @@ use layout::unit::WORD;
 
 // Waiters, and executors plus notices, up to `end`.
 #[derive(Clone, Copy)]
-struct Counted {
-    end: usize,
-    waiters: usize,
-    workers: usize,
+pub struct Counted {
+    pub end: usize,
+    pub waiters: usize,
+    pub workers: usize,
 }
 
 // What the call answers: the two counts.
