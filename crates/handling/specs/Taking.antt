@@ -6,23 +6,14 @@ use Rattle.layout.specs.Positions.{onward}
 use Rattle.writers.specs.Writing.{pasted, pasted_end}
 use Rattle.handling.specs.declared.take.Passing.{Passing}
 use Rattle.handling.specs.declared.take.Span.{Span}
-use Rattle.handling.specs.declared.take.Taken as code
-
--- the place behind the new list; the process taken out stands from..upto, or upto is 0
-pub record Taken : Type 0 where
-  pub to : ℕ
-  pub from : ℕ
-  pub upto : ℕ
+use Rattle.handling.specs.declared.take.Taken.{Taken}
 
 abbrev pub taken : ℕ → ℕ → ℕ → Taken
 taken to from upto = record { to = to; from = from; upto = upto }
 
--- by the code: none where nothing was taken out
+-- the process taken out, none where upto is 0
 abbrev pub span_as : ℕ → ℕ → Option Span
 span_as from upto = cond (eqb upto 0) None (Some (record { from = from; upto = upto }))
-
-abbrev pub taken_as : Taken → code.Taken
-taken_as t = record { to = t.to; process = span_as t.from t.upto }
 
 pub record Passed : Type 0 where
   pub state : Passing

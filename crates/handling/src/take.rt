@@ -1,6 +1,6 @@
 // A scope's list without the entry of a key, into scratch.
 ghost use Rattle.std.specs.Prelude.{◌≡◌};
-ghost use Rattle.handling.specs.Taking.{span_as, taken_as, less_if, pass_w, take_w};
+ghost use Rattle.handling.specs.Taking.{span_as, less_if, pass_w, take_w};
 
 use layout::field::key_of;
 use layout::number::{further, wide, word};
@@ -14,15 +14,31 @@ pub struct Span {
     pub upto: usize,
 }
 
-// The place behind the new list, and the process taken out, if there was one.
+// The place behind the new list; the process taken out stands from..upto, or upto is 0. An entry of the key that ends nowhere leaves
+// `from` beside that 0.
 #[derive(Clone, Copy)]
 pub struct Taken {
     pub to: usize,
-    pub process: Option<Span>,
+    pub from: usize,
+    pub upto: usize,
 }
 
-// How far it has come: the next entry, and what is taken so far, or upto is 0. Not an `Option`: an entry of the key that ends nowhere
-// leaves `from` beside an upto of 0 here, as in the mirror, which the loop follows turn by turn.
+impl Taken {
+    // The process taken out, if there was one.
+    pub fn process(&self) -> Option<Span>
+        ensures { result ≡ span_as self.now.from self.now.upto }
+    {
+        if self.upto == 0 {
+            return None;
+        }
+        Some(Span {
+            from: self.from,
+            upto: self.upto,
+        })
+    }
+}
+
+// How far it has come: the next entry, and what is taken so far, as in `Taken`.
 #[derive(Clone, Copy)]
 pub struct Passing {
     pub at: usize,
@@ -36,19 +52,6 @@ fn less_if(n: u16, upto: usize) -> u16
     ensures { result ≡ less_if n upto }
 {
     if upto == 0 { n } else { n.saturating_sub(1) }
-}
-
-// What was taken out, if there was anything.
-fn process(s: Passing) -> Option<Span>
-    ensures { result ≡ span_as s.from s.upto }
-{
-    if s.upto == 0 {
-        return None;
-    }
-    Some(Span {
-        from: s.from,
-        upto: s.upto,
-    })
 }
 
 // The next entry stays, or is the one taken out.
@@ -73,7 +76,7 @@ fn pass(ws: &[u16], s: Passing, key: usize, depth: usize, out: &mut [u16]) -> Pa
 // The list whose count is at `list`, from 0 on.
 #[tactic(auto, using(crate::proofs::Turns::passes_turn, crate::proofs::Turns::passes_end), unfolding(crate::specs::Taking::take_w, crate::specs::Taking::took_w))]
 pub fn take(ws: &[u16], list: usize, key: usize, depth: usize, out: &mut [u16]) -> Taken
-    ensures { (result ≡ taken_as (take_w depth ws.now list key out.old).answer) × (out.new ≡ (take_w depth ws.now list key out.old).out) }
+    ensures { (result ≡ (take_w depth ws.now list key out.old).answer) × (out.new ≡ (take_w depth ws.now list key out.old).out) }
 {
     let count = word(ws, list);
     let n = wide(count);
@@ -89,6 +92,7 @@ pub fn take(ws: &[u16], list: usize, key: usize, depth: usize, out: &mut [u16]) 
     put(out, 0, less_if(count, s.upto));
     Taken {
         to: s.to,
-        process: process(s),
+        from: s.from,
+        upto: s.upto,
     }
 }

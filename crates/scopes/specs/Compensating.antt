@@ -7,7 +7,8 @@ use Rattle.layout.specs.declared.limit.Limits.{Limits}
 use Rattle.layout.specs.Positions.{onward}
 use Rattle.writers.specs.Writing.{pasted, pasted_end}
 use Rattle.finding.specs.declared.find.Site.{Site}
-use Rattle.handling.specs.Taking.{Taken, take_w}
+use Rattle.handling.specs.declared.take.Taken.{Taken}
+use Rattle.handling.specs.Taking.{take_w}
 use Rattle.rules.specs.Storing.{unchanged}
 use Rattle.rules.specs.Editing.{Edited, edited, refused_edit, nil_w}
 

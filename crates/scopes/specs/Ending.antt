@@ -6,7 +6,8 @@ use Rattle.layout.specs.Positions.{onward}
 use Rattle.layout.specs.Heads.{cleared_head}
 use Rattle.writers.specs.Writing.{pasted, pasted_end}
 use Rattle.finding.specs.declared.find.Site.{Site}
-use Rattle.handling.specs.Taking.{Taken, Took, taken, take_w}
+use Rattle.handling.specs.declared.take.Taken.{Taken}
+use Rattle.handling.specs.Taking.{Took, taken, take_w}
 use Rattle.handling.specs.Updating.{update_by_w}
 use Rattle.rules.specs.Storing.{unchanged}
 use Rattle.rules.specs.Editing.{Edited, edited, nil_w, replaced_w}

@@ -58,7 +58,7 @@ pub fn compensated(
     }
     let key = scope_key(word(noted.ws, s.at));
     let t = take(noted.ws, further(s.scope, 2), key, FUEL, fresh);
-    let Some(p) = t.process else {
+    let Some(p) = t.process() else {
         return Ok(vanish(side, nothing(), fresh));
     };
     let left = further(bounds.limits.deepest, 1).saturating_sub(s.level);

@@ -1,7 +1,6 @@
 // A scope whose body is nil: with a mark it runs the handler under its key, else it ends.
 ghost use Rattle.std.specs.Prelude.{◌≡◌};
 ghost use Rattle.rules.specs.Editing.{made};
-ghost use Rattle.handling.specs.Taking.{taken_as};
 ghost use Rattle.scopes.specs.Ending.{resumed_head, key_at_w, take_behind_w, resumed_w, ending_w, unmarked_w, ended_w};
 
 use crate::installing::updated;
@@ -40,13 +39,14 @@ fn key_at(ws: &[u16], at: usize) -> usize
 // The list without the entry of a key, behind two words.
 #[tactic(auto, unfolding(crate::specs::Ending::take_behind_w))]
 fn take_behind(ws: &[u16], list: usize, key: usize, fresh: &mut [u16]) -> Taken
-    ensures answered { result ≡ taken_as (take_behind_w ws.now list key fresh.old).answer }
+    ensures answered { result ≡ (take_behind_w ws.now list key fresh.old).answer }
     ensures fresh { fresh.new ≡ (take_behind_w ws.now list key fresh.old).out }
 {
     if fresh.len() < 2 {
         return Taken {
             to: 0,
-            process: None,
+            from: 0,
+            upto: 0,
         };
     }
     take(ws, list, key, FUEL, &mut fresh[2..])
@@ -64,7 +64,7 @@ fn resumed(noted: &Noted, start: usize, at: usize, key: usize, fresh: &mut [u16]
     let l = further(at, 2);
     let t = take_behind(noted.ws, l, key, fresh);
     let to = further(2, t.to);
-    let g = match t.process {
+    let g = match t.process() {
         None => put(fresh, to, head::NIL),
         Some(p) => copy(noted.ws, p.from, p.upto, fresh, to),
     };
@@ -80,7 +80,7 @@ fn ending(noted: &Noted, s: Site, key: usize, fresh: &mut [u16]) -> Edit
 {
     let t = take(noted.ws, further(s.at, 2), key, FUEL, fresh);
     let l = further(s.scope, 2);
-    let f = match t.process {
+    let f = match t.process() {
         None => take(noted.ws, l, key, FUEL, fresh).to,
         Some(p) => update_by(noted.ws, l, p.from.saturating_sub(1), 1, FUEL, fresh).to,
     };
