@@ -169,19 +169,16 @@ module _ (ws : List ℕ) (ok : Words ws) (short : length ws < 65536) (n issued :
   noting_right : (d : ℕ) → Rightly (enabled_notes d ws bound) → Rightly (notes_w d ws bound)
   unfolding noting
   noting_right d inner c i h m r =
-      let inside = inner c i h m r in
-      cond_right ws (eqb (process_end d ws bound c i) 0) _ _ inside
-      (note_right ws (enabled_notes d ws bound c i m) i (process_end d ws bound c i) (end_small d c i h) (read_right d c i h) inside)
+      note_right ws (enabled_notes d ws bound c i m) i (process_end d ws bound c i) (end_small d c i h) (read_right d c i h) (inner c i h m r)
 
   module _ (d : ℕ) (below : Rightly (notes_w d ws bound)) where
     seq_right : (i : ℕ) (m : List ℕ) → Right ws m → Right ws (seq_notes (process_end d ws bound) (notes_w d ws bound) i m)
     unfolding seq_notes
     seq_right i m r =
         let first = below 9 i (omega arith) m r in
-        let a : ℕ = process_end d ws bound 9 i in
-        let e : ℕ = process_end d ws bound 0 a in
-        cond_right ws (eqb a 0) _ _ first
-        (cond_right ws (eqb e 0) _ _ first (note_right ws _ a e (end_small d 0 a (omega arith)) (read_right d 0 a (omega arith)) first))
+        cond_right ws (eqb (process_end d ws bound 9 i) 0) _ _ first
+        (note_right ws _ (process_end d ws bound 9 i) (process_end d ws bound 0 (process_end d ws bound 9 i)) (end_small d 0 (process_end d ws bound 9 i) (omega arith))
+        (read_right d 0 (process_end d ws bound 9 i) (omega arith)) first)
 
     par_right : (i : ℕ) (m : List ℕ) → Right ws m → Right ws (par_notes (process_end d ws bound) (notes_w d ws bound) i m)
     unfolding par_notes

@@ -25,7 +25,7 @@ use Rattle.reading.proofs.Placed.{place_end, place_some, placed_named}
 use Rattle.reading.proofs.Sets.{Known, below}
 use Rattle.reading.proofs.Turning.{Found, head_found, head_missing, word_ends}
 use Rattle.noting.specs.declared.survey.Named.{Named}
-use Rattle.noting.specs.Noting.{Noting, par_notes, node_notes, noting, enabled_notes, notes_w, noted_in, engine_notes, engines_notes, seq_notes, scope_notes, executor_notes}
+use Rattle.noting.specs.Noting.{noted_w, note_w, Noting, par_notes, node_notes, noting, enabled_notes, notes_w, noted_in, engine_notes, engines_notes, seq_notes, scope_notes, executor_notes}
 
 -- no mark, no fault and no entries
 pub bare_list :
@@ -216,8 +216,8 @@ module _ (ws : List ℕ) (ok : Words ws) (bound d i : ℕ) (m : List ℕ) where
     asks : placed root (kind_number k) ≡ placed root (at ws i / 2048)
     asks = ap (λ (k : Kind). placed root (kind_number k)) named ∙ placed_named root (at ws i / 2048)
 
-    pub no_root_notes : placed root (kind_number k) ≡ false → m ≡ notes_w d ws bound 11 i m
-    unfolding when noting
+    pub no_root_notes : placed root (kind_number k) ≡ false → noted_w 0 m i 0 ≡ notes_w d ws bound 11 i m
+    unfolding when noting note_w
     no_root_notes e =
         let no = sym asks ∙ e in
         let end : process_end d ws bound 11 i ≡ 0 = place_end ws ok bound i d 11 (omega arith) ∙ rw no refl in

@@ -33,9 +33,7 @@ enabled = running + not_nil
 
 -- the first of a seq is enabled, and where the second ends is noted too
 unfoldable pub seq_notes : (ℕ → ℕ → ℕ) → Noting → ℕ → List ℕ → List ℕ
-seq_notes end sub i m =
-    cond (eqb (end enabled i) 0) (sub enabled i m)
-    (cond (eqb (end code (end enabled i)) 0) (sub enabled i m) (note_w (sub enabled i m) (end enabled i) (end code (end enabled i))))
+seq_notes end sub i m = cond (eqb (end enabled i) 0) (sub enabled i m) (note_w (sub enabled i m) (end enabled i) (end code (end enabled i)))
 
 unfoldable pub par_notes : (ℕ → ℕ → ℕ) → Noting → ℕ → List ℕ → List ℕ
 par_notes end sub i m = cond (eqb (end enabled i) 0) (sub enabled i m) (sub enabled (end enabled i) (sub enabled i m))
@@ -58,9 +56,9 @@ node_notes end sub ws bound h i m =
     (cond (eqb (kind_of h) Kind.scope) (scope_notes end sub ws h i m)
     (cond (eqb (kind_of h) Kind.executor) (executor_notes sub ws bound i m) m)))
 
--- what `inner` notes, and where the process itself ends, if it does
+-- what `inner` notes, and where the process itself ends
 unfoldable pub noting : Noting → (ℕ → ℕ → ℕ) → Noting
-noting inner end c i m = cond (eqb (end c i) 0) (inner c i m) (note_w (inner c i m) i (end c i))
+noting inner end c i m = note_w (inner c i m) i (end c i)
 
 -- what is noted inside a process
 unfoldable pub enabled_notes : ℕ → List ℕ → ℕ → Noting

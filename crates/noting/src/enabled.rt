@@ -1,6 +1,6 @@
 // The reader of what is enabled, which notes where it ends: an enabled process, what follows an enabled one in a seq, and the list of an
 // enabled scope. The notes of a word are told in `skipping::pass`. What is not enabled is read by the reader alone.
-ghost use Rattle.std.specs.Prelude.{◌≡◌, ◌+◌, ◌*◌, ◌≤◌, ◌<◌, length, get_or};
+ghost use Rattle.std.specs.Prelude.{◌≡◌, ◌+◌, ◌*◌, ◌≤◌, ◌<◌, None, length, get_or};
 ghost use Rattle.sock.specs.Words.{kind_of};
 ghost use Rattle.layout.specs.Kinds.{kind_named};
 ghost use Rattle.layout.specs.Contexts.{code, running, root};
@@ -34,10 +34,20 @@ fn note<const WHICH: usize>(notes: &mut [u16], at: usize, end: usize)
     }
 }
 
+// What begins at `at` ends nowhere: its note is 0. Words with such a process are refused, so this stands aside.
+#[cold]
+fn no_end(notes: &mut [u16], at: usize) -> Option<usize>
+    ensures ended { result ≡ None }
+    ensures written { notes.new ≡ noted_w PROCESS notes.old at 0 }
+{
+    note::<PROCESS>(notes, at, 0);
+    None
+}
+
 // An enabled process, in a context of what runs. One of a single word is told here, where its node is read, so that it takes no call.
 #[cycle(enabled_executor_node_noted_par_scope_seq)]
 #[inline(always)]
-#[tactic(auto, unfolding(crate::specs::Noting::noting, crate::specs::Noting::note_w), using(reading::proofs::Given::unwrap_end))]
+#[tactic(auto, unfolding(crate::specs::Noting::noting, crate::specs::Noting::note_w), using(reading::proofs::Given::some_end, reading::proofs::Given::none_end))]
 pub(crate) fn noted(
     reader: &Reader,
     at: usize,
@@ -49,9 +59,13 @@ pub(crate) fn noted(
     ensures ended { result ≡ end_as (process_end depth reader.now.ws.now reader.now.bound (context_in context.kinds) at) }
     ensures written { notes.new ≡ notes_w depth reader.now.ws.now reader.now.bound (context_in context.kinds) at notes.old }
 {
-    let e = enabled(reader, at, depth, context, notes)?;
-    note::<PROCESS>(notes, at, e);
-    Some(e)
+    match enabled(reader, at, depth, context, notes) {
+        Some(e) => {
+            note::<PROCESS>(notes, at, e);
+            Some(e)
+        }
+        None => no_end(notes, at),
+    }
 }
 
 // The same, but for its own note.
@@ -101,15 +115,19 @@ fn node(
 
 // The parts of a seq: the first is enabled.
 #[cycle(enabled_executor_node_noted_par_scope_seq)]
-#[tactic(auto, unfolding(reading::specs::Walk::on, reading::specs::Walk::two_end, crate::specs::Noting::note_w, crate::specs::Noting::seq_notes), using(reading::proofs::Given::unwrap_end, reading::proofs::Sets::enabled_is, reading::proofs::Sets::enabled_context, reading::proofs::Sets::code_is, reading::proofs::Sets::code_context))]
+#[tactic(auto, unfolding(reading::specs::Walk::on, reading::specs::Walk::two_end, crate::specs::Noting::note_w, crate::specs::Noting::seq_notes), using(reading::proofs::Given::some_end, reading::proofs::Given::none_end, reading::proofs::Sets::enabled_is, reading::proofs::Sets::enabled_context, reading::proofs::Sets::code_is, reading::proofs::Sets::code_context))]
 fn seq(reader: &Reader, at: usize, depth: usize, notes: &mut [u16]) -> Option<usize>
     ensures ended { result ≡ end_as (two_end (process_end depth reader.now.ws.now reader.now.bound) enabled code at) }
     ensures written { notes.new ≡ seq_notes (process_end depth reader.now.ws.now reader.now.bound) (notes_w depth reader.now.ws.now reader.now.bound) at notes.old }
 {
     let a = noted(reader, at, depth, ENABLED, notes)?;
-    let e = reader.process(a, depth, CODE)?;
-    note::<PROCESS>(notes, a, e);
-    Some(e)
+    match reader.process(a, depth, CODE) {
+        Some(e) => {
+            note::<PROCESS>(notes, a, e);
+            Some(e)
+        }
+        None => no_end(notes, a),
+    }
 }
 
 // The sides of a par.
@@ -171,7 +189,7 @@ pub(crate) fn root(reader: &Reader, at: usize, depth: usize, notes: &mut [u16]) 
     ensures written { notes.new ≡ notes_w depth reader.now.ws.now reader.now.bound root at notes.old }
 {
     if !may_stand(ROOT % STRATUM, Kind::of(word(reader.ws, at))) {
-        return None;
+        return no_end(notes, at);
     }
     noted(reader, at, depth, RUNNING, notes)
 }

@@ -13,13 +13,15 @@ use Rattle.noting.proofs.enabled.root.Goals as goal
 pub returns-then-not-may_stand-clause-ended : goal.returns-then-not-may_stand-clause-ended
 returns-then-not-may_stand-clause-ended c =
     let a = c.args in
-    place_none a.reader.now.ws.now a.reader.now.words a.reader.now.bound a.depth a.at 11 (omega arith) _ (c.of.ensures ∙ ap (λ w. kind_named (w / 2048)) c.word.ensures)
+    c.no_end.ensures.ended
+    ∙ place_none a.reader.now.ws.now a.reader.now.words a.reader.now.bound a.depth a.at 11 (omega arith) _ (c.of.ensures ∙ ap (λ w. kind_named (w / 2048)) c.word.ensures)
     (sym c.may_stand.ensures ∙ c.if-not-may_stand.true)
 
 pub returns-then-not-may_stand-clause-written : goal.returns-then-not-may_stand-clause-written
 returns-then-not-may_stand-clause-written c =
     let a = c.args in
-    no_root_notes a.reader.now.ws.now a.reader.now.words a.reader.now.bound a.depth a.at a.notes.now _ (c.of.ensures ∙ ap (λ w. kind_named (w / 2048)) c.word.ensures)
+    c.no_end.ensures.written
+    ∙ no_root_notes a.reader.now.ws.now a.reader.now.words a.reader.now.bound a.depth a.at a.notes.now _ (c.of.ensures ∙ ap (λ w. kind_named (w / 2048)) c.word.ensures)
     (sym c.may_stand.ensures ∙ c.if-not-may_stand.true)
 
 pub invariant_of-noted : goal.invariant_of-noted
