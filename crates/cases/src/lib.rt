@@ -1,13 +1,14 @@
-// What the programs over vectors share: a word of two bytes, a sum over words, and input over any reader. The contracts name the bytes that
-// move where the reader tells them; standard input tells none.
+// What the programs over vectors share: a word of two bytes, a sum over words, and input and output over any reader and writer. The
+// contracts name the bytes that move where the reader or the writer tells them; standard input and output tell none.
 #![tactic(auto)]
 
-ghost use Rattle.std.specs.Prelude.{◌≡◌, ◌+◌, ◌*◌, ◌≤◌, ◌<◌, true, false, length, take, IfOk, IfSome, slice_index};
-ghost use Rattle.std.specs.Io.KnownBytes.{Consumes, IsAtEnd};
+ghost use Rattle.std.specs.Prelude.{◌≡◌, ◌+◌, ◌*◌, ◌≤◌, ◌<◌, true, false, length, take, IfOk, IfSome, OnOk, slice_index};
+ghost use Rattle.std.specs.Io.KnownBytes.{Appends, Consumes, IsAtEnd};
 ghost use Rattle.cases.specs.Sums.{summed};
+ghost use Rattle.cases.specs.Printed.{printed};
 
 use std::io;
-use std::io::Read;
+use std::io::{Read, Write};
 
 pub fn word(high: u8, low: u8) -> u16
     ensures { result ≡ high * 256 + low }
@@ -20,6 +21,17 @@ pub fn sum(ws: &[u16]) -> u16
     ensures { result ≡ summed 0 ws.now }
 {
     ws.iter().fold(0, |s, w| s.wrapping_mul(3).wrapping_add(*w))
+}
+
+// A number, and a space or the end of the line behind it.
+pub fn print<W: Write>(output: &mut W, n: u64, last: bool) -> io::Result<()>
+    ensures { OnOk result (Appends (W.contents output.old) (W.contents output.new) (printed n last)) }
+{
+    if last {
+        write!(output, "{n}\n")
+    } else {
+        write!(output, "{n} ")
+    }
 }
 
 // Reads until `bytes` is full or the input ends; how many there were.
