@@ -11,3 +11,4 @@ pub mod Greatest
 pub mod Order
 pub mod Examples
 pub mod Standing
+pub mod Rates

@@ -13,3 +13,4 @@ pub mod Given
 pub mod Changing
 pub mod Answering
 pub mod Examples
+pub mod Spreading

@@ -26,13 +26,15 @@ fn words_in(bytes: &[u8; BYTES]) -> [u16; WORDS]
 // `put` and `pack` are `bytewise`'s `spread` and `numbered`. This crate stands on none, and so is checked alone: `bytewise` would bring the
 // fifteen crates under it, and its `numbered` answers `layout`'s refusals, not this crate's one.
 
-// The bytes of the words, over the first.
+// The bytes of the words, over the first. By a loop: `map` of so long an array took most of a call's time.
+#[tactic(auto, using(crate::proofs::Spreading::spread_none, crate::proofs::Spreading::spread_turn))]
 fn put(words: &[u16; WORDS], out: &mut [u8])
     requires { BYTES ≤ length out.old }
     ensures { out.new ≡ bytes_of words.now ++ drop BYTES out.old }
 {
-    let bytes = words.map(u16::to_be_bytes);
-    out[..BYTES].copy_from_slice(bytes.as_flattened());
+    for (i, word) in words.iter().enumerate() {
+        out[2 * i..2 * i + 2].copy_from_slice(&word.to_be_bytes());
+    }
 }
 
 // Hands an answer on. A refusal, and an answer whose number is not 0, change no byte.
