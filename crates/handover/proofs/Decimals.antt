@@ -1,4 +1,4 @@
--- The digits that std prints are the definitions' decimal.
+-- Std's decimal is the definitions'.
 -- Assumes nothing.
 use Rattle.std.proofs.Common.{ℕ, suc, length, sym, ◌≡◌, ◌+◌, ◌<◌, ◌≤◌, ◌/◌, ◌%◌, ◌^◌, List, [], ◌∷◌, ◌∙◌, arith, append-nil, refl}
 use Rattle.std.specs.Fmt as fmt

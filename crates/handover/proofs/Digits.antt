@@ -1,5 +1,5 @@
--- Digits put one before another into a text, the last first, are the definitions' decimal. Also for readers: std prints, and no proof of code cites
--- these.
+-- Digits put one before another into a text, the last first, are the definitions' decimal. Also for readers: the kit's `itoa` writes the digits,
+-- and no proof of code cites these.
 -- Assumes nothing.
 use Prim.Native.Nat.{ℕ, zero, suc, ◌+◌, ◌-◌, ◌*◌, ◌/◌, ◌%◌, ◌^◌, ◌≤◌, ◌<◌}
 use native.Mathlib.Omega.{arith}

@@ -1,15 +1,15 @@
 -- The steps' loop: what is printed so far, and what the rest prints.
 -- Assumes nothing.
-use Rattle.std.proofs.Common.{ℕ, zero, suc, ◌≡◌, ◌+◌, ◌<◌, ◌≤◌, List, [], ◌++◌, Option, Some, refl, sym, ap, subst, ◌∙◌, arith, add-one, append-nil, append_assoc, length, length-take, drop}
-use lib.Seq.{take_all}
+use Rattle.std.proofs.Common.{ℕ, zero, suc, ◌≡◌, ◌+◌, ◌<◌, ◌≤◌, true, false, not, eqb, List, [], ◌++◌, Option, Some, refl, sym, ap, subst, ◌∙◌, arith, add-one, append-nil, append_assoc, ltb, length, drop}
+use Rattle.std.proofs.lemmas.Bool.{ne_eqb}
 use Rattle.std.specs.Io.KnownBytes.{Appends}
 use Rattle.std.proofs.KnownBytes.{Appends-nil, Appends-trans}
 use Rattle.sock.specs.Configuration.{standard}
-use Rattle.sock.specs.Calls.{step, answer_of, check_start}
-use Rattle.sock.specs.Bytes.{numbers_in, words_after, start_line, step_line, handover}
-use Rattle.handover.specs.Printed.{last_line, steps_text, most_steps, words_read, left_behind_words}
+use Rattle.sock.specs.Calls.{check_start}
+use Rattle.sock.specs.Bytes.{start_line, handover}
+use Rattle.handover.specs.Printed.{turn_line, turn_words, steps_text, most_steps, words_read, left_behind_words}
 use Rattle.handover.proofs.Reading.{Reads}
-use Rattle.handover.proofs.Whole.{last_is, next_is, ten_numbers, unless_refused, begun, main_text, main_is}
+use Rattle.handover.proofs.Whole.{turn_last, turn_next, unless_refused, begun, main_text, main_is}
 
 -- ahead of step i: what is printed, what is left of the input, and that all is printed once the rest is
 pub record Gone (ws₀ bytes : List ℕ) (old now left : Option (List ℕ)) (i : ℕ) (ws : List ℕ) : Type 0 where
@@ -42,31 +42,21 @@ module _ (ws₀ bytes : List ℕ) (old now left : Option (List ℕ)) (i : ℕ) (
   ahead = turns_left i g.turns more g.count
 
   -- the last line
-  pub gone_last : length got < 10 → (now' : Option (List ℕ)) → Appends now now' (last_line (length ws) got) → Appends old now' (steps_text most_steps 1 ws₀ bytes)
+  pub gone_last : ltb (length got) 10 ≡ true → (now' : Option (List ℕ)) → Appends now now' (turn_line i ws got) → Appends old now' (steps_text most_steps 1 ws₀ bytes)
   gone_last h now' p =
-      let short : length g.rest < 10 = omega (arith, h, length-take 10 g.rest, ap length r.front) in
-      let all : g.rest ≡ got = sym (take_all 10 g.rest (omega arith)) ∙ sym r.front in
-      let line : steps_text g.turns i ws g.rest ≡ last_line (length ws) got =
-      ap (λ t. steps_text t i ws g.rest) ahead.1 ∙ last_is ahead.0 i ws g.rest short ∙ ap (last_line (length ws)) all
-      in
-      subst (Appends old now') (sym (g.same ∙ ap (λ l. g.text ++ l) line)) (Appends-trans old now now' g.text (last_line (length ws) got) g.printed p)
+      let line : steps_text g.turns i ws g.rest ≡ turn_line i ws got = ap (λ t. steps_text t i ws g.rest) ahead.1 ∙ turn_last ahead.0 i ws g.rest got r.front h in
+      subst (Appends old now') (sym (g.same ∙ ap (λ l. g.text ++ l) line)) (Appends-trans old now now' g.text (turn_line i ws got) g.printed p)
 
   -- one step more
   pub gone_next :
-      length got ≡ 10 → (now' : Option (List ℕ)) → Appends now now' (step_line i (answer_of (step standard ws (numbers_in got) 8192))) →
-      Gone ws₀ bytes old now' left' (i + 1) (words_after (step standard ws (numbers_in got) 8192) ws)
+      ltb (length got) 10 ≡ false → (now' : Option (List ℕ)) → Appends now now' (turn_line i ws got) → Gone ws₀ bytes old now' left' (i + 1) (turn_words ws got)
   gone_next h now' p =
-      let long : 10 ≤ length g.rest = omega (arith, h, length-take 10 g.rest, ap length r.front) in
-      let k : numbers_in g.rest ≡ numbers_in got = sym (ten_numbers g.rest) ∙ ap numbers_in (sym r.front) in
-      let line = step_line i (answer_of (step standard ws (numbers_in got) 8192)) in
-      let rest = steps_text ahead.0 (i + 1) (words_after (step standard ws (numbers_in got) 8192) ws) (drop 10 g.rest) in
+      let line = turn_line i ws got in
+      let rest = steps_text ahead.0 (i + 1) (turn_words ws got) (drop 10 g.rest) in
       let next : steps_text g.turns i ws g.rest ≡ line ++ rest =
       ap (λ t. steps_text t i ws g.rest) ahead.1
-      ∙ next_is ahead.0 i ws g.rest long
-      ∙ ap
-      (λ k. step_line i (answer_of (step standard ws k 8192)) ++ steps_text ahead.0 (suc i) (words_after (step standard ws k 8192) ws) (drop 10 g.rest))
-      k
-      ∙ ap (λ i. line ++ steps_text ahead.0 i (words_after (step standard ws (numbers_in got) 8192) ws) (drop 10 g.rest)) (sym (add-one i))
+      ∙ turn_next ahead.0 i ws g.rest got r.front h
+      ∙ ap (λ i. line ++ steps_text ahead.0 i (turn_words ws got) (drop 10 g.rest)) (sym (add-one i))
       in
       record {
         text = g.text ++ line;
@@ -88,15 +78,21 @@ module _ (bytes ws : List ℕ) (old mid : Option (List ℕ)) (turns : length byt
       ap (λ n. text n ws) (sym e) ∙ ap (λ ws. text (check_start standard ws) ws) read ∙ main_is most_steps bytes turns
 
   -- refused, only the first line is printed
-  pub whole_refused : (check_start standard ws ≡ 0 → ⊥) → Appends old mid (handover bytes)
+  pub whole_refused : true ≡ not (eqb (check_start standard ws) 0) → Appends old mid (handover bytes)
   unfolding unless_refused
   whole_refused refused = by (check_start standard ws) refl
     where
       by : (n : ℕ) → check_start standard ws ≡ n → Appends old mid (handover bytes)
-      by zero e = absurd (refused e)
+      by zero e = absurd (cc (refused ∙ ap (λ n. not (eqb n 0)) e))
       by (suc n) e = subst (Appends old mid) (sym (append-nil (start_line (check_start standard ws))) ∙ whole_by (suc n) e) start
 
   -- else the steps' lines and the last one follow
-  pub whole_run : check_start standard ws ≡ 0 → (new : Option (List ℕ)) → Appends mid new (steps_text most_steps 1 ws (left_behind_words bytes)) → Appends old new (handover bytes)
+  pub whole_run :
+      false ≡ not (eqb (check_start standard ws) 0) → (new : Option (List ℕ)) → Appends mid new (steps_text most_steps 1 ws (left_behind_words bytes)) →
+      Appends old new (handover bytes)
   unfolding unless_refused
-  whole_run good new p = subst (Appends old new) (whole_by 0 good) (Appends-trans old mid new _ _ start p)
+  whole_run good new p = by (check_start standard ws) refl
+    where
+      by : (n : ℕ) → check_start standard ws ≡ n → Appends old new (handover bytes)
+      by zero e = subst (Appends old new) (whole_by 0 e) (Appends-trans old mid new _ _ start p)
+      by (suc n) e = absurd (cc (good ∙ ap (λ n. not (eqb n 0)) e ∙ ap not (ne_eqb (suc n) 0 (λ z. omega (arith, z)))))

@@ -1,6 +1,6 @@
--- The lines, with the decimals that std prints.
+-- The lines, with std's decimals.
 -- Assumes nothing.
-use Rattle.std.proofs.Common.{ℕ, ◌≡◌, ◌<◌, ◌^◌, [], ◌∷◌, ◌++◌, append_assoc, refl}
+use Rattle.std.proofs.Common.{ℕ, ◌≡◌, ◌<◌, ◌^◌, [], ◌∷◌, ◌++◌, refl}
 use Rattle.std.specs.Fmt as fmt
 use Rattle.sock.specs.Calls.{Answer}
 use Rattle.sock.specs.Bytes.{start_text, start_line, end_text, end_line, step_line}
@@ -14,11 +14,12 @@ pub end_is : (n : ℕ) → n < 2 ^ 64 → end_line n ≡ (101 ∷ 110 ∷ 100 �
 unfolding end_line end_text
 end_is n h = rw (decimal_is n h) refl
 
--- grouped as std prints it
 pub step_is :
     (i : ℕ) (a : Answer) → i < 2 ^ 64 → a.number < 2 ^ 64 → a.kind < 2 ^ 64 → a.serial < 2 ^ 64 → a.fault < 2 ^ 64 →
     step_line i a
-    ≡ fmt.decimal i ++ (32 ∷ (fmt.decimal a.number ++ (32 ∷ (fmt.decimal a.kind ++ (32 ∷ (fmt.decimal a.serial ++ (32 ∷ (fmt.decimal a.fault ++ 10 ∷ []))))))))
+    ≡ fmt.decimal i ++ 32 ∷ [] ++ fmt.decimal a.number ++ 32 ∷ [] ++ fmt.decimal a.kind ++ 32 ∷ [] ++ fmt.decimal a.serial ++ 32 ∷ []
+    ++ fmt.decimal a.fault
+    ++ 10 ∷ []
 unfolding step_line
 step_is i a h n k s f =
-    rw (decimal_is i h, decimal_is a.number n, decimal_is a.kind k, decimal_is a.serial s, decimal_is a.fault f) (simp append_assoc)
+    rw (decimal_is i h, decimal_is a.number n, decimal_is a.kind k, decimal_is a.serial s, decimal_is a.fault f) refl

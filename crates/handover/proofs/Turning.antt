@@ -1,21 +1,22 @@
 -- What a step leaves, in the code's terms: the answer, the words that the next step reads, and the line.
 -- Assumes nothing.
-use Prim.Native.Nat.{ℕ, ◌+◌, ◌*◌, ◌≤◌}
+use Prim.Native.Nat.{ℕ, ◌+◌, ◌*◌, ◌≤◌, ◌<◌}
 use native.Mathlib.Omega.{arith}
 use mathlib.Core.Path.{◌≡◌, refl, sym, ap, ◌∙◌}
 use mathlib.Core.List.{List, [], ◌∷◌}
 use lib.ListN.{length, get_or, take, drop}
 use lib.Seq.{take-append_seam}
+use borrow.Author.Tests.{lt-ltb, le-ltb}
 use Rattle.sock.specs.Configuration.{standard, encode}
 use Rattle.sock.specs.Calls.{Result, refused, done, Numbers, Stepped, step, Answer, answer_of, output_of, step_answer, step_output}
-use Rattle.sock.specs.Bytes.{numbers_in, words_after, end_line, cut_line}
+use Rattle.sock.specs.Bytes.{numbers_in, words_after, end_line, cut_line, step_line}
 use Rattle.std.specs.Prelude as code
 use Rattle.std.specs.Prelude.{Ok, Err, IfOk}
 use Rattle.layout.specs.declared.refusal.Refusal.{Refusal}
 use Rattle.stepping.specs.declared.answer.Accepted.{Accepted}
 use Rattle.stepping.specs.Answers.{told, numbers}
 use Rattle.sock.proofs.Rooms.{refusal_number, fits_room, step_agrees}
-use Rattle.handover.specs.Printed.{last_line}
+use Rattle.handover.specs.Printed.{last_line, turn_line, turn_words}
 
 -- ---- the five numbers
 
@@ -93,3 +94,21 @@ pub last_cut : (n : ℕ) (bytes : List ℕ) → (length bytes ≡ 0 → ⊥) →
 unfolding last_line
 last_cut n [] h = absurd (h refl)
 last_cut n (b ∷ bytes) h = refl
+
+module _ (ws bytes : List ℕ) (h : length bytes < 10) where
+  pub last_words : turn_words ws bytes ≡ ws
+  unfolding turn_words
+  last_words = rw (lt-ltb (length bytes) 10 h) refl
+
+  pub last_text : (i : ℕ) → turn_line i ws bytes ≡ last_line (length ws) bytes
+  unfolding turn_line
+  last_text i = rw (lt-ltb (length bytes) 10 h) refl
+
+module _ (ws bytes : List ℕ) (h : 10 ≤ length bytes) where
+  pub step_words : turn_words ws bytes ≡ words_after (step standard ws (numbers_in bytes) 8192) ws
+  unfolding turn_words
+  step_words = rw (le-ltb (length bytes) 10 h) refl
+
+  pub step_text : (i : ℕ) → turn_line i ws bytes ≡ step_line i (answer_of (step standard ws (numbers_in bytes) 8192))
+  unfolding turn_line
+  step_text i = rw (le-ltb (length bytes) 10 h) refl

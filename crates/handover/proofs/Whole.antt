@@ -4,7 +4,7 @@
 use Prim.Native.Nat.{ℕ, zero, suc, ◌+◌, ◌-◌, ◌*◌, ◌≤◌, ◌<◌}
 use native.Mathlib.Omega.{arith}
 use native.Mathlib.Decide.{dec_le}
-use mathlib.Core.Path.{◌≡◌, refl, sym, ap, ◌∙◌}
+use mathlib.Core.Path.{◌≡◌, refl, sym, ap, subst, ◌∙◌}
 use mathlib.Core.Bool.{Bool, true, false, ◌||◌}
 use mathlib.Core.List.{List, [], ◌∷◌, ◌++◌, append-nil}
 use lib.Dec.{ltb}
@@ -88,6 +88,23 @@ lines_next :
     ++ step_lines fuel (suc i) (words_after (step standard ws (numbers_in input) 8192) ws) (drop 10 input)
 unfolding step_lines
 lines_next fuel i ws input h = rw (le-ltb (length input) 10 h, step_lines) refl
+
+-- the same by the lines and words of each turn
+module _ (turns i : ℕ) (ws input got : List ℕ) (front : got ≡ take 10 input) where
+  pub turn_last : ltb (length got) 10 ≡ true → steps_text (suc turns) i ws input ≡ turn_line i ws got
+  unfolding steps_text
+  turn_last =
+      let P : List ℕ → Type 0 = λ l. ltb (length l) 10 ≡ true → steps_text (suc turns) i ws input ≡ turn_line i ws l in
+      subst P (sym front) (λ b. rw b (append-nil (turn_line i ws (take 10 input))))
+
+  pub turn_next :
+      ltb (length got) 10 ≡ false → steps_text (suc turns) i ws input ≡ turn_line i ws got ++ steps_text turns (suc i) (turn_words ws got) (drop 10 input)
+  unfolding steps_text
+  turn_next =
+      let P : List ℕ → Type 0 =
+      λ l. ltb (length l) 10 ≡ false → steps_text (suc turns) i ws input ≡ turn_line i ws l ++ steps_text turns (suc i) (turn_words ws l) (drop 10 input)
+      in
+      subst P (sym front) (λ b. rw b refl)
 
 steps_is :
     (turns fuel i : ℕ) (ws input : List ℕ) → length input ≤ fuel → length input < turns → steps_text turns i ws input ≡ step_lines fuel i ws input

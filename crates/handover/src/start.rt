@@ -1,18 +1,19 @@
 // The start: the configuration's words, and what the start check says of them.
-ghost use Rattle.std.specs.Prelude.{◌≡◌, ◌≤◌, ◌<◌, ◌↔◌, Some, IfOk, IfSome, OnOk, IsTrue, MatchOption};
-ghost use Rattle.std.specs.Io.KnownBytes.{Appends};
+ghost use Rattle.std.specs.Prelude.{◌≡◌, ◌≤◌, ◌<◌, Some, IfOk, IfSome, MatchOption, not, eqb};
 ghost use Rattle.sock.specs.Configuration.{standard};
 ghost use Rattle.sock.specs.Calls.{check_start};
 ghost use Rattle.sock.specs.Bytes.{start_line};
+ghost use Rattle.handover.specs.Lines.{line_of, is_last};
 ghost use Rattle.handover.specs.Printed.{count_in, wanted_for, start_words, words_read, left_behind_words};
 
+use crate::line::Said;
 use crate::state::Words;
 use crate::text::start_line;
 use cases::{read_full, word};
 use layout::limit::LONGEST;
 use reading::calls::check_start;
 use std::io;
-use std::io::{Read, Write};
+use std::io::Read;
 
 const MOST_BYTES: usize = 2 * LONGEST;
 
@@ -63,12 +64,17 @@ pub(crate) fn read_words<R: Read>(input: &mut R) -> io::Result<Words>
     Ok(words_in(&head[..got], &bytes[..have]))
 }
 
-// The first line; whether steps follow it. No words are not readable, hence the number 1 where words are missing or too many.
-pub(crate) fn begin<W: Write>(output: &mut W, words: &Words) -> io::Result<bool>
-    ensures printed { OnOk result (Appends (W.contents output.old) (W.contents output.new) (start_line (check_start standard words.now))) }
-    ensures goes_on { IfOk result (λ goes_on. IsTrue goes_on ↔ (check_start standard words.now ≡ 0)) }
+// The first line, which is the last unless the check's number is 0. No words are not readable, hence the number 1 where words are missing or
+// too many.
+pub(crate) fn begin(words: &Words) -> Said
+    ensures line { line_of result ≡ start_line (check_start standard words.now) }
+    ensures last { is_last result ≡ not (eqb (check_start standard words.now) 0) }
 {
     let given = check_start(words.as_slice());
-    start_line(output, given)?;
-    Ok(given.is_ok())
+    let line = start_line(given);
+    if given.is_ok() {
+        Said::More(line)
+    } else {
+        Said::Last(line)
+    }
 }

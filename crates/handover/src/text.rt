@@ -1,48 +1,46 @@
 // The lines that are printed.
-ghost use Rattle.std.specs.Prelude.{◌≡◌, IfSome, OnOk};
+ghost use Rattle.std.specs.Prelude.{◌≡◌, OnOk};
 ghost use Rattle.std.specs.Io.KnownBytes.{Appends};
 ghost use Rattle.sock.specs.Bytes.{start_line, end_line, cut_line, step_line};
 ghost use Rattle.layout.specs.Refusals.{number_in};
 ghost use Rattle.stepping.specs.Answers.{told};
 
+use crate::line::Line;
 use layout::refusal::{self, Refusal};
-use std::fmt::{Display, InlineText, Write as _};
 use std::io;
 use std::io::Write;
 use stepping::answer::Accepted;
 use stepping::serial;
 
-// No line has more bytes.
-const LINE: usize = 128;
-
-// A line, its parts put together first: `write!` at the output would make a call of the system for each of them.
-fn print<W: Write, D: Display + Drop>(output: &mut W, line: D) -> io::Result<()>
-    ensures { OnOk result (IfSome (D.output line) (Appends (W.contents output.old) (W.contents output.new))) }
-{
-    let mut text = InlineText::<LINE>::new();
-    write!(text, "{line}")?;
-    output.write_all(text.as_str().as_bytes())
-}
-
 // "start" and the check's number.
-pub(crate) fn start_line<W: Write>(output: &mut W, given: Result<(), Refusal>) -> io::Result<()>
-    ensures { OnOk result (Appends (W.contents output.old) (W.contents output.new) (start_line (number_in given))) }
+#[tactic(auto, using(crate::proofs::Lines::start_is))]
+pub(crate) fn start_line(given: Result<(), Refusal>) -> Line
+    ensures { result ≡ start_line (number_in given) }
 {
-    let number = refusal::number(given);
-    print(output, format_args!("start {number}\n"))
+    let mut line = Line::new();
+    line.text(b"start ");
+    line.field(refusal::number(given), b'\n');
+    line
 }
 
 // "end" and the words of the configuration.
-pub(crate) fn end_line<W: Write>(output: &mut W, words: usize) -> io::Result<()>
-    ensures { OnOk result (Appends (W.contents output.old) (W.contents output.new) (end_line words)) }
+#[tactic(auto, using(crate::proofs::Lines::end_is))]
+pub(crate) fn end_line(words: usize) -> Line
+    ensures { result ≡ end_line words }
 {
-    print(output, format_args!("end {words}\n"))
+    let mut line = Line::new();
+    line.text(b"end ");
+    line.field(words, b'\n');
+    line
 }
 
-pub(crate) fn cut_line<W: Write>(output: &mut W) -> io::Result<()>
-    ensures { OnOk result (Appends (W.contents output.old) (W.contents output.new) cut_line) }
+#[tactic(auto, unfolding(sock::specs::Bytes::cut_line))]
+pub(crate) fn cut_line() -> Line
+    ensures { result ≡ cut_line }
 {
-    print(output, "cut\n")
+    let mut line = Line::new();
+    line.text(b"cut\n");
+    line
 }
 
 // What a step's line has of its answer: the number, kind, serial and fault, all other numbers of a refusal 0.
@@ -61,16 +59,22 @@ fn parts(given: Result<Accepted, Refusal>) -> (u8, u8, u16, u8)
 }
 
 // The step's number and what it answers.
-pub(crate) fn step_line<W: Write>(
-    output: &mut W,
-    number: u64,
-    given: Result<Accepted, Refusal>,
-) -> io::Result<()>
-    ensures { OnOk result (Appends (W.contents output.old) (W.contents output.new) (step_line number (told given))) }
+pub(crate) fn step_line(number: u64, given: Result<Accepted, Refusal>) -> Line
+    ensures { result ≡ step_line number (told given) }
 {
     let (refusal, kind, serial, fault) = parts(given);
-    print(
-        output,
-        format_args!("{number} {refusal} {kind} {serial} {fault}\n"),
-    )
+    let mut line = Line::new();
+    line.field(number, b' ');
+    line.field(refusal, b' ');
+    line.field(kind, b' ');
+    line.field(serial, b' ');
+    line.field(fault, b'\n');
+    line
+}
+
+// By one write.
+pub(crate) fn print<W: Write>(output: &mut W, line: &Line) -> io::Result<()>
+    ensures { OnOk result (Appends (W.contents output.old) (W.contents output.new) line.now) }
+{
+    output.write_all(line.as_bytes())
 }

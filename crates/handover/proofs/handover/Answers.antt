@@ -1,35 +1,31 @@
 -- `handover` prints the definition's text.
-use Rattle.std.proofs.Common.{◌≡◌, ℕ, ◌<◌, List, Some, length, rules}
+use Rattle.std.proofs.Common.{◌<◌, length}
 use Rattle.std.specs.Io.KnownBytes.{Appends}
-use Rattle.sock.specs.Configuration.{standard}
-use Rattle.sock.specs.Calls.{check_start}
 use Rattle.sock.specs.Bytes.{handover}
 use Rattle.handover.specs.Printed.{most_steps}
-use Rattle.handover.proofs.Reading.{known}
+use Rattle.handover.proofs.Reading.{completed}
 use Rattle.handover.proofs.Going.{whole_run, whole_refused}
 use Rattle.handover.proofs.handover.Goals as goal
 
-pub returns-in_ok-steps : goal.returns-in_ok-steps
-returns-in_ok-steps g c =
-    let good : check_start standard c.in_ok-words.words ≡ 0 = search rules in
-    let printed :
-    (bytes : List ℕ) → g.R.Read.remaining c.args.input.now ≡ Some bytes → length bytes < most_steps →
-    Appends (g.W.Write.contents c.args.output.now) (g.W.Write.contents c.steps.new.output) (handover bytes) =
-    λ bytes e turns.
+pub returns-in_ok-print-in-More : goal.returns-in_ok-print-in-More
+returns-in_ok-print-in-More g c =
+    let old = g.W.Write.contents c.args.output.now in
+    let new = g.W.Write.contents c.steps.new.output in
+    let start = rw c.in-More.ensures.line at c.in_ok-print-in-More.ensures in
+    completed c.steps.result _ (λ given. length given < most_steps → Appends old new (handover given))
+    (λ bytes e run turns.
     let read = rw e at c.in_ok-words.ensures in
-    let run = rw read.1 at c.in_ok-steps.ensures in
-    whole_run bytes c.in_ok-words.words _ _ turns read.0 c.in_ok-begin.ensures.printed good _ run
-    in
-    known _ printed
+    let rest = rw read.1 at run in
+    whole_run bytes c.in_ok-words.words old _ turns read.0 start c.in-More.ensures.last new rest)
+    c.steps.ensures
 
-pub returns-else-branch : goal.returns-else-branch
-returns-else-branch g c =
-    let refused : check_start standard c.in_ok-words.words ≡ 0 → ⊥ = search rules in
-    let printed :
-    (bytes : List ℕ) → g.R.Read.remaining c.args.input.now ≡ Some bytes → length bytes < most_steps →
-    Appends (g.W.Write.contents c.args.output.now) (g.W.Write.contents c.begin.new.output) (handover bytes) =
-    λ bytes e turns.
+pub returns-in-Last : goal.returns-in-Last
+returns-in-Last g c =
+    let old = g.W.Write.contents c.args.output.now in
+    let new = g.W.Write.contents c.print-in-Last.new.output in
+    completed c.print-in-Last.result _ (λ given. length given < most_steps → Appends old new (handover given))
+    (λ bytes e p turns.
     let read = rw e at c.in_ok-words.ensures in
-    whole_refused bytes c.in_ok-words.words _ _ turns read.0 c.in_ok-begin.ensures.printed refused
-    in
-    known _ printed
+    let start = rw c.in-Last.ensures.line at p in
+    whole_refused bytes c.in_ok-words.words old new turns read.0 start c.in-Last.ensures.last)
+    c.print-in-Last.ensures

@@ -1,11 +1,11 @@
--- `step_line` prints what the definition says, whose digits are its own.
+-- `step_line` is what the definition says, whose digits are its own.
 use Rattle.std.proofs.Common.{rules, arith, ◌<◌, ◌^◌}
 use Rattle.stepping.specs.Answers.{told}
 use Rattle.handover.proofs.Lines.{step_is}
 use Rattle.handover.proofs.text.step_line.Goals as goal
 
 pub returns : goal.returns
-returns g c =
+returns c =
     let a = told c.args.given in
     let p = c.parts-refusal.ensures in
     let i : c.args.number < 2 ^ 64 = omega arith in
