@@ -55,6 +55,8 @@ pub fn room_of(bytes: usize, most: usize) -> usize
 }
 
 // The step on words at the limits given, its result written to `res` first, as far as the output has room for it. The notes are the step's, all 0.
+// Inlined, since each `step_in` has the arrays at hand and a call more takes some sixty instructions.
+#[inline(always)]
 #[tactic(auto, unfolding(sock::specs::Calls::step_answer))]
 pub fn written(
     ws: &[u16],

@@ -33,7 +33,8 @@ const JOURNAL: usize = COUNTS + 2 * LONGEST;
 const SHORT_JOURNAL: usize = COUNTS + SHORT + TWICE;
 
 // The step on words at the limits given; its result and its journal are written to scratch first, as far as output and journal have room for
-// them. The notes are the step's, all 0.
+// them. The notes are the step's, all 0. Inlined, as `bytewise`'s `written` is.
+#[inline(always)]
 pub(crate) fn journaled(
     ws: &[u16],
     k: Numbers,
@@ -61,7 +62,9 @@ pub(crate) fn journaled(
     Ok(c.accepted)
 }
 
-// With scratch for so many words of a configuration, so many notes, and so many words of a result and of a journal.
+// With scratch for so many words of a configuration, so many notes, and so many words of a result and of a journal. Not inlined, so that a short
+// configuration pays for no long scratch, and a first try's is off the stack when the second begins.
+#[inline(never)]
 pub(crate) fn journal_in<
     const WORDS: usize,
     const NOTES: usize,

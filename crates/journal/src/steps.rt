@@ -45,7 +45,8 @@ fn needed(old: usize, new: usize, alike: Alike) -> usize
 }
 
 // The step with its result in scratch; `JournalShort` if the journal that it would write has more than `room` words.
-// The notes are the step's, all 0.
+// The notes are the step's, all 0. Inlined, since a call more takes some fifty instructions.
+#[inline(always)]
 #[tactic(auto, using(crate::proofs::Stepping::compared_refused))]
 pub fn compare(
     ws: &[u16],
@@ -98,7 +99,9 @@ pub fn room_in(most: usize, room: usize) -> usize
     most.min(room)
 }
 
-// The step at the limits given, with so many notes and scratch for so many words of a result.
+// The step at the limits given, with so many notes and scratch for so many words of a result. Not inlined, so that a short configuration pays for
+// no long scratch, and a first try's is off the stack when the second begins.
+#[inline(never)]
 pub fn step_in<const NOTES: usize, const RESULT: usize>(
     ws: &[u16],
     k: Numbers,
