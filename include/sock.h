@@ -42,8 +42,8 @@ extern "C" {
 /* This header's version. The first number rises when a call, an answer or the format changes, the second when something is added. */
 #define SOCK_VERSION_MAJOR 4
 #define SOCK_VERSION_MINOR 8
-#define SOCK_VERSION_PATCH 3
-#define SOCK_VERSION "4.8.3"
+#define SOCK_VERSION_PATCH 4
+#define SOCK_VERSION "4.8.4"
 
 /* The most words and bytes that a configuration has. */
 #define SOCK_WORDS 8192

@@ -101,7 +101,7 @@ module _ (ix ss s0 : List ℕ) (e : listed ix ≡ some ss) (n : length s0 ≡ 20
   relaid ts h = over_whole (index_of ts) (over (take 2049 ix) s0) (held_long ∙ sym (index_of_length ts h))
 
 -- the bytes of an index in scratch
-spread_index : (ts s2 index : List ℕ) → s2 ≡ index_of ts → over (bytes_of s2) index ≡ over (bytes_of (index_of ts)) index
+pub spread_index : (ts s2 index : List ℕ) → s2 ≡ index_of ts → over (bytes_of s2) index ≡ over (bytes_of (index_of ts)) index
 spread_index ts s2 index e = ap (λ us. over (bytes_of us) index) e
 
 -- ---- whether the index lent is in order

@@ -3,6 +3,8 @@ ghost use Rattle.std.specs.Prelude.{◌≡◌, ◌+◌, ◌<◌, length, get_or,
 ghost use Rattle.sock.specs.Words.{kind_of};
 ghost use Rattle.layout.specs.Keys.{scope_keys};
 ghost use Rattle.reading.specs.Walk.{key_as};
+ghost use Rattle.skipping.specs.Pass.{pass_list};
+ghost use Rattle.layout.specs.Own.{own_end};
 ghost use Rattle.finding.specs.Find.{at_most, find_w, node_w, outside_w, cut, shut_in, here_w, in_seq_w, in_par_w, left_w, beside_w, in_body_w, in_scope_w, scope_of, level_of, catcher_of, fault_at, catches_w};
 
 use layout::field::{is_zombie, name_of};
@@ -64,7 +66,7 @@ struct Search<'a> {
 impl<'a> Search<'a> {
     // The enabled process whose head is at the target. A process whose end is marked and that does not have the target is passed at once: where
     // all are marked, the search goes down one way only.
-    #[cycle(find_in_par_node)]
+    #[cycle(executor_find_in_par_node_right_scope_seq)]
     #[tactic(auto, unfolding(crate::specs::Find::find_w))]
     fn find(&self, at: usize, depth: usize, level: usize) -> Found
         requires { level + depth < 65536 }
@@ -86,34 +88,57 @@ impl<'a> Search<'a> {
         self.node(at, depth - 1, level)
     }
 
-    // By the kind of the process at `at`, whose parts are `depth` levels deep at most; the target is not its head.
-    #[cycle(find_in_par_node)]
+    // By the kind of the process at `at`, whose parts are `depth` levels deep at most; the target is not its head. The way of each kind is a
+    // function of its own, inlined: so a level takes one call, in which one `Found` is held and not five. Otherwise a search that goes down sixty
+    // pars took half as long again.
+    #[cycle(executor_find_in_par_node_right_scope_seq)]
     #[tactic(auto, unfolding(crate::specs::Find::node_w))]
     fn node(&self, at: usize, depth: usize, level: usize) -> Found
         requires { (level + 1 + depth < 65536) × (at < length self.now.noted.ws.now) }
         ensures { result ≡ node_w (find_w depth self.now.noted.ws.now self.now.noted.notes.now self.now.target (level + 1)) depth self.now.noted.ws.now self.now.noted.notes.now self.now.target level (kind_of (get_or self.now.noted.ws.now at 0)) at }
     {
         match Kind::of(self.noted.ws[at]) {
-            Kind::Seq => {
-                let f = self.find(at + 1, depth, level + 1);
-                in_seq(&self.noted, at, f, depth)
-            }
+            Kind::Seq => self.seq(at, depth, level + 1),
             Kind::Par => self.in_par(at, depth, level + 1),
-            Kind::Scope => {
-                let body = self.noted.pass_list(at + 2, depth);
-                let f = self.find(body, depth, level + 1);
-                self.in_scope(at, level, f, depth)
-            }
-            Kind::Executor => {
-                let body = own_end(self.noted.ws, at);
-                in_body(self.find(body, depth, level + 1))
-            }
+            Kind::Scope => self.scope(at, depth, level),
+            Kind::Executor => self.executor(at, depth, level + 1),
             _ => Found::Past(self.noted.pass(at, depth + 1)),
         }
     }
 
-    // A side of a par becoming nil, the other takes the par's place. Inlined, as one call a level: as two, a search that goes down sixty pars took half as long again.
-    #[cycle(find_in_par_node)]
+    // In the first of a seq.
+    #[cycle(executor_find_in_par_node_right_scope_seq)]
+    #[inline(always)]
+    fn seq(&self, at: usize, depth: usize, level: usize) -> Found
+        requires { (level + depth < 65536) × (at + 1 < 18446744073709551616) }
+        ensures { result ≡ in_seq_w depth self.now.noted.ws.now self.now.noted.notes.now at (find_w depth self.now.noted.ws.now self.now.noted.notes.now self.now.target level (at + 1)) }
+    {
+        in_seq(&self.noted, at, self.find(at + 1, depth, level), depth)
+    }
+
+    // In the body of a scope.
+    #[cycle(executor_find_in_par_node_right_scope_seq)]
+    #[inline(always)]
+    fn scope(&self, at: usize, depth: usize, level: usize) -> Found
+        requires { (level + 1 + depth < 65536) × (at < length self.now.noted.ws.now) × (at + 2 < 18446744073709551616) }
+        ensures { result ≡ in_scope_w depth self.now.noted.ws.now self.now.target level at (find_w depth self.now.noted.ws.now self.now.noted.notes.now self.now.target (level + 1) (pass_list depth self.now.noted.ws.now self.now.noted.notes.now (at + 2))) }
+    {
+        let body = self.noted.pass_list(at + 2, depth);
+        self.in_scope(at, level, self.find(body, depth, level + 1), depth)
+    }
+
+    // In the body of an executor.
+    #[cycle(executor_find_in_par_node_right_scope_seq)]
+    #[inline(always)]
+    fn executor(&self, at: usize, depth: usize, level: usize) -> Found
+        requires { (level + depth < 65536) × (at < length self.now.noted.ws.now) }
+        ensures { result ≡ in_body_w (find_w depth self.now.noted.ws.now self.now.noted.notes.now self.now.target level (own_end self.now.noted.ws.now at)) }
+    {
+        in_body(self.find(own_end(self.noted.ws, at), depth, level))
+    }
+
+    // A side of a par becoming nil, the other takes the par's place.
+    #[cycle(executor_find_in_par_node_right_scope_seq)]
     #[inline(always)]
     #[tactic(auto, unfolding(crate::specs::Find::par_sides, crate::specs::Find::in_par_w))]
     fn in_par(&self, at: usize, depth: usize, level: usize) -> Found
@@ -122,11 +147,22 @@ impl<'a> Search<'a> {
     {
         match self.find(at + 1, depth, level) {
             Found::Hit(s) => left(at, s),
-            Found::Past(e) => beside(at, e, self.find(e, depth, level)),
+            Found::Past(e) => self.right(at, e, depth, level),
         }
     }
 
+    // In the right side of a par, whose left ends at `e`.
+    #[cycle(executor_find_in_par_node_right_scope_seq)]
+    #[inline(always)]
+    fn right(&self, at: usize, e: usize, depth: usize, level: usize) -> Found
+        requires { (level + depth < 65536) × (at + 1 < 18446744073709551616) }
+        ensures { result ≡ beside_w at e (find_w depth self.now.noted.ws.now self.now.noted.notes.now self.now.target level e) }
+    {
+        beside(at, e, self.find(e, depth, level))
+    }
+
     // The body of the scope at `at` becoming nil, a nil stands there.
+    #[inline(always)]
     #[tactic(auto, unfolding(crate::specs::Find::in_scope_w))]
     fn in_scope(&self, at: usize, level: usize, f: Found, depth: usize) -> Found
         requires { at < length self.now.noted.ws.now }
@@ -229,6 +265,7 @@ fn shut(s: Site, scope: usize, level: usize, catcher: usize) -> Site
 }
 
 // The first of a seq becoming nil, the second takes the seq's place; a nil second goes on.
+#[inline(always)]
 #[tactic(auto, unfolding(crate::specs::Find::in_seq_w, crate::specs::Find::seq_spot))]
 fn in_seq(noted: &Noted, at: usize, f: Found, depth: usize) -> Found
     ensures { result ≡ in_seq_w depth noted.now.ws.now noted.now.notes.now at f }

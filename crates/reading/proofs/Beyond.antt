@@ -14,7 +14,7 @@ use Rattle.reading.proofs.Combining.{Words}
 use Rattle.reading.specs.Tables.{head_mask}
 use Rattle.reading.proofs.Surveys.{process_inside}
 
-no_context : (x k : ℕ) → 12 ≤ x → 131071 ≡ head_mask x k
+pub no_context : (x k : ℕ) → 12 ≤ x → 131071 ≡ head_mask x k
 unfolding head_mask
 no_context x k h = simp (le-ltb x 12 h)
 

@@ -173,21 +173,21 @@ tally_bounded ws ok serial bound (suc d) i =
 
 -- ---- so the sums fit
 
-counts_below : {ws : List ℕ} {i : ℕ} {t : Option Counted} → Bounded ws i t → (waiters_in t ≤ length ws) × (workers_in t ≤ length ws)
+pub counts_below : {ws : List ℕ} {i : ℕ} {t : Option Counted} → Bounded ws i t → (waiters_in t ≤ length ws) × (workers_in t ≤ length ws)
 unfolding waiters_in workers_in
 counts_below no_count = (omega arith, omega arith)
 counts_below (a_count {e} {w} {k} p q b) = (omega arith, omega arith)
 
-sums_below :
+pub sums_below :
     {ws : List ℕ} {i : ℕ} (p q : Counted) → Bounded ws i (Some p) → Bounded ws p.end (Some q) →
     (p.waiters + q.waiters ≤ length ws) × (p.workers + q.workers ≤ length ws)
 sums_below p q (a_count {e} {w} {k} h i b) (a_count {e = e'} {w = w'} {k = k'} h' i' b') = (omega arith, omega arith)
 
-one_more_below : {ws : List ℕ} (i : ℕ) (p : Counted) → Bounded ws (i + 3) (Some p) → p.workers + 1 ≤ length ws
+pub one_more_below : {ws : List ℕ} (i : ℕ) (p : Counted) → Bounded ws (i + 3) (Some p) → p.workers + 1 ≤ length ws
 one_more_below i p (a_count {e} {w} {k} h g b) = omega arith
 
 -- an executor beside what is counted in its body, which begins at e
-own_below : (ws : List ℕ) (bound i e : ℕ) (p : Counted) → e ≡ executor_own ws bound i → (e ≡ 0 → ⊥) → Bounded ws e (Some p) → p.workers + 1 ≤ length ws
+pub own_below : (ws : List ℕ) (bound i e : ℕ) (p : Counted) → e ≡ executor_own ws bound i → (e ≡ 0 → ⊥) → Bounded ws e (Some p) → p.workers + 1 ≤ length ws
 own_below ws bound i e p q some b = by (rw (← q) at (own_forward ws bound i)) some b
   where
     by : {e : ℕ} → Forward ws (i + 3) e → (e ≡ 0 → ⊥) → Bounded ws e (Some p) → p.workers + 1 ≤ length ws
