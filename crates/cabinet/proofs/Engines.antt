@@ -41,14 +41,14 @@ sure_any (done a) = sure_done tt
 
 -- ---- what is handed out
 
-abbrev handed_out : code.Result ℕ Refusal → List ℕ → List ℕ → List ℕ
+abbrev pub handed_out : code.Result ℕ Refusal → List ℕ → List ℕ → List ℕ
 handed_out (Ok n) result out = over (bytes_of (take n result)) out
 handed_out (Err r) result out = out
 
-abbrev Handed : code.Result ℕ Refusal → List ℕ → List ℕ → Type 0
+abbrev pub Handed : code.Result ℕ Refusal → List ℕ → List ℕ → Type 0
 Handed g r1 out = IfOk g (λ n. (n ≤ length r1) × (n * 2 ≤ length out))
 
-handed_fits :
+pub handed_fits :
     (g : code.Result ℕ Refusal) (x : Result (List ℕ)) (r0 r1 out : List ℕ) → written_in g ≡ taken_of x → r1 ≡ restored_over x r0 →
     ((us : List ℕ) → x ≡ done us → length us ≤ length r0) → length r0 * 2 ≤ length out → Handed g r1 out
 unfolding taken_of restored_over
@@ -59,14 +59,14 @@ handed_fits (Ok n) (done us) r0 r1 out a b fits room =
     let laid : length r1 ≡ length us + length (drop (length us) r0) = ap length b ∙ length-append us (drop (length us) r0) in
     (omega arith, omega (arith, fits us refl))
 
-handed_number : (g : code.Result ℕ Refusal) (x : Result (List ℕ)) → written_in g ≡ taken_of x → numbered_as g ≡ packed_taken (taken_of x)
+pub handed_number : (g : code.Result ℕ Refusal) (x : Result (List ℕ)) → written_in g ≡ taken_of x → numbered_as g ≡ packed_taken (taken_of x)
 unfolding taken_of packed_taken
 handed_number (Err r) (refused f) a = let n = ap (λ (t : Taken). t.number) a in omega (arith, n)
 handed_number (Err r) (done us) a = absurd (eqb-false _ 0 (never_zero r) (ap (λ (t : Taken). t.number) a))
 handed_number (Ok n) (refused f) a = absurd (omega (arith, ap (λ (t : Taken). t.number) a, refusal_number f))
 handed_number (Ok n) (done us) a = let m = ap (λ (t : Taken). t.length) a in omega (arith, m)
 
-handed_is :
+pub handed_is :
     (g : code.Result ℕ Refusal) (x : Result (List ℕ)) (r0 r1 out : List ℕ) → written_in g ≡ taken_of x → r1 ≡ restored_over x r0 →
     handed_out g r1 out ≡ restored_bytes x out
 unfolding taken_of restored_over restored_bytes

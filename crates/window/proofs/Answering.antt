@@ -191,7 +191,7 @@ module _ (bytes : List ℕ) where
     abbrev pub NextBytes : ℕ → List ℕ → Type 0
     NextBytes number after = (number ≡ byte_number w a bytes) × (after ≡ byte_window w a bytes)
 
-    bytes_stay : enters w a (window_in bytes) ≡ false → bytes ≡ byte_window w a bytes
+    pub bytes_stay : enters w a (window_in bytes) ≡ false → bytes ≡ byte_window w a bytes
     unfolding byte_window
     bytes_stay e = grind (arith, common_steps)
 
